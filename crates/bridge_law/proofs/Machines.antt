@@ -18,7 +18,7 @@ use Rattle.event_book.specs.declared.event.EventKind.TheVariants as kinds
 use Rattle.event_book.specs.declared.event.WatchdogEvent.{WatchdogEvent}
 use Rattle.event_book.specs.declared.event.WatchdogEvent.TheVariants as watchdogs
 use Rattle.event_book.specs.declared.reason.Basis.TheVariants as bases
-use Rattle.event_book.specs.Agents.{agents_after, agents_by, agents_by_watchdog, first_agents, running_in}
+use Rattle.event_book.specs.Processes.{processes_after, processes_by, processes_by_watchdog, first_processes, running_in}
 use Rattle.event_book.specs.Clock.{now_after}
 use Rattle.event_book.specs.Facts.{Facts, facts_after, facts_over, start_of}
 use Rattle.event_book.specs.Functions.{put_at}
@@ -137,34 +137,34 @@ hold-kept holds hold (kinds.Watchdog happening) old = hold-watched holds hold ha
 hold-kept holds hold _ old = old
 
 -- ---- runs
-agents-long-by : (states : List AgentProcess) (happening : AgentEvent) → length (agents_by states happening) ≡ length states
+agents-long-by : (states : List AgentProcess) (happening : AgentEvent) → length (processes_by states happening) ≡ length states
 agents-long-by states (agents.Suspended agent) = length-changed states agent.id.number _
 agents-long-by states (agents.Resumed agent) = length-changed states agent.id.number _
 agents-long-by states (agents.Killed agent) = length-changed states agent.id.number _
 agents-long-by states (agents.Started agent run) = length-changed states agent.id.number _
 agents-long-by states _ = refl
 
-agents-long-watched : (states : List AgentProcess) (happening : WatchdogEvent) → length (agents_by_watchdog states happening) ≡ length states
+agents-long-watched : (states : List AgentProcess) (happening : WatchdogEvent) → length (processes_by_watchdog states happening) ≡ length states
 agents-long-watched states (watchdogs.Reset member) = length-changed states member.id.number _
 agents-long-watched states _ = refl
 
-pub agents-long : (states : List AgentProcess) (kind : EventKind) → length (agents_after states kind) ≡ length states
+pub agents-long : (states : List AgentProcess) (kind : EventKind) → length (processes_after states kind) ≡ length states
 agents-long states (kinds.Agent happening) = agents-long-by states happening
 agents-long states (kinds.Watchdog happening) = agents-long-watched states happening
 agents-long states _ = refl
 
-runs-agent : (states : List AgentProcess) (runs : ℕ → ℕ) (happening : AgentEvent) → Agrees run_if states runs → Agrees run_if (agents_by states happening) (runs_after runs (kinds.Agent happening))
+runs-agent : (states : List AgentProcess) (runs : ℕ → ℕ) (happening : AgentEvent) → Agrees run_if states runs → Agrees run_if (processes_by states happening) (runs_after runs (kinds.Agent happening))
 runs-agent states runs (agents.Suspended agent) old = agrees-kept run_if states runs agent.id.number _ (λ item. refl) old
 runs-agent states runs (agents.Resumed agent) old = agrees-kept run_if states runs agent.id.number _ (λ item. refl) old
 runs-agent states runs (agents.Killed agent) old = agrees-kept run_if states runs agent.id.number _ (λ item. refl) old
 runs-agent states runs (agents.Started agent run) old = agrees-put run_if states runs agent.id.number (λ state. running_in run) run (λ item is. refl) old
 runs-agent states runs _ old = old
 
-runs-watched : (states : List AgentProcess) (runs : ℕ → ℕ) (happening : WatchdogEvent) → Agrees run_if states runs → Agrees run_if (agents_by_watchdog states happening) runs
+runs-watched : (states : List AgentProcess) (runs : ℕ → ℕ) (happening : WatchdogEvent) → Agrees run_if states runs → Agrees run_if (processes_by_watchdog states happening) runs
 runs-watched states runs (watchdogs.Reset member) old = agrees-kept run_if states runs member.id.number _ (λ item. refl) old
 runs-watched states runs _ old = old
 
-runs-kept : (states : List AgentProcess) (runs : ℕ → ℕ) (kind : EventKind) → Agrees run_if states runs → Agrees run_if (agents_after states kind) (runs_after runs kind)
+runs-kept : (states : List AgentProcess) (runs : ℕ → ℕ) (kind : EventKind) → Agrees run_if states runs → Agrees run_if (processes_after states kind) (runs_after runs kind)
 runs-kept states runs (kinds.Agent happening) old = runs-agent states runs happening old
 runs-kept states runs (kinds.Watchdog happening) old = runs-watched states runs happening old
 runs-kept states runs _ old = old
@@ -181,7 +181,7 @@ writes-kept now servers writes kind old m small =
 pub machines-by : (past : Past) (facts : Facts) (kind : EventKind) → IsSameMachines past facts → IsSameMachines (past_after past kind) (facts_after facts kind)
 machines-by past facts kind old =
     let now : ℕ = now_after facts.clock kind in
-    let agents_are = agents-long facts.agents kind in
+    let agents_are = agents-long facts.processes kind in
     let deadlines_are = deadlines-long facts.deadlines kind in
     let holds_are = holds-long facts.holds kind in
     let servers_are = count-of now facts.servers kind in
@@ -191,16 +191,16 @@ machines-by past facts kind old =
       server_count = servers_are ∙ old.server_count ∙ sym agents_are;
       deadline = λ m small. deadline-kept facts.deadlines past.deadline kind (λ n few. old.deadline n (omega (arith, few, old.deadline_count))) m (omega (arith, small, agents_are, deadlines_are, old.deadline_count));
       hold = λ m small. hold-kept facts.holds past.hold kind (λ n few. old.hold n (omega (arith, few, old.hold_count))) m (omega (arith, small, agents_are, holds_are, old.hold_count));
-      runs = λ m small. runs-kept facts.agents past.runs kind old.runs m small;
+      runs = λ m small. runs-kept facts.processes past.runs kind old.runs m small;
       writes = λ m small. writes-kept now facts.servers past.writes kind (λ n few. old.writes n (omega (arith, few, old.server_count))) m (omega (arith, small, agents_are, servers_are, old.server_count));
     }
 
 -- ---- at the start
-first-long : (count : ℕ) → length (first_agents count) ≡ count
+first-long : (count : ℕ) → length (first_processes count) ≡ count
 first-long zero = refl
 first-long (suc count) = ap (λ (n : ℕ). suc n) (first-long count)
 
-first-run : (count m : ℕ) → m < length (first_agents count) → 1 ≡ run_if (slice_get (first_agents count) m)
+first-run : (count m : ℕ) → m < length (first_processes count) → 1 ≡ run_if (slice_get (first_processes count) m)
 first-run zero m small = absurd (omega (arith, small))
 first-run (suc count) zero small = refl
 first-run (suc count) (suc m) small = first-run count m (omega (arith, small))
@@ -241,11 +241,11 @@ machines-over past facts (event ∷ events) old = machines-over (past_after past
 pub machines-of : (first : Settings) (names : List Name) (base : ℕ) (book : List Event) → IsSameMachines (past_of book) (facts_over (start_of first names base) book)
 machines-of first names base book = machines-over first_past (start_of first names base) book (machines-first first names base)
 
-count-over : (facts : Facts) (book : List Event) → length (facts_over facts book).agents ≡ length facts.agents
+count-over : (facts : Facts) (book : List Event) → length (facts_over facts book).processes ≡ length facts.processes
 count-over facts [] = refl
-count-over facts (event ∷ events) = count-over (facts_after facts event.kind) events ∙ agents-long facts.agents event.kind
+count-over facts (event ∷ events) = count-over (facts_after facts event.kind) events ∙ agents-long facts.processes event.kind
 
-pub count-in : (first : Settings) (names : List Name) (base : ℕ) (book : List Event) → length (facts_over (start_of first names base) book).agents ≡ length names
+pub count-in : (first : Settings) (names : List Name) (base : ℕ) (book : List Event) → length (facts_over (start_of first names base) book).processes ≡ length names
 count-in first names base book = count-over (start_of first names base) book ∙ first-long (length names)
 
 writes-over : (past : Past) (book : List Event) → (past_over past book).writes ≡ writes_over past.writes book

@@ -157,7 +157,7 @@ pub fn same_machines()
     ensures each { (past : Past) (facts : Facts) (kind : EventKind) → IsSameMachines past facts → IsSameMachines (past_after past kind) (facts_after facts kind) }
     // So each book does.
     ensures book { (first : Settings) (names : List Name) (base : ℕ) (book : List Event) → IsSameMachines (past_of book) (facts_over (start_of first names base) book) }
-    ensures count { (first : Settings) (names : List Name) (base : ℕ) (book : List Event) → length (facts_over (start_of first names base) book).agents ≡ length names }
+    ensures count { (first : Settings) (names : List Name) (base : ℕ) (book : List Event) → length (facts_over (start_of first names base) book).processes ≡ length names }
     // Writers by the law are those that the book's own definition gives, also of numbers that no member has.
     ensures writers { (book : List Event) → (past_of book).writes ≡ writes_over (λ n. false) book }
 {}

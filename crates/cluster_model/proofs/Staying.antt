@@ -7,7 +7,7 @@ use Rattle.event_book.specs.declared.agent_process.AgentProcess.{AgentProcess}
 use Rattle.event_book.specs.declared.event.EventKind.{EventKind}
 use Rattle.event_book.specs.declared.event.EventKind.TheVariants as kinds
 use Rattle.event_book.specs.Acknowledged.{acknowledged_after, commits_after}
-use Rattle.event_book.specs.Agents.{agents_after}
+use Rattle.event_book.specs.Processes.{processes_after}
 use Rattle.event_book.specs.Clock.{now_after}
 use Rattle.event_book.specs.Flight.{Flight, flight_after, sent_after}
 use Rattle.event_book.specs.Frozen.{frozen_after}
@@ -28,7 +28,7 @@ store-stays now known kinds.Tick time store = absurd (time refl)
 store-stays now known (kinds.Store happening) time store = absurd (store refl)
 store-stays now known _ time store = refl
 
-pub processes-stay : (states : List AgentProcess) (kind : EventKind) → concern_of kind ≢ Agents → concern_of kind ≢ Watchdogs → agents_after states kind ≡ states
+pub processes-stay : (states : List AgentProcess) (kind : EventKind) → concern_of kind ≢ Agents → concern_of kind ≢ Watchdogs → processes_after states kind ≡ states
 processes-stay states (kinds.Agent happening) agents watchdogs = absurd (agents refl)
 processes-stay states (kinds.Watchdog happening) agents watchdogs = absurd (watchdogs refl)
 processes-stay states _ agents watchdogs = refl

@@ -47,7 +47,7 @@ agent_facts_moved scope options members now known _ = known
 abbrev pub agent_facts_by : Cluster → AgentEvent → List (Option AgentFacts)
 agent_facts_by cluster (agents.Woken member) = agent_facts_with cluster.agents member (outcome_of cluster member Wake)
 agent_facts_by cluster (agents.Operated member action) = agent_facts_with cluster.agents member (outcome_of cluster member (Operated action))
-agent_facts_by cluster happening = agent_facts_moved cluster.scope cluster.options cluster.book.members cluster.book.clock cluster.agents happening
+agent_facts_by cluster happening = agent_facts_moved cluster.scope cluster.options cluster.facts.members cluster.facts.clock cluster.agents happening
 
 -- the agents after this message came to this receiver: the agent of a member acts on it, and none does at the key store
 abbrev pub agent_facts_reached_at : Cluster → InFlightFacts → LinkEnd → List (Option AgentFacts)
@@ -61,7 +61,7 @@ agent_facts_reached cluster (Some message) = agent_facts_reached_at cluster mess
 
 -- the agents after a message was sent, came or was lost
 abbrev pub agent_facts_by_message : Cluster → MessageEvent → List (Option AgentFacts)
-agent_facts_by_message cluster (messages.Delivered number) = agent_facts_reached cluster (in_flight cluster.book.flight number)
+agent_facts_by_message cluster (messages.Delivered number) = agent_facts_reached cluster (in_flight cluster.facts.flight number)
 agent_facts_by_message cluster _ = cluster.agents
 
 -- the agents after what happens to a watchdog: the reset of a machine ends its agent
@@ -78,7 +78,7 @@ agent_facts_after cluster _ = cluster.agents
 
 -- what one more event leaves
 abbrev pub cluster_after : Cluster → EventKind → Cluster
-cluster_after cluster kind = record { scope = cluster.scope; options = cluster.options; book = facts_after cluster.book kind; agents = agent_facts_after cluster kind }
+cluster_after cluster kind = record { scope = cluster.scope; options = cluster.options; facts = facts_after cluster.facts kind; agents = agent_facts_after cluster kind }
 
 -- what these events leave
 abbrev pub cluster_over : Cluster → List Event → Cluster

@@ -19,8 +19,8 @@ use Rattle.cluster_script.specs.declared.line.End.TheVariants as ends
 use Rattle.agent_model.specs.declared.machine.Machine.{Machine}
 
 -- an agent that runs and isn't suspended becomes suspended
-abbrev pub hold_of : Member → AgentProcess → Option EventKind
-hold_of member process = if process.running && not process.suspended then Some (kinds.Agent (Suspended member)) else None
+abbrev pub suspend_of : Member → AgentProcess → Option EventKind
+suspend_of member process = if process.running && not process.suspended then Some (kinds.Agent (Suspended member)) else None
 
 -- a suspended agent goes on
 abbrev pub resume_of : Member → AgentProcess → Option EventKind
@@ -63,8 +63,8 @@ disarm_of member None = None
 disarm_of member (Some machine) = if live machine.server.state then None else disarm_if member machine.watchdog.deadline
 
 -- an agent that doesn't run is started, in its next run; of one that runs it is said that it does
-abbrev pub restarted : Member → AgentProcess → EventKind
-restarted member process = if process.running then kinds.Note (AlreadyRunning member) else kinds.Agent (Started member (process.run + 1))
+abbrev pub agent_started : Member → AgentProcess → EventKind
+agent_started member process = if process.running then kinds.Note (AlreadyRunning member) else kinds.Agent (Started member (process.run + 1))
 
 -- an agent that starts does that to its watchdog; one that runs already doesn't
 abbrev pub disarm_at_start : Member → AgentProcess → Option Machine → Option EventKind

@@ -14,7 +14,7 @@ use Rattle.cluster_model.specs.State.{Cluster}
 
 -- the snapshot that a message carries
 abbrev pub snapshot_in : Cluster → InFlightFacts → SnapshotFacts
-snapshot_in cluster message = record { scope = cluster.scope; members = hosts_of cluster.options cluster.book.members; entries = message.snapshot }
+snapshot_in cluster message = record { scope = cluster.scope; members = hosts_of cluster.options cluster.facts.members; entries = message.snapshot }
 
 -- the member at this end of a link, if one is
 abbrev pub member_at_end : LinkEnd → Option MemberId

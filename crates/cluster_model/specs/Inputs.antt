@@ -16,7 +16,7 @@ use Rattle.cluster_model.specs.State.{Cluster}
 
 -- the moment of a cluster
 abbrev pub moment_of : Cluster → Ticks
-moment_of cluster = record { 0 = cluster.book.clock }
+moment_of cluster = record { 0 = cluster.facts.clock }
 
 -- the agent at a place, where one runs
 abbrev pub agent_at : List (Option AgentFacts) → ℕ → Option AgentFacts

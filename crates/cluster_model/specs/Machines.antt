@@ -66,8 +66,8 @@ machine_from receives _ _ _ _ _ = None
 -- diverge
 abbrev pub machine_of : Cluster → Member → Option Machine
 machine_of cluster member =
-    machine_from (is_some (source_of cluster.book.members cluster.book.servers cluster.book.cuts member)) (option_map (replication_of cluster.book.members cluster.book.servers cluster.book.cuts member) (slice_get cluster.book.servers member.id.number))
-    (slice_get cluster.options member.id.number) (slice_get cluster.book.deadlines member.id.number) (slice_get cluster.book.holds member.id.number) (slice_get cluster.book.servers member.id.number)
+    machine_from (is_some (source_of cluster.facts.members cluster.facts.servers cluster.facts.cuts member)) (option_map (replication_of cluster.facts.members cluster.facts.servers cluster.facts.cuts member) (slice_get cluster.facts.servers member.id.number))
+    (slice_get cluster.options member.id.number) (slice_get cluster.facts.deadlines member.id.number) (slice_get cluster.facts.holds member.id.number) (slice_get cluster.facts.servers member.id.number)
 
 -- the history of a server, none where there is no server
 abbrev pub points_from : Option ServerFacts → List HistoryPoint
@@ -76,7 +76,7 @@ points_from (Some s) = s.history
 
 -- the history of a member's server
 abbrev pub points_of : Cluster → Member → List HistoryPoint
-points_of cluster member = points_from (slice_get cluster.book.servers member.id.number)
+points_of cluster member = points_from (slice_get cluster.facts.servers member.id.number)
 
 -- these options, or those of a line without any
 abbrev pub options_or_unsaid : Option MemberOptions → MemberOptions

@@ -58,7 +58,7 @@ lost_at_once false number = []
 -- a message is sent under the next number; one that is sent beyond the most in flight is lost at once
 abbrev pub send_events : Cluster → Message → List Event
 send_events cluster message =
-    events_of cluster (kinds.Message (Sent (cluster.book.sent + 1) message) ∷ lost_at_once (nat_le most_in_flight (length cluster.book.flight)) (cluster.book.sent + 1))
+    events_of cluster (kinds.Message (Sent (cluster.facts.sent + 1) message) ∷ lost_at_once (nat_le most_in_flight (length cluster.facts.flight)) (cluster.facts.sent + 1))
 
 -- the message of a member's agent to this end of a link, in its run of this number
 abbrev pub agent_message : Member → LinkEnd → ℕ → ℕ → Body → Message
@@ -89,27 +89,27 @@ stop_events cluster member reason = for_some (server_at cluster member) (λ s. e
 
 -- the server of a member begins by the order of its agent, where it can
 abbrev pub begin_events : Cluster → Member → List Event
-begin_events cluster member = for_some (server_at cluster member) (λ s. events_of cluster (begin_kinds member cluster.book.acknowledged s))
+begin_events cluster member = for_some (server_at cluster member) (λ s. events_of cluster (begin_kinds member cluster.facts.acknowledged s))
 
 -- the server of a member starts again by the order of its agent
 abbrev pub server_restart_events : Cluster → Member → List Event
-server_restart_events cluster member = for_some (server_at cluster member) (λ s. events_of cluster (server_restart_kinds member cluster.book.acknowledged s))
+server_restart_events cluster member = for_some (server_at cluster member) (λ s. events_of cluster (server_restart_kinds member cluster.facts.acknowledged s))
 
 -- the log of a member's server is repaired by this leader's, if there is such a member, where it can be
 abbrev pub repair_events : Cluster → Member → Repair → Option Member → List Event
-repair_events cluster member repair leader = events_of cluster (kinds_of (option_and_then (repair_over cluster.book.cuts cluster.book.servers member repair) leader))
+repair_events cluster member repair leader = events_of cluster (kinds_of (option_and_then (repair_over cluster.facts.cuts cluster.facts.servers member repair) leader))
 
 -- what an output of the agent of a member comes to, on the message that it heard
 abbrev pub output_events : Member → HeardMessage → Cluster → Output → List Event
-output_events member heard cluster (outputs.Send to sequence body) = sending_events cluster member (slice_get cluster.book.agents member.id.number) (receiver_of cluster.book.members to) sequence body
-output_events member heard cluster (outputs.Answer to run sequence answer) = replying_events cluster member (receiver_of cluster.book.members (targets.Member to)) run sequence (bodies.Answer answer)
+output_events member heard cluster (outputs.Send to sequence body) = sending_events cluster member (slice_get cluster.facts.processes member.id.number) (receiver_of cluster.facts.members to) sequence body
+output_events member heard cluster (outputs.Answer to run sequence answer) = replying_events cluster member (receiver_of cluster.facts.members (targets.Member to)) run sequence (bodies.Answer answer)
 output_events member heard cluster outputs.Begin = begin_events cluster member
 output_events member heard cluster (outputs.Armed until) = events_of cluster (feed_kinds member heard (arming member until heard))
 output_events member heard cluster (outputs.Fed until) = events_of cluster (feed_kinds member heard (feeding member until heard))
-output_events member heard cluster (outputs.StartReplica leader) = replica_start_events cluster member (declared_member cluster.book.members leader)
+output_events member heard cluster (outputs.StartReplica leader) = replica_start_events cluster member (declared_member cluster.facts.members leader)
 output_events member heard cluster (outputs.Stop reason) = stop_events cluster member reason
 output_events member heard cluster (outputs.Restart as_primary) = server_restart_events cluster member
-output_events member heard cluster (outputs.Repair leader repair) = repair_events cluster member repair (slice_get cluster.book.members leader.number)
+output_events member heard cluster (outputs.Repair leader repair) = repair_events cluster member repair (slice_get cluster.facts.members leader.number)
 output_events member heard cluster output = events_of cluster (kinds_of (order_kind cluster member heard output))
 
 -- what the outputs of an input come to, one after another
@@ -134,7 +134,7 @@ turn_events_if cluster member process = if may_act process then wake_events_of c
 
 -- a script wakes the agent of a member, where there is one that may act
 abbrev pub turn_events : Cluster → Member → List Event
-turn_events cluster member = for_some (slice_get cluster.book.agents member.id.number) (turn_events_if cluster member)
+turn_events cluster member = for_some (slice_get cluster.facts.processes member.id.number) (turn_events_if cluster member)
 
 -- the agent of a member is woken, where it has something to do
 abbrev pub wake_events_if : Cluster → Member → AgentProcess → List Event
@@ -142,7 +142,7 @@ wake_events_if cluster member process = if is_to_wake (moment_of cluster) proces
 
 -- the agent of a member is woken, where there is one with something to do
 abbrev pub wake_events : Cluster → Member → List Event
-wake_events cluster member = for_some (slice_get cluster.book.agents member.id.number) (wake_events_if cluster member)
+wake_events cluster member = for_some (slice_get cluster.facts.processes member.id.number) (wake_events_if cluster member)
 
 -- an answer of the key store
 abbrev pub answer_message : Message → Body → Message
@@ -167,7 +167,7 @@ call_events_if cluster call body member process = if may_act process then for_so
 
 -- a script makes a request of the agent of a member
 abbrev pub call_events : Cluster → RestCall → List ℕ → Member → List Event
-call_events cluster call body member = for_some (slice_get cluster.book.agents member.id.number) (call_events_if cluster call body member)
+call_events cluster call body member = for_some (slice_get cluster.facts.processes member.id.number) (call_events_if cluster call body member)
 
 -- the names of the standbys that a request publishes
 abbrev pub published_names : List Member → Txn → List Name
@@ -188,12 +188,12 @@ decision_body number txn (Refusal key found) = bodies.Refused number key found
 abbrev pub decision_events : Cluster → ℕ → Message → Txn → Decision → LinkEnd → List Event
 decision_events cluster number message txn decision link_ends.Store = []
 decision_events cluster number message txn decision (link_ends.Member by) =
-    events_then cluster (event_of cluster (decision_kind cluster.book.members number by txn decision)) (λ later. send_events later (answer_message message (decision_body number txn decision)))
+    events_then cluster (event_of cluster (decision_kind cluster.facts.members number by txn decision)) (λ later. send_events later (answer_message message (decision_body number txn decision)))
 
 -- what the key store answers to a message that says this
 abbrev pub answer_events_by : Cluster → ℕ → Message → Body → List Event
 answer_events_by cluster number message bodies.Read = send_events cluster (answer_message message bodies.Snapshot)
-answer_events_by cluster number message (bodies.Request txn) = decision_events cluster number message txn (decision_on cluster.book.keys cluster.book.clock txn) message.from
+answer_events_by cluster number message (bodies.Request txn) = decision_events cluster number message txn (decision_on cluster.facts.keys cluster.facts.clock txn) message.from
 answer_events_by cluster number message _ = []
 
 -- the key store answers a read with a snapshot, and a request with its decision
@@ -227,7 +227,7 @@ message_events_by cluster number message deliveries.Gone = event_of cluster (kin
 
 -- a message in flight comes to its receiver, is lost, or is kept for a receiver that is suspended
 abbrev pub message_events : Cluster → ℕ → List Event
-message_events cluster number = for_some (in_flight cluster.book.flight number) (λ message. message_events_by cluster number message (delivery_of cluster.book.cuts cluster.book.agents message.message))
+message_events cluster number = for_some (in_flight cluster.facts.flight number) (λ message. message_events_by cluster number message (delivery_of cluster.facts.cuts cluster.facts.processes message.message))
 
 -- a script delivers a message where nothing stands in its way
 abbrev pub deliver_events_by : Cluster → ℕ → InFlightFacts → Delivery → List Event
@@ -239,7 +239,7 @@ deliver_events_by cluster number message deliveries.Gone = event_of cluster (kin
 -- a script delivers a message; a note says so where none of this number is in flight
 abbrev pub deliver_events : Cluster → ℕ → Option InFlightFacts → List Event
 deliver_events cluster number None = event_of cluster (kinds.Note (NoMessage number))
-deliver_events cluster number (Some message) = deliver_events_by cluster number message (delivery_of cluster.book.cuts cluster.book.agents message.message)
+deliver_events cluster number (Some message) = deliver_events_by cluster number message (delivery_of cluster.facts.cuts cluster.facts.processes message.message)
 
 -- a script loses a message that is in flight, wherever it goes
 abbrev pub lose_events : Cluster → ℕ → Option InFlightFacts → List Event

@@ -40,7 +40,7 @@ use Rattle.cluster_model.specs.Streaming.{link_of_members}
 
 -- the server of a member
 abbrev pub server_at : Cluster → Member → Option ServerFacts
-server_at cluster member = slice_get cluster.book.servers member.id.number
+server_at cluster member = slice_get cluster.facts.servers member.id.number
 
 -- the declared member of this number, if there is a number
 abbrev pub declared_member : List Member → Option MemberId → Option Member
@@ -159,12 +159,12 @@ told_of member _ = None
 
 -- what an order comes to that brings one event at most, at the member's server, on the message that was heard
 abbrev pub order_kind : Cluster → Member → HeardMessage → Output → Option EventKind
-order_kind cluster member heard (outputs.Follow leader) = option_and_then (upstream_of member (slice_get cluster.book.members leader.number)) (server_at cluster member)
+order_kind cluster member heard (outputs.Follow leader) = option_and_then (upstream_of member (slice_get cluster.facts.members leader.number)) (server_at cluster member)
 order_kind cluster member heard outputs.ShutDown = option_and_then (stop_of member) (server_at cluster member)
-order_kind cluster member heard (outputs.Require required) = option_and_then (require_of cluster.book.members member required) (server_at cluster member)
-order_kind cluster member heard (outputs.HoldTaken until from sequence) = option_map (hold_taken member until heard.run sequence) (slice_get cluster.book.members from.number)
+order_kind cluster member heard (outputs.Require required) = option_and_then (require_of cluster.facts.members member required) (server_at cluster member)
+order_kind cluster member heard (outputs.HoldTaken until from sequence) = option_map (hold_taken member until heard.run sequence) (slice_get cluster.facts.members from.number)
 order_kind cluster member heard outputs.Wipe = option_and_then (wipe_of member) (server_at cluster member)
-order_kind cluster member heard (outputs.HandsOver candidate) = option_map (handing_over member) (slice_get cluster.book.members candidate.number)
+order_kind cluster member heard (outputs.HandsOver candidate) = option_map (handing_over member) (slice_get cluster.facts.members candidate.number)
 order_kind cluster member heard (outputs.Told request told) = told_kind member (agent_at cluster.agents member.id.number) told
-order_kind cluster member heard (outputs.DoesNotRace bar) = Some (not_racing cluster.book.members member bar)
+order_kind cluster member heard (outputs.DoesNotRace bar) = Some (not_racing cluster.facts.members member bar)
 order_kind cluster member heard output = told_of member output

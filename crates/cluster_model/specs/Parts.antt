@@ -9,7 +9,7 @@ use Rattle.cluster_model.specs.State.{Cluster}
 
 -- one happening, at its moment
 abbrev pub event_of : Cluster → EventKind → List Event
-event_of cluster kind = record { tick = record { 0 = (cluster_after cluster kind).book.clock }; kind = kind } ∷ []
+event_of cluster kind = record { tick = record { 0 = (cluster_after cluster kind).facts.clock }; kind = kind } ∷ []
 
 -- happenings, one after another
 abbrev pub events_of : Cluster → List EventKind → List Event

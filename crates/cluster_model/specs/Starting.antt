@@ -16,7 +16,7 @@ options_of head = map (λ (member : MemberText). member.options) head.members
 
 -- the cluster of a head, but for its agents
 abbrev pub cluster_without_agents : HeadText → Cluster
-cluster_without_agents head = record { scope = head.cluster; options = options_of head; book = start_of head.config (names_of head) head.base; agents = [] }
+cluster_without_agents head = record { scope = head.cluster; options = options_of head; facts = start_of head.config (names_of head) head.base; agents = [] }
 
 -- the agent of a member at the beginning, in its first run: that of member number i has its first turn at tick i + 1
 abbrev pub first_agent : Name → List MemberOptions → List Member → Member → Option AgentFacts
@@ -26,4 +26,4 @@ first_agent scope options members member = Some (starting_agent (who_of scope op
 abbrev pub cluster_of : HeadText → Cluster
 cluster_of head =
     let cluster = cluster_without_agents head in
-    record cluster { agents = map (first_agent head.cluster cluster.options cluster.book.members) cluster.book.members }
+    record cluster { agents = map (first_agent head.cluster cluster.options cluster.facts.members) cluster.facts.members }

@@ -10,5 +10,5 @@ use Rattle.agent_model.specs.Agents.{AgentFacts}
 pub record Cluster : Type 0 where
   pub scope : Name
   pub options : List MemberOptions
-  pub book : Facts
+  pub facts : Facts
   pub agents : List (Option AgentFacts)

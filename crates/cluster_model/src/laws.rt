@@ -6,7 +6,7 @@ ghost use Rattle.pg_model.specs.Facts.{ServerFacts};
 ghost use Rattle.event_book.specs.declared.agent_process.AgentProcess.{AgentProcess};
 ghost use Rattle.event_book.specs.declared.event.EventKind.{EventKind};
 ghost use Rattle.event_book.specs.Acknowledged.{acknowledged_after, commits_after};
-ghost use Rattle.event_book.specs.Agents.{agents_after};
+ghost use Rattle.event_book.specs.Processes.{processes_after};
 ghost use Rattle.event_book.specs.Clock.{now_after};
 ghost use Rattle.event_book.specs.Flight.{Flight, flight_after, sent_after};
 ghost use Rattle.event_book.specs.Frozen.{frozen_after};
@@ -22,7 +22,7 @@ ghost use Rattle.cluster_model.specs.Concerns.{concern_of, Time, Messages, Store
 pub fn other_concerns_change_nothing()
     ensures clock { (now : ℕ) (kind : EventKind) → concern_of kind ≢ Time → now_after now kind ≡ now }
     ensures store { (now : ℕ) (known : Keys) (kind : EventKind) → concern_of kind ≢ Time → concern_of kind ≢ Store → keys_after now known kind ≡ known }
-    ensures processes { (states : List AgentProcess) (kind : EventKind) → concern_of kind ≢ Agents → concern_of kind ≢ Watchdogs → agents_after states kind ≡ states }
+    ensures processes { (states : List AgentProcess) (kind : EventKind) → concern_of kind ≢ Agents → concern_of kind ≢ Watchdogs → processes_after states kind ≡ states }
     ensures agents { (cluster : Cluster) (kind : EventKind) → concern_of kind ≢ Messages → concern_of kind ≢ Agents → concern_of kind ≢ Watchdogs → agent_facts_after cluster kind ≡ cluster.agents }
     ensures deadlines { (deadlines : List (Option Ticks)) (kind : EventKind) → concern_of kind ≢ Watchdogs → deadlines_after deadlines kind ≡ deadlines }
     ensures holds { (holds : List (Option Ticks)) (kind : EventKind) → concern_of kind ≢ Watchdogs → holds_after holds kind ≡ holds }

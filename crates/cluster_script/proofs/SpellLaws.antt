@@ -243,10 +243,10 @@ added line r e = ap (λ r. on_ok r (λ l. Ok (additions.Body l))) e
 
 command-IsSaid : (members : List Name) (c : Command) → 0 < length members → AreDifferent members → IsCommand members c → IsSaid members (lines.Command c)
 command-IsSaid members (commands.Turn m) some h is = record { keyword = words.Turn; words = member_text members m; text = refl; in_body = λ base body. added _ _ (ap (λ r. on_ok r (λ m. command (commands.Turn m))) (member-again members m some h is)) }
-command-IsSaid members (commands.Hold m) some h is = record { keyword = words.Hold; words = member_text members m; text = refl; in_body = λ base body. added _ _ (ap (λ r. on_ok r (λ m. command (commands.Hold m))) (member-again members m some h is)) }
+command-IsSaid members (commands.Suspend m) some h is = record { keyword = words.Hold; words = member_text members m; text = refl; in_body = λ base body. added _ _ (ap (λ r. on_ok r (λ m. command (commands.Suspend m))) (member-again members m some h is)) }
 command-IsSaid members (commands.Resume m) some h is = record { keyword = words.Resume; words = member_text members m; text = refl; in_body = λ base body. added _ _ (ap (λ r. on_ok r (λ m. command (commands.Resume m))) (member-again members m some h is)) }
 command-IsSaid members (commands.Kill m) some h is = record { keyword = words.Kill; words = member_text members m; text = refl; in_body = λ base body. added _ _ (ap (λ r. on_ok r (λ m. command (commands.Kill m))) (member-again members m some h is)) }
-command-IsSaid members (commands.Restart m) some h is = record { keyword = words.Restart; words = member_text members m; text = refl; in_body = λ base body. added _ _ (ap (λ r. on_ok r (λ m. command (commands.Restart m))) (member-again members m some h is)) }
+command-IsSaid members (commands.StartAgent m) some h is = record { keyword = words.Restart; words = member_text members m; text = refl; in_body = λ base body. added _ _ (ap (λ r. on_ok r (λ m. command (commands.StartAgent m))) (member-again members m some h is)) }
 command-IsSaid members (commands.Promote m) some h is = record { keyword = words.Promote; words = member_text members m; text = refl; in_body = λ base body. added _ _ (ap (λ r. on_ok r (λ m. command (commands.Promote m))) (member-again members m some h is)) }
 command-IsSaid members (commands.Crash m) some h is = record { keyword = words.Crash; words = member_text members m; text = refl; in_body = λ base body. added _ _ (ap (λ r. on_ok r (λ m. command (commands.Crash m))) (member-again members m some h is)) }
 command-IsSaid members (commands.Freeze m) some h is = record { keyword = words.Freeze; words = member_text members m; text = refl; in_body = λ base body. added _ _ (ap (λ r. on_ok r (λ m. command (commands.Freeze m))) (member-again members m some h is)) }

@@ -194,10 +194,10 @@ abbrev pub command_text : List Name → Command → List ℕ
 command_text members (commands.Turn member) = spelled words.Turn (member_text members member)
 command_text members (commands.Deliver n) = spelled words.Deliver (decimal n)
 command_text members (commands.Lose n) = spelled words.Lose (decimal n)
-command_text members (commands.Hold member) = spelled words.Hold (member_text members member)
+command_text members (commands.Suspend member) = spelled words.Hold (member_text members member)
 command_text members (commands.Resume member) = spelled words.Resume (member_text members member)
 command_text members (commands.Kill member) = spelled words.Kill (member_text members member)
-command_text members (commands.Restart member) = spelled words.Restart (member_text members member)
+command_text members (commands.StartAgent member) = spelled words.Restart (member_text members member)
 command_text members (commands.Promote member) = spelled words.Promote (member_text members member)
 command_text members (commands.Crash member) = spelled words.Crash (member_text members member)
 command_text members (commands.Commit member size) = spelled words.Commit (two_texts (member_text members member) (decimal size.bytes))
@@ -353,10 +353,10 @@ abbrev pub IsCommand : List Name → Command → Type 0
 IsCommand members (commands.Turn member) = IsMember members member
 IsCommand members (commands.Deliver n) = n < 2 ^ 64
 IsCommand members (commands.Lose n) = n < 2 ^ 64
-IsCommand members (commands.Hold member) = IsMember members member
+IsCommand members (commands.Suspend member) = IsMember members member
 IsCommand members (commands.Resume member) = IsMember members member
 IsCommand members (commands.Kill member) = IsMember members member
-IsCommand members (commands.Restart member) = IsMember members member
+IsCommand members (commands.StartAgent member) = IsMember members member
 IsCommand members (commands.Promote member) = IsMember members member
 IsCommand members (commands.Crash member) = IsMember members member
 IsCommand members (commands.Commit member size) = IsMember members member

@@ -33,13 +33,13 @@ pub enum Command {
     /// `lose I`: the message of this number is lost.
     Lose(u64),
     /// `hold M`: the agent of this member is suspended.
-    Hold(MemberId),
+    Suspend(MemberId),
     /// `resume M`: the agent of this member goes on.
     Resume(MemberId),
     /// `kill M`: the agent of this member ends.
     Kill(MemberId),
     /// `restart M`: the agent of this member is started again.
-    Restart(MemberId),
+    StartAgent(MemberId),
     /// `promote M`: the server of this member is promoted by its operator.
     Promote(MemberId),
     /// `crash M`: the server of this member ends without a shutdown.
@@ -74,10 +74,10 @@ impl Command {
             Command::Turn(member) => Command::Turn(*member),
             Command::Deliver(number) => Command::Deliver(*number),
             Command::Lose(number) => Command::Lose(*number),
-            Command::Hold(member) => Command::Hold(*member),
+            Command::Suspend(member) => Command::Suspend(*member),
             Command::Resume(member) => Command::Resume(*member),
             Command::Kill(member) => Command::Kill(*member),
-            Command::Restart(member) => Command::Restart(*member),
+            Command::StartAgent(member) => Command::StartAgent(*member),
             Command::Promote(member) => Command::Promote(*member),
             Command::Crash(member) => Command::Crash(*member),
             Command::Commit(member, size) => Command::Commit(*member, *size),

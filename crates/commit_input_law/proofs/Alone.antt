@@ -84,9 +84,9 @@ free-may facts (kinds.Watchdog (watchdogs.Measured member since)) free = tt
 free-may facts (kinds.Note note) free = tt
 free-may facts _ free = absurd free
 
-free-follow : (cluster : Cluster) (list : List EventKind) → AllKinds IsFree list → MayFollow cluster.book (events_of cluster list)
+free-follow : (cluster : Cluster) (list : List EventKind) → AllKinds IsFree list → MayFollow cluster.facts (events_of cluster list)
 free-follow cluster [] all = tt
-free-follow cluster (kind ∷ more) all = (free-may cluster.book kind all.0, free-follow (cluster_after cluster kind) more all.1)
+free-follow cluster (kind ∷ more) all = (free-may cluster.facts kind all.0, free-follow (cluster_after cluster kind) more all.1)
 
 following-free : (member : Member) (leader : Option Member) → HoldsIf IsFree (following_of member leader)
 following-free member None = tt
@@ -114,17 +114,17 @@ wipe-still member false = tt
 
 -- ---- the outputs
 module _ (setup : Setup) (member : Member) where
-  free-moves : (past : Past) (cluster : Cluster) (list : List EventKind) → Fits past cluster.book (volatile_of cluster) → AllKinds IsFree list → Moves setup past cluster (events_of cluster list)
+  free-moves : (past : Past) (cluster : Cluster) (list : List EventKind) → Fits past cluster.facts (volatile_of cluster) → AllKinds IsFree list → Moves setup past cluster (events_of cluster list)
   free-moves past cluster list fits free =
       moves-follow setup past cluster (events_of cluster list) fits (all-more IsFree IsStill (events_of cluster list) free-still (all-kinds IsFree cluster list free)) (free-follow cluster list free)
 
-  starts-moves : (past : Past) (cluster : Cluster) (leader : Option Member) (found : Option ServerFacts) → Fits past cluster.book (volatile_of cluster)
+  starts-moves : (past : Past) (cluster : Cluster) (leader : Option Member) (found : Option ServerFacts) → Fits past cluster.facts (volatile_of cluster)
       → Moves setup past cluster (for_some found (λ s. events_of cluster (replica_start_kinds member leader s)))
   starts-moves past cluster leader None fits = moves-none setup past cluster fits
   starts-moves past cluster leader (Some s) fits = free-moves past cluster (replica_start_kinds member leader s) fits (starts-free member leader (is_down s.state))
 
   -- the agent says why it ends its server, and does
-  stops-moves : (past : Past) (cluster : Cluster) (reason : Reason) (found : Option ServerFacts) → server_at cluster member ≡ found → Fits past cluster.book (volatile_of cluster)
+  stops-moves : (past : Past) (cluster : Cluster) (reason : Reason) (found : Option ServerFacts) → server_at cluster member ≡ found → Fits past cluster.facts (volatile_of cluster)
       → Moves setup past cluster (for_some found (λ s. events_of cluster (stop_kinds member reason s)))
   stops-moves past cluster reason None is fits = moves-none setup past cluster fits
   stops-moves past cluster reason (Some s) is fits =
@@ -133,17 +133,17 @@ module _ (setup : Setup) (member : Member) where
       moves-then setup past cluster (event_of cluster note) (events_of later (kinds_of (stop_of member s))) (free-moves past cluster (note ∷ []) fits (tt, tt))
       (λ told. stop-moves setup (past_over past (event_of cluster note)) later told member s is)
 
-  shuts-moves : (past : Past) (cluster : Cluster) (found : Option ServerFacts) → server_at cluster member ≡ found → Fits past cluster.book (volatile_of cluster)
+  shuts-moves : (past : Past) (cluster : Cluster) (found : Option ServerFacts) → server_at cluster member ≡ found → Fits past cluster.facts (volatile_of cluster)
       → Moves setup past cluster (events_of cluster (kinds_of (option_and_then (stop_of member) found)))
   shuts-moves past cluster None is fits = moves-none setup past cluster fits
   shuts-moves past cluster (Some s) is fits = stop-moves setup past cluster fits member s is
 
-  restarts-moves : (past : Past) (cluster : Cluster) (found : Option ServerFacts) → server_at cluster member ≡ found → Fits past cluster.book (volatile_of cluster)
-      → Moves setup past cluster (for_some found (λ s. events_of cluster (server_restart_kinds member cluster.book.acknowledged s)))
+  restarts-moves : (past : Past) (cluster : Cluster) (found : Option ServerFacts) → server_at cluster member ≡ found → Fits past cluster.facts (volatile_of cluster)
+      → Moves setup past cluster (for_some found (λ s. events_of cluster (server_restart_kinds member cluster.facts.acknowledged s)))
   restarts-moves past cluster None is fits = moves-none setup past cluster fits
   restarts-moves past cluster (Some s) is fits = restart-moves setup past cluster fits member s is
 
-  wipes-moves : (past : Past) (cluster : Cluster) (found : Option ServerFacts) → server_at cluster member ≡ found → Fits past cluster.book (volatile_of cluster)
+  wipes-moves : (past : Past) (cluster : Cluster) (found : Option ServerFacts) → server_at cluster member ≡ found → Fits past cluster.facts (volatile_of cluster)
       → Moves setup past cluster (events_of cluster (kinds_of (option_and_then (wipe_of member) found)))
   wipes-moves past cluster None is fits = moves-none setup past cluster fits
   wipes-moves past cluster (Some s) is fits =
@@ -151,28 +151,28 @@ module _ (setup : Setup) (member : Member) where
       moves-follow setup past cluster (events_of cluster (kinds_of kind)) fits (all-kinds IsStill cluster (kinds_of kind) (one-kind IsStill kind (wipe-still member (is_creating s.state || live s.state))))
       (wipe-follow cluster member s is)
 
-  repair-moves : (past : Past) (cluster : Cluster) (repair : Repair) (leader : Option Member) → Fits past cluster.book (volatile_of cluster) → Moves setup past cluster (repair_events cluster member repair leader)
+  repair-moves : (past : Past) (cluster : Cluster) (repair : Repair) (leader : Option Member) → Fits past cluster.facts (volatile_of cluster) → Moves setup past cluster (repair_events cluster member repair leader)
   repair-moves past cluster repair leader fits =
-      let kind : Option EventKind = option_and_then (repair_over cluster.book.cuts cluster.book.servers member repair) leader in
+      let kind : Option EventKind = option_and_then (repair_over cluster.facts.cuts cluster.facts.servers member repair) leader in
       moves-follow setup past cluster (repair_events cluster member repair leader) fits
-      (all-kinds IsStill cluster (kinds_of kind) (one-kind IsStill kind (repaired-holds IsStill cluster.book.cuts cluster.book.servers member repair leader (λ other r. tt) (λ other. tt))))
+      (all-kinds IsStill cluster (kinds_of kind) (one-kind IsStill kind (repaired-holds IsStill cluster.facts.cuts cluster.facts.servers member repair leader (λ other r. tt) (λ other. tt))))
       (repair-follow cluster member repair leader)
 
   module _ (message : HeardMessage) where
-    output-moves : (past : Past) (cluster : Cluster) (output : Output) → Fits past cluster.book (volatile_of cluster) → IsOfTable output → StandsAlone output → AnswersNone output
+    output-moves : (past : Past) (cluster : Cluster) (output : Output) → Fits past cluster.facts (volatile_of cluster) → IsOfTable output → StandsAlone output → AnswersNone output
         → Moves setup past cluster (output_events member message cluster output)
     output-moves past cluster (outputs.Send targets.Store sequence body) fits table alone answers =
-        question-moves setup member past cluster (slice_get cluster.book.agents member.id.number) sequence body fits alone
+        question-moves setup member past cluster (slice_get cluster.facts.processes member.id.number) sequence body fits alone
     output-moves past cluster (outputs.Send (targets.Member id) sequence body) fits table alone answers =
-        member-moves setup member past cluster (slice_get cluster.book.agents member.id.number) (slice_get cluster.book.members id.number) sequence body fits table
+        member-moves setup member past cluster (slice_get cluster.facts.processes member.id.number) (slice_get cluster.facts.members id.number) sequence body fits table
     output-moves past cluster (outputs.Answer to run sequence answer) fits table alone answers = absurd answers
     output-moves past cluster outputs.Begin fits table alone answers = absurd alone
-    output-moves past cluster (outputs.StartReplica leader) fits table alone answers = starts-moves past cluster (declared_member cluster.book.members leader) (server_at cluster member) fits
+    output-moves past cluster (outputs.StartReplica leader) fits table alone answers = starts-moves past cluster (declared_member cluster.facts.members leader) (server_at cluster member) fits
     output-moves past cluster (outputs.Stop reason) fits table alone answers = stops-moves past cluster reason (server_at cluster member) refl fits
     output-moves past cluster (outputs.Follow leader) fits table alone answers =
-        let kind : Option EventKind = option_and_then (upstream_of member (slice_get cluster.book.members leader.number)) (server_at cluster member) in
-        free-moves past cluster (kinds_of kind) fits (one-kind IsFree kind (holds-then IsFree (upstream_of member (slice_get cluster.book.members leader.number)) (server_at cluster member)
-        (λ s. upstream-free member (slice_get cluster.book.members leader.number) (is_replica s.state))))
+        let kind : Option EventKind = option_and_then (upstream_of member (slice_get cluster.facts.members leader.number)) (server_at cluster member) in
+        free-moves past cluster (kinds_of kind) fits (one-kind IsFree kind (holds-then IsFree (upstream_of member (slice_get cluster.facts.members leader.number)) (server_at cluster member)
+        (λ s. upstream-free member (slice_get cluster.facts.members leader.number) (is_replica s.state))))
     output-moves past cluster (outputs.Require required) fits table alone answers = absurd alone
     output-moves past cluster (outputs.Armed until) fits table alone answers = free-moves past cluster (feed_kinds member message (arming member until message)) fits (tt, (tt, tt))
     output-moves past cluster (outputs.Fed until) fits table alone answers = free-moves past cluster (feed_kinds member message (feeding member until message)) fits (tt, (tt, tt))
@@ -184,19 +184,19 @@ module _ (setup : Setup) (member : Member) where
     output-moves past cluster outputs.PostponesPromotion fits table alone answers = free-moves past cluster (kinds_of (order_kind cluster member message outputs.PostponesPromotion)) fits (tt, tt)
     output-moves past cluster (outputs.DoesNotRace bar) fits table alone answers = free-moves past cluster (kinds_of (order_kind cluster member message (outputs.DoesNotRace bar))) fits (tt, tt)
     output-moves past cluster outputs.ShutDown fits table alone answers = shuts-moves past cluster (server_at cluster member) refl fits
-    output-moves past cluster (outputs.Repair leader repair) fits table alone answers = repair-moves past cluster repair (slice_get cluster.book.members leader.number) fits
+    output-moves past cluster (outputs.Repair leader repair) fits table alone answers = repair-moves past cluster repair (slice_get cluster.facts.members leader.number) fits
     output-moves past cluster (outputs.HoldTaken until from sequence) fits table alone answers = absurd table
     output-moves past cluster (outputs.Restart as_primary) fits table alone answers = restarts-moves past cluster (server_at cluster member) refl fits
     output-moves past cluster outputs.Wipe fits table alone answers = wipes-moves past cluster (server_at cluster member) refl fits
     output-moves past cluster (outputs.HandsOver candidate) fits table alone answers =
-        let kind : Option EventKind = option_map (handing_over member) (slice_get cluster.book.members candidate.number) in
-        free-moves past cluster (kinds_of kind) fits (one-kind IsFree kind (noted-free (λ next. notes.HandsOver member next) (slice_get cluster.book.members candidate.number)))
+        let kind : Option EventKind = option_map (handing_over member) (slice_get cluster.facts.members candidate.number) in
+        free-moves past cluster (kinds_of kind) fits (one-kind IsFree kind (noted-free (λ next. notes.HandsOver member next) (slice_get cluster.facts.members candidate.number)))
     output-moves past cluster (outputs.Told request told) fits table alone answers =
         let kind : Option EventKind = told_kind member (agent_at cluster.agents member.id.number) told in
         free-moves past cluster (kinds_of kind) fits (one-kind IsFree kind (told-free member (agent_at cluster.agents member.id.number) told))
 
     -- outputs that stand alone, of which none answers a member, are actions one after another, wherever servers fit
-    pub alone-moves : (past : Past) (cluster : Cluster) (outs : List Output) → Fits past cluster.book (volatile_of cluster) → All IsOfTable outs → All StandsAlone outs → All AnswersNone outs
+    pub alone-moves : (past : Past) (cluster : Cluster) (outs : List Output) → Fits past cluster.facts (volatile_of cluster) → All IsOfTable outs → All StandsAlone outs → All AnswersNone outs
         → Moves setup past cluster (each (output_events member message) cluster outs)
     alone-moves past cluster [] fits table alone answers = moves-none setup past cluster fits
     alone-moves past cluster (output ∷ more) fits table alone answers =

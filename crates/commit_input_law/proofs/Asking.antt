@@ -253,7 +253,7 @@ module _ (member : Member) (run heard : ℕ) (outs : List Output) (Q : Output �
 -- ---- an input of an agent in a run
 module _ (head : HeadText) (book : List Event) (cluster : Cluster) (good : CommitsBridged head book cluster) (member : Member) (agent : AgentFacts) (machine : Machine) (found : IsFound cluster member machine)
     (here : slice_get cluster.agents member.id.number ≡ Some (Some agent)) (heard : Heard) (hn : Option ℕ) (message : HeardMessage) (opening : EventKind) (opens : IsOpening hn opening)
-    (numbered : (n : ℕ) → hn ≡ Some n → (message.number ≡ n) × (n ≤ cluster.book.sent)) (low : message.number ≤ cluster.book.sent) where
+    (numbered : (n : ℕ) → hn ≡ Some n → (message.number ≡ n) × (n ≤ cluster.facts.sent)) (low : message.number ≤ cluster.facts.sent) where
   abbrev After : Outcome
   After = step (moment_of cluster) (points_of cluster member) heard (made agent.role agent.knows machine [])
 
@@ -261,7 +261,7 @@ module _ (head : HeadText) (book : List Event) (cluster : Cluster) (good : Commi
   First = cluster_after cluster opening
 
   abbrev Events : List Event
-  Events = record { tick = record { 0 = First.book.clock }; kind = opening } ∷ each (output_events member message) First After.outputs
+  Events = record { tick = record { 0 = First.facts.clock }; kind = opening } ∷ each (output_events member message) First After.outputs
 
   abbrev Named : lease_past.Past
   Named = lease_past.past_of book
@@ -279,7 +279,7 @@ module _ (head : HeadText) (book : List Event) (cluster : Cluster) (good : Commi
       (sym (agents-are head book cluster good.lease member agent machine found here heard hn message opening opens numbered low acts))
       (agents-synchronous (member_count head) member Named.clock (moment_of cluster) agent After Named.asked (lease_past.past_over Named Events).asked P.asked (past_over P Events).asked cluster.agents here
       (small head book cluster good.lease member agent machine found here heard hn message opening opens numbered low)
-      (asked-behind member agent.knows.run message.number After.outputs Q (λ sequence body is. is.0) Named P cluster.book hn (record { tick = record { 0 = First.book.clock }; kind = opening })
+      (asked-behind member agent.knows.run message.number After.outputs Q (λ sequence body is. is.0) Named P cluster.facts hn (record { tick = record { 0 = First.facts.clock }; kind = opening })
       (each (output_events member message) First After.outputs) good.lease.matched.flight opens
       (mine head book cluster good.lease member agent machine found here heard hn message opening opens numbered low)
       (numbers head book cluster good.lease member agent machine found here heard hn message opening opens numbered low))

@@ -144,7 +144,7 @@ module _ (head : HeadText) (book : List Event) (cluster : Cluster) (good : Commi
     required-is = ap (λ (m : Machine). m.replication.required) (carried-out head book cluster good a).machine_is
         ∙ ap (λ (l : List Output). (machine_after_outputs (moment_of cluster) a.machine l).replication.required) (sym whole) ∙ required-set (moment_of cluster) a.machine front required behind none
 
-    module _ (sent : SendsInside head book cluster good a None) (s : ServerFacts) (found : slice_get cluster.book.servers M ≡ Some s) where
+    module _ (sent : SendsInside head book cluster good a None) (s : ServerFacts) (found : slice_get cluster.facts.servers M ≡ Some s) where
       grows : GrowsByConnected (Before head book cluster good a) ((state_of_run head book cluster).members M).required (need_in required)
       grows = subst (λ (r : Required). GrowsByConnected (Before head book cluster good a) ((state_of_run head book cluster).members M).required (need_in r)) required-is
           (grows-by (moment_of cluster) a.heard (Before head book cluster good a) (state_of_run head book cluster) M (Theirs head book cluster good a None) (Lawful None sent).lawful.was (Lawful None sent).lawful.does (Lawful None sent).does)
@@ -152,16 +152,16 @@ module _ (head : HeadText) (book : List Event) (cluster : Cluster) (good : Commi
       pub waits : WaitsForMembers required
       waits = grown-waits head book cluster good few a.member a.machine a.machine_is a.agent s found required grows
 
-      pub there : slice_get Reached.book.servers M ≡ Some s
+      pub there : slice_get Reached.facts.servers M ≡ Some s
       there = ap (λ (known : List ServerFacts). slice_get known M) (front-servers head book cluster good a front (carried front covered) of_table) ∙ found
 
       abbrev pub Set_ : List Event
       Set_ = Part head book cluster good a Reached (outputs.Require required)
 
-      set-is : events_of Reached (kinds_of (require_of Reached.book.members a.member required s)) ≡ Set_
-      set-is = ap (λ (o : Option ServerFacts). events_of Reached (kinds_of (option_and_then (require_of Reached.book.members a.member required) o))) (sym there)
+      set-is : events_of Reached (kinds_of (require_of Reached.facts.members a.member required s)) ≡ Set_
+      set-is = ap (λ (o : Option ServerFacts). events_of Reached (kinds_of (option_and_then (require_of Reached.facts.members a.member required) o))) (sym there)
 
-      sets-to : (states : ℕ → VolatileState) (lives : (n : ℕ) → (states n).live ≡ live_in cluster.book.servers n)
+      sets-to : (states : ℕ → VolatileState) (lives : (n : ℕ) → (states n).live ≡ live_in cluster.facts.servers n)
           → Sets (past_over P Up) Reached a.member states (front-fits head book cluster good a front (carried front covered) of_table states lives) required waits s there Set_
       sets-to states lives =
           subst (λ (l : List Event). Sets (past_over P Up) Reached a.member states (front-fits head book cluster good a front (carried front covered) of_table states lives) required waits s there l) set-is
@@ -186,10 +186,10 @@ module _ (head : HeadText) (book : List Event) (cluster : Cluster) (good : Commi
         live = ap (λ (p : Past). p.holder_was_live) past-both ∙ now-set.live ∙ front-live head book cluster good a front (carried front covered) of_table;
         needs = ap (λ (p : Past). need_of (slice_get p.required M)) past-both ∙ now-set.needs ∙ ap need_in (sym required-is);
         acted = ap (λ (c : Cluster). c.agents) reached-both ∙ now-set.agents_same ∙ front-acted head book cluster good a front (carried front covered) of_table;
-        lives = λ n. ap (λ (c : Cluster). live_in c.book.servers n) reached-both ∙ now-set.lives n ∙ front-lives head book cluster good a front (carried front covered) of_table n;
+        lives = λ n. ap (λ (c : Cluster). live_in c.facts.servers n) reached-both ∙ now-set.lives n ∙ front-lives head book cluster good a front (carried front covered) of_table n;
         fits = λ states lives.
-            subst (λ (p : Past). Fits p (cluster_over cluster (Up ++ Set_)).book states) (sym past-both)
-            (subst (λ (c : Cluster). Fits (past_over (past_over P Up) Set_) c.book states) (sym reached-both) (sets-to states lives).fits_behind);
+            subst (λ (p : Past). Fits p (cluster_over cluster (Up ++ Set_)).facts states) (sym past-both)
+            (subst (λ (c : Cluster). Fits (past_over (past_over P Up) Set_) c.facts states) (sym reached-both) (sets-to states lives).fits_behind);
         sent = sent;
       }
 
@@ -206,7 +206,7 @@ module _ (head : HeadText) (book : List Event) (cluster : Cluster) (good : Commi
       ∙ sym (append_assoc up set (each (Part head book cluster good a) (cluster_over reached set) behind))
 
   -- the server that the machine is of
-  pub server-found : (s : ServerFacts) × (slice_get cluster.book.servers M ≡ Some s) × (s.state ≡ a.machine.server.state)
+  pub server-found : (s : ServerFacts) × (slice_get cluster.facts.servers M ≡ Some s) × (s.state ≡ a.machine.server.state)
   server-found = let found = found-of cluster a.member a.machine a.machine_is in (found.mirrors.server.server, found.mirrors.server.is, ap (λ (x : MachineSeen). x.state) found.mirrors.server.seen_is)
 
   -- the required list is the last

@@ -54,7 +54,7 @@ log-ends s m (Some found) None end is at ends = absurd ends
 log-ends s m (Some found) (Some log) end is at ends = record { log = record { entries = log; is = at }; end_is = ap (λ (e : Lsn). e.position) (sym (some-is found end is)) ∙ ends }
 
 -- members stay
-members-over : (cluster : Cluster) (events : List Event) → (cluster_over cluster events).book.members ≡ cluster.book.members
+members-over : (cluster : Cluster) (events : List Event) → (cluster_over cluster events).facts.members ≡ cluster.facts.members
 members-over cluster [] = refl
 members-over cluster (event ∷ events) = members-over (cluster_after cluster event.kind) events
 
@@ -139,7 +139,7 @@ module _ (head : HeadText) (book : List Event) (cluster : Cluster) (good : Commi
       log-same : ((state_of_run head book cluster).members M).log ≡ (Later.members M).log
       log-same = ap (λ (t : Told). log_found (slice_get t.logs M)) (sym (front-told head book cluster good a Stood.outputs (carried Stood.outputs covered) of_table))
 
-  pub answers-moves : ((peer : Member) → slice_get cluster.book.members from.number ≡ Some peer → IsNumbered ((state_of_run head book cluster).members peer.id.number) run sequence) → Moves Law P cluster (Events head book cluster good a)
+  pub answers-moves : ((peer : Member) → slice_get cluster.facts.members from.number ≡ Some peer → IsNumbered ((state_of_run head book cluster).members peer.id.number) run sequence) → Moves Law P cluster (Events head book cluster good a)
   answers-moves asks = subst (λ (l : List Event). Moves Law P cluster l) (sym whole-events)
       (moves-then Law P cluster Upto Replying (page-moves head book cluster good a Upto None page (none-begins Outs begins-none) (given-none head book cluster good few a page.sent))
       (λ fits. answer-moves Law a.member (past_over P Upto) Reached from run sequence Reply fits (λ peer is. numbered peer.id.number (asks peer (ap (λ (members : List Member). slice_get members from.number) (sym (members-over cluster Upto)) ∙ is))) ends))

@@ -155,7 +155,7 @@ module _ (head : HeadText) (book : List Event) (cluster : Cluster) (good : Commi
   Reached = cluster_over cluster Upto
 
   abbrev Number : ℕ
-  Number = Reached.book.sent + 1
+  Number = Reached.facts.sent + 1
 
   abbrev Says : Message
   Says = agent_message a.member ends.Store a.agent.knows.run sequence body
@@ -167,13 +167,13 @@ module _ (head : HeadText) (book : List Event) (cluster : Cluster) (good : Commi
   Asked = event_of Reached Kind
 
   abbrev Lost : List Event
-  Lost = events_of (cluster_after Reached Kind) (lost_at_once (nat_le most_in_flight (length Reached.book.flight)) Number)
+  Lost = events_of (cluster_after Reached Kind) (lost_at_once (nat_le most_in_flight (length Reached.facts.flight)) Number)
 
   abbrev Covered : List Event
   Covered = Upto ++ Asked
 
   -- ---- its events
-  knows : KnowsItself M (slice_get cluster.book.agents M) a.agent
+  knows : KnowsItself M (slice_get cluster.facts.processes M) a.agent
   knows = good.lease.matched.agents M a.agent a.here
 
   asks-is : Part head book cluster good a Reached Question ≡ Asked ++ Lost
@@ -223,7 +223,7 @@ module _ (head : HeadText) (book : List Event) (cluster : Cluster) (good : Commi
   flight-now : (i : ℕ) → (past_after (past_over P Upto) Kind).flight i ≡ send Sends (forget a.number P.flight) i
   flight-now i =
       ap (λ (o : Option Flying). put_at (past_over P Upto).flight Number o i) (body-flying M a.agent.knows.run sequence body)
-      ∙ flight-under Request (past_over P Upto).flight (forget a.number P.flight) Number i (none-reached Number (next Reached.book.sent)) (front-flight head book cluster good a front all of_table)
+      ∙ flight-under Request (past_over P Upto).flight (forget a.number P.flight) Number i (none-reached Number (next Reached.facts.sent)) (front-flight head book cluster good a front all of_table)
     where
       next : (n : ℕ) → n < n + 1
       next n = omega arith
@@ -244,21 +244,21 @@ module _ (head : HeadText) (book : List Event) (cluster : Cluster) (good : Commi
     live = ap (λ (p : Past). p.holder_was_live) past-both ∙ live-body (past_over P Upto).holder_was_live (past_over P Upto).leader a.member (member_count head) body synchronous ∙ front-live head book cluster good a front all of_table;
     needs = ap (λ (p : Past). need_of (slice_get p.required M)) past-both ∙ front-needs head book cluster good a front all of_table requires-none;
     acted = ap (λ (c : Cluster). c.agents) reached-both ∙ front-acted head book cluster good a front all of_table;
-    lives = λ n. ap (λ (c : Cluster). live_in c.book.servers n) reached-both ∙ front-lives head book cluster good a front all of_table n;
+    lives = λ n. ap (λ (c : Cluster). live_in c.facts.servers n) reached-both ∙ front-lives head book cluster good a front all of_table n;
     fits = λ states lives.
-        subst (λ (p : Past). Fits p (cluster_over cluster Covered).book states) (sym past-both)
-        (subst (λ (c : Cluster). Fits (past_after (past_over P Upto) Kind) c.book states) (sym reached-both)
-        (fits-aside (past_over P Upto) Reached.book states Kind tt (front-fits head book cluster good a front all of_table states lives)));
+        subst (λ (p : Past). Fits p (cluster_over cluster Covered).facts states) (sym past-both)
+        (subst (λ (c : Cluster). Fits (past_after (past_over P Upto) Kind) c.facts states) (sym reached-both)
+        (fits-aside (past_over P Upto) Reached.facts states Kind tt (front-fits head book cluster good a front all of_table states lives)));
     sent = record { sent = sent; inside = inside };
   }
 
   -- what it brings changes nothing of which commits being kept speaks
   pub asks-leave : AllLeaveCommits (Events head book cluster good a)
-  asks-leave = subst (λ (l : List Event). AllLeaveCommits l) (sym whole-events) (leave-both Covered Lost asked-leaves (lost-leave (cluster_after Reached Kind) (nat_le most_in_flight (length Reached.book.flight)) Number))
+  asks-leave = subst (λ (l : List Event). AllLeaveCommits l) (sym whole-events) (leave-both Covered Lost asked-leaves (lost-leave (cluster_after Reached Kind) (nat_le most_in_flight (length Reached.facts.flight)) Number))
 
   -- nor of which their order speaks
   pub asks-aside : AllLeaveOrder (Events head book cluster good a)
-  asks-aside = subst (λ (l : List Event). AllLeaveOrder l) (sym whole-events) (leave-then Covered Lost asked-aside (lost-aside (cluster_after Reached Kind) (nat_le most_in_flight (length Reached.book.flight)) Number))
+  asks-aside = subst (λ (l : List Event). AllLeaveOrder l) (sym whole-events) (leave-then Covered Lost asked-aside (lost-aside (cluster_after Reached Kind) (nat_le most_in_flight (length Reached.facts.flight)) Number))
 
   -- ---- who asks to publish does so in order
   here-behind : slice_get Reached.agents M ≡ Some (agent_after (Some (After head book cluster good a)) (Some a.agent))
@@ -299,7 +299,7 @@ module _ (head : HeadText) (book : List Event) (cluster : Cluster) (good : Commi
       (order-then P cluster Covered Lost
       (order-then P cluster Upto Asked (front-ordered head book cluster good a front all of_table) (asked, tt))
       (subst (λ (c : Cluster). AllInOrder (past_over P Covered) c Lost) (sym reached-both)
-      (lost-ordered (past_over P Covered) (cluster_after Reached Kind) (nat_le most_in_flight (length Reached.book.flight)) Number)))
+      (lost-ordered (past_over P Covered) (cluster_after Reached Kind) (nat_le most_in_flight (length Reached.facts.flight)) Number)))
 
   -- it is allowed actions, where the timed lease gives what it is to
   pub asks-moves : (inside : has_one is_passing Outs ≡ false)
@@ -308,4 +308,4 @@ module _ (head : HeadText) (book : List Event) (cluster : Cluster) (good : Commi
   asks-moves inside given = subst (λ (l : List Event). Moves Law P cluster l) (sym whole-events)
       (moves-then Law P cluster Covered Lost (page-moves head book cluster good a Covered Sends (page inside) (none-begins Outs begins-none) given)
       (λ fits. subst (λ (c : Cluster). Moves Law (past_over P Covered) c Lost) (sym reached-both)
-      (lost-moves Law (past_over P Covered) (cluster_after Reached Kind) (nat_le most_in_flight (length Reached.book.flight)) Number (subst (λ (c : Cluster). Fits (past_over P Covered) c.book (volatile_of c)) reached-both fits))))
+      (lost-moves Law (past_over P Covered) (cluster_after Reached Kind) (nat_le most_in_flight (length Reached.facts.flight)) Number (subst (λ (c : Cluster). Fits (past_over P Covered) c.facts (volatile_of c)) reached-both fits))))

@@ -180,29 +180,29 @@ module _ (head : HeadText) (book : List Event) (cluster : Cluster) (good : Commi
   lives-ahead = ap (λ (b : Bool). if b then live (After head book cluster good a).machine.server.state else live a.machine.server.state) begins-it ∙ lives-after
 
   -- the books have the server live behind them all
-  lives-behind : live_in (cluster_over Ready Begun).book.servers M ≡ true
+  lives-behind : live_in (cluster_over Ready Begun).facts.servers M ≡ true
   lives-behind =
-      ap (λ (c : Cluster). live_in c.book.servers M) (sym (over-append cluster Covered Begun))
-      ∙ ap (λ (l : List Event). live_in (cluster_over cluster l).book.servers M) (sym whole-events)
-      ∙ live-same (slice_get (cluster_over cluster (Events head book cluster good a)).book.servers M)
+      ap (λ (c : Cluster). live_in c.facts.servers M) (sym (over-append cluster Covered Begun))
+      ∙ ap (λ (l : List Event). live_in (cluster_over cluster l).facts.servers M) (sym whole-events)
+      ∙ live-same (slice_get (cluster_over cluster (Events head book cluster good a)).facts.servers M)
       ∙ (resembles-later head book cluster good.lease a.member a.agent a.machine (found-of cluster a.member a.machine a.machine_is) a.here a.heard a.number a.message a.opening a.opening_is a.numbered a.low a.acts).lives
       ∙ lives-after
 
-  ahead : IsLiveAhead (Ahead head book cluster good a) Ready.book.servers M
+  ahead : IsLiveAhead (Ahead head book cluster good a) Ready.facts.servers M
   ahead = record {
     here = ap (λ (state : VolatileState). state.live) (put-here (volatile_of cluster) M _) ∙ lives-ahead;
     others = λ n other. ap (λ (state : VolatileState). state.live) (put-there (volatile_of cluster) M _ n other) ∙ sym (page.lives n);
   }
 
-  fits : Fits (past_over P Covered) Ready.book (volatile_of Ready)
+  fits : Fits (past_over P Covered) Ready.facts (volatile_of Ready)
   fits = page.fits (volatile_of Ready) page.lives
 
   -- the server is there, and has data
-  server-ready : (s : ServerFacts) × (slice_get Ready.book.servers M ≡ Some s) × (has_data s.state ≡ true)
+  server-ready : (s : ServerFacts) × (slice_get Ready.facts.servers M ≡ Some s) × (has_data s.state ≡ true)
   server-ready =
       let set = now-set head book cluster good few a front required (outputs.Begin ∷ []) covered whole begin-quiet sent (server-found head book cluster good few a).0 (server-found head book cluster good few a).1 in (
         set.server,
-        ap (λ (c : Cluster). slice_get c.book.servers M) (over-append cluster Upto Set) ∙ set.server_is,
+        ap (λ (c : Cluster). slice_get c.facts.servers M) (over-append cluster Upto Set) ∙ set.server_is,
         ap has_data (set.state_same ∙ (server-found head book cluster good few a).2) ∙ begins-data a.machine.server.was_primary a.machine.server.state can,
       )
 
@@ -217,6 +217,6 @@ module _ (head : HeadText) (book : List Event) (cluster : Cluster) (good : Commi
     once = (page.once, begun.once);
     last = begun.last ∙ ap volatile_of (sym (over-append cluster Covered Begun));
     fits =
-        subst (λ (p : Past). Fits p (cluster_over cluster (Covered ++ Begun)).book (volatile_of (cluster_over cluster (Covered ++ Begun)))) (sym (past-append P Covered Begun))
-        (subst (λ (c : Cluster). Fits (past_over (past_over P Covered) Begun) c.book (volatile_of c)) (sym (over-append cluster Covered Begun)) begun.fits);
+        subst (λ (p : Past). Fits p (cluster_over cluster (Covered ++ Begun)).facts (volatile_of (cluster_over cluster (Covered ++ Begun)))) (sym (past-append P Covered Begun))
+        (subst (λ (c : Cluster). Fits (past_over (past_over P Covered) Begun) c.facts (volatile_of c)) (sym (over-append cluster Covered Begun)) begun.fits);
   })

@@ -41,20 +41,20 @@ within-if members servers cuts member s true n end is = within-by members server
 within-if members servers cuts member s false n end is = absurd (none-confirmed 16 n end is)
 
 module _ (head : HeadText) (book : List Event) (cluster : Cluster) (good : CommitsBridged head book cluster) (few : member_count head ≤ 16) (member : Member) (machine : Machine) (machine_is : machine_of cluster member ≡ Some machine) where
-  count-is : length cluster.book.members ≡ member_count head
+  count-is : length cluster.facts.members ≡ member_count head
   count-is = ap (λ (l : List Member). length l) good.lease.matched.members ∙ counted head few
 
   connected-by : (receives : Bool) (found : Option ServerFacts)
-      → machine_from receives (option_map (replication_of cluster.book.members cluster.book.servers cluster.book.cuts member) found) (slice_get cluster.options member.id.number)
-      (slice_get cluster.book.deadlines member.id.number) (slice_get cluster.book.holds member.id.number) found ≡ Some machine
-      → (n : ℕ) (end : Lsn) → slice_get machine.replication.connected n ≡ Some (Some end) → n < length cluster.book.members
+      → machine_from receives (option_map (replication_of cluster.facts.members cluster.facts.servers cluster.facts.cuts member) found) (slice_get cluster.options member.id.number)
+      (slice_get cluster.facts.deadlines member.id.number) (slice_get cluster.facts.holds member.id.number) found ≡ Some machine
+      → (n : ℕ) (end : Lsn) → slice_get machine.replication.connected n ≡ Some (Some end) → n < length cluster.facts.members
   connected-by receives None is n end e = absurd (none-some machine is)
   connected-by receives (Some s) is n end e =
-      let made_is = made-of receives (replication_of cluster.book.members cluster.book.servers cluster.book.cuts member s) (slice_get cluster.options member.id.number) (slice_get cluster.book.deadlines member.id.number) (slice_get cluster.book.holds member.id.number) s machine is in
-      within-if cluster.book.members cluster.book.servers cluster.book.cuts member s (writes s.state) n end (ap (λ (r : Replication). slice_get r.connected n) (sym made_is.replication_is) ∙ e)
+      let made_is = made-of receives (replication_of cluster.facts.members cluster.facts.servers cluster.facts.cuts member s) (slice_get cluster.options member.id.number) (slice_get cluster.facts.deadlines member.id.number) (slice_get cluster.facts.holds member.id.number) s machine is in
+      within-if cluster.facts.members cluster.facts.servers cluster.facts.cuts member s (writes s.state) n end (ap (λ (r : Replication). slice_get r.connected n) (sym made_is.replication_is) ∙ e)
 
   pub connected-member : (n : ℕ) (end : Lsn) → slice_get machine.replication.connected n ≡ Some (Some end) → n < member_count head
-  connected-member n end e = subst (λ (k : ℕ). n < k) count-is (connected-by _ (slice_get cluster.book.servers member.id.number) machine_is n end e)
+  connected-member n end e = subst (λ (k : ℕ). n < k) count-is (connected-by _ (slice_get cluster.facts.servers member.id.number) machine_is n end e)
 
   below-few : (n : ℕ) → n < member_count head → n < 16
   below-few n small = omega (arith, small, few)
@@ -71,11 +71,11 @@ module _ (head : HeadText) (book : List Event) (cluster : Cluster) (good : Commi
   needs-few requireds.AnyOne waits n needs = absurd needs
   needs-few (requireds.All set) waits n needs = waits n (is-one (bit_at set.bits n) needs)
 
-  module _ (agent : AgentFacts) (s : ServerFacts) (found : slice_get cluster.book.servers member.id.number ≡ Some s) where
+  module _ (agent : AgentFacts) (s : ServerFacts) (found : slice_get cluster.facts.servers member.id.number ≡ Some s) where
     grown-few : (required : Required) → GrowsByConnected (made agent.role agent.knows machine []) ((state_of_run head book cluster).members member.id.number).required (need_in required) → (n : ℕ) → NeedsOne (need_in required) n → n < 16
     grown-few required grows n needs = elim (grows n needs) [
       | inl before ↦ needs-few s.required (good.fits.servers.sound.each member.id.number s found).required n
-          (subst (λ need. NeedsOne need n) (ap need_of (required-at (past_of head book) cluster.book good.fits.servers.same member.id.number s found)) before)
+          (subst (λ need. NeedsOne need n) (ap need_of (required-at (past_of head book) cluster.facts good.fits.servers.same member.id.number s found)) before)
       | inr connected ↦ below-few n (connected-member n connected.0 connected.1)
     ]
 

@@ -56,7 +56,7 @@ use Rattle.commit_step_law.proofs.Ordering.{order-then}
 
 -- no message is in flight under a number that isn't given yet
 abbrev pub NoneAbove : Past → Cluster → Type 0
-NoneAbove past cluster = (i : ℕ) → cluster.book.sent < i → past.flight i ≡ None
+NoneAbove past cluster = (i : ℕ) → cluster.facts.sent < i → past.flight i ≡ None
 
 -- what a book tells of servers
 pub record Told : Type 0 where
@@ -78,7 +78,7 @@ pub record Held : Type 0 where
   pub agents : List (Option AgentFacts)
 
 abbrev pub held_by : Cluster → Held
-held_by cluster = record { servers = cluster.book.servers; commits = cluster.book.commits; acknowledged = cluster.book.acknowledged; processes = cluster.book.agents; agents = cluster.agents }
+held_by cluster = record { servers = cluster.facts.servers; commits = cluster.facts.commits; acknowledged = cluster.facts.acknowledged; processes = cluster.facts.processes; agents = cluster.agents }
 
 -- these events are an agent's own, and leave what is in flight, whom commits wait for, and all servers and agents
 pub record Covers (m : ℕ) (past : Past) (cluster : Cluster) (events : List Event) : Type 0 where
@@ -90,7 +90,7 @@ pub record Covers (m : ℕ) (past : Past) (cluster : Cluster) (events : List Eve
   pub live : (past_over past events).holder_was_live ≡ past.holder_was_live
   pub told : told_of (past_over past events) ≡ told_of past
   pub held : held_by (cluster_over cluster events) ≡ held_by cluster
-  pub later : cluster.book.sent ≤ (cluster_over cluster events).book.sent
+  pub later : cluster.facts.sent ≤ (cluster_over cluster events).facts.sent
 
 pub own-both : (m : ℕ) (xs ys : List Event) → AreOwn m xs → AreOwn m ys → AreOwn m (xs ++ ys)
 own-both m [] ys first second = second
@@ -119,15 +119,15 @@ covers-then m past cluster xs ys first second =
       live = ap (λ (q : Past). q.holder_was_live) p ∙ second.live ∙ first.live;
       told = ap told_of p ∙ second.told ∙ first.told;
       held = ap held_by c ∙ second.held ∙ first.held;
-      later = at-most-then cluster.book.sent (cluster_over cluster xs).book.sent (cluster_over cluster (xs ++ ys)).book.sent first.later
-          (subst (λ (n : ℕ). (cluster_over cluster xs).book.sent ≤ n) (sym (ap (λ (x : Cluster). x.book.sent) c)) second.later);
+      later = at-most-then cluster.facts.sent (cluster_over cluster xs).facts.sent (cluster_over cluster (xs ++ ys)).facts.sent first.later
+          (subst (λ (n : ℕ). (cluster_over cluster xs).facts.sent ≤ n) (sym (ap (λ (x : Cluster). x.facts.sent) c)) second.later);
     }
 
 below-later : (a b i : ℕ) → a ≤ b → b < i → a < i
 below-later a b i first second = omega (arith, first, second)
 
 pub none-later : (m : ℕ) (past : Past) (cluster : Cluster) (events : List Event) → Covers m past cluster events → NoneAbove past cluster → NoneAbove (past_over past events) (cluster_over cluster events)
-none-later m past cluster events covers none i above = covers.flight i ∙ none i (below-later cluster.book.sent (cluster_over cluster events).book.sent i covers.later above)
+none-later m past cluster events covers none i above = covers.flight i ∙ none i (below-later cluster.facts.sent (cluster_over cluster events).facts.sent i covers.later above)
 
 -- ---- a message of which commits read nothing
 pub put-none : (flight : ℕ → Option Flying) (number i : ℕ) → flight number ≡ None → put_at flight number None i ≡ flight i
@@ -186,7 +186,7 @@ ask-says past member peer run sequence = record { flying = refl; live = refl; or
 
 module _ (m : ℕ) (past : Past) (cluster : Cluster) (none : NoneAbove past cluster) (message : Message) (says : SaysNothing past message) where
   abbrev Number : ℕ
-  Number = cluster.book.sent + 1
+  Number = cluster.facts.sent + 1
 
   abbrev Kind : EventKind
   Kind = kinds.Message (Sent Number message)
@@ -222,8 +222,8 @@ module _ (m : ℕ) (past : Past) (cluster : Cluster) (none : NoneAbove past clus
   }
 
   pub send-covers : Covers m past cluster (send_events cluster message)
-  send-covers = covers-then m past cluster (event_of cluster Kind) (events_of (cluster_after cluster Kind) (lost_at_once (nat_le most_in_flight (length cluster.book.flight)) Number)) sent-covers
-      (lost-covers (past_after past Kind) (cluster_after cluster Kind) (nat_le most_in_flight (length cluster.book.flight)) Number (sent-flight Number ∙ none Number (omega arith)))
+  send-covers = covers-then m past cluster (event_of cluster Kind) (events_of (cluster_after cluster Kind) (lost_at_once (nat_le most_in_flight (length cluster.facts.flight)) Number)) sent-covers
+      (lost-covers (past_after past Kind) (cluster_after cluster Kind) (nat_le most_in_flight (length cluster.facts.flight)) Number (sent-flight Number ∙ none Number (omega arith)))
 
 -- ---- the outputs
 -- an output that the law's input covers, or the note that the sync key doesn't name the member
@@ -269,8 +269,8 @@ module _ (member : Member) (message : HeardMessage) where
   told-covers past cluster agent tolds.Written = said-covers past cluster (λ body. notes.Answered member ok body) (config_text_of agent)
 
   pub output-covers : (past : Past) (cluster : Cluster) → NoneAbove past cluster → (output : Output) → IsCarried output → IsOfTable output → Covers M past cluster (output_events member message cluster output)
-  output-covers past cluster none (outputs.Send targets.Store sequence body) is table = question-covers past cluster none (slice_get cluster.book.agents M) sequence body is
-  output-covers past cluster none (outputs.Send (targets.Member id) sequence body) is table = member-covers past cluster none (slice_get cluster.book.agents M) (slice_get cluster.book.members id.number) sequence body table
+  output-covers past cluster none (outputs.Send targets.Store sequence body) is table = question-covers past cluster none (slice_get cluster.facts.processes M) sequence body is
+  output-covers past cluster none (outputs.Send (targets.Member id) sequence body) is table = member-covers past cluster none (slice_get cluster.facts.processes M) (slice_get cluster.facts.members id.number) sequence body table
   output-covers past cluster none (outputs.Armed until) is table = record { own = (tt, (tt, tt)); leaves = (tt, (tt, tt)); aside = (tt, (tt, tt)); ordered = (tt, (tt, tt)); flight = λ i. refl; live = refl; told = refl; held = refl; later = omega arith }
   output-covers past cluster none (outputs.Fed until) is table = record { own = (tt, (tt, tt)); leaves = (tt, (tt, tt)); aside = (tt, (tt, tt)); ordered = (tt, (tt, tt)); flight = λ i. refl; live = refl; told = refl; held = refl; later = omega arith }
   output-covers past cluster none outputs.Disarmed is table = record { own = (tt, tt); leaves = (tt, tt); aside = (tt, tt); ordered = (tt, tt); flight = λ i. refl; live = refl; told = refl; held = refl; later = omega arith }
@@ -280,7 +280,7 @@ module _ (member : Member) (message : HeardMessage) where
   output-covers past cluster none outputs.Passes is table = record { own = (tt, tt); leaves = (tt, tt); aside = (tt, tt); ordered = (tt, tt); flight = λ i. refl; live = refl; told = refl; held = refl; later = omega arith }
   output-covers past cluster none outputs.PostponesPromotion is table = record { own = (tt, tt); leaves = (tt, tt); aside = (tt, tt); ordered = (tt, tt); flight = λ i. refl; live = refl; told = refl; held = refl; later = omega arith }
   output-covers past cluster none (outputs.DoesNotRace bar) is table = record { own = (tt, tt); leaves = (tt, tt); aside = (tt, tt); ordered = (tt, tt); flight = λ i. refl; live = refl; told = refl; held = refl; later = omega arith }
-  output-covers past cluster none (outputs.HandsOver candidate) is table = said-covers past cluster (λ next. notes.HandsOver member next) (slice_get cluster.book.members candidate.number)
+  output-covers past cluster none (outputs.HandsOver candidate) is table = said-covers past cluster (λ next. notes.HandsOver member next) (slice_get cluster.facts.members candidate.number)
   output-covers past cluster none (outputs.Told request told) is table = told-covers past cluster (agent_at cluster.agents M) told
   output-covers past cluster none _ is table = absurd is
 

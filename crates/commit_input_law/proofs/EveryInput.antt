@@ -60,7 +60,7 @@ use Rattle.commit_step_law.proofs.Still.{volatile-same}
 use Rattle.commit_input_law.proofs.Upheld.{MayAnswer, input-upheld}
 
 -- ---- nobody acts
-states-same : (before later : Cluster) → later.book.servers ≡ before.book.servers → later.agents ≡ before.agents → volatile_of before ≡ volatile_of later
+states-same : (before later : Cluster) → later.facts.servers ≡ before.facts.servers → later.agents ≡ before.agents → volatile_of before ≡ volatile_of later
 states-same before later servers same =
     fun_ext (λ m. volatile-same _ _ _ _ (ap (λ known. live_in known m) (sym servers)) (ap (λ (known : List (Option AgentFacts)). agent_now (slice_get known m)) (sym same)))
 
@@ -138,7 +138,7 @@ module _ (head : HeadText) (few : member_count head ≤ 16) (book : List Event) 
       below = itself.below;
       hears_lease = λ works. itself.hears_lease agent machine;
       numbered = λ n e. absurd (none-some n e);
-      low = from-none cluster.book.sent;
+      low = from-none cluster.facts.sent;
     }) itself.may kept
 
     upheld-itself : IsKept head book cluster (event_of cluster Opening ++ input_events (cluster_after cluster Opening) member no_message (outcome_of cluster member heard))
@@ -157,7 +157,7 @@ module _ (head : HeadText) (few : member_count head ≤ 16) (book : List Event) 
 
 -- ---- a message comes to an agent
 module _ (head : HeadText) (few : member_count head ≤ 16) (book : List Event) (cluster : Cluster) (number : ℕ) (message : InFlightFacts) (member : Member) (good : CommitsBridged head book cluster)
-    (found : in_flight cluster.book.flight number ≡ Some message) (to : message.message.to ≡ ends.Member member) (open_is : delivery_of cluster.book.cuts cluster.book.agents message.message ≡ deliveries.Open) where
+    (found : in_flight cluster.facts.flight number ≡ Some message) (to : message.message.to ≡ ends.Member member) (open_is : delivery_of cluster.facts.cuts cluster.facts.processes message.message ≡ deliveries.Open) where
   abbrev Arrived : EventKind
   Arrived = kinds.Message (Delivered number)
 
@@ -238,7 +238,7 @@ module _ (head : HeadText) (few : member_count head ≤ 16) (book : List Event) 
         on = hears-on head book cluster good member agent here number message found to (run-same agent here) heard h;
         below = hears-below head book cluster good member agent here number message found to (run-same agent here) heard h;
         hears_lease = λ works. hears-lease-by works agent machine (found-of cluster member machine m) here heard h;
-        numbered = λ n e. let same : number ≡ n = some-is number n e in (same, subst (λ (k : ℕ). k ≤ cluster.book.sent) same flown);
+        numbered = λ n e. let same : number ≡ n = some-is number n e in (same, subst (λ (k : ℕ). k ≤ cluster.facts.sent) same flown);
         low = flown;
       }) (may-answer heard h) kept
 

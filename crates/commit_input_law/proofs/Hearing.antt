@@ -130,7 +130,7 @@ lease-eq m run also sequence r v k l a b c = cc
 -- ---- what is heard
 module _ (head : HeadText) (book : List Event) (cluster : Cluster) (good : CommitsBridged head book cluster) (member : Member) (agent : AgentFacts)
     (here : slice_get cluster.agents member.id.number ≡ Some (Some agent))
-    (number : ℕ) (carried : InFlightFacts) (there : in_flight cluster.book.flight number ≡ Some carried) (to : carried.message.to ≡ ends.Member member)
+    (number : ℕ) (carried : InFlightFacts) (there : in_flight cluster.facts.flight number ≡ Some carried) (to : carried.message.to ≡ ends.Member member)
     (run : IsAnswer carried.message.body → carried.message.run ≡ agent.knows.run) where
   abbrev Law : State
   Law = state_of_run head book cluster
@@ -160,7 +160,7 @@ module _ (head : HeadText) (book : List Event) (cluster : Cluster) (good : Commi
     keyless = is_keyless Leader Failsafe;
     leaderless = is_leaderless Leader;
     failsafe_revision = failsafe_revision_of Failsafe;
-    is = heard-snapshot (past_of head book) cluster.book number carried member carried.message.run carried.message.sequence good.fits.store.flight there (says bodies.Snapshot body tt)
+    is = heard-snapshot (past_of head book) cluster.facts number carried member carried.message.run carried.message.sequence good.fits.store.flight there (says bodies.Snapshot body tt)
         ∙ ap (λ (sync : Option SyncKey). Some (SnapshotSent (record { sync = sync; keyless = is_keyless Leader Failsafe; leaderless = is_leaderless Leader; failsafe_revision = failsafe_revision_of Failsafe }))) (sym sync-told);
   }
 
@@ -168,7 +168,7 @@ module _ (head : HeadText) (book : List Event) (cluster : Cluster) (good : Commi
   lease-heard : (input : AgentInput) → input.heard ≡ Some number → (request : ℕ) (grant : Granted) → carried.message.body ≡ bodies.Granted request true → carried.grant ≡ Some grant
       → HearsLease (state_of_run head book cluster) member.id.number input.heard carried.message.sequence grant.revision (snapshot_in cluster carried) agent.knows
   lease-heard input heard request grant body given =
-      let told = heard-lease (past_of head book) cluster.book number carried member carried.message.run carried.message.sequence request good.fits.store.flight there (says (bodies.Granted request true) body tt) in
+      let told = heard-lease (past_of head book) cluster.facts number carried member carried.message.run carried.message.sequence request good.fits.store.flight there (says (bodies.Granted request true) body tt) in
       let same : record { revision = told.revision; by = member.id; leased = true } ≡ grant = some-is _ grant (sym told.grant ∙ given) in
       record {
         number = number;
@@ -188,14 +188,14 @@ module _ (head : HeadText) (book : List Event) (cluster : Cluster) (good : Commi
       let sequence : ℕ = carried.message.sequence in
       let is = says (bodies.Granted request leased) body tt in
       let in_run : carried.message.run ≡ agent.knows.run = run (subst IsAnswer (sym body) tt) in
-      let answers = (heard-granted (lease_past.past_of book) cluster.book number carried member carried.message.run sequence request leased good.lease.matched.flight there is).answers in
+      let answers = (heard-granted (lease_past.past_of book) cluster.facts number carried member carried.message.run sequence request leased good.lease.matched.flight there is).answers in
       let decides = both-true (asks_sync waited.question) (waited.sequence == sequence) decision in
       let numbered : answers.question.sequence ≡ waited.sequence = answers.numbered ∙ sym (eq-from waited.sequence sequence decides.1) in
       let write = (good.fits.agents.each m agent here).writes waited waits decides.0 request answers.question answers.is answers.asker (answers.in_run ∙ in_run) numbered in
       let asked : SyncRequest = write.0 in
-      let told = heard-write past cluster.book number carried member carried.message.run sequence request leased asked good.fits.store.flight there is write.1 write.2.writes in
+      let told = heard-write past cluster.facts number carried member carried.message.run sequence request leased asked good.fits.store.flight there is write.1 write.2.writes in
       let named : IsNamed m carried.message.run sequence (past.asked request) =
-      (subst (λ (x : Message). Answers (past_at_sending past.asked carried) cluster.book.sent x.from x.to x.run x.sequence x.body) is (good.fits.store.flight.answers number carried there)).named in
+      (subst (λ (x : Message). Answers (past_at_sending past.asked carried) cluster.facts.sent x.from x.to x.run x.sequence x.body) is (good.fits.store.flight.answers number carried there)).named in
       let mine : IsNamed m carried.message.run sequence (SyncQuery asked) = subst (λ (q : Query). IsNamed m carried.message.run sequence q) write.1 named in
       record {
         number = number;
@@ -208,7 +208,7 @@ module _ (head : HeadText) (book : List Event) (cluster : Cluster) (good : Commi
   granted-heard : (input : AgentInput) → input.heard ≡ Some number → (request : ℕ) (leased : Bool) (grant : Granted) → carried.message.body ≡ bodies.Granted request leased → carried.grant ≡ Some grant
       → HearsGranted (state_of_run head book cluster) member.id.number input.heard carried.message.sequence grant (snapshot_in cluster carried) agent.knows
   granted-heard input heard request leased grant body given =
-      let told = heard-granted (lease_past.past_of book) cluster.book number carried member carried.message.run carried.message.sequence request leased good.lease.matched.flight there (says (bodies.Granted request leased) body tt) in
+      let told = heard-granted (lease_past.past_of book) cluster.facts number carried member carried.message.run carried.message.sequence request leased good.lease.matched.flight there (says (bodies.Granted request leased) body tt) in
       let same : record { revision = told.revision; by = member.id; leased = leased } ≡ grant = some-is _ grant (sym told.grant ∙ given) in
       record {
         lease = λ awaited.

@@ -155,8 +155,8 @@ pub record Acting (head : HeadText) (book : List Event) (cluster : Cluster) : Ty
   -- the law of the lease hears it too, where watchdogs work
   pub hears_lease : ((m : ℕ) → works_of head m ≡ true) → Hears (lease_past.state_of (declared_of head) (lease_past.past_of book) (run_volatile.volatile_of cluster)) member.id.number number (moment_of cluster) heard (made agent.role agent.knows machine [])
   -- the number of the message is none of those to come
-  pub numbered : (n : ℕ) → number ≡ Some n → (message.number ≡ n) × (n ≤ cluster.book.sent)
-  pub low : message.number ≤ cluster.book.sent
+  pub numbered : (n : ℕ) → number ≡ Some n → (message.number ≡ n) × (n ≤ cluster.facts.sent)
+  pub low : message.number ≤ cluster.facts.sent
 
 calm-on : (heard : Heard) → HearsOn heard → tells_pause (told_by heard) ≡ false
 calm-on (heards.Got sequence snapshot) on = on.unpaused
@@ -181,7 +181,7 @@ module _ (head : HeadText) (book : List Event) (cluster : Cluster) (good : Commi
   First = cluster_after cluster a.opening
 
   abbrev pub Open : Event
-  Open = record { tick = record { 0 = First.book.clock }; kind = a.opening }
+  Open = record { tick = record { 0 = First.facts.clock }; kind = a.opening }
 
   abbrev pub Part : Cluster → Output → List Event
   Part = output_events a.member a.message
@@ -255,8 +255,8 @@ module _ (head : HeadText) (book : List Event) (cluster : Cluster) (good : Commi
     pub needs : need_of (slice_get (past_over P events).required M) ≡ need_in After.machine.replication.required
     -- behind them
     pub acted : (cluster_over cluster events).agents ≡ with_changed cluster.agents M (agent_after (Some After))
-    pub lives : (n : ℕ) → live_in (cluster_over cluster events).book.servers n ≡ live_in cluster.book.servers n
-    pub fits : (states : ℕ → VolatileState) → ((n : ℕ) → (states n).live ≡ live_in cluster.book.servers n) → Fits (past_over P events) (cluster_over cluster events).book states
+    pub lives : (n : ℕ) → live_in (cluster_over cluster events).facts.servers n ≡ live_in cluster.facts.servers n
+    pub fits : (states : ℕ → VolatileState) → ((n : ℕ) → (states n).live ≡ live_in cluster.facts.servers n) → Fits (past_over P events) (cluster_over cluster events).facts states
     pub sent : SendsInside sends
 
   abbrev pub Ahead : ℕ → VolatileState
@@ -336,21 +336,21 @@ module _ (head : HeadText) (book : List Event) (cluster : Cluster) (good : Commi
     pub front-told : told_of (past_over P Page) ≡ told_of P
     front-told = fronts.told ∙ opened.told
 
-    pub front-servers : (cluster_over cluster Page).book.servers ≡ cluster.book.servers
+    pub front-servers : (cluster_over cluster Page).facts.servers ≡ cluster.facts.servers
     front-servers = ap (λ (h : Held). h.servers) fronts.held ∙ opened.servers
 
     pub front-acted : (cluster_over cluster Page).agents ≡ with_changed cluster.agents M (agent_after (Some After))
     front-acted = ap (λ (h : Held). h.agents) fronts.held ∙ a.acts
 
-    pub front-processes : (cluster_over cluster Page).book.agents ≡ cluster.book.agents
+    pub front-processes : (cluster_over cluster Page).facts.processes ≡ cluster.facts.processes
     front-processes = ap (λ (h : Held). h.processes) fronts.held ∙ opened.processes
 
-    pub front-lives : (n : ℕ) → live_in (cluster_over cluster Page).book.servers n ≡ live_in cluster.book.servers n
+    pub front-lives : (n : ℕ) → live_in (cluster_over cluster Page).facts.servers n ≡ live_in cluster.facts.servers n
     front-lives n = ap (λ (known : List ServerFacts). live_in known n) front-servers
 
-    pub front-fits : (states : ℕ → VolatileState) → ((n : ℕ) → (states n).live ≡ live_in cluster.book.servers n) → Fits (past_over P Page) (cluster_over cluster Page).book states
+    pub front-fits : (states : ℕ → VolatileState) → ((n : ℕ) → (states n).live ≡ live_in cluster.facts.servers n) → Fits (past_over P Page) (cluster_over cluster Page).facts states
     front-fits states lives =
-        fits-told P (past_over P Page) cluster.book (cluster_over cluster Page).book States states front-told front-servers (ap (λ (h : Held). h.commits) fronts.held ∙ opened.commits)
+        fits-told P (past_over P Page) cluster.facts (cluster_over cluster Page).facts States states front-told front-servers (ap (λ (h : Held). h.commits) fronts.held ∙ opened.commits)
         (ap (λ (h : Held). h.acknowledged) fronts.held ∙ opened.acknowledged) (λ n. lives n) good.fits.servers
 
     -- where no output sets it, commits wait for the same

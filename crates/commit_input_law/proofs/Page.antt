@@ -56,26 +56,26 @@ use Rattle.event_book.specs.Writers.{writes_in}
 flown-none : (asked : _) (found : Option _) → found ≡ None → flying_if asked found ≡ None
 flown-none asked found is = ap (flying_if asked) is
 
-pub none-above : (past : Past) (cluster : Cluster) → IsSameFlight past cluster.book → NoneAbove past cluster
-none-above past cluster same i above = by (in_flight cluster.book.flight i) refl
+pub none-above : (past : Past) (cluster : Cluster) → IsSameFlight past cluster.facts → NoneAbove past cluster
+none-above past cluster same i above = by (in_flight cluster.facts.flight i) refl
   where
     too-far : (a b : ℕ) → a < b → b ≤ a → ⊥
     too-far a b first second = omega (arith, first, second)
 
-    by : (found : Option _) → in_flight cluster.book.flight i ≡ found → past.flight i ≡ None
-    by None is = same.same i ∙ flown-none past.asked (in_flight cluster.book.flight i) is
-    by (Some carried) is = absurd (too-far cluster.book.sent i above (same.flown i carried is))
+    by : (found : Option _) → in_flight cluster.facts.flight i ≡ found → past.flight i ≡ None
+    by None is = same.same i ∙ flown-none past.asked (in_flight cluster.facts.flight i) is
+    by (Some carried) is = absurd (too-far cluster.facts.sent i above (same.flown i carried is))
 
 -- ---- the event with which an input begins
 pub record Opens (m : ℕ) (heard : Option ℕ) (past : Past) (cluster : Cluster) (kind : EventKind) : Type 0 where
   pub flight : (i : ℕ) → (past_after past kind).flight i ≡ forget heard past.flight i
   pub live : (past_after past kind).holder_was_live ≡ past.holder_was_live
   pub told : told_of (past_after past kind) ≡ told_of past
-  pub servers : (cluster_after cluster kind).book.servers ≡ cluster.book.servers
-  pub commits : (cluster_after cluster kind).book.commits ≡ cluster.book.commits
-  pub acknowledged : (cluster_after cluster kind).book.acknowledged ≡ cluster.book.acknowledged
-  pub processes : (cluster_after cluster kind).book.agents ≡ cluster.book.agents
-  pub sent : (cluster_after cluster kind).book.sent ≡ cluster.book.sent
+  pub servers : (cluster_after cluster kind).facts.servers ≡ cluster.facts.servers
+  pub commits : (cluster_after cluster kind).facts.commits ≡ cluster.facts.commits
+  pub acknowledged : (cluster_after cluster kind).facts.acknowledged ≡ cluster.facts.acknowledged
+  pub processes : (cluster_after cluster kind).facts.processes ≡ cluster.facts.processes
+  pub sent : (cluster_after cluster kind).facts.sent ≡ cluster.facts.sent
 
 pub opens : (m : ℕ) (heard : Option ℕ) (past : Past) (cluster : Cluster) (kind : EventKind) → IsOpening heard kind → Opens m heard past cluster kind
 opens m heard past cluster (kinds.Agent (agents.Woken by)) is =
@@ -189,16 +189,16 @@ fits-told past later before after states next told servers commits acknowledged 
 apart : (n : ℕ) → n ≡ n + 1 → ⊥
 apart n e = omega (arith, e)
 
-module _ (past : Past) (cluster : Cluster) (member : Member) (states : ℕ → VolatileState) (fits : Fits past cluster.book states) (required : Required) (waits : WaitsForMembers required) (s : ServerFacts)
-    (found : slice_get cluster.book.servers member.id.number ≡ Some s) where
+module _ (past : Past) (cluster : Cluster) (member : Member) (states : ℕ → VolatileState) (fits : Fits past cluster.facts states) (required : Required) (waits : WaitsForMembers required) (s : ServerFacts)
+    (found : slice_get cluster.facts.servers member.id.number ≡ Some s) where
   abbrev M : ℕ
   M = member.id.number
 
   abbrev Setting : EventKind
-  Setting = kinds.Replication (replications.RequiredSet (server_of member) required (required_names cluster.book.members required))
+  Setting = kinds.Replication (replications.RequiredSet (server_of member) required (required_names cluster.facts.members required))
 
   abbrev Set : List Event
-  Set = events_of cluster (kinds_of (require_of cluster.book.members member required s))
+  Set = events_of cluster (kinds_of (require_of cluster.facts.members member required s))
 
   -- what these events leave
   pub record Sets (events : List Event) : Type 0 where
@@ -207,29 +207,29 @@ module _ (past : Past) (cluster : Cluster) (member : Member) (states : ℕ → V
     pub once : ChangeOrderOnce events
     pub flight : (past_over past events).flight ≡ past.flight
     pub live : (past_over past events).holder_was_live ≡ past.holder_was_live
-    pub fits_behind : Fits (past_over past events) (cluster_over cluster events).book states
+    pub fits_behind : Fits (past_over past events) (cluster_over cluster events).facts states
     pub needs : need_of (slice_get (past_over past events).required M) ≡ need_in required
     pub agents_same : (cluster_over cluster events).agents ≡ cluster.agents
-    pub lives : (n : ℕ) → live_in (cluster_over cluster events).book.servers n ≡ live_in cluster.book.servers n
+    pub lives : (n : ℕ) → live_in (cluster_over cluster events).facts.servers n ≡ live_in cluster.facts.servers n
     pub server : ServerFacts
-    pub server_is : slice_get (cluster_over cluster events).book.servers M ≡ Some server
+    pub server_is : slice_get (cluster_over cluster events).facts.servers M ≡ Some server
     pub state_same : server.state ≡ s.state
 
-  set-fits : Fits (past_after past Setting) (cluster_after cluster Setting).book states
+  set-fits : Fits (past_after past Setting) (cluster_after cluster Setting).facts states
   set-fits = record {
-    same = same-by past cluster.book Setting tt fits.same;
-    live = record { live = λ n. fits.live.live n ∙ sym (others-by cluster.book Setting (n + 1) n tt (apart n)) };
-    sound = sound-by cluster.book Setting waits fits.sound;
+    same = same-by past cluster.facts Setting tt fits.same;
+    live = record { live = λ n. fits.live.live n ∙ sym (others-by cluster.facts Setting (n + 1) n tt (apart n)) };
+    sound = sound-by cluster.facts Setting waits fits.sound;
   }
 
   set-need : need_of (slice_get (past_after past Setting).required M) ≡ need_in required
-  set-need = ap need_of (get-here past.required M (λ before. required) ∙ ap (option_map (λ (before : Required). required)) (required-at past cluster.book fits.same M s found))
+  set-need = ap need_of (get-here past.required M (λ before. required) ∙ ap (option_map (λ (before : Required). required)) (required-at past cluster.facts fits.same M s found))
 
   sets-new : Sets (event_of cluster Setting)
-  sets-new = record { own = (refl, tt); leaves = (tt, tt); once = inr tt; flight = refl; live = refl; fits_behind = set-fits; needs = set-need; agents_same = refl; lives = λ n. others-by cluster.book Setting (n + 1) n tt (apart n); server = requiring required s; server_is = get-here cluster.book.servers M (requiring required) ∙ ap (option_map (requiring required)) found; state_same = refl }
+  sets-new = record { own = (refl, tt); leaves = (tt, tt); once = inr tt; flight = refl; live = refl; fits_behind = set-fits; needs = set-need; agents_same = refl; lives = λ n. others-by cluster.facts Setting (n + 1) n tt (apart n); server = requiring required s; server_is = get-here cluster.facts.servers M (requiring required) ∙ ap (option_map (requiring required)) found; state_same = refl }
 
   sets-old : need_in s.required ≡ need_in required → Sets []
-  sets-old same = record { own = tt; leaves = tt; once = tt; flight = refl; live = refl; fits_behind = fits; needs = ap need_of (required-at past cluster.book fits.same M s found) ∙ same; agents_same = refl; lives = λ n. refl; server = s; server_is = found; state_same = refl }
+  sets-old same = record { own = tt; leaves = tt; once = tt; flight = refl; live = refl; fits_behind = fits; needs = ap need_of (required-at past cluster.facts fits.same M s found) ∙ same; agents_same = refl; lives = λ n. refl; server = s; server_is = found; state_same = refl }
 
   sets-by : (same : Bool) → (same ≡ true → need_in s.required ≡ need_in required) → Sets (events_of cluster (kinds_of (if same then None else Some Setting)))
   sets-by true is = sets-old (is refl)

@@ -41,7 +41,7 @@ live-starting s at true e = absurd (not-so e)
     not-so e = cc
 live-starting s at false e = refl
 
-module _ (setup : Setup) (past : Past) (cluster : Cluster) (fits : Fits past cluster.book (volatile_of cluster)) (member : Member) (s : ServerFacts) (is : slice_get cluster.book.servers member.id.number ≡ Some s) where
+module _ (setup : Setup) (past : Past) (cluster : Cluster) (fits : Fits past cluster.facts (volatile_of cluster)) (member : Member) (s : ServerFacts) (is : slice_get cluster.facts.servers member.id.number ≡ Some s) where
   abbrev M : ℕ
   M = member.id.number
 
@@ -53,44 +53,44 @@ module _ (setup : Setup) (past : Past) (cluster : Cluster) (fits : Fits past clu
 
   -- ---- a primary: it is live ahead of the books, from its end to its beginning
   module _ (primary : s.state ≡ states.Primary) where
-    found : slice_get Later.book.servers M ≡ Some (stopped s)
-    found = changed-here cluster.book.servers M stopped s is
+    found : slice_get Later.facts.servers M ≡ Some (stopped s)
+    found = changed-here cluster.facts.servers M stopped s is
 
-    same : IsSameServers (past_after past Ending) Later.book
-    same = same-by past cluster.book Ending tt fits.same
+    same : IsSameServers (past_after past Ending) Later.facts
+    same = same-by past cluster.facts Ending tt fits.same
 
-    sound : AreServersSound Later.book
-    sound = sound-by cluster.book Ending (record { server = s; is = is; with_data = ap has_data primary }) fits.sound
+    sound : AreServersSound Later.facts
+    sound = sound-by cluster.facts Ending (record { server = s; is = is; with_data = ap has_data primary }) fits.sound
 
-    ahead : IsLiveAhead (volatile_of cluster) Later.book.servers M
-    ahead = record { here = ap live_now is ∙ ap live primary; others = λ n other. sym (ap live_now (changed-there cluster.book.servers M stopped n other)) }
+    ahead : IsLiveAhead (volatile_of cluster) Later.facts.servers M
+    ahead = record { here = ap live_now is ∙ ap live primary; others = λ n other. sym (ap live_now (changed-there cluster.facts.servers M stopped n other)) }
 
-    starts-live : (s.start_delay.0 == 0) ≡ false → live_in (cluster_after Later (kinds.Server (servers.StartsAsPrimary (server_of member)))).book.servers M ≡ true
-    starts-live slow = ap live_now (changed-here Later.book.servers M (starts_as_primary Later.book.clock) (stopped s) found) ∙ live-starting (stopped s) _ (s.start_delay.0 == 0) slow
+    starts-live : (s.start_delay.0 == 0) ≡ false → live_in (cluster_after Later (kinds.Server (servers.StartsAsPrimary (server_of member)))).facts.servers M ≡ true
+    starts-live slow = ap live_now (changed-here Later.facts.servers M (starts_as_primary Later.facts.clock) (stopped s) found) ∙ live-starting (stopped s) _ (s.start_delay.0 == 0) slow
 
     begins : (at_once : Bool) → (s.start_delay.0 == 0) ≡ at_once
-        → MovesFrom setup (past_after past Ending) (volatile_of cluster) Later (events_of Later (kinds_by member cluster.book.acknowledged s.log (Some (if at_once then beginnings.AtOnce s.timeline else beginnings.WithItsStart))))
+        → MovesFrom setup (past_after past Ending) (volatile_of cluster) Later (events_of Later (kinds_by member cluster.facts.acknowledged s.log (Some (if at_once then beginnings.AtOnce s.timeline else beginnings.WithItsStart))))
     begins true e = begins-at-once setup (past_after past Ending) (volatile_of cluster) Later member same sound ahead (λ n. refl) s.timeline (stopped s) found refl
     begins false e = starts-begin setup (past_after past Ending) (volatile_of cluster) Later member same sound ahead (λ n. refl) (starts-live e)
 
-    primary-moves : Moves setup past cluster (events_of cluster (server_restart_in member cluster.book.acknowledged states.Primary s))
+    primary-moves : Moves setup past cluster (events_of cluster (server_restart_in member cluster.facts.acknowledged states.Primary s))
     primary-moves =
         let begun = begins (s.start_delay.0 == 0) refl in
         record {
           transitions = record { action = Cease M; events = event_of cluster Ending; volatile_states = volatile_of cluster } ∷ begun.transitions;
           whole = ap (λ (l : List Event). event_of cluster Ending ++ l) begun.whole;
-          allowed = (tt, cease-shown setup past (volatile_of cluster) (record { 0 = Later.book.clock }) (server_of member), change-once (record { 0 = Later.book.clock }) Ending, begun.allowed);
+          allowed = (tt, cease-shown setup past (volatile_of cluster) (record { 0 = Later.facts.clock }) (server_of member), change-once (record { 0 = Later.facts.clock }) Ending, begun.allowed);
           once = (inr tt, begun.once);
           last = begun.last;
           fits = begun.fits;
         }
 
   -- ---- each
-  moves-in : (state : State) → s.state ≡ state → Moves setup past cluster (events_of cluster (server_restart_in member cluster.book.acknowledged state s))
+  moves-in : (state : State) → s.state ≡ state → Moves setup past cluster (events_of cluster (server_restart_in member cluster.facts.acknowledged state s))
   moves-in states.Primary is = primary-moves is
   moves-in states.Replica is = moves-follow setup past cluster (event_of cluster (kinds.Server (servers.StartsAsReplica (server_of member)))) fits (tt, tt) (tt, tt)
   moves-in _ is = moves-none setup past cluster fits
 
   -- a server that is there restarts, if it runs
-  pub restart-moves : Moves setup past cluster (events_of cluster (server_restart_kinds member cluster.book.acknowledged s))
+  pub restart-moves : Moves setup past cluster (events_of cluster (server_restart_kinds member cluster.facts.acknowledged s))
   restart-moves = moves-in s.state refl

@@ -57,22 +57,22 @@ primary-live : (state : State) (test : Bool) → (is_primary state && test) ≡ 
 primary-live states.Primary test e = refl
 primary-live _ test e = absurd (both e)
 
-module _ (setup : Setup) (past : Past) (cluster : Cluster) (fits : Fits past cluster.book (volatile_of cluster)) where
-  module _ (server : ServerOf) (s : ServerFacts) (is : slice_get cluster.book.servers server.id.number ≡ Some s) where
+module _ (setup : Setup) (past : Past) (cluster : Cluster) (fits : Fits past cluster.facts (volatile_of cluster)) where
+  module _ (server : ServerOf) (s : ServerFacts) (is : slice_get cluster.facts.servers server.id.number ≡ Some s) where
     abbrev Kind : EventKind
     Kind = kinds.Server (servers.Stops server)
 
-    stays-moves : live (stops cluster.book.clock s).state ≡ live s.state → Moves setup past cluster (event_of cluster Kind)
+    stays-moves : live (stops cluster.facts.clock s).state ≡ live s.state → Moves setup past cluster (event_of cluster Kind)
     stays-moves stays =
         let later : Cluster = cluster_after cluster Kind in
         let same : volatile_of cluster ≡ volatile_of later = fun_ext (λ m. volatile-same _ _ _ _
-        (sym (seen-kept live_now cluster.book.servers server.id.number (stops cluster.book.clock)
-        (λ item at. subst (λ (t : ServerFacts). live (stops cluster.book.clock t).state ≡ live t.state) (some-is s item (sym is ∙ at)) stays) m)) refl) in
+        (sym (seen-kept live_now cluster.facts.servers server.id.number (stops cluster.facts.clock)
+        (λ item at. subst (λ (t : ServerFacts). live (stops cluster.facts.clock t).state ≡ live t.state) (some-is s item (sym is ∙ at)) stays) m)) refl) in
         moves-one setup past (volatile_of cluster) cluster Kind Note fits.same fits.sound tt tt tt
         (subst (λ (v : ℕ → VolatileState). IsShown setup past (volatile_of cluster) (record { action = Note; events = event_of cluster Kind; volatile_states = v })) same
         (idle-shown setup past (volatile_of cluster) (event_of cluster Kind) (tt, tt)))
 
-    down-moves : live (stops cluster.book.clock s).state ≡ false → writes s.state ≡ false → Moves setup past cluster (event_of cluster Kind)
+    down-moves : live (stops cluster.facts.clock s).state ≡ false → writes s.state ≡ false → Moves setup past cluster (event_of cluster Kind)
     down-moves down quiet =
         let later : Cluster = cluster_after cluster Kind in
         let k : ℕ = server.id.number in
@@ -80,21 +80,21 @@ module _ (setup : Setup) (past : Past) (cluster : Cluster) (fits : Fits past clu
         moves-one setup past (volatile_of cluster) cluster Kind (End k) fits.same fits.sound tt tt tt
         (ap (λ (members : ℕ → Machine). record (state_of setup past (volatile_of cluster)) { members = members })
         (members-shown past past (volatile_of cluster) (volatile_of later) k (record before { live = false; writes = false })
-        (ap (λ (b : Bool). record before { live = b }) (ap live_now (changed-here cluster.book.servers k (stops cluster.book.clock) s is) ∙ down)
-        ∙ ap (λ (w : Bool). record before { live = false; writes = w }) (writes-at past cluster.book fits.same k s is ∙ quiet))
-        (λ n other. ap (λ (b : Bool). record (machine_of past (volatile_of cluster n) n) { live = b }) (ap live_now (changed-there cluster.book.servers k (stops cluster.book.clock) n other)))))
+        (ap (λ (b : Bool). record before { live = b }) (ap live_now (changed-here cluster.facts.servers k (stops cluster.facts.clock) s is) ∙ down)
+        ∙ ap (λ (w : Bool). record before { live = false; writes = w }) (writes-at past cluster.facts fits.same k s is ∙ quiet))
+        (λ n other. ap (λ (b : Bool). record (machine_of past (volatile_of cluster n) n) { live = b }) (ap live_now (changed-there cluster.facts.servers k (stops cluster.facts.clock) n other)))))
 
     stops-moves : Moves setup past cluster (event_of cluster Kind)
-    stops-moves = elim (stops-at cluster.book.clock s.state s) [ inl stays ↦ stays-moves stays | inr ends ↦ down-moves ends.0 ends.1 ]
+    stops-moves = elim (stops-at cluster.facts.clock s.state s) [ inl stays ↦ stays-moves stays | inr ends ↦ down-moves ends.0 ends.1 ]
 
-  shut-moves : (member : Member) (s : ServerFacts) (up ends : Bool) → slice_get cluster.book.servers member.id.number ≡ Some s → (ends ≡ true → live s.state ≡ true)
+  shut-moves : (member : Member) (s : ServerFacts) (up ends : Bool) → slice_get cluster.facts.servers member.id.number ≡ Some s → (ends ≡ true → live s.state ≡ true)
       → Moves setup past cluster (events_of cluster (kinds_of (cond up (Some (cond ends (kinds.Server (servers.Ended (server_of member))) (kinds.Server (servers.Stops (server_of member))))) None)))
   shut-moves member s false ends is is_live = moves-none setup past cluster fits
   shut-moves member s true true is is_live =
       let kind : EventKind = kinds.Server (servers.Ended (server_of member)) in
-      moves-still setup past cluster (record { tick = record { 0 = cluster.book.clock }; kind = kind }) fits tt (record { server = s; is = is; is_live = is_live refl })
+      moves-still setup past cluster (record { tick = record { 0 = cluster.facts.clock }; kind = kind }) fits tt (record { server = s; is = is; is_live = is_live refl })
   shut-moves member s true false is is_live = stops-moves (server_of member) s is
 
   -- a server that is there shuts down, if it runs or starts
-  pub stop-moves : (member : Member) (s : ServerFacts) → slice_get cluster.book.servers member.id.number ≡ Some s → Moves setup past cluster (events_of cluster (kinds_of (stop_of member s)))
+  pub stop-moves : (member : Member) (s : ServerFacts) → slice_get cluster.facts.servers member.id.number ≡ Some s → Moves setup past cluster (events_of cluster (kinds_of (stop_of member s)))
   stop-moves member s is = shut-moves member s (is_up s.state) (is_primary s.state && s.stop_delay.0 == 0) is (primary-live s.state (s.stop_delay.0 == 0))

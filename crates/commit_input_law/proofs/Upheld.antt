@@ -168,7 +168,7 @@ question-numbered s by run sequence _ question = tt
 
 -- a member that asks is one that may be answered
 abbrev pub MayAnswer : HeadText → List Event → Cluster → Heard → Type 0
-MayAnswer head book cluster (heards.Asked from run sequence) = (peer : Member) → slice_get cluster.book.members from.number ≡ Some peer → IsNumbered ((state_of_run head book cluster).members peer.id.number) run sequence
+MayAnswer head book cluster (heards.Asked from run sequence) = (peer : Member) → slice_get cluster.facts.members from.number ≡ Some peer → IsNumbered ((state_of_run head book cluster).members peer.id.number) run sequence
 MayAnswer head book cluster _ = Unit {0}
 
 at-most : (a b : ℕ) → a ≡ b → a ≤ b
@@ -209,8 +209,8 @@ module _ (head : HeadText) (book : List Event) (cluster : Cluster) (good : Commi
   all-mine : AllAre (IsOfInput a.member a.agent.knows.run a.message.number Q) Rest
   all-mine = mine head book cluster good.lease a.member a.agent a.machine (found-of cluster a.member a.machine a.machine_is) a.here a.heard a.number a.message a.opening a.opening_is a.numbered a.low
 
-  causal : AreCausal P cluster.book All_
-  causal = own-causal P cluster.book All_
+  causal : AreCausal P cluster.facts All_
+  causal = own-causal P cluster.facts All_
       (opening-from a.number a.opening a.opening_is, all-more (IsOfInput a.member a.agent.knows.run a.message.number Q) IsOfMembers Rest (mine-from a.member a.agent.knows.run a.message.number Q) all-mine)
       (numbers head book cluster good.lease a.member a.agent a.machine (found-of cluster a.member a.machine a.machine_is) a.here a.heard a.number a.message a.opening a.opening_is a.numbered a.low)
 
@@ -226,7 +226,7 @@ module _ (head : HeadText) (book : List Event) (cluster : Cluster) (good : Commi
 
   runs-behind : (past_over P All_).runs M ≡ a.agent.knows.run
   runs-behind =
-      let knows : KnowsItself M (slice_get cluster.book.agents M) a.agent = good.lease.matched.agents M a.agent a.here in
+      let knows : KnowsItself M (slice_get cluster.facts.processes M) a.agent = good.lease.matched.agents M a.agent a.here in
       ap (λ (runs : ℕ → ℕ). runs M) (runs-stay a.member a.agent.knows.run a.message.number Q (past_after P a.opening) Rest all-mine ∙ opening-runs a.number P a.opening a.opening_is)
       ∙ runs-now head book cluster good M ∙ ap run_now knows.is ∙ sym knows.run
 

@@ -50,15 +50,15 @@ began-leads setup past facts volatile_states member timeline s same sound ahead 
       };
     }
 
-pub begins-ahead : (setup : Setup) (past : Past) (cluster : Cluster) (volatile_states : ℕ → VolatileState) (member : Member) (timeline : ℕ) (s : ServerFacts) (acknowledged : List ℕ) → IsSameServers past cluster.book → AreServersSound cluster.book
-    → IsLiveAhead volatile_states cluster.book.servers member.id.number → slice_get cluster.book.servers member.id.number ≡ Some s → has_data s.state ≡ true
-    → AreActions setup past cluster.book volatile_states (events_of cluster (beginning_kinds member timeline acknowledged s.log))
+pub begins-ahead : (setup : Setup) (past : Past) (cluster : Cluster) (volatile_states : ℕ → VolatileState) (member : Member) (timeline : ℕ) (s : ServerFacts) (acknowledged : List ℕ) → IsSameServers past cluster.facts → AreServersSound cluster.facts
+    → IsLiveAhead volatile_states cluster.facts.servers member.id.number → slice_get cluster.facts.servers member.id.number ≡ Some s → has_data s.state ≡ true
+    → AreActions setup past cluster.facts volatile_states (events_of cluster (beginning_kinds member timeline acknowledged s.log))
 begins-ahead setup past cluster volatile_states member timeline s acknowledged same sound ahead is with_data =
     let kind : EventKind = kinds.Server (servers.Began (server_of member) timeline) in
     let later : Cluster = cluster_after cluster kind in
     let lacks : Bool = lacks_in (entries_of s.log) acknowledged in
-    let leads = began-leads setup past cluster.book volatile_states member timeline s same sound ahead is with_data in
-    (leads, actions-of setup (past_after past kind) later.book volatile_states (events_of later (kinds_of (loss_if member lacks))) leads.fits (follow-if later (loss_if member lacks) (loss-may later.book member lacks)))
+    let leads = began-leads setup past cluster.facts volatile_states member timeline s same sound ahead is with_data in
+    (leads, actions-of setup (past_after past kind) later.facts volatile_states (events_of later (kinds_of (loss_if member lacks))) leads.fits (follow-if later (loss_if member lacks) (loss-may later.facts member lacks)))
 
 -- ---- an agent ends with no event of its own
 agent-of : (past : Past) (m : ℕ) (a b : VolatileState) → a ≡ b → machine_of past a m ≡ machine_of past b m

@@ -9,7 +9,7 @@ use Rattle.cluster_model.specs.Parts.{events_of, for_some}
 use Rattle.cluster_model.specs.State.{Cluster}
 use Rattle.commit_log_law.specs.Happening.{MayHappen, MayFollow}
 
-pub follow-if : (cluster : Cluster) (found : Option EventKind) → ((kind : EventKind) → found ≡ Some kind → MayHappen cluster.book kind) → MayFollow cluster.book (events_of cluster (kinds_of found))
+pub follow-if : (cluster : Cluster) (found : Option EventKind) → ((kind : EventKind) → found ≡ Some kind → MayHappen cluster.facts kind) → MayFollow cluster.facts (events_of cluster (kinds_of found))
 follow-if cluster None may = tt
 follow-if cluster (Some kind) may = (may kind refl, tt)
 

@@ -82,12 +82,12 @@ repair-by facts member leader repairs.Clone kind e =
 pub repair-may : (facts : Facts) (cuts : CutLinks) (member leader : Member) (repair : Repair) (kind : EventKind) → repair_over cuts facts.servers member repair leader ≡ Some kind → MayHappen facts kind
 repair-may facts cuts member leader repair kind e = repair-by facts member leader repair kind (unless-some (is_cut cuts (link_of_members member leader)) (repair_by facts.servers member repair leader) kind e)
 
-repair-leader : (cluster : Cluster) (member : Member) (repair : Repair) (leader : Option Member) (kind : EventKind) → option_and_then (repair_over cluster.book.cuts cluster.book.servers member repair) leader ≡ Some kind → MayHappen cluster.book kind
+repair-leader : (cluster : Cluster) (member : Member) (repair : Repair) (leader : Option Member) (kind : EventKind) → option_and_then (repair_over cluster.facts.cuts cluster.facts.servers member repair) leader ≡ Some kind → MayHappen cluster.facts kind
 repair-leader cluster member repair None kind e = absurd (none-some kind e)
-repair-leader cluster member repair (Some leader) kind e = repair-may cluster.book cluster.book.cuts member leader repair kind e
+repair-leader cluster member repair (Some leader) kind e = repair-may cluster.facts cluster.facts.cuts member leader repair kind e
 
-pub repair-follow : (cluster : Cluster) (member : Member) (repair : Repair) (leader : Option Member) → MayFollow cluster.book (repair_events cluster member repair leader)
-repair-follow cluster member repair leader = follow-if cluster (option_and_then (repair_over cluster.book.cuts cluster.book.servers member repair) leader) (repair-leader cluster member repair leader)
+pub repair-follow : (cluster : Cluster) (member : Member) (repair : Repair) (leader : Option Member) → MayFollow cluster.facts (repair_events cluster member repair leader)
+repair-follow cluster member repair leader = follow-if cluster (option_and_then (repair_over cluster.facts.cuts cluster.facts.servers member repair) leader) (repair-leader cluster member repair leader)
 
 -- ---- wipes
 wipes-by : (facts : Facts) (member : Member) (s : ServerFacts) (kind : EventKind) (stays : Bool) → slice_get facts.servers member.id.number ≡ Some s → (is_creating s.state || live s.state) ≡ stays
@@ -99,5 +99,5 @@ wipes-by facts member s kind false is e wiped =
 pub wipe-may : (facts : Facts) (member : Member) (s : ServerFacts) (kind : EventKind) → slice_get facts.servers member.id.number ≡ Some s → wipe_of member s ≡ Some kind → MayHappen facts kind
 wipe-may facts member s kind is wiped = wipes-by facts member s kind (is_creating s.state || live s.state) is refl wiped
 
-pub wipe-follow : (cluster : Cluster) (member : Member) (s : ServerFacts) → slice_get cluster.book.servers member.id.number ≡ Some s → MayFollow cluster.book (events_of cluster (kinds_of (wipe_of member s)))
-wipe-follow cluster member s is = follow-if cluster (wipe_of member s) (λ kind wiped. wipe-may cluster.book member s kind is wiped)
+pub wipe-follow : (cluster : Cluster) (member : Member) (s : ServerFacts) → slice_get cluster.facts.servers member.id.number ≡ Some s → MayFollow cluster.facts (events_of cluster (kinds_of (wipe_of member s)))
+wipe-follow cluster member s is = follow-if cluster (wipe_of member s) (λ kind wiped. wipe-may cluster.facts member s kind is wiped)

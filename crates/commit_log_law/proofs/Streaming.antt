@@ -139,14 +139,14 @@ confirm-kind : (facts : Facts) (member from : Member) (end : Option Lsn) (kind :
 confirm-kind facts member from None kind may e = absurd (none-some kind e)
 confirm-kind facts member from (Some end) kind may e = subst (MayHappen facts) (same_Some (kinds.Replication (replications.Confirmed (server_of from) member end)) kind e) (may end refl)
 
-confirm-may : (cluster : Cluster) (member from : Member) → AreServersSound cluster.book → Behind cluster.book member from → MayFollow cluster.book (confirm_events cluster member from)
+confirm-may : (cluster : Cluster) (member from : Member) → AreServersSound cluster.facts → Behind cluster.facts member from → MayFollow cluster.facts (confirm_events cluster member from)
 confirm-may cluster member from sound behind =
     let between = behind.between in
     let s : ServerFacts = between.s in
-    let end : Option Lsn = unconfirmed_end member (slice_get cluster.book.servers member.id.number) (slice_get cluster.book.servers from.id.number) in
+    let end : Option Lsn = unconfirmed_end member (slice_get cluster.facts.servers member.id.number) (slice_get cluster.facts.servers from.id.number) in
     let is_end : end ≡ end_unless_confirmed s.log (slice_index_or between.source.confirmed member.id.number None) =
-    ap (λ (o : Option ServerFacts). unconfirmed_end member o (slice_get cluster.book.servers from.id.number)) between.is ∙ ap (λ (o : Option ServerFacts). unconfirmed_end member (Some s) o) between.source_is in
-    follow-if cluster (confirm_of member from end) (λ kind e. confirm-kind cluster.book member from end kind
+    ap (λ (o : Option ServerFacts). unconfirmed_end member o (slice_get cluster.facts.servers from.id.number)) between.is ∙ ap (λ (o : Option ServerFacts). unconfirmed_end member (Some s) o) between.source_is in
+    follow-if cluster (confirm_of member from end) (λ kind e. confirm-kind cluster.facts member from end kind
     (λ told is. record {
       server = between.source;
       is = between.source_is;
@@ -208,8 +208,8 @@ behind-received facts member from count between prefix =
       prefix = received-prefix (entries_of s.log) (entries_of source.log) count prefix;
     }
 
-receive-may : (cluster : Cluster) (member from : Member) (most : ℕ) (news : Option Streamed) → AreServersSound cluster.book → (between : Sources cluster.book.servers member from) → news_of between.s between.source most ≡ news
-    → MayFollow cluster.book (receive_events cluster member from news)
+receive-may : (cluster : Cluster) (member from : Member) (most : ℕ) (news : Option Streamed) → AreServersSound cluster.facts → (between : Sources cluster.facts.servers member from) → news_of between.s between.source most ≡ news
+    → MayFollow cluster.facts (receive_events cluster member from news)
 receive-may cluster member from most None sound between is =
     let s : ServerFacts = between.s in
     let source : ServerFacts = between.source in
@@ -221,23 +221,23 @@ receive-may cluster member from most (Some (streams.Received count)) sound betwe
     let source : ServerFacts = between.source in
     let kind : EventKind = kinds.Log (logs.Received (server_of member) (server_of from) count) in
     let prefix : IsPrefixOf (entries_of s.log) (entries_of source.log) = received-front (writes source.state) (entries_of s.log) (entries_of source.log) most count (news-answer s source most (streams.Received count) is) in
-    let may : Receives cluster.book.servers member.id.number from.id.number = record {
+    let may : Receives cluster.facts.servers member.id.number from.id.number = record {
       takes = record { server = s; is = between.is; not_live = replica-not-live s.state between.replica; source = source; source_is = between.source_is; is_writer = between.is_writer };
       with_data = replica-data s.state between.replica;
       prefix = prefix;
     } in
-    (may, confirm-may (cluster_after cluster kind) member from (sound-by cluster.book kind may sound) (behind-received cluster.book member from count between prefix))
+    (may, confirm-may (cluster_after cluster kind) member from (sound-by cluster.facts kind may sound) (behind-received cluster.facts member from count between prefix))
 
-pub receive-at-most : (cluster : Cluster) (most : ℕ) (member : Member) → AreInPlace cluster.book.members → AreServersSound cluster.book → MayFollow cluster.book (receive_events_at_most cluster most member)
+pub receive-at-most : (cluster : Cluster) (most : ℕ) (member : Member) → AreInPlace cluster.facts.members → AreServersSound cluster.facts → MayFollow cluster.facts (receive_events_at_most cluster most member)
 receive-at-most cluster most member placed sound =
-    follow-for_some cluster.book (source_of cluster.book.members cluster.book.servers cluster.book.cuts member) (λ from. receive_events cluster member from (news_at cluster.book.servers member.id.number from.id.number most))
-    (λ from is. let between = sources cluster.book.servers cluster.book.cuts member from cluster.book.members placed is in
-    receive-may cluster member from most (news_at cluster.book.servers member.id.number from.id.number most) sound between (sym (news-are cluster.book.servers member from most between)))
+    follow-for_some cluster.facts (source_of cluster.facts.members cluster.facts.servers cluster.facts.cuts member) (λ from. receive_events cluster member from (news_at cluster.facts.servers member.id.number from.id.number most))
+    (λ from is. let between = sources cluster.facts.servers cluster.facts.cuts member from cluster.facts.members placed is in
+    receive-may cluster member from most (news_at cluster.facts.servers member.id.number from.id.number most) sound between (sym (news-are cluster.facts.servers member from most between)))
 
-receive-unless : (cluster : Cluster) (member : Member) (frozen : Bool) → AreInPlace cluster.book.members → AreServersSound cluster.book → MayFollow cluster.book (cond frozen [] (receive_events_at_most cluster all_entries member))
+receive-unless : (cluster : Cluster) (member : Member) (frozen : Bool) → AreInPlace cluster.facts.members → AreServersSound cluster.facts → MayFollow cluster.facts (cond frozen [] (receive_events_at_most cluster all_entries member))
 receive-unless cluster member true placed sound = tt
 receive-unless cluster member false placed sound = receive-at-most cluster all_entries member placed sound
 
-pub receive-of : (cluster : Cluster) (member : Member) → AreInPlace cluster.book.members → AreServersSound cluster.book → MayFollow cluster.book (receive_events_of cluster member)
+pub receive-of : (cluster : Cluster) (member : Member) → AreInPlace cluster.facts.members → AreServersSound cluster.facts → MayFollow cluster.facts (receive_events_of cluster member)
 receive-of cluster member placed sound =
-    follow-for_some cluster.book (slice_get cluster.book.frozen member.id.number) (λ frozen. cond frozen [] (receive_events_at_most cluster all_entries member)) (λ frozen is. receive-unless cluster member frozen placed sound)
+    follow-for_some cluster.facts (slice_get cluster.facts.frozen member.id.number) (λ frozen. cond frozen [] (receive_events_at_most cluster all_entries member)) (λ frozen is. receive-unless cluster member frozen placed sound)

@@ -39,51 +39,51 @@ pub fn commands()
 /// What is streamed may happen: a replica receives from its source, of whose log its own is a front, and confirms its log's end; or it finds
 /// that the two have parted.
 pub fn streams()
-    ensures told { (cluster : Cluster) (most : ℕ) (member : Member) → AreInPlace cluster.book.members → AreServersSound cluster.book
-        → MayFollow cluster.book (receive_events_at_most cluster most member) }
-    ensures each { (cluster : Cluster) (member : Member) → AreInPlace cluster.book.members → AreServersSound cluster.book
-        → MayFollow cluster.book (receive_events_of cluster member) }
+    ensures told { (cluster : Cluster) (most : ℕ) (member : Member) → AreInPlace cluster.facts.members → AreServersSound cluster.facts
+        → MayFollow cluster.facts (receive_events_at_most cluster most member) }
+    ensures each { (cluster : Cluster) (member : Member) → AreInPlace cluster.facts.members → AreServersSound cluster.facts
+        → MayFollow cluster.facts (receive_events_of cluster member) }
 {}
 
 /// What acknowledges commits may happen, one after another: whom a commit waits for has confirmed its end.
 pub fn acknowledgements()
-    ensures { (cluster : Cluster) (member : Member) → MayFollow cluster.book (acknowledge_events cluster member) }
+    ensures { (cluster : Cluster) (member : Member) → MayFollow cluster.facts (acknowledge_events cluster member) }
 {}
 
 /// What repairs a log may happen: a rewind, and a copy; and so may a wipe.
 pub fn repairs()
     ensures one { (facts : Facts) (cuts : CutLinks) (member leader : Member) (repair : Repair) (kind : EventKind)
         → repair_over cuts facts.servers member repair leader ≡ Some kind → MayHappen facts kind }
-    ensures events { (cluster : Cluster) (member : Member) (repair : Repair) (leader : Option Member) → MayFollow cluster.book (repair_events cluster member repair leader) }
+    ensures events { (cluster : Cluster) (member : Member) (repair : Repair) (leader : Option Member) → MayFollow cluster.facts (repair_events cluster member repair leader) }
     ensures wipe { (facts : Facts) (member : Member) (s : ServerFacts) (kind : EventKind)
         → slice_get facts.servers member.id.number ≡ Some s → wipe_of member s ≡ Some kind → MayHappen facts kind }
 {}
 
 /// What a tick brings at servers beside the clock may happen: resets, and the starts and stops of primaries that are complete.
 pub fn ticks()
-    ensures resets { (cluster : Cluster) (member : Member) → MayFollow cluster.book (reset_events cluster member) }
-    ensures completions { (cluster : Cluster) (member : Member) → MayFollow cluster.book (completion_events cluster member) }
+    ensures resets { (cluster : Cluster) (member : Member) → MayFollow cluster.facts (reset_events cluster member) }
+    ensures completions { (cluster : Cluster) (member : Member) → MayFollow cluster.facts (completion_events cluster member) }
 {}
 
 /// A server with data begins by the order of its agent, behind the input that made it live: that is one allowed action, and that it lacks a
 /// commit is none.
 pub fn beginnings()
     ensures { (setup : Setup) (past : Past) (cluster : Cluster) (volatile_states : ℕ → VolatileState) (member : Member) (timeline : ℕ) (s : ServerFacts) (acknowledged : List ℕ)
-        → IsSameServers past cluster.book → AreServersSound cluster.book
-        → IsLiveAhead volatile_states cluster.book.servers member.id.number
-        → slice_get cluster.book.servers member.id.number ≡ Some s → has_data s.state ≡ true
-        → AreActions setup past cluster.book volatile_states (events_of cluster (beginning_kinds member timeline acknowledged s.log)) }
+        → IsSameServers past cluster.facts → AreServersSound cluster.facts
+        → IsLiveAhead volatile_states cluster.facts.servers member.id.number
+        → slice_get cluster.facts.servers member.id.number ≡ Some s → has_data s.state ≡ true
+        → AreActions setup past cluster.facts volatile_states (events_of cluster (beginning_kinds member timeline acknowledged s.log)) }
 {}
 
 /// What orders bring at servers leaves them sound: of agents, and an operator's promotion.
 pub fn orders_leave_sound()
-    ensures begin { (cluster : Cluster) (member : Member) → AllLeaveSound cluster.book (begin_events cluster member) }
-    ensures stop { (cluster : Cluster) (member : Member) (reason : Reason) → AllLeaveSound cluster.book (stop_events cluster member reason) }
+    ensures begin { (cluster : Cluster) (member : Member) → AllLeaveSound cluster.facts (begin_events cluster member) }
+    ensures stop { (cluster : Cluster) (member : Member) (reason : Reason) → AllLeaveSound cluster.facts (stop_events cluster member reason) }
     ensures shut_down { (facts : Facts) (member : Member) (s : ServerFacts) (kind : EventKind)
         → slice_get facts.servers member.id.number ≡ Some s → stop_of member s ≡ Some kind → LeavesSound facts kind }
-    ensures start_replica { (cluster : Cluster) (member : Member) (leader : Option Member) → AllLeaveSound cluster.book (replica_start_events cluster member leader) }
-    ensures restart { (cluster : Cluster) (member : Member) → AllLeaveSound cluster.book (server_restart_events cluster member) }
+    ensures start_replica { (cluster : Cluster) (member : Member) (leader : Option Member) → AllLeaveSound cluster.facts (replica_start_events cluster member leader) }
+    ensures restart { (cluster : Cluster) (member : Member) → AllLeaveSound cluster.facts (server_restart_events cluster member) }
     ensures require { (facts : Facts) (members : List Member) (member : Member) (required : Required) (s : ServerFacts) (kind : EventKind)
         → WaitsForMembers required → require_of members member required s ≡ Some kind → LeavesSound facts kind }
-    ensures promote { (cluster : Cluster) (member : Member) → AllLeaveSound cluster.book (promote_events cluster member) }
+    ensures promote { (cluster : Cluster) (member : Member) → AllLeaveSound cluster.facts (promote_events cluster member) }
 {}

@@ -55,17 +55,17 @@ use Rattle.commit_step_law.proofs.Transitions.{past-more}
 
 -- the event of this kind at its moment
 abbrev event_now : Cluster → EventKind → Event
-event_now cluster kind = record { tick = record { 0 = (cluster_after cluster kind).book.clock }; kind = kind }
+event_now cluster kind = record { tick = record { 0 = (cluster_after cluster kind).facts.clock }; kind = kind }
 
 -- ---- a server begins
 module _ (head : HeadText) (book : List Event) (cluster : Cluster) (good : TellsSoFar head book cluster) where
   -- its log is the book's, and lacks what it lacks by the book
-  log-now : (k : ℕ) (s : ServerFacts) → slice_get cluster.book.servers k ≡ Some s → entries_at (logs_over (first_logs head) book) k ≡ entries_of s.log
+  log-now : (k : ℕ) (s : ServerFacts) → slice_get cluster.facts.servers k ≡ Some s → entries_at (logs_over (first_logs head) book) k ≡ entries_of s.log
   log-now k s is =
       ap (λ (l : Logs). entries_at l k) (sym (book-logs head book) ∙ good.same.logs)
-      ∙ ap entries_found (slice_get-map (λ (x : ServerFacts). x.log) cluster.book.servers k ∙ ap (option_map (λ (x : ServerFacts). x.log)) is)
+      ∙ ap entries_found (slice_get-map (λ (x : ServerFacts). x.log) cluster.facts.servers k ∙ ap (option_map (λ (x : ServerFacts). x.log)) is)
 
-  lacks-now : (k : ℕ) (s : ServerFacts) → slice_get cluster.book.servers k ≡ Some s → lacks_in (entries_at (logs_over (first_logs head) book) k) (acknowledged_in book) ≡ lacks_in (entries_of s.log) cluster.book.acknowledged
+  lacks-now : (k : ℕ) (s : ServerFacts) → slice_get cluster.facts.servers k ≡ Some s → lacks_in (entries_at (logs_over (first_logs head) book) k) (acknowledged_in book) ≡ lacks_in (entries_of s.log) cluster.facts.acknowledged
   lacks-now k s is =
       ap (λ (l : List Entry). lacks_in l (acknowledged_in book)) (log-now k s is) ∙ ap (λ (a : List ℕ). lacks_in (entries_of s.log) a) (sym (book-acknowledged head book) ∙ good.same.acknowledged)
 
@@ -92,11 +92,11 @@ module _ (head : HeadText) (book : List Event) (cluster : Cluster) (good : Tells
     begun-within true small = (small, (tt, tt))
     begun-within false small = (small, tt)
 
-    pub upheld-begun : (s : ServerFacts) → slice_get cluster.book.servers member.id.number ≡ Some s → Upholds (losses_told head) book cluster (events_of cluster (beginning_kinds member timeline cluster.book.acknowledged s.log))
+    pub upheld-begun : (s : ServerFacts) → slice_get cluster.facts.servers member.id.number ≡ Some s → Upholds (losses_told head) book cluster (events_of cluster (beginning_kinds member timeline cluster.facts.acknowledged s.log))
     upheld-begun s is =
-        let lacks : Bool = lacks_in (entries_of s.log) cluster.book.acknowledged in
+        let lacks : Bool = lacks_in (entries_of s.log) cluster.facts.acknowledged in
         upheld-tells head book cluster (events_of cluster (Beginning ∷ kinds_of (loss_if member lacks))) good (begun-by lacks (lacks-now member.id.number s is))
-        (begun-within lacks (subst (λ (n : ℕ). member.id.number < n) good.sized (slice_get_within cluster.book.servers member.id.number s is)))
+        (begun-within lacks (subst (λ (n : ℕ). member.id.number < n) good.sized (slice_get_within cluster.facts.servers member.id.number s is)))
 
 -- ---- commits are acknowledged
 -- what is told of these servers begins with a loss, and one of them lacks the commit
@@ -227,14 +227,14 @@ all-quiet-begin P (event ∷ events) all = (quiet-begins P event.kind all.0, all
 
 pub upheld-acknowledge : (head : HeadText) → length (names_of head) ≤ 16 → (member : Member) → UpholdsAlways (losses_told head) (λ cluster. acknowledge_events cluster member)
 upheld-acknowledge head few member book cluster good =
-    let found : Option ServerFacts = slice_get cluster.book.servers member.id.number in
-    let list : List EventKind = acknowledge_kinds cluster.book.servers cluster.book.members member found in
-    let finds : (n : ℕ) → n < length cluster.book.servers → (m : Member) × (slice_get cluster.book.members n ≡ Some m) × (m.id.number ≡ n) = (λ n small.
+    let found : Option ServerFacts = slice_get cluster.facts.servers member.id.number in
+    let list : List EventKind = acknowledge_kinds cluster.facts.servers cluster.facts.members member found in
+    let finds : (n : ℕ) → n < length cluster.facts.servers → (m : Member) × (slice_get cluster.facts.members n ≡ Some m) × (m.id.number ≡ n) = (λ n small.
     let at = there (declared_members head) n (subst (λ (count : ℕ). n < count) (good.sized ∙ sym (counted head few)) small) in
     (at.0, ap (λ (ms : List Member). slice_get ms n) good.members ∙ at.1, numbered head few n at.0 at.1)) in
     upheld-tells head book cluster (acknowledge_events cluster member) good
-    (acknowledge-tells head cluster.book.servers cluster.book.members member finds found book cluster (record { logs = good.same.logs; writing = good.same.writes }))
-    (all-quiet-begin (λ n. n < member_count head) (events_of cluster list) (all-kinds IsQuiet cluster list (acknowledge-quiet cluster.book.servers cluster.book.members member found)))
+    (acknowledge-tells head cluster.facts.servers cluster.facts.members member finds found book cluster (record { logs = good.same.logs; writing = good.same.writes }))
+    (all-quiet-begin (λ n. n < member_count head) (events_of cluster list) (all-kinds IsQuiet cluster list (acknowledge-quiet cluster.facts.servers cluster.facts.members member found)))
 
 -- ---- a log is repaired or wiped, of a server that accepts no writes
 abbrev pub IsRepair : EventKind → Type 0
@@ -274,11 +274,11 @@ repair-tells : (kind : EventKind) → IsRepair kind → is_loss kind ≡ false
 repair-tells (kinds.Log happening) is = refl
 repair-tells _ is = absurd is
 
-pub upheld-repair : (head : HeadText) (book : List Event) (cluster : Cluster) (kind : EventKind) → TellsSoFar head book cluster → IsRepair kind → MayHappen cluster.book kind → Upholds (losses_told head) book cluster (event_of cluster kind)
+pub upheld-repair : (head : HeadText) (book : List Event) (cluster : Cluster) (kind : EventKind) → TellsSoFar head book cluster → IsRepair kind → MayHappen cluster.facts kind → Upholds (losses_told head) book cluster (event_of cluster kind)
 upheld-repair head book cluster kind good is may =
     let event : Event = event_now cluster kind in
     let keeps : WritersHold (first_logs head) book → WriterLacks (first_logs head) (book ++ event ∷ []) → ⊥ = (λ hold.
     none-if-hold (first_logs head) (book ++ event ∷ []) (held-by-book head (book ++ event ∷ [])
-    (subst HoldsIn (sym (past-more head book (event ∷ []))) (hold-repaired (past_of head book) cluster.book kind good.same is may (held-by-past head book hold))))) in
+    (subst HoldsIn (sym (past-more head book (event ∷ []))) (hold-repaired (past_of head book) cluster.facts kind good.same is may (held-by-past head book hold))))) in
     upheld-tells head book cluster (event_of cluster kind) good
     (record { begins = repair-tells kind is; told = (none-lost (first_logs head) book event [] refl keeps, tt) }) (repair-begins (λ n. n < member_count head) kind is, tt)

@@ -40,11 +40,11 @@ use Rattle.cluster_model.specs.declared.beginning.Completion.{Completion}
 use Rattle.cluster_model.specs.declared.beginning.Completion.TheVariants as completions
 use Rattle.cluster_model.specs.Beginnings.{completed_by, completion_of}
 use Rattle.cluster_model.specs.Cluster.{cluster_after, cluster_over}
-use Rattle.cluster_model.specs.Commands.{cut_of, disarm_at_start, disarm_if, disarm_of, join_of, kinds_of, link_of, restarted}
+use Rattle.cluster_model.specs.Commands.{cut_of, disarm_at_start, disarm_if, disarm_of, join_of, kinds_of, link_of, agent_started}
 use Rattle.cluster_model.specs.Losing.{beginning_kinds}
 use Rattle.cluster_model.specs.Machines.{machine_of}
 use Rattle.cluster_model.specs.Messages.{answer_events_by, answer_message, arrival_events_at, decision_body, decision_events, lost_at_once, send_events}
-use Rattle.cluster_model.specs.Next.{command_kind, confirm_events, declared, process_kind, promote_events, receive_events, receive_events_at_most, restart_events}
+use Rattle.cluster_model.specs.Next.{command_kind, confirm_events, declared, process_kind, promote_events, receive_events, receive_events_at_most, agent_start_events}
 use Rattle.cluster_model.specs.Parts.{each, event_of, events_of, for_some}
 use Rattle.cluster_model.specs.ServerCommands.{commit_of, freezing_of, is_gone, promote_kinds, slow_of}
 use Rattle.cluster_model.specs.State.{Cluster}
@@ -91,35 +91,35 @@ module _ (head : HeadText) where
   upholds-reset : (member : Member) → UpholdsAlways (losses_told head) (λ cluster. reset_events cluster member)
   upholds-reset member book cluster good =
       upheld-loseless head book cluster (reset_events cluster member) good
-      (none-if cluster _ (holds-then LosesNone (reset_of cluster.book.clock member) (slice_get cluster.book.deadlines member.id.number)
-      (λ deadline. holds-if LosesNone (is_due_at cluster.book.clock deadline) (kinds.Watchdog (watchdogs.Reset member)) tt)))
+      (none-if cluster _ (holds-then LosesNone (reset_of cluster.facts.clock member) (slice_get cluster.facts.deadlines member.id.number)
+      (λ deadline. holds-if LosesNone (is_due_at cluster.facts.clock deadline) (kinds.Watchdog (watchdogs.Reset member)) tt)))
 
-  completed-upheld : (book : List Event) (cluster : Cluster) (member : Member) (s : ServerFacts) (found : Option Completion) → TellsSoFar head book cluster → slice_get cluster.book.servers member.id.number ≡ Some s
-      → Upholds (losses_told head) book cluster (events_of cluster (completed_by member cluster.book.acknowledged s.log found))
+  completed-upheld : (book : List Event) (cluster : Cluster) (member : Member) (s : ServerFacts) (found : Option Completion) → TellsSoFar head book cluster → slice_get cluster.facts.servers member.id.number ≡ Some s
+      → Upholds (losses_told head) book cluster (events_of cluster (completed_by member cluster.facts.acknowledged s.log found))
   completed-upheld book cluster member s None good is = upheld-none (losses_told head) (composable head) book cluster good
   completed-upheld book cluster member s (Some (completions.Begins timeline)) good is = upheld-begun head book cluster good member timeline s is
   completed-upheld book cluster member s (Some completions.Ends) good is = upheld-loseless head book cluster _ good (tt, tt)
 
   upholds-completion : (member : Member) → UpholdsAlways (losses_told head) (λ cluster. completion_events cluster member)
   upholds-completion member book cluster good =
-      upheld-for_some (losses_told head) (composable head) book cluster (slice_get cluster.book.servers member.id.number) _ good
-      (λ s is. completed-upheld book cluster member s (completion_of cluster.book.clock s) good is)
+      upheld-for_some (losses_told head) (composable head) book cluster (slice_get cluster.facts.servers member.id.number) _ good
+      (λ s is. completed-upheld book cluster member s (completion_of cluster.facts.clock s) good is)
 
   pub upholds-tick : UpholdsAlways (losses_told head) tick_events
   upholds-tick book cluster good =
       let promise = losses_told head in
       let ticked : Cluster = cluster_after cluster kinds.Tick in
-      let resets : List Event = each reset_events ticked ticked.book.members in
+      let resets : List Event = each reset_events ticked ticked.facts.members in
       let reset : Cluster = cluster_over ticked resets in
       let expiries : List Event = events_of reset (next_expiries cluster) in
       let expired : Cluster = cluster_over reset expiries in
-      let completes : List Event = each completion_events expired expired.book.members in
+      let completes : List Event = each completion_events expired expired.facts.members in
       let first : List Event = book ++ event_of cluster kinds.Tick in
       upheld-then promise (composable head) book cluster (event_of cluster kinds.Tick) (resets ++ (expiries ++ completes)) (upheld-loseless head book cluster _ good (tt, tt)) (λ was.
-      upheld-then promise (composable head) first ticked resets (expiries ++ completes) (upholds-all promise (composable head) reset_events upholds-reset ticked.book.members first ticked was) (λ later.
+      upheld-then promise (composable head) first ticked resets (expiries ++ completes) (upholds-all promise (composable head) reset_events upholds-reset ticked.facts.members first ticked was) (λ later.
       upheld-then promise (composable head) (first ++ resets) reset expiries completes
       (upheld-loseless head (first ++ resets) reset expiries later (all-more IsExpiry LosesNone expiries expiry-none (all-kinds IsExpiry reset (next_expiries cluster) (next-expiries cluster))))
-      (upholds-all promise (composable head) completion_events upholds-completion expired.book.members ((first ++ resets) ++ expiries) expired)))
+      (upholds-all promise (composable head) completion_events upholds-completion expired.facts.members ((first ++ resets) ++ expiries) expired)))
 
 -- ---- streams
 confirm-none : (member from : Member) (end : Option _) → HoldsIf LosesNone (confirm_of member from end)
@@ -127,7 +127,7 @@ confirm-none member from None = tt
 confirm-none member from (Some end) = tt
 
 confirms-none : (cluster : Cluster) (member from : Member) → AllAre LosesNone (confirm_events cluster member from)
-confirms-none cluster member from = none-if cluster _ (confirm-none member from (unconfirmed_end member (slice_get cluster.book.servers member.id.number) (slice_get cluster.book.servers from.id.number)))
+confirms-none cluster member from = none-if cluster _ (confirm-none member from (unconfirmed_end member (slice_get cluster.facts.servers member.id.number) (slice_get cluster.facts.servers from.id.number)))
 
 receive-none : (cluster : Cluster) (member from : Member) (news : Option Streamed) → AllAre LosesNone (receive_events cluster member from news)
 receive-none cluster member from None = confirms-none cluster member from
@@ -135,17 +135,17 @@ receive-none cluster member from (Some streams.NotConnected) = tt
 receive-none cluster member from (Some (streams.Diverged at)) = (tt, tt)
 receive-none cluster member from (Some (streams.Received count)) = (tt, confirms-none _ member from)
 
-receives-none : (cluster : Cluster) (most : ℕ) (member : Member) (source : Option Member) → AllAre LosesNone (for_some source (λ from. receive_events cluster member from (news_at cluster.book.servers member.id.number from.id.number most)))
+receives-none : (cluster : Cluster) (most : ℕ) (member : Member) (source : Option Member) → AllAre LosesNone (for_some source (λ from. receive_events cluster member from (news_at cluster.facts.servers member.id.number from.id.number most)))
 receives-none cluster most member None = tt
-receives-none cluster most member (Some from) = receive-none cluster member from (news_at cluster.book.servers member.id.number from.id.number most)
+receives-none cluster most member (Some from) = receive-none cluster member from (news_at cluster.facts.servers member.id.number from.id.number most)
 
 pub upholds-receive : (head : HeadText) (most : ℕ) (member : Member) → UpholdsAlways (losses_told head) (λ cluster. receive_events_at_most cluster most member)
 upholds-receive head most member book cluster good =
-    upheld-loseless head book cluster (receive_events_at_most cluster most member) good (receives-none cluster most member (source_of cluster.book.members cluster.book.servers cluster.book.cuts member))
+    upheld-loseless head book cluster (receive_events_at_most cluster most member) good (receives-none cluster most member (source_of cluster.facts.members cluster.facts.servers cluster.facts.cuts member))
 
 -- ---- commands
 process-none : (change : Member → AgentProcess → Option EventKind) → ((m : Member) (process : AgentProcess) → HoldsIf LosesNone (change m process)) → (cluster : Cluster) (id : MemberId) → HoldsIf LosesNone (process_kind change cluster id)
-process-none change all cluster id = holds-then LosesNone _ (declared cluster id) (λ m. holds-then LosesNone (change m) (slice_get cluster.book.agents m.id.number) (all m))
+process-none change all cluster id = holds-then LosesNone _ (declared cluster id) (λ m. holds-then LosesNone (change m) (slice_get cluster.facts.processes m.id.number) (all m))
 
 commit-none : (member : Member) (entry : Option Entry) → LosesNone (commit_of member entry)
 commit-none member None = tt
@@ -162,34 +162,34 @@ slow-none member slowed_calls.Stop delay s = holds-cond (s.stop_delay.0 == delay
 slow-none member slowed_calls.Start delay s = holds-cond (s.start_delay.0 == delay.ticks) None _ tt tt
 
 kind-none : (cluster : Cluster) (command : Command) → HoldsIf LosesNone (command_kind cluster command)
-kind-none cluster (commands.Hold id) = process-none _ (λ m process. holds-cond _ (Some (kinds.Agent (agents.Suspended m))) None tt tt) cluster id
+kind-none cluster (commands.Suspend id) = process-none _ (λ m process. holds-cond _ (Some (kinds.Agent (agents.Suspended m))) None tt tt) cluster id
 kind-none cluster (commands.Resume id) = process-none _ (λ m process. holds-cond process.suspended (Some (kinds.Agent (agents.Resumed m))) None tt tt) cluster id
 kind-none cluster (commands.Kill id) = process-none _ (λ m process. holds-cond process.running (Some (kinds.Agent (agents.Killed m))) None tt tt) cluster id
 kind-none cluster (commands.Crash id) =
-    holds-then LosesNone _ (declared cluster id) (λ m. holds-then LosesNone _ (slice_get cluster.book.servers m.id.number) (λ s. holds-cond (is_gone s.state) None (Some (kinds.Server (servers.Crashed (server_of m)))) tt tt))
-kind-none cluster (commands.Commit id size) = holds-mapped (declared cluster id) _ (λ m. commit-none m (entry_for cluster.book.servers m.id.number (cluster.book.commits + 1) size.bytes))
-kind-none cluster (commands.Freeze id) = holds-then LosesNone _ (declared cluster id) (λ m. holds-then LosesNone (freezing_of true m) (slice_get cluster.book.frozen m.id.number) (freezing-none true m))
-kind-none cluster (commands.Thaw id) = holds-then LosesNone _ (declared cluster id) (λ m. holds-then LosesNone (freezing_of false m) (slice_get cluster.book.frozen m.id.number) (freezing-none false m))
-kind-none cluster (commands.Slow id slowed delay) = holds-then LosesNone _ (declared cluster id) (λ m. holds-then LosesNone (slow_of m slowed delay) (slice_get cluster.book.servers m.id.number) (slow-none m slowed delay))
-kind-none cluster (commands.Cut first second) = holds-then LosesNone (cut_of cluster.book.cuts) (link_of cluster.book.members first second) (λ link. holds-cond (is_cut cluster.book.cuts link) None (Some (kinds.Link (changes.Cut link))) tt tt)
-kind-none cluster (commands.Join first second) = holds-then LosesNone (join_of cluster.book.cuts) (link_of cluster.book.members first second) (λ link. holds-cond (is_cut cluster.book.cuts link) (Some (kinds.Link (changes.Joined link))) None tt tt)
+    holds-then LosesNone _ (declared cluster id) (λ m. holds-then LosesNone _ (slice_get cluster.facts.servers m.id.number) (λ s. holds-cond (is_gone s.state) None (Some (kinds.Server (servers.Crashed (server_of m)))) tt tt))
+kind-none cluster (commands.Commit id size) = holds-mapped (declared cluster id) _ (λ m. commit-none m (entry_for cluster.facts.servers m.id.number (cluster.facts.commits + 1) size.bytes))
+kind-none cluster (commands.Freeze id) = holds-then LosesNone _ (declared cluster id) (λ m. holds-then LosesNone (freezing_of true m) (slice_get cluster.facts.frozen m.id.number) (freezing-none true m))
+kind-none cluster (commands.Thaw id) = holds-then LosesNone _ (declared cluster id) (λ m. holds-then LosesNone (freezing_of false m) (slice_get cluster.facts.frozen m.id.number) (freezing-none false m))
+kind-none cluster (commands.Slow id slowed delay) = holds-then LosesNone _ (declared cluster id) (λ m. holds-then LosesNone (slow_of m slowed delay) (slice_get cluster.facts.servers m.id.number) (slow-none m slowed delay))
+kind-none cluster (commands.Cut first second) = holds-then LosesNone (cut_of cluster.facts.cuts) (link_of cluster.facts.members first second) (λ link. holds-cond (is_cut cluster.facts.cuts link) None (Some (kinds.Link (changes.Cut link))) tt tt)
+kind-none cluster (commands.Join first second) = holds-then LosesNone (join_of cluster.facts.cuts) (link_of cluster.facts.members first second) (λ link. holds-cond (is_cut cluster.facts.cuts link) (Some (kinds.Link (changes.Joined link))) None tt tt)
 kind-none cluster _ = tt
 
 pub upholds-command : (head : HeadText) (command : Command) → UpholdsAlways (losses_told head) (λ cluster. events_of cluster (kinds_of (command_kind cluster command)))
 upholds-command head command book cluster good = upheld-loseless head book cluster _ good (none-if cluster (command_kind cluster command) (kind-none cluster command))
 
-promoted-upheld : (head : HeadText) (book : List Event) (cluster : Cluster) (member : Member) (s : ServerFacts) (test : Bool) → TellsSoFar head book cluster → slice_get cluster.book.servers member.id.number ≡ Some s
-    → Upholds (losses_told head) book cluster (events_of cluster (cond test (kinds.Server (servers.Promoted (server_of member)) ∷ beginning_kinds member (s.timeline + 1) cluster.book.acknowledged s.log) []))
+promoted-upheld : (head : HeadText) (book : List Event) (cluster : Cluster) (member : Member) (s : ServerFacts) (test : Bool) → TellsSoFar head book cluster → slice_get cluster.facts.servers member.id.number ≡ Some s
+    → Upholds (losses_told head) book cluster (events_of cluster (cond test (kinds.Server (servers.Promoted (server_of member)) ∷ beginning_kinds member (s.timeline + 1) cluster.facts.acknowledged s.log) []))
 promoted-upheld head book cluster member s true good is =
     let kind : EventKind = kinds.Server (servers.Promoted (server_of member)) in
     let later : Cluster = cluster_after cluster kind in
-    upheld-then (losses_told head) (composable head) book cluster (event_of cluster kind) (events_of later (beginning_kinds member (s.timeline + 1) cluster.book.acknowledged s.log)) (upheld-loseless head book cluster _ good (tt, tt))
+    upheld-then (losses_told head) (composable head) book cluster (event_of cluster kind) (events_of later (beginning_kinds member (s.timeline + 1) cluster.facts.acknowledged s.log)) (upheld-loseless head book cluster _ good (tt, tt))
     (λ was. upheld-begun head (book ++ event_of cluster kind) later was member (s.timeline + 1) s is)
 promoted-upheld head book cluster member s false good is = upheld-none (losses_told head) (composable head) book cluster good
 
 pub upholds-promote : (head : HeadText) (member : Member) → UpholdsAlways (losses_told head) (λ cluster. promote_events cluster member)
 upholds-promote head member book cluster good =
-    upheld-for_some (losses_told head) (composable head) book cluster (slice_get cluster.book.servers member.id.number) (λ s. events_of cluster (promote_kinds member cluster.book.acknowledged s)) good
+    upheld-for_some (losses_told head) (composable head) book cluster (slice_get cluster.facts.servers member.id.number) (λ s. events_of cluster (promote_kinds member cluster.facts.acknowledged s)) good
     (λ s is. promoted-upheld head book cluster member s (is_replica s.state) good is)
 
 disarm-none : (member : Member) (deadline : Option Ticks) → HoldsIf LosesNone (disarm_if member deadline)
@@ -200,16 +200,16 @@ disarms-none : (member : Member) (machine : Option Machine) → HoldsIf LosesNon
 disarms-none member None = tt
 disarms-none member (Some machine) = holds-cond _ None _ tt (disarm-none member machine.watchdog.deadline)
 
-restart-none : (cluster : Cluster) (member : Member) (process : AgentProcess) → AllAre LosesNone (events_of cluster (restarted member process ∷ kinds_of (disarm_at_start member process (machine_of cluster member))))
+restart-none : (cluster : Cluster) (member : Member) (process : AgentProcess) → AllAre LosesNone (events_of cluster (agent_started member process ∷ kinds_of (disarm_at_start member process (machine_of cluster member))))
 restart-none cluster member process = (
   kind-cond process.running (kinds.Note (AlreadyRunning member)) (kinds.Agent (agents.Started member (process.run + 1))) tt tt,
   none-if _ (disarm_at_start member process (machine_of cluster member)) (holds-cond process.running None _ tt (disarms-none member (machine_of cluster member))),
 )
 
-pub upholds-restart : (head : HeadText) (id : MemberId) → UpholdsAlways (losses_told head) (λ cluster. for_some (declared cluster id) (restart_events cluster))
+pub upholds-restart : (head : HeadText) (id : MemberId) → UpholdsAlways (losses_told head) (λ cluster. for_some (declared cluster id) (agent_start_events cluster))
 upholds-restart head id book cluster good =
-    upheld-for_some (losses_told head) (composable head) book cluster (declared cluster id) (restart_events cluster) good (λ m is.
-    upheld-for_some (losses_told head) (composable head) book cluster (slice_get cluster.book.agents m.id.number) _ good (λ process at. upheld-loseless head book cluster _ good (restart-none cluster m process)))
+    upheld-for_some (losses_told head) (composable head) book cluster (declared cluster id) (agent_start_events cluster) good (λ m is.
+    upheld-for_some (losses_told head) (composable head) book cluster (slice_get cluster.facts.processes m.id.number) _ good (λ process at. upheld-loseless head book cluster _ good (restart-none cluster m process)))
 
 -- ---- the key store
 decision-none : (cluster : Cluster) (number : ℕ) (message : Message) (txn : Txn) (decision : Decision) (from : LinkEnd) → AllAre LosesNone (decision_events cluster number message txn decision from)
@@ -219,7 +219,7 @@ decision-none cluster number message txn (Refusal key found) (ends.Member by) = 
 
 answer-none : (cluster : Cluster) (number : ℕ) (message : Message) (body : Body) → AllAre LosesNone (answer_events_by cluster number message body)
 answer-none cluster number message bodies.Read = sends-none cluster (answer_message message bodies.Snapshot)
-answer-none cluster number message (bodies.Request txn) = decision-none cluster number message txn (decision_on cluster.book.keys cluster.book.clock txn) message.from
+answer-none cluster number message (bodies.Request txn) = decision-none cluster number message txn (decision_on cluster.facts.keys cluster.facts.clock txn) message.from
 answer-none cluster number message _ = tt
 
 pub upheld-arrival : (head : HeadText) (book : List Event) (cluster : Cluster) (number : ℕ) (message : InFlightFacts) → TellsSoFar head book cluster → Upholds (losses_told head) book cluster (arrival_events_at cluster number message ends.Store)

@@ -81,11 +81,11 @@ WipesNone _ = Unit {0}
 order-none : (cluster : Cluster) (member : Member) (heard : HeardMessage) (output : Output) → WipesNone output → HoldsIf LosesNone (order_kind cluster member heard output)
 order-none cluster member heard outputs.Wipe none = absurd none
 order-none cluster member heard (outputs.Follow leader) none =
-    holds-then LosesNone _ (server_at cluster member) (λ s. holds-cond (is_replica s.state) (following_of member (slice_get cluster.book.members leader.number)) None (follow-none member (slice_get cluster.book.members leader.number)) tt)
+    holds-then LosesNone _ (server_at cluster member) (λ s. holds-cond (is_replica s.state) (following_of member (slice_get cluster.facts.members leader.number)) None (follow-none member (slice_get cluster.facts.members leader.number)) tt)
 order-none cluster member heard outputs.ShutDown none = holds-then LosesNone (stop_of member) (server_at cluster member) (stop-none member)
 order-none cluster member heard (outputs.Require required) none = holds-then LosesNone _ (server_at cluster member) (λ s. holds-cond (is_same_required s.required required) None _ tt tt)
-order-none cluster member heard (outputs.HoldTaken until from sequence) none = holds-mapped (slice_get cluster.book.members from.number) _ (λ m. tt)
-order-none cluster member heard (outputs.HandsOver candidate) none = holds-mapped (slice_get cluster.book.members candidate.number) _ (λ m. tt)
+order-none cluster member heard (outputs.HoldTaken until from sequence) none = holds-mapped (slice_get cluster.facts.members from.number) _ (λ m. tt)
+order-none cluster member heard (outputs.HandsOver candidate) none = holds-mapped (slice_get cluster.facts.members candidate.number) _ (λ m. tt)
 order-none cluster member heard (outputs.Told request told) none = told-holds LosesNone member (agent_at cluster.agents member.id.number) told (λ status body. tt)
 order-none cluster member heard (outputs.DoesNotRace bar) none = tt
 order-none cluster member heard outputs.Disarmed none = tt
@@ -111,19 +111,19 @@ started-none cluster member leader true = (tt, none-if _ (following_of member le
 started-none cluster member leader false = tt
 
 module _ (head : HeadText) where
-  begins-upheld : (book : List Event) (cluster : Cluster) (member : Member) (s : ServerFacts) (found : Option Beginning) → TellsSoFar head book cluster → slice_get cluster.book.servers member.id.number ≡ Some s
-      → Upholds (losses_told head) book cluster (events_of cluster (kinds_by member cluster.book.acknowledged s.log found))
+  begins-upheld : (book : List Event) (cluster : Cluster) (member : Member) (s : ServerFacts) (found : Option Beginning) → TellsSoFar head book cluster → slice_get cluster.facts.servers member.id.number ≡ Some s
+      → Upholds (losses_told head) book cluster (events_of cluster (kinds_by member cluster.facts.acknowledged s.log found))
   begins-upheld book cluster member s None good is = upheld-none (losses_told head) (composable head) book cluster good
   begins-upheld book cluster member s (Some (beginnings.AtOnce timeline)) good is = upheld-begun head book cluster good member timeline s is
   begins-upheld book cluster member s (Some beginnings.WithItsStart) good is = upheld-loseless head book cluster _ good (tt, tt)
 
-  repaired-upheld : (book : List Event) (cluster : Cluster) (found : Option EventKind) → TellsSoFar head book cluster → HoldsIf IsRepair found → MayFollow cluster.book (events_of cluster (kinds_of found))
+  repaired-upheld : (book : List Event) (cluster : Cluster) (found : Option EventKind) → TellsSoFar head book cluster → HoldsIf IsRepair found → MayFollow cluster.facts (events_of cluster (kinds_of found))
       → Upholds (losses_told head) book cluster (events_of cluster (kinds_of found))
   repaired-upheld book cluster None good is may = upheld-none (losses_told head) (composable head) book cluster good
   repaired-upheld book cluster (Some kind) good is may = upheld-repair head book cluster kind good is may.0
 
   -- a server that is wiped accepts no writes
-  wiped-by : (book : List Event) (cluster : Cluster) (member : Member) (s : ServerFacts) (test : Bool) → TellsSoFar head book cluster → slice_get cluster.book.servers member.id.number ≡ Some s → (is_creating s.state || live s.state) ≡ test
+  wiped-by : (book : List Event) (cluster : Cluster) (member : Member) (s : ServerFacts) (test : Bool) → TellsSoFar head book cluster → slice_get cluster.facts.servers member.id.number ≡ Some s → (is_creating s.state || live s.state) ≡ test
       → Upholds (losses_told head) book cluster (events_of cluster (kinds_of (if test then None else Some (kinds.Log (logs.Wiped (server_of member))))))
   wiped-by book cluster member s true good is stays = upheld-none (losses_told head) (composable head) book cluster good
   wiped-by book cluster member s false good is goes =
@@ -131,28 +131,28 @@ module _ (head : HeadText) where
       (upheld-repair head book cluster (kinds.Log (logs.Wiped (server_of member))) good tt (record { server = s; is = is; not_live = not-or (is_creating s.state) (live s.state) goes }))
       (λ later. upheld-none (losses_told head) (composable head) _ _ later)
 
-  wiped-upheld : (book : List Event) (cluster : Cluster) (member : Member) (found : Option ServerFacts) → TellsSoFar head book cluster → slice_get cluster.book.servers member.id.number ≡ found
+  wiped-upheld : (book : List Event) (cluster : Cluster) (member : Member) (found : Option ServerFacts) → TellsSoFar head book cluster → slice_get cluster.facts.servers member.id.number ≡ found
       → Upholds (losses_told head) book cluster (events_of cluster (kinds_of (option_and_then (wipe_of member) found)))
   wiped-upheld book cluster member None good is = upheld-none (losses_told head) (composable head) book cluster good
   wiped-upheld book cluster member (Some s) good is = wiped-by book cluster member s (is_creating s.state || live s.state) good is refl
 
   -- a server that starts again tells what it lacks as one that begins does
-  again-upheld : (book : List Event) (cluster : Cluster) (member : Member) (s : ServerFacts) (state : State) → TellsSoFar head book cluster → slice_get cluster.book.servers member.id.number ≡ Some s
-      → Upholds (losses_told head) book cluster (events_of cluster (server_restart_in member cluster.book.acknowledged state s))
+  again-upheld : (book : List Event) (cluster : Cluster) (member : Member) (s : ServerFacts) (state : State) → TellsSoFar head book cluster → slice_get cluster.facts.servers member.id.number ≡ Some s
+      → Upholds (losses_told head) book cluster (events_of cluster (server_restart_in member cluster.facts.acknowledged state s))
   again-upheld book cluster member s states.Primary good is =
       let ends : EventKind = kinds.Server (servers.Ended (server_of member)) in
       let found : Option Beginning = Some (again_by s.timeline s.start_delay) in
-      upheld-then (losses_told head) (composable head) book cluster (event_of cluster ends) (events_of (cluster_after cluster ends) (kinds_by member cluster.book.acknowledged s.log found)) (upheld-loseless head book cluster _ good (tt, tt))
-      (λ later. begins-upheld (book ++ event_of cluster ends) (cluster_after cluster ends) member (stopped s) found later (item-here cluster.book.servers member.id.number stopped s is))
+      upheld-then (losses_told head) (composable head) book cluster (event_of cluster ends) (events_of (cluster_after cluster ends) (kinds_by member cluster.facts.acknowledged s.log found)) (upheld-loseless head book cluster _ good (tt, tt))
+      (λ later. begins-upheld (book ++ event_of cluster ends) (cluster_after cluster ends) member (stopped s) found later (item-here cluster.facts.servers member.id.number stopped s is))
   again-upheld book cluster member s states.Replica good is = upheld-loseless head book cluster _ good (tt, tt)
   again-upheld book cluster member s _ good is = upheld-none (losses_told head) (composable head) book cluster good
 
   -- an output
   upholds-output : (member : Member) (heard : HeardMessage) (output : Output) → UpholdsAlways (losses_told head) (λ cluster. output_events member heard cluster output)
   upholds-output member heard (outputs.Send to sequence body) book cluster good =
-      upheld-loseless head book cluster _ good (sending-none cluster member (slice_get cluster.book.agents member.id.number) (receiver_of cluster.book.members to) sequence body)
+      upheld-loseless head book cluster _ good (sending-none cluster member (slice_get cluster.facts.processes member.id.number) (receiver_of cluster.facts.members to) sequence body)
   upholds-output member heard (outputs.Answer to run sequence answer) book cluster good =
-      upheld-loseless head book cluster _ good (replying-none cluster member (receiver_of cluster.book.members (targets.Member to)) run sequence (bodies.Answer answer))
+      upheld-loseless head book cluster _ good (replying-none cluster member (receiver_of cluster.facts.members (targets.Member to)) run sequence (bodies.Answer answer))
   upholds-output member heard outputs.Begin book cluster good =
       upheld-for_some (losses_told head) (composable head) book cluster (server_at cluster member) _ good (λ s is. begins-upheld book cluster member s (beginning_of s) good is)
   upholds-output member heard (outputs.Restart as_primary) book cluster good =
@@ -161,15 +161,15 @@ module _ (head : HeadText) where
   upholds-output member heard (outputs.Armed until) book cluster good = upheld-loseless head book cluster _ good (tt, (tt, tt))
   upholds-output member heard (outputs.Fed until) book cluster good = upheld-loseless head book cluster _ good (tt, (tt, tt))
   upholds-output member heard (outputs.StartReplica leader) book cluster good =
-      upheld-for_some (losses_told head) (composable head) book cluster (server_at cluster member) (λ s. events_of cluster (replica_start_kinds member (declared_member cluster.book.members leader) s)) good
-      (λ s is. upheld-loseless head book cluster _ good (started-none cluster member (declared_member cluster.book.members leader) (is_down s.state)))
+      upheld-for_some (losses_told head) (composable head) book cluster (server_at cluster member) (λ s. events_of cluster (replica_start_kinds member (declared_member cluster.facts.members leader) s)) good
+      (λ s is. upheld-loseless head book cluster _ good (started-none cluster member (declared_member cluster.facts.members leader) (is_down s.state)))
   upholds-output member heard (outputs.Stop reason) book cluster good =
       upheld-for_some (losses_told head) (composable head) book cluster (server_at cluster member) (λ s. events_of cluster (stop_kinds member reason s)) good
       (λ s is. upheld-loseless head book cluster _ good (tt, none-if _ (stop_of member s) (stop-none member s)))
   upholds-output member heard (outputs.Repair leader repair) book cluster good =
-      let found = slice_get cluster.book.members leader.number in
-      repaired-upheld book cluster (option_and_then (repair_over cluster.book.cuts cluster.book.servers member repair) found) good
-      (repaired-holds IsRepair cluster.book.cuts cluster.book.servers member repair found (λ other r. tt) (λ other. tt)) (repair-follow cluster member repair found)
+      let found = slice_get cluster.facts.members leader.number in
+      repaired-upheld book cluster (option_and_then (repair_over cluster.facts.cuts cluster.facts.servers member repair) found) good
+      (repaired-holds IsRepair cluster.facts.cuts cluster.facts.servers member repair found (λ other r. tt) (λ other. tt)) (repair-follow cluster member repair found)
   upholds-output member heard output book cluster good = upheld-loseless head book cluster _ good (none-if cluster (order_kind cluster member heard output) (order-none cluster member heard output tt))
 
   -- what an agent does behind an event

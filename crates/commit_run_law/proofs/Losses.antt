@@ -121,9 +121,9 @@ all-told logs book (event ∷ events) all =
 -- ---- what holds between two parts of a step
 pub record TellsSoFar (head : HeadText) (book : List Event) (cluster : Cluster) : Type 0 where
   pub told : TellLosses (first_logs head) [] book
-  pub same : IsSameServers (past_of head book) cluster.book
-  pub members : cluster.book.members ≡ declared_members head
-  pub sized : length cluster.book.servers ≡ member_count head
+  pub same : IsSameServers (past_of head book) cluster.facts
+  pub members : cluster.facts.members ≡ declared_members head
+  pub sized : length cluster.facts.servers ≡ member_count head
 
 -- each part of a step tells the first loss, whatever the premises
 abbrev pub losses_told : HeadText → Promise
@@ -132,19 +132,19 @@ losses_told head = record { premises = λ book. Unit {0}; moment = λ book. Unit
 pub composable : (head : HeadText) → IsComposable (losses_told head)
 composable head = record { front = λ front rest meets. tt; now = λ book cluster good. tt }
 
-same-over : (past : Past) (cluster : Cluster) (events : List Event) → Begins (λ n. n < length cluster.book.servers) events → IsSameServers past cluster.book → IsSameServers (past_over past events) (cluster_over cluster events).book
+same-over : (past : Past) (cluster : Cluster) (events : List Event) → Begins (λ n. n < length cluster.facts.servers) events → IsSameServers past cluster.facts → IsSameServers (past_over past events) (cluster_over cluster events).facts
 same-over past cluster [] begins same = same
 same-over past cluster (event ∷ events) begins same =
     same-over (past_after past event.kind) (cluster_after cluster event.kind) events
-    (subst (λ (count : ℕ). Begins (λ n. n < count) events) (sym (count-of (now_after cluster.book.clock event.kind) cluster.book.servers event.kind)) begins.1) (same-by past cluster.book event.kind begins.0 same)
+    (subst (λ (count : ℕ). Begins (λ n. n < count) events) (sym (count-of (now_after cluster.facts.clock event.kind) cluster.facts.servers event.kind)) begins.1) (same-by past cluster.facts event.kind begins.0 same)
 
-members-over : (cluster : Cluster) (events : List Event) → (cluster_over cluster events).book.members ≡ cluster.book.members
+members-over : (cluster : Cluster) (events : List Event) → (cluster_over cluster events).facts.members ≡ cluster.facts.members
 members-over cluster [] = refl
 members-over cluster (event ∷ events) = members-over (cluster_after cluster event.kind) events
 
-sized-over : (cluster : Cluster) (events : List Event) → length (cluster_over cluster events).book.servers ≡ length cluster.book.servers
+sized-over : (cluster : Cluster) (events : List Event) → length (cluster_over cluster events).facts.servers ≡ length cluster.facts.servers
 sized-over cluster [] = refl
-sized-over cluster (event ∷ events) = sized-over (cluster_after cluster event.kind) events ∙ count-of (now_after cluster.book.clock event.kind) cluster.book.servers event.kind
+sized-over cluster (event ∷ events) = sized-over (cluster_after cluster event.kind) events ∙ count-of (now_after cluster.facts.clock event.kind) cluster.facts.servers event.kind
 
 -- events that tell the first loss, in which only servers of members begin
 pub upheld-tells : (head : HeadText) (book : List Event) (cluster : Cluster) (events : List Event) → TellsSoFar head book cluster → Tells (first_logs head) book events → Begins (λ n. n < member_count head) events
@@ -153,7 +153,7 @@ upheld-tells head book cluster events good tells begins = record {
   inside = λ front rest e meets. tt;
   behind = λ meets. record {
     told = more-told (first_logs head) [] book events good.told tells.begins tells.told;
-    same = subst (λ (p : Past). IsSameServers p (cluster_over cluster events).book) (sym (past-more head book events))
+    same = subst (λ (p : Past). IsSameServers p (cluster_over cluster events).facts) (sym (past-more head book events))
         (same-over (past_of head book) cluster events (subst (λ (count : ℕ). Begins (λ n. n < count) events) (sym good.sized) begins) good.same);
     members = members-over cluster events ∙ good.members;
     sized = sized-over cluster events ∙ good.sized;

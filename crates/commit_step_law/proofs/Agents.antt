@@ -64,7 +64,7 @@ module _ (cluster : Cluster) (member : Member) where
       (ap (λ (known : List (Option AgentFacts)). agent_now (slice_get known member.id.number)) same ∙ ap agent_now (get-here cluster.agents member.id.number _) ∙ no-agent cluster.agents member.id.number small)
       (λ m other. ap (λ (known : List (Option AgentFacts)). agent_now (slice_get known m)) same ∙ ap agent_now (get-elsewhere cluster.agents member.id.number m _ other) ∙ sym (agent m))
 
-pub moves-kill : (setup : Setup) (past : Past) (cluster : Cluster) (member : Member) → member.id.number < length cluster.agents → Fits past cluster.book (volatile_of cluster)
+pub moves-kill : (setup : Setup) (past : Past) (cluster : Cluster) (member : Member) → member.id.number < length cluster.agents → Fits past cluster.facts (volatile_of cluster)
     → Moves setup past cluster (event_of cluster (kinds.Agent (agents.Killed member)))
 moves-kill setup past cluster member small fits =
     let kind : EventKind = kinds.Agent (agents.Killed member) in
@@ -74,11 +74,11 @@ moves-kill setup past cluster member small fits =
     record {
       transitions = record { action = Kill member.id.number; events = event_of cluster kind; volatile_states = states } ∷ [];
       whole = refl;
-      allowed = (tt, killed-shown setup past (volatile_of cluster) (record { 0 = later.book.clock }) member, change-once (record { 0 = later.book.clock }) kind, tt);
+      allowed = (tt, killed-shown setup past (volatile_of cluster) (record { 0 = later.facts.clock }) member, change-once (record { 0 = later.facts.clock }) kind, tt);
       once = (inr tt, tt);
       last = same;
-      fits = subst (λ (v : ℕ → VolatileState). Fits (past_after past kind) later.book v) same
-          (fits-agents (past_after past kind) later.book (volatile_of cluster) member.id.number None (fits-aside past cluster.book (volatile_of cluster) kind tt fits));
+      fits = subst (λ (v : ℕ → VolatileState). Fits (past_after past kind) later.facts v) same
+          (fits-agents (past_after past kind) later.facts (volatile_of cluster) member.id.number None (fits-aside past cluster.facts (volatile_of cluster) kind tt fits));
     }
 
 pub upheld-kill : (head : HeadText) (book : List Event) (cluster : Cluster) (member : Member) → member.id.number < member_count head → CommitsBridged head book cluster

@@ -62,21 +62,21 @@ use Rattle.sync_order_law.specs.Changes.{EachChangesOnce}
 use Rattle.sync_order_law.proofs.Claims.{claim-named}
 
 -- ---- deliveries as they go
-fits-asides : (past : Past) (cluster : Cluster) (events : List Event) (volatile_states : ℕ → VolatileState) → AllAre IsAside events → Fits past cluster.book volatile_states
-    → Fits (past_over past events) (cluster_over cluster events).book volatile_states
+fits-asides : (past : Past) (cluster : Cluster) (events : List Event) (volatile_states : ℕ → VolatileState) → AllAre IsAside events → Fits past cluster.facts volatile_states
+    → Fits (past_over past events) (cluster_over cluster events).facts volatile_states
 fits-asides past cluster [] volatile_states all fits = fits
 fits-asides past cluster (event ∷ events) volatile_states all fits =
-    fits-asides (past_after past event.kind) (cluster_after cluster event.kind) events volatile_states all.1 (fits-aside past cluster.book volatile_states event.kind all.0 fits)
+    fits-asides (past_after past event.kind) (cluster_after cluster event.kind) events volatile_states all.1 (fits-aside past cluster.facts volatile_states event.kind all.0 fits)
 
-same-volatile : (before later : Cluster) → later.agents ≡ before.agents → later.book.servers ≡ before.book.servers → volatile_of before ≡ volatile_of later
+same-volatile : (before later : Cluster) → later.agents ≡ before.agents → later.facts.servers ≡ before.facts.servers → volatile_of before ≡ volatile_of later
 same-volatile before later agents servers =
-    ap (λ (known : List (Option AgentFacts)). λ (m : ℕ). let state : VolatileState = record { live = live_in before.book.servers m; agent = agent_now (slice_get known m) } in state) (sym agents)
+    ap (λ (known : List (Option AgentFacts)). λ (m : ℕ). let state : VolatileState = record { live = live_in before.facts.servers m; agent = agent_now (slice_get known m) } in state) (sym agents)
     ∙ ap (λ (known : List ServerFacts). λ (m : ℕ). let state : VolatileState = record { live = live_in known m; agent = agent_now (slice_get later.agents m) } in state) (sym servers)
 
 -- what a delivery leaves as it was, and what it asks
 record LeavesAsked (count : ℕ) (named : lease_past.Past) (past : Past) (cluster : Cluster) (number : ℕ) (events : List Event) (transitions : List Transition) : Type 0 where
   agents : (cluster_over cluster events).agents ≡ cluster.agents
-  servers : (cluster_over cluster events).book.servers ≡ cluster.book.servers
+  servers : (cluster_over cluster events).facts.servers ≡ cluster.facts.servers
   named_same : (lease_past.past_over named events).asked ≡ named.asked
   asked : (i : ℕ) → i < number → (past_over past events).asked i ≡ past.asked i
   asides : AllAre IsAside events
@@ -84,9 +84,9 @@ record LeavesAsked (count : ℕ) (named : lease_past.Past) (past : Past) (cluste
   ordered : AllInOrder past cluster events
   once : EachChangesOnce transitions
 
-goes-delivery : (setup : Setup) (named : lease_past.Past) (past : Past) (cluster : Cluster) (number : ℕ) (events : List Event) (transitions : List Transition) → Fits past cluster.book (volatile_of cluster)
-    → IsDelivered setup past cluster.book (volatile_of cluster) events transitions → volatile_last (volatile_of cluster) transitions ≡ volatile_of cluster
-    → ((i : ℕ) (question : Question) → named.asked i ≡ Some question → i < number) → AreCausal past cluster.book events → LeavesAsked setup.member_count named past cluster number events transitions
+goes-delivery : (setup : Setup) (named : lease_past.Past) (past : Past) (cluster : Cluster) (number : ℕ) (events : List Event) (transitions : List Transition) → Fits past cluster.facts (volatile_of cluster)
+    → IsDelivered setup past cluster.facts (volatile_of cluster) events transitions → volatile_last (volatile_of cluster) transitions ≡ volatile_of cluster
+    → ((i : ℕ) (question : Question) → named.asked i ≡ Some question → i < number) → AreCausal past cluster.facts events → LeavesAsked setup.member_count named past cluster number events transitions
     → Goes setup named past cluster events
 goes-delivery setup named past cluster number events transitions fits delivered last before causal leaves =
     let later : Cluster = cluster_over cluster events in
@@ -98,7 +98,7 @@ goes-delivery setup named past cluster number events transitions fits delivered 
         allowed = delivered.allowed;
         once = leaves.once;
         last = last ∙ same;
-        fits = subst (λ (v : ℕ → VolatileState). Fits (past_over past events) later.book v) same (fits-asides past cluster events (volatile_of cluster) leaves.asides fits);
+        fits = subst (λ (v : ℕ → VolatileState). Fits (past_over past events) later.facts v) same (fits-asides past cluster events (volatile_of cluster) leaves.asides fits);
       };
       left = record {
         leave = record {
@@ -164,15 +164,15 @@ granted-may count s m run sequence (txns.DropFailover revision) is numbered = tt
 granted-may count s m run sequence (txns.SetConfig revision config) is numbered = tt
 
 module _ (head : HeadText) (book : List Event) (cluster : Cluster) (number : ℕ) (message : InFlightFacts) (good : CommitsBridged head book cluster)
-    (found : in_flight cluster.book.flight number ≡ Some message) (by : Member) (run sequence : ℕ) where
+    (found : in_flight cluster.facts.flight number ≡ Some message) (by : Member) (run sequence : ℕ) where
   abbrev Later : Cluster
   Later = cluster_after cluster (kinds.Message (Delivered number))
 
   abbrev Moment : Ticks
-  Moment = record { 0 = cluster.book.clock }
+  Moment = record { 0 = cluster.facts.clock }
 
   abbrev Answer : ℕ
-  Answer = cluster.book.sent + 1
+  Answer = cluster.facts.sent + 1
 
   abbrev Says : Body → Message
   Says body = record { from = ends.Member by; to = ends.Store; run = run; sequence = sequence; body = body }
@@ -180,30 +180,30 @@ module _ (head : HeadText) (book : List Event) (cluster : Cluster) (number : ℕ
   abbrev Events : Body → List Event
   Events body = event_of cluster (kinds.Message (Delivered number)) ++ answer_events Later number (Says body)
 
-  reached : (body : Body) → message.message ≡ Says body → agent_facts_reached cluster (in_flight cluster.book.flight number) ≡ cluster.agents
+  reached : (body : Body) → message.message ≡ Says body → agent_facts_reached cluster (in_flight cluster.facts.flight number) ≡ cluster.agents
   reached body is = ap (agent_facts_reached cluster) found ∙ ap (λ (m : Message). agent_facts_reached_at cluster message m.to) is
 
   before : (i : ℕ) (question : Question) → (lease_past.past_of book).asked i ≡ Some question → i < Answer
-  before i question asked = up-to i cluster.book.sent (good.lease.matched.flight.asked i question asked)
+  before i question asked = up-to i cluster.facts.sent (good.lease.matched.flight.asked i question asked)
 
   not-asked : (i : ℕ) → i < Answer → put_at (past_of head book).asked Answer OtherQuery i ≡ (past_of head book).asked i
   not-asked i small = put-there (past_of head book).asked Answer OtherQuery i (other-number i Answer small)
 
   -- a claim that is granted found no sync key, or one that names its sender
-  grant-ordered : (txn : Txn) → message.message ≡ Says (bodies.Request txn) → decision_on cluster.book.keys cluster.book.clock txn ≡ Grant
-      → HappensInOrder (past_after (past_of head book) (kinds.Message (Delivered number))) Later (kinds.Store (stores.Granted number by txn (published_names cluster.book.members txn)))
+  grant-ordered : (txn : Txn) → message.message ≡ Says (bodies.Request txn) → decision_on cluster.facts.keys cluster.facts.clock txn ≡ Grant
+      → HappensInOrder (past_after (past_of head book) (kinds.Message (Delivered number))) Later (kinds.Store (stores.Granted number by txn (published_names cluster.facts.members txn)))
   grant-ordered (txns.Claim revision sync) is decides =
       claim-named (state_of_run head book cluster) number (claim_request by.id.number run sequence revision sync) good.sound
-      (request-flying (past_of head book) cluster.book number message by run sequence (txns.Claim revision sync) good.fits.store.flight found is) refl
-      (sym (claim-decided (past_of head book) cluster.book by.id.number run sequence revision sync good.fits.store.store) ∙ ap is_grant decides)
+      (request-flying (past_of head book) cluster.facts number message by run sequence (txns.Claim revision sync) good.fits.store.flight found is) refl
+      (sym (claim-decided (past_of head book) cluster.facts by.id.number run sequence revision sync good.fits.store.store) ∙ ap is_grant decides)
   grant-ordered _ is decides = tt
 
   -- the whole of it, where the delivery goes
   answered : (body : Body) (events : List Event) → Goes (setup_of head) (lease_past.past_of book) (past_of head book) cluster events
-      → IsKept head book cluster (events ++ events_of (cluster_over cluster events) (lost_at_once (nat_le most_in_flight (length Later.book.flight)) Answer))
-      → Upholds (kept_commits head) book cluster (events ++ events_of (cluster_over cluster events) (lost_at_once (nat_le most_in_flight (length Later.book.flight)) Answer))
+      → IsKept head book cluster (events ++ events_of (cluster_over cluster events) (lost_at_once (nat_le most_in_flight (length Later.facts.flight)) Answer))
+      → Upholds (kept_commits head) book cluster (events ++ events_of (cluster_over cluster events) (lost_at_once (nat_le most_in_flight (length Later.facts.flight)) Answer))
   answered body events goes kept =
-      let lost = nat_le most_in_flight (length Later.book.flight) in
+      let lost = nat_le most_in_flight (length Later.facts.flight) in
       upheld-gone head book cluster (events ++ events_of (cluster_over cluster events) (lost_at_once lost Answer)) good
       (goes-after (setup_of head) (lease_past.past_of book) (past_of head book) cluster events (events_of (cluster_over cluster events) (lost_at_once lost Answer)) goes
       (goes-lost (setup_of head) (cluster_over cluster events) lost Answer)) kept
@@ -211,49 +211,49 @@ module _ (head : HeadText) (book : List Event) (cluster : Cluster) (number : ℕ
   read-upheld : message.message ≡ Says bodies.Read → IsKept head book cluster (Events bodies.Read) → Upholds (kept_commits head) book cluster (Events bodies.Read)
   read-upheld is kept =
       let events : List Event = read_events Moment number Answer by run sequence in
-      let above = more-sent cluster.book.sent in
+      let above = more-sent cluster.facts.sent in
       answered bodies.Read events
       (goes-delivery (setup_of head) (lease_past.past_of book) (past_of head book) cluster Answer events _ good.fits.servers
-      (read-delivery (setup_of head) (past_of head book) cluster.book (volatile_of cluster) Moment number Answer message by run sequence good.fits.store found is above (snapshot-allowed head book cluster good Answer)) refl before
-      (read-causal (past_of head book) cluster.book Moment number Answer by run sequence above)
+      (read-delivery (setup_of head) (past_of head book) cluster.facts (volatile_of cluster) Moment number Answer message by run sequence good.fits.store found is above (snapshot-allowed head book cluster good Answer)) refl before
+      (read-causal (past_of head book) cluster.facts Moment number Answer by run sequence above)
       (record { agents = reached bodies.Read is; servers = refl; named_same = refl; asked = not-asked; asides = (tt, (tt, tt)); asks = λ s. (tt, ((tt, tt), tt)); ordered = (tt, (tt, tt)); once = (inl (tt, inr tt), tt) })) kept
 
-  decision-upheld : (txn : Txn) (decision : Decision) → message.message ≡ Says (bodies.Request txn) → IsSpannedTxn txn → IsSynchronousTxn (member_count head) txn → decision_on cluster.book.keys cluster.book.clock txn ≡ decision
+  decision-upheld : (txn : Txn) (decision : Decision) → message.message ≡ Says (bodies.Request txn) → IsSpannedTxn txn → IsSynchronousTxn (member_count head) txn → decision_on cluster.facts.keys cluster.facts.clock txn ≡ decision
       → IsKept head book cluster (event_of cluster (kinds.Message (Delivered number)) ++ decision_events Later number (Says (bodies.Request txn)) txn decision (ends.Member by))
       → Upholds (kept_commits head) book cluster (event_of cluster (kinds.Message (Delivered number)) ++ decision_events Later number (Says (bodies.Request txn)) txn decision (ends.Member by))
   decision-upheld txn Grant is span on decides kept =
-      let names : List Name = published_names cluster.book.members txn in
+      let names : List Name = published_names cluster.facts.members txn in
       let events : List Event = granted_events Moment number Answer by run sequence txn names in
-      let above = more-sent cluster.book.sent in
+      let above = more-sent cluster.facts.sent in
       answered (bodies.Request txn) events
       (goes-delivery (setup_of head) (lease_past.past_of book) (past_of head book) cluster Answer events _ good.fits.servers
-      (granted-delivery (setup_of head) (past_of head book) cluster.book (volatile_of cluster) Moment number Answer message by run sequence txn names refl good.fits.store found is above span decides
+      (granted-delivery (setup_of head) (past_of head book) cluster.facts (volatile_of cluster) Moment number Answer message by run sequence txn names refl good.fits.store found is above span decides
       (granted-may (member_count head) (state_of_run head book cluster) by.id.number run sequence txn on (numbered-request head book cluster good number message by run sequence txn found is)))
       (last-granted (volatile_of cluster) (is_told txn) Moment number Answer by run sequence txn names _) before
-      (granted-causal (past_of head book) cluster.book Moment number Answer message by run sequence txn names good.fits.store found is above span decides)
+      (granted-causal (past_of head book) cluster.facts Moment number Answer message by run sequence txn names good.fits.store found is above span decides)
       (record { agents = reached (bodies.Request txn) is; servers = refl; named_same = refl; asked = not-asked; asides = (tt, (tt, (tt, tt))); asks = λ s. (tt, (on, ((tt, tt), tt))); ordered = (tt, (grant-ordered txn is decides, (tt, tt))); once = once-granted (volatile_of cluster) (is_told txn) Moment number Answer by run sequence txn names _ })) kept
   decision-upheld txn (Refusal key expected) is span on decides kept =
       let events : List Event = refused_events Moment number Answer by run sequence (txn_kind_of txn) key expected in
-      let above = more-sent cluster.book.sent in
+      let above = more-sent cluster.facts.sent in
       answered (bodies.Request txn) events
       (goes-delivery (setup_of head) (lease_past.past_of book) (past_of head book) cluster Answer events _ good.fits.servers
-      (refused-delivery (setup_of head) (past_of head book) cluster.book (volatile_of cluster) Moment number Answer message by run sequence txn (txn_kind_of txn) key expected good.fits.store found is above decides (compares-none (member_count head) txn on)) refl before
-      (refused-causal (past_of head book) cluster.book Moment number Answer by run sequence (txn_kind_of txn) key expected above)
+      (refused-delivery (setup_of head) (past_of head book) cluster.facts (volatile_of cluster) Moment number Answer message by run sequence txn (txn_kind_of txn) key expected good.fits.store found is above decides (compares-none (member_count head) txn on)) refl before
+      (refused-causal (past_of head book) cluster.facts Moment number Answer by run sequence (txn_kind_of txn) key expected above)
       (record { agents = reached (bodies.Request txn) is; servers = refl; named_same = refl; asked = not-asked; asides = (tt, (tt, (tt, tt))); asks = λ s. (tt, (tt, ((tt, tt), tt))); ordered = (tt, (tt, (tt, tt))); once = (inr (tt, (tt, tt)), tt) })) kept
 
 -- by whom it comes, and what it says
 store-by : (head : HeadText) (book : List Event) (cluster : Cluster) (number : ℕ) (message : InFlightFacts) (from : LinkEnd) (run sequence : ℕ) (body : Body) → CommitsBridged head book cluster
-    → in_flight cluster.book.flight number ≡ Some message → message.message ≡ record { from = from; to = ends.Store; run = run; sequence = sequence; body = body } → IsAddressed from ends.Store body → IsSynchronousBody (member_count head) body
+    → in_flight cluster.facts.flight number ≡ Some message → message.message ≡ record { from = from; to = ends.Store; run = run; sequence = sequence; body = body } → IsAddressed from ends.Store body → IsSynchronousBody (member_count head) body
     → IsKept head book cluster (event_of cluster (kinds.Message (Delivered number)) ++ answer_events (cluster_after cluster (kinds.Message (Delivered number))) number (record { from = from; to = ends.Store; run = run; sequence = sequence; body = body }))
     → Upholds (kept_commits head) book cluster (event_of cluster (kinds.Message (Delivered number)) ++ answer_events (cluster_after cluster (kinds.Message (Delivered number))) number (record { from = from; to = ends.Store; run = run; sequence = sequence; body = body }))
 store-by head book cluster number message ends.Store run sequence body good found is addressed on kept = absurd addressed
 store-by head book cluster number message (ends.Member by) run sequence bodies.Read good found is addressed on kept = read-upheld head book cluster number message good found by run sequence is kept
 store-by head book cluster number message (ends.Member by) run sequence (bodies.Request txn) good found is addressed on kept =
-    decision-upheld head book cluster number message good found by run sequence txn (decision_on cluster.book.keys cluster.book.clock txn) is addressed on refl kept
+    decision-upheld head book cluster number message good found by run sequence txn (decision_on cluster.facts.keys cluster.facts.clock txn) is addressed on refl kept
 store-by head book cluster number message (ends.Member by) run sequence _ good found is addressed on kept = absurd addressed
 
 pub upheld-arrival : (head : HeadText) (book : List Event) (cluster : Cluster) (number : ℕ) (message : InFlightFacts) → CommitsBridged head book cluster
-    → in_flight cluster.book.flight number ≡ Some message → message.message.to ≡ ends.Store → Upholds (kept_commits head) book cluster (arrival_events_at cluster number message ends.Store)
+    → in_flight cluster.facts.flight number ≡ Some message → message.message.to ≡ ends.Store → Upholds (kept_commits head) book cluster (arrival_events_at cluster number message ends.Store)
 upheld-arrival head book cluster number message good found to =
     let m : Message = message.message in
     let is : m ≡ record { from = m.from; to = ends.Store; run = m.run; sequence = m.sequence; body = m.body } = ap (λ (end : LinkEnd). let one : Message = record { from = m.from; to = end; run = m.run; sequence = m.sequence; body = m.body } in one) to in

@@ -18,8 +18,8 @@ use Rattle.cluster_script.specs.declared.line.Command.{Command}
 use Rattle.cluster_script.specs.declared.line.Command.TheVariants as commands
 use Rattle.cluster_script.specs.Script.{HeadText, names_of}
 use Rattle.cluster_model.specs.Cluster.{cluster_after}
-use Rattle.cluster_model.specs.Commands.{cut_of, hold_of, join_of, kill_of, kinds_of, link_of, resume_of}
-use Rattle.cluster_model.specs.Next.{command_kind, declared, process_kind, promote_events, restart_events}
+use Rattle.cluster_model.specs.Commands.{cut_of, suspend_of, join_of, kill_of, kinds_of, link_of, resume_of}
+use Rattle.cluster_model.specs.Next.{command_kind, declared, process_kind, promote_events, agent_start_events}
 use Rattle.cluster_model.specs.Parts.{event_of, events_of, for_some}
 use Rattle.cluster_model.specs.ServerCommands.{crash_of, freezing_of, is_gone, slow_of}
 use Rattle.cluster_model.specs.State.{Cluster}
@@ -58,10 +58,10 @@ goes-loss setup cluster number named past fits =
       moves = record {
         transitions = record { action = Lose number; events = event_of cluster kind; volatile_states = volatile_of cluster } ∷ [];
         whole = refl;
-        allowed = (tt, lost-shown setup past (volatile_of cluster) (record { 0 = later.book.clock }) number, change-once (record { 0 = later.book.clock }) kind, tt);
+        allowed = (tt, lost-shown setup past (volatile_of cluster) (record { 0 = later.facts.clock }) number, change-once (record { 0 = later.facts.clock }) kind, tt);
         once = (inr tt, tt);
         last = refl;
-        fits = fits-aside past cluster.book (volatile_of cluster) kind tt fits;
+        fits = fits-aside past cluster.facts (volatile_of cluster) kind tt fits;
       };
       left = record { leave = record { agents = λ m agent is. is; asked = λ i question is. (is, refl) }; causal = (tt, (tt, tt)); asks = λ s. (tt, tt); ordered = (tt, tt) };
     }
@@ -89,27 +89,27 @@ may-of P (Some kind) all = all kind refl
 
 process-may : (facts : Facts) (change : Member → AgentProcess → Option EventKind) → ((m : Member) (process : AgentProcess) → HoldsIf (MayHappen facts) (change m process)) → (cluster : Cluster) (id : MemberId)
     → HoldsIf (MayHappen facts) (process_kind change cluster id)
-process-may facts change all cluster id = may-found (MayHappen facts) (declared cluster id) _ (λ m. may-found (MayHappen facts) (slice_get cluster.book.agents m.id.number) (change m) (all m))
+process-may facts change all cluster id = may-found (MayHappen facts) (declared cluster id) _ (λ m. may-found (MayHappen facts) (slice_get cluster.facts.processes m.id.number) (change m) (all m))
 
-command-may : (cluster : Cluster) (command : Command) → IsQuietCommand command → HoldsIf (MayHappen cluster.book) (command_kind cluster command)
-command-may cluster (commands.Hold id) is = process-may cluster.book hold_of (λ m process. may-cond (MayHappen cluster.book) _ (Some (kinds.Agent (agents.Suspended m))) None tt tt) cluster id
-command-may cluster (commands.Resume id) is = process-may cluster.book resume_of (λ m process. may-cond (MayHappen cluster.book) _ (Some (kinds.Agent (agents.Resumed m))) None tt tt) cluster id
+command-may : (cluster : Cluster) (command : Command) → IsQuietCommand command → HoldsIf (MayHappen cluster.facts) (command_kind cluster command)
+command-may cluster (commands.Suspend id) is = process-may cluster.facts suspend_of (λ m process. may-cond (MayHappen cluster.facts) _ (Some (kinds.Agent (agents.Suspended m))) None tt tt) cluster id
+command-may cluster (commands.Resume id) is = process-may cluster.facts resume_of (λ m process. may-cond (MayHappen cluster.facts) _ (Some (kinds.Agent (agents.Resumed m))) None tt tt) cluster id
 command-may cluster (commands.Kill id) is = absurd is
 command-may cluster (commands.Crash id) is = absurd is
-command-may cluster (commands.Commit id size) is = may-mapped (MayHappen cluster.book) (declared cluster id) _ (λ m. commit-may cluster.book m size.bytes size.least)
+command-may cluster (commands.Commit id size) is = may-mapped (MayHappen cluster.facts) (declared cluster id) _ (λ m. commit-may cluster.facts m size.bytes size.least)
 command-may cluster (commands.Freeze id) is =
-    may-found (MayHappen cluster.book) (declared cluster id) _ (λ m. may-found (MayHappen cluster.book) (slice_get cluster.book.frozen m.id.number) (freezing_of true m)
-    (λ frozen. may-of (MayHappen cluster.book) (freezing_of true m frozen) (freezing-may cluster.book true frozen m)))
+    may-found (MayHappen cluster.facts) (declared cluster id) _ (λ m. may-found (MayHappen cluster.facts) (slice_get cluster.facts.frozen m.id.number) (freezing_of true m)
+    (λ frozen. may-of (MayHappen cluster.facts) (freezing_of true m frozen) (freezing-may cluster.facts true frozen m)))
 command-may cluster (commands.Thaw id) is =
-    may-found (MayHappen cluster.book) (declared cluster id) _ (λ m. may-found (MayHappen cluster.book) (slice_get cluster.book.frozen m.id.number) (freezing_of false m)
-    (λ frozen. may-of (MayHappen cluster.book) (freezing_of false m frozen) (freezing-may cluster.book false frozen m)))
+    may-found (MayHappen cluster.facts) (declared cluster id) _ (λ m. may-found (MayHappen cluster.facts) (slice_get cluster.facts.frozen m.id.number) (freezing_of false m)
+    (λ frozen. may-of (MayHappen cluster.facts) (freezing_of false m frozen) (freezing-may cluster.facts false frozen m)))
 command-may cluster (commands.Slow id slowed delay) is =
-    may-found (MayHappen cluster.book) (declared cluster id) _ (λ m. may-found (MayHappen cluster.book) (slice_get cluster.book.servers m.id.number) (slow_of m slowed delay)
-    (λ s. may-of (MayHappen cluster.book) (slow_of m slowed delay s) (slow-may cluster.book m slowed delay s)))
+    may-found (MayHappen cluster.facts) (declared cluster id) _ (λ m. may-found (MayHappen cluster.facts) (slice_get cluster.facts.servers m.id.number) (slow_of m slowed delay)
+    (λ s. may-of (MayHappen cluster.facts) (slow_of m slowed delay s) (slow-may cluster.facts m slowed delay s)))
 command-may cluster (commands.Cut first second) is =
-    may-found (MayHappen cluster.book) (link_of cluster.book.members first second) (cut_of cluster.book.cuts) (λ link. may-cond (MayHappen cluster.book) (is_cut cluster.book.cuts link) None (Some (kinds.Link (changes.Cut link))) tt tt)
+    may-found (MayHappen cluster.facts) (link_of cluster.facts.members first second) (cut_of cluster.facts.cuts) (λ link. may-cond (MayHappen cluster.facts) (is_cut cluster.facts.cuts link) None (Some (kinds.Link (changes.Cut link))) tt tt)
 command-may cluster (commands.Join first second) is =
-    may-found (MayHappen cluster.book) (link_of cluster.book.members first second) (join_of cluster.book.cuts) (λ link. may-cond (MayHappen cluster.book) (is_cut cluster.book.cuts link) (Some (kinds.Link (changes.Joined link))) None tt tt)
+    may-found (MayHappen cluster.facts) (link_of cluster.facts.members first second) (join_of cluster.facts.cuts) (λ link. may-cond (MayHappen cluster.facts) (is_cut cluster.facts.cuts link) (Some (kinds.Link (changes.Joined link))) None tt tt)
 command-may cluster _ is = tt
 
 -- ---- commands that bring one event at most
@@ -126,9 +126,9 @@ module _ (head : HeadText) (few : length (names_of head) ≤ 16) (book : List Ev
   kill-found m (Some process) small = kill-by m process.running small
 
   kill-declared : (found : Option Member) → ((m : Member) → found ≡ Some m → m.id.number < member_count head)
-      → Upholds (kept_commits head) book cluster (events_of cluster (kinds_of (option_and_then (λ m. option_and_then (kill_of m) (slice_get cluster.book.agents m.id.number)) found)))
+      → Upholds (kept_commits head) book cluster (events_of cluster (kinds_of (option_and_then (λ m. option_and_then (kill_of m) (slice_get cluster.facts.processes m.id.number)) found)))
   kill-declared None small = none
-  kill-declared (Some m) small = kill-found m (slice_get cluster.book.agents m.id.number) (small m refl)
+  kill-declared (Some m) small = kill-found m (slice_get cluster.facts.processes m.id.number) (small m refl)
 
   crash-by : (m : Member) (gone : Bool) → Upholds (kept_commits head) book cluster (events_of cluster (kinds_of (cond gone None (Some (kinds.Server (servers.Crashed (server_of m)))))))
   crash-by m true = none
@@ -138,9 +138,9 @@ module _ (head : HeadText) (few : length (names_of head) ≤ 16) (book : List Ev
   crash-found m None = none
   crash-found m (Some s) = crash-by m (is_gone s.state)
 
-  crash-declared : (found : Option Member) → Upholds (kept_commits head) book cluster (events_of cluster (kinds_of (option_and_then (λ m. option_and_then (crash_of m) (slice_get cluster.book.servers m.id.number)) found)))
+  crash-declared : (found : Option Member) → Upholds (kept_commits head) book cluster (events_of cluster (kinds_of (option_and_then (λ m. option_and_then (crash_of m) (slice_get cluster.facts.servers m.id.number)) found)))
   crash-declared None = none
-  crash-declared (Some m) = crash-found m (slice_get cluster.book.servers m.id.number)
+  crash-declared (Some m) = crash-found m (slice_get cluster.facts.servers m.id.number)
 
   small-now : (id : MemberId) (m : Member) → declared cluster id ≡ Some m → m.id.number < member_count head
   small-now id m is = declared-within head few m (declared-now head few cluster good.lease.matched.members id m is)
@@ -150,9 +150,9 @@ module _ (head : HeadText) (few : length (names_of head) ≤ 16) (book : List Ev
   upheld-command (commands.Crash id) = crash-declared (declared cluster id)
   upheld-command command = upheld-quiet-if head book cluster (command_kind cluster command) good (command-quiet cluster command tt) (command-may cluster command tt)
 
-  pub upheld-restarts : (id : MemberId) → Upholds (kept_commits head) book cluster (for_some (declared cluster id) (restart_events cluster))
+  pub upheld-restarts : (id : MemberId) → Upholds (kept_commits head) book cluster (for_some (declared cluster id) (agent_start_events cluster))
   upheld-restarts id =
-      upheld-for_some (kept_commits head) (composable head) book cluster (declared cluster id) (restart_events cluster) good (λ m is. upheld-restart head book cluster m (small-now id m is) good)
+      upheld-for_some (kept_commits head) (composable head) book cluster (declared cluster id) (agent_start_events cluster) good (λ m is. upheld-restart head book cluster m (small-now id m is) good)
 
 -- ---- an operator's promotion breaks a premise
 upheld-breach : (head : HeadText) (book : List Event) (cluster : Cluster) (event : Event) (events : List Event) → (IsHandsOffKind event.kind → ⊥) → CommitsBridged head book cluster
@@ -174,4 +174,4 @@ promote-by head book cluster m more false good = upheld-none (kept_commits head)
 
 pub upholds-promote : (head : HeadText) (m : Member) → UpholdsAlways (kept_commits head) (λ cluster. promote_events cluster m)
 upholds-promote head m book cluster good =
-    upheld-for_some (kept_commits head) (composable head) book cluster (slice_get cluster.book.servers m.id.number) _ good (λ s is. promote-by head book cluster m _ (is_replica s.state) good)
+    upheld-for_some (kept_commits head) (composable head) book cluster (slice_get cluster.facts.servers m.id.number) _ good (λ s is. promote-by head book cluster m _ (is_replica s.state) good)

@@ -37,7 +37,7 @@ agent-first : (scope : Name) (options : List MemberOptions) (members : List Memb
 agent-first scope options members None = refl
 agent-first scope options members (Some member) = ap Some (fresh-seen (who_of scope options members member) (record { 0 = member.id.number + 1 }) 1)
 
-pub first-volatile : (head : HeadText) → Fits (past_of head []) (cluster_of head).book first_volatile_states → volatile_of (cluster_of head) ≡ first_volatile_states
+pub first-volatile : (head : HeadText) → Fits (past_of head []) (cluster_of head).facts first_volatile_states → volatile_of (cluster_of head) ≡ first_volatile_states
 first-volatile head fits =
     let members : List Member = declared_members head in
     fun_ext (λ m. volatile-same _ _ _ _ (sym (fits.live.live m))
@@ -59,14 +59,14 @@ few-names head is = rw (length-map head.members _) is.few
 pub commits-first : (head : HeadText) → IsHead head → head.config.config.synchronous_mode ≡ true → head.config.config.pause ≡ false → CommitsBridged head [] (cluster_of head)
 commits-first head is on unpaused =
     let start = start_of head.config (names_of head) head.base in
-    let fits : Fits (past_of head []) (cluster_of head).book first_volatile_states = fits-first head.config (names_of head) head.base is.base_most in
+    let fits : Fits (past_of head []) (cluster_of head).facts first_volatile_states = fits-first head.config (names_of head) head.base is.base_most in
     let same = first-volatile head fits in
     let members : List Member = declared_members head in
     record {
       lease = bridged-first head (few-names head is) unpaused;
       fits = record {
         store = book-first (logs_in start.servers) (required_in start.servers) (confirmed_in start.servers) head.config (names_of head) head.base;
-        servers = subst (λ (v : ℕ → VolatileState). Fits (past_of head []) (cluster_of head).book v) (sym same) fits;
+        servers = subst (λ (v : ℕ → VolatileState). Fits (past_of head []) (cluster_of head).facts v) (sym same) fits;
         mode = synchronous-first head.config (names_of head) head.base on;
         strict = λ key e. absurd (none-some key e);
         told = λ i carried e. absurd (none-some carried e);

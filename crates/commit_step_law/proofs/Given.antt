@@ -53,11 +53,11 @@ module _ (head : HeadText) (book : List Event) (cluster : Cluster) (good : Commi
     sequence_old = λ agent is in_run. counted-by i question (slice_get cluster.agents question.member) agent asked refl is in_run;
   }
 
-  pub numbered-request : (i : ℕ) (carried : InFlightFacts) (by : Member) (run sequence : ℕ) (txn : Txn) → in_flight cluster.book.flight i ≡ Some carried
+  pub numbered-request : (i : ℕ) (carried : InFlightFacts) (by : Member) (run sequence : ℕ) (txn : Txn) → in_flight cluster.facts.flight i ≡ Some carried
       → carried.message ≡ record { from = ends.Member by; to = ends.Store; run = run; sequence = sequence; body = bodies.Request txn } → Numbered by.id.number run sequence
   numbered-request i carried by run sequence txn here is =
       numbered-question i (record { member = by.id.number; run = run; sequence = sequence; sent = carried.sent.0; query = lease_past.query_of txn })
-      (good.lease.matched.flight.kept i _ (heard-asked (lease_past.past_of book) cluster.book i carried by run sequence txn good.lease.matched.flight here is))
+      (good.lease.matched.flight.kept i _ (heard-asked (lease_past.past_of book) cluster.facts i carried by run sequence txn good.lease.matched.flight here is))
 
   -- ---- a snapshot without a leader key
   abbrev Lease : lease.State

@@ -33,9 +33,9 @@ pub record Goes (setup : Setup) (named : lease_past.Past) (past : Past) (cluster
 
 -- whatever both laws read of a book whose servers fit
 abbrev pub GoesFrom : Setup → Cluster → List Event → Type 0
-GoesFrom setup cluster events = (named : lease_past.Past) (past : Past) → Fits past cluster.book (volatile_of cluster) → Goes setup named past cluster events
+GoesFrom setup cluster events = (named : lease_past.Past) (past : Past) → Fits past cluster.facts (volatile_of cluster) → Goes setup named past cluster events
 
-causal-then : (past : Past) (cluster : Cluster) (xs ys : List Event) → AreCausal past cluster.book xs → AreCausal (past_over past xs) (cluster_over cluster xs).book ys → AreCausal past cluster.book (xs ++ ys)
+causal-then : (past : Past) (cluster : Cluster) (xs ys : List Event) → AreCausal past cluster.facts xs → AreCausal (past_over past xs) (cluster_over cluster xs).facts ys → AreCausal past cluster.facts (xs ++ ys)
 causal-then past cluster [] ys first second = second
 causal-then past cluster (x ∷ xs) ys first second = (first.0, (first.1.0, causal-then (past_after past x.kind) (cluster_after cluster x.kind) xs ys first.1.1 second))
 
@@ -69,7 +69,7 @@ module _ (setup : Setup) where
   pub goes-then : (cluster : Cluster) (xs ys : List Event) → GoesFrom setup cluster xs → GoesFrom setup (cluster_over cluster xs) ys → GoesFrom setup cluster (xs ++ ys)
   goes-then cluster xs ys first second named past fits = goes-after named past cluster xs ys (first named past fits) second
 
-  pub goes-follow : (cluster : Cluster) (events : List Event) → AllAre IsStill events → MayFollow cluster.book events → GoesFrom setup cluster events
+  pub goes-follow : (cluster : Cluster) (events : List Event) → AllAre IsStill events → MayFollow cluster.facts events → GoesFrom setup cluster events
   goes-follow cluster events still may named past fits = record { moves = moves-follow setup past cluster events fits still may; left = leave-follow setup.member_count named past cluster events still may }
 
 -- such events uphold commits, where they keep the law of one writer

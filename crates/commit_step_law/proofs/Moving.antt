@@ -46,7 +46,7 @@ pub record MovesFrom (setup : Setup) (past : Past) (states : ℕ → VolatileSta
   pub allowed : AreAllowed setup past states transitions
   pub once : EachChangesOnce transitions
   pub last : volatile_last states transitions ≡ volatile_of (cluster_over cluster events)
-  pub fits : Fits (past_over past events) (cluster_over cluster events).book (volatile_of (cluster_over cluster events))
+  pub fits : Fits (past_over past events) (cluster_over cluster events).facts (volatile_of (cluster_over cluster events))
 
 -- the same from where servers and agents stand
 abbrev pub Moves : Setup → Past → Cluster → List Event → Type 0
@@ -75,12 +75,12 @@ once-both : (first second : List Transition) → EachChangesOnce first → EachC
 once-both [] second one other = other
 once-both (t ∷ first) second one other = (one.0, once-both first second one.1 other)
 
-pub moves-none : (setup : Setup) (past : Past) (cluster : Cluster) → Fits past cluster.book (volatile_of cluster) → Moves setup past cluster []
+pub moves-none : (setup : Setup) (past : Past) (cluster : Cluster) → Fits past cluster.facts (volatile_of cluster) → Moves setup past cluster []
 moves-none setup past cluster fits = record { transitions = []; whole = refl; allowed = tt; once = tt; last = refl; fits = fits }
 
 -- what comes behind stands where the first events lead
 pub moves-from-then : (setup : Setup) (past : Past) (states : ℕ → VolatileState) (cluster : Cluster) (xs ys : List Event) → MovesFrom setup past states cluster xs
-    → (Fits (past_over past xs) (cluster_over cluster xs).book (volatile_of (cluster_over cluster xs)) → Moves setup (past_over past xs) (cluster_over cluster xs) ys)
+    → (Fits (past_over past xs) (cluster_over cluster xs).facts (volatile_of (cluster_over cluster xs)) → Moves setup (past_over past xs) (cluster_over cluster xs) ys)
     → MovesFrom setup past states cluster (xs ++ ys)
 moves-from-then setup past states cluster xs ys first later =
     let second = later first.fits in
@@ -93,30 +93,30 @@ moves-from-then setup past states cluster xs ys first later =
       once = once-both first.transitions second.transitions first.once second.once;
       last = last-both states first.transitions second.transitions ∙ ap (λ (v : ℕ → VolatileState). volatile_last v second.transitions) first.last ∙ second.last
           ∙ ap volatile_of (sym (over-append cluster xs ys));
-      fits = subst (λ (p : Past). Fits p (cluster_over cluster (xs ++ ys)).book (volatile_of (cluster_over cluster (xs ++ ys)))) (sym (past-append past xs ys))
-          (subst (λ (c : Cluster). Fits (past_over (past_over past xs) ys) c.book (volatile_of c)) (sym (over-append cluster xs ys)) second.fits);
+      fits = subst (λ (p : Past). Fits p (cluster_over cluster (xs ++ ys)).facts (volatile_of (cluster_over cluster (xs ++ ys)))) (sym (past-append past xs ys))
+          (subst (λ (c : Cluster). Fits (past_over (past_over past xs) ys) c.facts (volatile_of c)) (sym (over-append cluster xs ys)) second.fits);
     }
 
 pub moves-then : (setup : Setup) (past : Past) (cluster : Cluster) (xs ys : List Event) → Moves setup past cluster xs
-    → (Fits (past_over past xs) (cluster_over cluster xs).book (volatile_of (cluster_over cluster xs)) → Moves setup (past_over past xs) (cluster_over cluster xs) ys)
+    → (Fits (past_over past xs) (cluster_over cluster xs).facts (volatile_of (cluster_over cluster xs)) → Moves setup (past_over past xs) (cluster_over cluster xs) ys)
     → Moves setup past cluster (xs ++ ys)
 moves-then setup past cluster xs ys first later = moves-from-then setup past (volatile_of cluster) cluster xs ys first later
 
 -- one event that is one action, which leaves each server sound
-pub moves-one : (setup : Setup) (past : Past) (states : ℕ → VolatileState) (cluster : Cluster) (kind : EventKind) (action : Action) → IsSameServers past cluster.book → AreServersSound cluster.book
-    → BeginsKind (λ n. n < length cluster.book.servers) kind → LeavesSound cluster.book kind → IsAllowed (state_of setup past states) action
+pub moves-one : (setup : Setup) (past : Past) (states : ℕ → VolatileState) (cluster : Cluster) (kind : EventKind) (action : Action) → IsSameServers past cluster.facts → AreServersSound cluster.facts
+    → BeginsKind (λ n. n < length cluster.facts.servers) kind → LeavesSound cluster.facts kind → IsAllowed (state_of setup past states) action
     → IsShown setup past states (record { action = action; events = event_of cluster kind; volatile_states = volatile_of (cluster_after cluster kind) })
     → MovesFrom setup past states cluster (event_of cluster kind)
 moves-one setup past states cluster kind action same sound begins leaves allowed shown = record {
   transitions = record { action = action; events = event_of cluster kind; volatile_states = volatile_of (cluster_after cluster kind) } ∷ [];
   whole = refl;
-  allowed = (allowed, shown, change-once (record { 0 = (cluster_after cluster kind).book.clock }) kind, tt);
+  allowed = (allowed, shown, change-once (record { 0 = (cluster_after cluster kind).facts.clock }) kind, tt);
   once = (inr tt, tt);
   last = refl;
   fits = record {
-    same = same-by past cluster.book kind begins same;
+    same = same-by past cluster.facts kind begins same;
     live = record { live = λ m. refl };
-    sound = sound-by cluster.book kind leaves sound;
+    sound = sound-by cluster.facts kind leaves sound;
   };
 }
 
@@ -152,7 +152,7 @@ agents-leave count named past cluster named' past' cluster' leave all = record {
 -- such events uphold commits, where they keep the law of one writer, and agents know behind them what they wait for
 pub upheld-moves : (head : HeadText) (book : List Event) (cluster : Cluster) (events : List Event) → CommitsBridged head book cluster
     → Moves (setup_of head) (past_of head book) cluster events → IsKept head book cluster events
-    → AreCausal (past_of head book) cluster.book events → AskAsOn (state_behind head book cluster events) (member_count head) events
+    → AreCausal (past_of head book) cluster.facts events → AskAsOn (state_behind head book cluster events) (member_count head) events
     → AllInOrder (past_of head book) cluster events
     → AreAgentsSynchronous (member_count head) (lease_past.past_over (lease_past.past_of book) events).asked (past_over (past_of head book) events).asked (cluster_over cluster events).agents
     → Upholds (kept_commits head) book cluster events

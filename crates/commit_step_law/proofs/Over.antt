@@ -51,12 +51,12 @@ AskAsOn s count (event ∷ events) = AsksAsOn s count event.kind × AskAsOn s co
 
 -- what the store keeps of synchronous mode, and the messages in flight, of which questions to members are numbered in this state
 pub record StoreFits (s : State) (count : ℕ) (past : Past) (cluster : Cluster) : Type 0 where
-  pub store : IsSameBook past cluster.book
-  pub mode : IsSynchronous cluster.book
+  pub store : IsSameBook past cluster.facts
+  pub mode : IsSynchronous cluster.facts
   pub strict : NamesMembers count past.sync
-  pub told : TellsMembers count cluster.book.flight
-  pub requests : AreSynchronous count cluster.book.flight
-  pub asks : AsksAreNumbered s cluster.book.flight
+  pub told : TellsMembers count cluster.facts.flight
+  pub requests : AreSynchronous count cluster.facts.flight
+  pub asks : AsksAreNumbered s cluster.facts.flight
 
 requests-sent : (s : State) (count : ℕ) (facts : Facts) (kind : EventKind) → AsksAsOn s count kind → HoldsAsSent (λ (carried : InFlightFacts). IsSynchronousBody count carried.message.body) facts kind
 requests-sent s count facts (kinds.Message (Sent number message)) asks = asks.0
@@ -111,16 +111,16 @@ told-sent count past facts (kinds.Message (Sent number message)) same strict =
     snapshot-names count message.body present (subst (λ (o : Option SyncKey). NamesMembers count o) told strict)
 told-sent count past facts _ same strict = tt
 
-pub store-over : (s : State) (count : ℕ) (past : Past) (cluster : Cluster) (events : List Event) → AreCausal past cluster.book events → KeepMode true events → AskAsOn s count events → StoreFits s count past cluster
+pub store-over : (s : State) (count : ℕ) (past : Past) (cluster : Cluster) (events : List Event) → AreCausal past cluster.facts events → KeepMode true events → AskAsOn s count events → StoreFits s count past cluster
     → StoreFits s count (past_over past events) (cluster_over cluster events)
 store-over s count past cluster [] causal mode asks fits = fits
 store-over s count past cluster (event ∷ events) causal mode asks fits =
     store-over s count (past_after past event.kind) (cluster_after cluster event.kind) events causal.1.1 mode.1 asks.1
     (record {
-      store = book-by past cluster.book event.kind causal.0 causal.1.0 fits.store;
-      mode = synchronous-by cluster.book event.kind fits.store.flight.order mode.0 fits.mode;
+      store = book-by past cluster.facts event.kind causal.0 causal.1.0 fits.store;
+      mode = synchronous-by cluster.facts event.kind fits.store.flight.order mode.0 fits.mode;
       strict = strict-by s count past event.kind asks.0 fits.strict;
-      told = all-after (TellsNames count) cluster.book fits.store.flight.order fits.told event.kind (told-sent count past cluster.book event.kind fits.store.store fits.strict);
-      requests = all-after (λ (carried : InFlightFacts). IsSynchronousBody count carried.message.body) cluster.book fits.store.flight.order fits.requests event.kind (requests-sent s count cluster.book event.kind asks.0);
-      asks = all-after (AsksNumbered s) cluster.book fits.store.flight.order fits.asks event.kind (asks-sent s count cluster.book event.kind asks.0);
+      told = all-after (TellsNames count) cluster.facts fits.store.flight.order fits.told event.kind (told-sent count past cluster.facts event.kind fits.store.store fits.strict);
+      requests = all-after (λ (carried : InFlightFacts). IsSynchronousBody count carried.message.body) cluster.facts fits.store.flight.order fits.requests event.kind (requests-sent s count cluster.facts event.kind asks.0);
+      asks = all-after (AsksNumbered s) cluster.facts fits.store.flight.order fits.asks event.kind (asks-sent s count cluster.facts event.kind asks.0);
     })

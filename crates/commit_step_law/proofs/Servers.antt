@@ -50,7 +50,7 @@ use Rattle.commit_step_law.proofs.Transitions.{composable, state_behind}
 
 -- ---- events one after another
 module _ (setup : Setup) where
-  pub moves-follow : (past : Past) (cluster : Cluster) (events : List Event) → Fits past cluster.book (volatile_of cluster) → AllAre IsStill events → MayFollow cluster.book events → Moves setup past cluster events
+  pub moves-follow : (past : Past) (cluster : Cluster) (events : List Event) → Fits past cluster.facts (volatile_of cluster) → AllAre IsStill events → MayFollow cluster.facts events → Moves setup past cluster events
   moves-follow past cluster [] fits still may = moves-none setup past cluster fits
   moves-follow past cluster (event ∷ events) fits still may =
       moves-then setup past cluster (event ∷ []) events (moves-still setup past cluster event fits still.0 may.0)
@@ -59,11 +59,11 @@ module _ (setup : Setup) where
 -- what such events leave as it was
 pub record LeaveAgents (count : ℕ) (named : lease_past.Past) (past : Past) (cluster : Cluster) (events : List Event) : Type 0 where
   pub leave : OnlyLeave named past cluster (lease_past.past_over named events) (past_over past events) (cluster_over cluster events)
-  pub causal : AreCausal past cluster.book events
+  pub causal : AreCausal past cluster.facts events
   pub asks : (s : State) → AskAsOn s count events
   pub ordered : AllInOrder past cluster events
 
-pub leave-follow : (count : ℕ) (named : lease_past.Past) (past : Past) (cluster : Cluster) (events : List Event) → AllAre IsStill events → MayFollow cluster.book events → LeaveAgents count named past cluster events
+pub leave-follow : (count : ℕ) (named : lease_past.Past) (past : Past) (cluster : Cluster) (events : List Event) → AllAre IsStill events → MayFollow cluster.facts events → LeaveAgents count named past cluster events
 leave-follow count named past cluster [] still may = record { leave = record { agents = λ m agent is. is; asked = λ i question is. (is, refl) }; causal = tt; asks = λ s. tt; ordered = tt }
 leave-follow count named past cluster (event ∷ events) still may =
     let first = leaves-still named past cluster event.kind still.0 may.0 in
@@ -76,14 +76,14 @@ leave-follow count named past cluster (event ∷ events) still may =
     }
 
 -- events at servers uphold commits, where they keep the law of one writer
-pub upheld-follow : (head : HeadText) (book : List Event) (cluster : Cluster) (events : List Event) → CommitsBridged head book cluster → AllAre IsStill events → MayFollow cluster.book events
+pub upheld-follow : (head : HeadText) (book : List Event) (cluster : Cluster) (events : List Event) → CommitsBridged head book cluster → AllAre IsStill events → MayFollow cluster.facts events
     → IsKept head book cluster events → Upholds (kept_commits head) book cluster events
 upheld-follow head book cluster events good still may kept =
     let left = leave-follow (member_count head) (lease_past.past_of book) (past_of head book) cluster events still may in
     upheld-moves head book cluster events good (moves-follow (setup_of head) (past_of head book) cluster events good.fits.servers still may) kept left.causal (left.asks (state_behind head book cluster events)) left.ordered
     (agents-leave (member_count head) (lease_past.past_of book) (past_of head book) cluster (lease_past.past_over (lease_past.past_of book) events) (past_over (past_of head book) events) (cluster_over cluster events) left.leave good.fits.agents)
 
-pub upheld-still : (head : HeadText) (book : List Event) (cluster : Cluster) (kind : EventKind) → CommitsBridged head book cluster → IsStill kind → MayHappen cluster.book kind
+pub upheld-still : (head : HeadText) (book : List Event) (cluster : Cluster) (kind : EventKind) → CommitsBridged head book cluster → IsStill kind → MayHappen cluster.facts kind
     → IsKept head book cluster (event_of cluster kind) → Upholds (kept_commits head) book cluster (event_of cluster kind)
 upheld-still head book cluster kind good still may kept = upheld-follow head book cluster (event_of cluster kind) good (still, tt) (may, tt) kept
 
@@ -114,24 +114,24 @@ still-receive cluster member from (Some streams.NotConnected) = tt
 still-receive cluster member from (Some (streams.Diverged at)) = (tt, tt)
 still-receive cluster member from (Some (streams.Received count)) = (tt, still-confirm (cluster_after cluster (kinds.Log (logs.Received (server_of member) (server_of from) count))) member from)
 
-still-from : (cluster : Cluster) (most : ℕ) (member : Member) (source : Option Member) → AllAre IsStill (for_some source (λ from. receive_events cluster member from (news_at cluster.book.servers member.id.number from.id.number most)))
+still-from : (cluster : Cluster) (most : ℕ) (member : Member) (source : Option Member) → AllAre IsStill (for_some source (λ from. receive_events cluster member from (news_at cluster.facts.servers member.id.number from.id.number most)))
 still-from cluster most member None = tt
-still-from cluster most member (Some from) = still-receive cluster member from (news_at cluster.book.servers member.id.number from.id.number most)
+still-from cluster most member (Some from) = still-receive cluster member from (news_at cluster.facts.servers member.id.number from.id.number most)
 
 -- ---- the parts
-in-place-now : (head : HeadText) → length (names_of head) ≤ 16 → (book : List Event) (cluster : Cluster) → CommitsBridged head book cluster → AreInPlace cluster.book.members
+in-place-now : (head : HeadText) → length (names_of head) ≤ 16 → (book : List Event) (cluster : Cluster) → CommitsBridged head book cluster → AreInPlace cluster.facts.members
 in-place-now head few book cluster good = subst AreInPlace (sym good.lease.matched.members) (in-place head.config (names_of head) head.base few)
 
 pub upholds-receive : (head : HeadText) → length (names_of head) ≤ 16 → (most : ℕ) (member : Member) → UpholdsAlways (kept_commits head) (λ cluster. receive_events_at_most cluster most member)
 upholds-receive head few most member book cluster good =
-    upheld-follow head book cluster (receive_events_at_most cluster most member) good (still-from cluster most member (source_of cluster.book.members cluster.book.servers cluster.book.cuts member))
+    upheld-follow head book cluster (receive_events_at_most cluster most member) good (still-from cluster most member (source_of cluster.facts.members cluster.facts.servers cluster.facts.cuts member))
     (receive-at-most cluster most member (in-place-now head few book cluster good) good.fits.servers.sound) (keeps-receive-at-most head most member book cluster good.lease)
 
 pub upholds-acknowledge : (head : HeadText) (member : Member) → UpholdsAlways (kept_commits head) (λ cluster. acknowledge_events cluster member)
 upholds-acknowledge head member book cluster good =
-    let found = slice_get cluster.book.servers member.id.number in
+    let found = slice_get cluster.facts.servers member.id.number in
     upheld-follow head book cluster (acknowledge_events cluster member) good
-    (quiet-kinds cluster (acknowledge_kinds cluster.book.servers cluster.book.members member found) (acknowledge-quiet cluster.book.servers cluster.book.members member found))
+    (quiet-kinds cluster (acknowledge_kinds cluster.facts.servers cluster.facts.members member found) (acknowledge-quiet cluster.facts.servers cluster.facts.members member found))
     (acknowledge-follow cluster member) (keeps-acknowledge head member book cluster good.lease)
 
 -- ---- commands and notes
@@ -139,7 +139,7 @@ pub upholds-note : (head : HeadText) (note : Note) → UpholdsAlways (kept_commi
 upholds-note head note book cluster good = upheld-still head book cluster (kinds.Note note) good tt tt (kept-quiet head book cluster (kinds.Note note) tt good.lease)
 
 -- one event that is quiet for the law of one writer, if one happens
-pub upheld-quiet-if : (head : HeadText) (book : List Event) (cluster : Cluster) (found : Option EventKind) → CommitsBridged head book cluster → IsQuietIf found → HoldsIf (MayHappen cluster.book) found
+pub upheld-quiet-if : (head : HeadText) (book : List Event) (cluster : Cluster) (found : Option EventKind) → CommitsBridged head book cluster → IsQuietIf found → HoldsIf (MayHappen cluster.facts) found
     → Upholds (kept_commits head) book cluster (events_of cluster (kinds_of found))
 upheld-quiet-if head book cluster None good quiet may = upheld-none (kept_commits head) (composable head) book cluster good
 upheld-quiet-if head book cluster (Some kind) good quiet may = upheld-still head book cluster kind good (quiet-still kind quiet) may (kept-quiet head book cluster kind quiet good.lease)

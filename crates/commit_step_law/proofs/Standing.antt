@@ -88,9 +88,9 @@ known-position (one ∷ confirmed) zero end is = ap (λ (o : Option Lsn). positi
 known-position (one ∷ confirmed) (suc n) end is = known-position confirmed n end is
 
 module _ (head : HeadText) (book : List Event) (cluster : Cluster) (good : CommitsBridged head book cluster) (member : Member) (agent : AgentFacts) (s : ServerFacts)
-    (there : slice_get cluster.agents member.id.number ≡ Some (Some agent)) (found : slice_get cluster.book.servers member.id.number ≡ Some s) where
+    (there : slice_get cluster.agents member.id.number ≡ Some (Some agent)) (found : slice_get cluster.facts.servers member.id.number ≡ Some s) where
   abbrev Seen : Replication
-  Seen = replication_of cluster.book.members cluster.book.servers cluster.book.cuts member s
+  Seen = replication_of cluster.facts.members cluster.facts.servers cluster.facts.cuts member s
 
   stands : (machine : Machine) → IsMadeOf s Seen machine → member.id.number < member_count head
       → StandsToCommit (state_of_run head book cluster) member.id.number (made agent.role agent.knows machine [])
@@ -98,19 +98,19 @@ module _ (head : HeadText) (book : List Event) (cluster : Cluster) (good : Commi
       let k : ℕ = member.id.number in
       let past : Past = past_of head book in
       let same = good.fits.servers.same in
-      let sound : IsServerSound cluster.book.commits s = good.fits.servers.sound.each k s found in
-      let log : log_found (slice_get past.logs k) ≡ s.log = ap log_found (log-at past cluster.book same k s found) in
+      let sound : IsServerSound cluster.facts.commits s = good.fits.servers.sound.each k s found in
+      let log : log_found (slice_get past.logs k) ≡ s.log = ap log_found (log-at past cluster.facts same k s found) in
       record {
         agent = ap agent_now there;
         live = ap live_now found ∙ ap live (sym made_is.state);
-        required = ap need_of (required-at past cluster.book same k s found) ∙ ap (λ (r : Replication). need_in r.required) (sym made_is.replication_is);
+        required = ap need_of (required-at past cluster.facts same k s found) ∙ ap (λ (r : Replication). need_in r.required) (sym made_is.replication_is);
         end = subst (λ (e : Option Lsn). IsEndOf e (log_found (slice_get past.logs k))) (sym made_is.end) (subst (λ (l : Option (List Entry)). IsEndOf (end_in s.log) l) (sym log) (end-is s.log sound.end));
         has_log = λ with_data. subst HasLog (sym log) (sound.log (ap has_data (sym made_is.state) ∙ with_data));
         connected = λ n end is.
-            let at = connected-end cluster.book.members cluster.book.servers cluster.book.cuts member s (writes s.state) n end (ap (λ (r : Replication). slice_get r.connected n) (sym made_is.replication_is) ∙ is) in
+            let at = connected-end cluster.facts.members cluster.facts.servers cluster.facts.cuts member s (writes s.state) n end (ap (λ (r : Replication). slice_get r.connected n) (sym made_is.replication_is) ∙ is) in
             record {
-              writes = writes-at past cluster.book same k s found ∙ at.0;
-              confirmed = ap (λ (o : Option (List (Option Lsn))). position_of o n) (confirmed-at past cluster.book same k s found) ∙ known-position s.confirmed n end at.1;
+              writes = writes-at past cluster.facts same k s found ∙ at.0;
+              confirmed = ap (λ (o : Option (List (Option Lsn))). position_of o n) (confirmed-at past cluster.facts same k s found) ∙ known-position s.confirmed n end at.1;
             };
         me = (good.lease.matched.agents k agent there).me;
         counts = small;
@@ -120,15 +120,15 @@ module _ (head : HeadText) (book : List Event) (cluster : Cluster) (good : Commi
 -- the same of the machine that it finds
 module _ (head : HeadText) (book : List Event) (cluster : Cluster) (good : CommitsBridged head book cluster) (member : Member) (agent : AgentFacts)
     (there : slice_get cluster.agents member.id.number ≡ Some (Some agent)) (small : member.id.number < member_count head) where
-  stands-by : (machine : Machine) (receives : Bool) (found : Option ServerFacts) → slice_get cluster.book.servers member.id.number ≡ found
-      → machine_from receives (option_map (replication_of cluster.book.members cluster.book.servers cluster.book.cuts member) found) (slice_get cluster.options member.id.number)
-      (slice_get cluster.book.deadlines member.id.number) (slice_get cluster.book.holds member.id.number) found ≡ Some machine
+  stands-by : (machine : Machine) (receives : Bool) (found : Option ServerFacts) → slice_get cluster.facts.servers member.id.number ≡ found
+      → machine_from receives (option_map (replication_of cluster.facts.members cluster.facts.servers cluster.facts.cuts member) found) (slice_get cluster.options member.id.number)
+      (slice_get cluster.facts.deadlines member.id.number) (slice_get cluster.facts.holds member.id.number) found ≡ Some machine
       → StandsToCommit (state_of_run head book cluster) member.id.number (made agent.role agent.knows machine [])
   stands-by machine receives None found is = absurd (none-some machine is)
   stands-by machine receives (Some s) found is =
       stands head book cluster good member agent s there found machine
-      (made-of receives (replication_of cluster.book.members cluster.book.servers cluster.book.cuts member s) (slice_get cluster.options member.id.number) (slice_get cluster.book.deadlines member.id.number) (slice_get cluster.book.holds member.id.number) s machine is)
+      (made-of receives (replication_of cluster.facts.members cluster.facts.servers cluster.facts.cuts member s) (slice_get cluster.options member.id.number) (slice_get cluster.facts.deadlines member.id.number) (slice_get cluster.facts.holds member.id.number) s machine is)
       small
 
   pub agent-stands : (machine : Machine) → machine_of cluster member ≡ Some machine → StandsToCommit (state_of_run head book cluster) member.id.number (made agent.role agent.knows machine [])
-  agent-stands machine is = stands-by machine _ (slice_get cluster.book.servers member.id.number) refl is
+  agent-stands machine is = stands-by machine _ (slice_get cluster.facts.servers member.id.number) refl is

@@ -19,7 +19,7 @@ use Rattle.cluster_model.specs.Cluster.{cluster_after, cluster_over}
 use Rattle.cluster_model.specs.Commands.{disarm_if, disarm_of, kinds_of}
 use Rattle.cluster_model.specs.Inputs.{starting_agent}
 use Rattle.cluster_model.specs.Machines.{machine_of, who_of}
-use Rattle.cluster_model.specs.Next.{restart_events, restart_events_of}
+use Rattle.cluster_model.specs.Next.{agent_start_events, agent_start_events_of}
 use Rattle.cluster_model.specs.Parts.{event_of, events_of, for_some}
 use Rattle.cluster_model.specs.State.{Cluster}
 use Rattle.lease_law.specs.Past as lease_past
@@ -59,7 +59,7 @@ runs-over : (past : Past) (named : lease_past.Past) (book : List Event) → past
 runs-over past named [] same = same
 runs-over past named (event ∷ book) same = runs-over (past_after past event.kind) (lease_past.past_after named event.kind) book (runs-by past.runs named.runs event.kind same)
 
-pub runs-now : (head : HeadText) (book : List Event) (cluster : Cluster) → CommitsBridged head book cluster → (m : ℕ) → (past_of head book).runs m ≡ run_in cluster.book.agents m
+pub runs-now : (head : HeadText) (book : List Event) (cluster : Cluster) → CommitsBridged head book cluster → (m : ℕ) → (past_of head book).runs m ≡ run_in cluster.facts.processes m
 runs-now head book cluster good m =
     ap (λ (runs : ℕ → ℕ). runs m) (runs-over (past_of head []) lease_past.first_past book refl) ∙ good.lease.matched.machines.runs m
 
@@ -80,9 +80,9 @@ module _ (cluster : Cluster) (member : Member) (run : ℕ) where
   Kind = kinds.Agent (agents.Started member run)
 
   abbrev Started : AgentFacts
-  Started = starting_agent (who_of cluster.scope cluster.options cluster.book.members member) cluster.book.clock run
+  Started = starting_agent (who_of cluster.scope cluster.options cluster.facts.members member) cluster.facts.clock run
 
-  pub moves-start : (setup : Setup) (past : Past) → run ≡ past.runs member.id.number + 1 → member.id.number < length cluster.agents → Fits past cluster.book (volatile_of cluster)
+  pub moves-start : (setup : Setup) (past : Past) → run ≡ past.runs member.id.number + 1 → member.id.number < length cluster.agents → Fits past cluster.facts (volatile_of cluster)
       → Moves setup past cluster (event_of cluster Kind)
   moves-start setup past next small fits =
       let later : Cluster = cluster_after cluster Kind in
@@ -95,11 +95,11 @@ module _ (cluster : Cluster) (member : Member) (run : ℕ) where
       record {
         transitions = record { action = Start k; events = event_of cluster Kind; volatile_states = states } ∷ [];
         whole = refl;
-        allowed = (tt, start-shown setup past (volatile_of cluster) (record { 0 = later.book.clock }) member run next, change-once (record { 0 = later.book.clock }) Kind, tt);
+        allowed = (tt, start-shown setup past (volatile_of cluster) (record { 0 = later.facts.clock }) member run next, change-once (record { 0 = later.facts.clock }) Kind, tt);
         once = (inr tt, tt);
         last = same;
-        fits = subst (λ (v : ℕ → VolatileState). Fits (past_after past Kind) later.book v) same
-            (fits-agents (past_after past Kind) later.book (volatile_of cluster) k (Some (fresh_agent (past.runs k + 1))) (fits-aside past cluster.book (volatile_of cluster) Kind tt fits));
+        fits = subst (λ (v : ℕ → VolatileState). Fits (past_after past Kind) later.facts v) same
+            (fits-agents (past_after past Kind) later.facts (volatile_of cluster) k (Some (fresh_agent (past.runs k + 1))) (fits-aside past cluster.facts (volatile_of cluster) Kind tt fits));
       }
 
   -- it waits for nothing
@@ -107,7 +107,7 @@ module _ (cluster : Cluster) (member : Member) (run : ℕ) where
       → AreAgentsSynchronous count (lease_past.past_after named Kind).asked (past_after past Kind).asked (cluster_after cluster Kind).agents
   agents-start count named past all = record {
     each = λ m agent is. started-there member.id.number Started (m == member.id.number) (slice_get cluster.agents m) agent (IsAgentSynchronous named.asked past.asked m)
-        (record { on = fresh-asks (who_of cluster.scope cluster.options cluster.book.members member) (record { 0 = cluster.book.clock + 1 }) run; writes = λ waited waits. absurd (none-some waited waits) })
+        (record { on = fresh-asks (who_of cluster.scope cluster.options cluster.facts.members member) (record { 0 = cluster.facts.clock + 1 }) run; writes = λ waited waits. absurd (none-some waited waits) })
         (all.each m agent) (sym (get-changed cluster.agents member.id.number m _) ∙ is);
     members = all.members;
   }
@@ -126,12 +126,12 @@ disarms : (facts : Facts) (member : Member) (machine : Option Machine) → Holds
 disarms facts member None = tt
 disarms facts member (Some machine) = disarms-by facts member (live machine.server.state) machine.watchdog.deadline
 
-disarm-still : (cluster : Cluster) (found : Option EventKind) → HoldsIf (IsDisarm cluster.book) found → AllAre IsStill (events_of cluster (kinds_of found)) × MayFollow cluster.book (events_of cluster (kinds_of found))
+disarm-still : (cluster : Cluster) (found : Option EventKind) → HoldsIf (IsDisarm cluster.facts) found → AllAre IsStill (events_of cluster (kinds_of found)) × MayFollow cluster.facts (events_of cluster (kinds_of found))
 disarm-still cluster None is = (tt, tt)
 disarm-still cluster (Some kind) is = ((is.still, tt), (is.may, tt))
 
 module _ (head : HeadText) (book : List Event) (cluster : Cluster) (member : Member) (small : member.id.number < member_count head) (good : CommitsBridged head book cluster) where
-  upheld-start : (run : ℕ) (found : Option EventKind) → run ≡ run_in cluster.book.agents member.id.number + 1 → HoldsIf (IsDisarm (cluster_after cluster (kinds.Agent (agents.Started member run))).book) found
+  upheld-start : (run : ℕ) (found : Option EventKind) → run ≡ run_in cluster.facts.processes member.id.number + 1 → HoldsIf (IsDisarm (cluster_after cluster (kinds.Agent (agents.Started member run))).facts) found
       → IsKept head book cluster (events_of cluster (kinds.Agent (agents.Started member run) ∷ kinds_of found)) → Upholds (kept_commits head) book cluster (events_of cluster (kinds.Agent (agents.Started member run) ∷ kinds_of found))
   upheld-start run found next is kept =
       let kind : EventKind = kinds.Agent (agents.Started member run) in
@@ -150,17 +150,17 @@ module _ (head : HeadText) (book : List Event) (cluster : Cluster) (member : Mem
       (agents-leave (member_count head) named past started (lease_past.past_over named rest) (past_over past rest) (cluster_over started rest) left.leave
       (agents-start cluster member run (member_count head) (lease_past.past_of book) (past_of head book) good.fits.agents))
 
-  upheld-restart-by : (process : AgentProcess) (running : Bool) → slice_get cluster.book.agents member.id.number ≡ Some process
+  upheld-restart-by : (process : AgentProcess) (running : Bool) → slice_get cluster.facts.processes member.id.number ≡ Some process
       → IsKept head book cluster (events_of cluster (cond running (kinds.Note (AlreadyRunning member)) (kinds.Agent (agents.Started member (process.run + 1))) ∷ kinds_of (cond running None (disarm_of member (machine_of cluster member)))))
       → Upholds (kept_commits head) book cluster (events_of cluster (cond running (kinds.Note (AlreadyRunning member)) (kinds.Agent (agents.Started member (process.run + 1))) ∷ kinds_of (cond running None (disarm_of member (machine_of cluster member)))))
   upheld-restart-by process true is kept = upheld-still head book cluster (kinds.Note (AlreadyRunning member)) good tt tt kept
   upheld-restart-by process false is kept =
       upheld-start (process.run + 1) (disarm_of member (machine_of cluster member)) (ap (λ (o : Option AgentProcess). run_now o + 1) (sym is)) (disarms _ member (machine_of cluster member)) kept
 
-  upheld-restart-of : (found : Option AgentProcess) → slice_get cluster.book.agents member.id.number ≡ found → IsKept head book cluster (for_some found (restart_events_of cluster member))
-      → Upholds (kept_commits head) book cluster (for_some found (restart_events_of cluster member))
+  upheld-restart-of : (found : Option AgentProcess) → slice_get cluster.facts.processes member.id.number ≡ found → IsKept head book cluster (for_some found (agent_start_events_of cluster member))
+      → Upholds (kept_commits head) book cluster (for_some found (agent_start_events_of cluster member))
   upheld-restart-of None is kept = upheld-none (kept_commits head) (composable head) book cluster good
   upheld-restart-of (Some process) is kept = upheld-restart-by process process.running is kept
 
-  pub upheld-restart : Upholds (kept_commits head) book cluster (restart_events cluster member)
-  upheld-restart = upheld-restart-of (slice_get cluster.book.agents member.id.number) refl (kept-restart head book cluster member small good.lease)
+  pub upheld-restart : Upholds (kept_commits head) book cluster (agent_start_events cluster member)
+  upheld-restart = upheld-restart-of (slice_get cluster.facts.processes member.id.number) refl (kept-restart head book cluster member small good.lease)

@@ -42,11 +42,11 @@ IsStill _ = Unit {0}
 pub record LeavesAgents (named : lease_past.Past) (past : Past) (cluster : Cluster) (kind : EventKind) : Type 0 where
   pub agents : agent_facts_after cluster kind ≡ cluster.agents
   pub leave : OnlyLeave named past cluster (lease_past.past_after named kind) (past_after past kind) (cluster_after cluster kind)
-  pub causal : AreCausal past cluster.book (event_of cluster kind)
+  pub causal : AreCausal past cluster.facts (event_of cluster kind)
   pub asks : (s : State) (count : ℕ) → AskAsOn s count (event_of cluster kind)
   pub ordered : AllInOrder past cluster (event_of cluster kind)
 
-pub leaves-still : (named : lease_past.Past) (past : Past) (cluster : Cluster) (kind : EventKind) → IsStill kind → MayHappen cluster.book kind → LeavesAgents named past cluster kind
+pub leaves-still : (named : lease_past.Past) (past : Past) (cluster : Cluster) (kind : EventKind) → IsStill kind → MayHappen cluster.facts kind → LeavesAgents named past cluster kind
 leaves-still named past cluster kinds.Tick still may = absurd still
 leaves-still named past cluster (kinds.Message happening) still may = absurd still
 leaves-still named past cluster (kinds.Store (stores.Granted number by txn standbys)) still may = absurd may
@@ -73,9 +73,9 @@ pub volatile-same : (a b : Bool) (x y : Option Agent) → a ≡ b → x ≡ y �
 volatile-same a b x y p q = cc
 
 -- it is one action
-module _ (setup : Setup) (past : Past) (cluster : Cluster) (event : Event) (fits : Fits past cluster.book (volatile_of cluster)) (still : IsStill event.kind) (may : MayHappen cluster.book event.kind) where
-  leads : Leads setup past cluster.book (volatile_of cluster) event.kind (volatile_after (volatile_of cluster) event.kind)
-  leads = leads-to setup past cluster.book (volatile_of cluster) event.kind fits may
+module _ (setup : Setup) (past : Past) (cluster : Cluster) (event : Event) (fits : Fits past cluster.facts (volatile_of cluster)) (still : IsStill event.kind) (may : MayHappen cluster.facts event.kind) where
+  leads : Leads setup past cluster.facts (volatile_of cluster) event.kind (volatile_after (volatile_of cluster) event.kind)
+  leads = leads-to setup past cluster.facts (volatile_of cluster) event.kind fits may
 
   volatile-behind : volatile_after (volatile_of cluster) event.kind ≡ volatile_of (cluster_after cluster event.kind)
   volatile-behind = fun_ext (λ m. volatile-same _ _ _ _ (leads.fits.live.live m)
@@ -89,5 +89,5 @@ module _ (setup : Setup) (past : Past) (cluster : Cluster) (event : Event) (fits
     allowed = (leads.action.allowed, leads.action.shown event.tick, change-once event.tick event.kind, tt);
     once = (inr tt, tt);
     last = volatile-behind;
-    fits = subst (λ (v : ℕ → VolatileState). Fits (past_after past event.kind) (cluster_after cluster event.kind).book v) volatile-behind leads.fits;
+    fits = subst (λ (v : ℕ → VolatileState). Fits (past_after past event.kind) (cluster_after cluster event.kind).facts v) volatile-behind leads.fits;
   }

@@ -81,9 +81,9 @@ expiry-may facts (kinds.Store (stores.LeaderExpired holder)) is = tt
 expiry-may facts (kinds.Store (stores.Expired key)) is = tt
 expiry-may facts _ is = absurd is
 
-expiries-follow : (cluster : Cluster) (list : List EventKind) → AllKinds IsExpiry list → MayFollow cluster.book (events_of cluster list)
+expiries-follow : (cluster : Cluster) (list : List EventKind) → AllKinds IsExpiry list → MayFollow cluster.facts (events_of cluster list)
 expiries-follow cluster [] all = tt
-expiries-follow cluster (kind ∷ more) all = (expiry-may cluster.book kind all.0, expiries-follow (cluster_after cluster kind) more all.1)
+expiries-follow cluster (kind ∷ more) all = (expiry-may cluster.facts kind all.0, expiries-follow (cluster_after cluster kind) more all.1)
 
 leader-expires : (holder : Option Member) → AllKinds IsExpiry (leader_expiry holder)
 leader-expires None = tt
@@ -98,7 +98,7 @@ all-expire holder [] = tt
 all-expire holder (key ∷ more) = kinds-both IsExpiry (expiry_of holder key) (expiries_of holder more) (expires holder key) (all-expire holder more)
 
 pub next-expiries : (cluster : Cluster) → AllKinds IsExpiry (next_expiries cluster)
-next-expiries cluster = all-expire (declared_member cluster.book.members (expired_holder cluster.book.keys (cluster.book.clock + 1))) (expired_keys cluster.book.keys (cluster.book.clock + 1))
+next-expiries cluster = all-expire (declared_member cluster.facts.members (expired_holder cluster.facts.keys (cluster.facts.clock + 1))) (expired_keys cluster.facts.keys (cluster.facts.clock + 1))
 
 -- ---- no agent ends where a start or a stop is complete
 pub loss-still : (member : Member) (test : Bool) → AllKinds IsStill (kinds_of (loss_if member test))
@@ -111,10 +111,10 @@ completion-still member acknowledged log (Some (completions.Begins timeline)) = 
 completion-still member acknowledged log (Some completions.Ends) = (tt, tt)
 
 completed-still : (cluster : Cluster) (member : Member) (found : Option ServerFacts)
-    → AllAre IsStill (for_some found (λ s. events_of cluster (completion_kinds cluster.book.clock member cluster.book.acknowledged s)))
+    → AllAre IsStill (for_some found (λ s. events_of cluster (completion_kinds cluster.facts.clock member cluster.facts.acknowledged s)))
 completed-still cluster member None = tt
 completed-still cluster member (Some s) =
-    all-kinds IsStill cluster (completion_kinds cluster.book.clock member cluster.book.acknowledged s) (completion-still member cluster.book.acknowledged s.log (completion_of cluster.book.clock s))
+    all-kinds IsStill cluster (completion_kinds cluster.facts.clock member cluster.facts.acknowledged s) (completion-still member cluster.facts.acknowledged s.log (completion_of cluster.facts.clock s))
 
 module _ (setup : Setup) where
   tick-allowed : (past : Past) (states : ℕ → VolatileState) (tick : Ticks) → (leader_kept (past.clock + 1) past.leader ≡ past.leader) ⊎ (leader_kept (past.clock + 1) past.leader ≡ None)
@@ -128,9 +128,9 @@ module _ (setup : Setup) where
   pub goes-tick : (cluster : Cluster) → GoesFrom setup cluster (event_of cluster kinds.Tick)
   goes-tick cluster named past fits =
       let later : Cluster = cluster_after cluster kinds.Tick in
-      let tick : Ticks = record { 0 = later.book.clock } in
+      let tick : Ticks = record { 0 = later.facts.clock } in
       let told = tick-allowed past (volatile_of cluster) tick (stays-or-expires (past.clock + 1) past.leader) in
-      let behind : Fits (past_after past kinds.Tick) later.book (volatile_of cluster) = fits-aside past cluster.book (volatile_of cluster) kinds.Tick tt fits in
+      let behind : Fits (past_after past kinds.Tick) later.facts (volatile_of cluster) = fits-aside past cluster.facts (volatile_of cluster) kinds.Tick tt fits in
       let same : volatile_of cluster ≡ volatile_of later = fun_ext (λ m. volatile-same _ _ _ _ (behind.live.live m) refl) in
       record {
         moves = record {
@@ -139,7 +139,7 @@ module _ (setup : Setup) where
           allowed = told.3;
           once = (subst ChangeOrderOnce (sym told.1) (inr tt), tt);
           last = told.2 ∙ same;
-          fits = subst (λ (v : ℕ → VolatileState). Fits (past_after past kinds.Tick) later.book v) same behind;
+          fits = subst (λ (v : ℕ → VolatileState). Fits (past_after past kinds.Tick) later.facts v) same behind;
         };
         left = record { leave = record { agents = λ m agent is. is; asked = λ i question is. (is, refl) }; causal = (tt, (tt, tt)); asks = λ s. (tt, tt); ordered = (tt, tt) };
       }
@@ -152,11 +152,11 @@ module _ (setup : Setup) where
     abbrev Later : Cluster
     Later = cluster_after cluster Kind
 
-    moves-reset : (past : Past) → Fits past cluster.book (volatile_of cluster) → Moves setup past cluster (event_of cluster Kind)
+    moves-reset : (past : Past) → Fits past cluster.facts (volatile_of cluster) → Moves setup past cluster (event_of cluster Kind)
     moves-reset past fits =
-        let tick : Ticks = record { 0 = Later.book.clock } in
+        let tick : Ticks = record { 0 = Later.facts.clock } in
         let k : ℕ = member.id.number in
-        let leads : Leads setup past cluster.book (volatile_of cluster) Kind (volatile_after (volatile_of cluster) Kind) = leads-to setup past cluster.book (volatile_of cluster) Kind fits tt in
+        let leads : Leads setup past cluster.facts (volatile_of cluster) Kind (volatile_after (volatile_of cluster) Kind) = leads-to setup past cluster.facts (volatile_of cluster) Kind fits tt in
         let down : (ℕ → VolatileState) = volatile_after (volatile_of cluster) Kind in
         let gone : (ℕ → VolatileState) = put_at down k (record (down k) { agent = None }) in
         let same : gone ≡ volatile_of Later = volatile-gone cluster member Later refl small down leads.fits.live.live (agent-stays (volatile_of cluster) Kind) in
@@ -166,7 +166,7 @@ module _ (setup : Setup) where
           allowed = (leads.action.allowed, leads.action.shown tick, change-once tick Kind, (tt, killed-shown setup (past_after past Kind) down k, tt, tt));
           once = (inr tt, (tt, tt));
           last = same;
-          fits = subst (λ (v : ℕ → VolatileState). Fits (past_after past Kind) Later.book v) same (fits-agents (past_after past Kind) Later.book down k None leads.fits);
+          fits = subst (λ (v : ℕ → VolatileState). Fits (past_after past Kind) Later.facts v) same (fits-agents (past_after past Kind) Later.facts down k None leads.fits);
         }
 
     pub goes-reset : GoesFrom setup cluster (event_of cluster Kind)
@@ -197,9 +197,9 @@ module _ (setup : Setup) where
   goes-resets : (members : List Member) (cluster : Cluster) → Each (λ (m : Member). m.id.number < length cluster.agents) members → GoesFrom setup cluster (each reset_events cluster members)
   goes-resets [] cluster small = goes-none setup cluster
   goes-resets (m ∷ members) cluster small =
-      let deadline = slice_get cluster.book.deadlines m.id.number in
-      goes-then setup cluster (reset_events cluster m) (each reset_events (cluster_over cluster (reset_events cluster m)) members) (reset-found cluster m cluster.book.clock deadline small.0)
-      (goes-resets members (cluster_over cluster (reset_events cluster m)) (subst (λ (n : ℕ). Each (λ (x : Member). x.id.number < n) members) (sym (count-reset cluster m cluster.book.clock deadline)) small.1))
+      let deadline = slice_get cluster.facts.deadlines m.id.number in
+      goes-then setup cluster (reset_events cluster m) (each reset_events (cluster_over cluster (reset_events cluster m)) members) (reset-found cluster m cluster.facts.clock deadline small.0)
+      (goes-resets members (cluster_over cluster (reset_events cluster m)) (subst (λ (n : ℕ). Each (λ (x : Member). x.id.number < n) members) (sym (count-reset cluster m cluster.facts.clock deadline)) small.1))
 
   -- ---- what expires is told
   goes-kinds : (cluster : Cluster) (list : List EventKind) → AllKinds IsExpiry list → GoesFrom setup cluster (events_of cluster list)
@@ -210,7 +210,7 @@ module _ (setup : Setup) where
   goes-completions [] cluster = goes-none setup cluster
   goes-completions (m ∷ members) cluster =
       goes-then setup cluster (completion_events cluster m) (each completion_events (cluster_over cluster (completion_events cluster m)) members)
-      (goes-follow setup cluster (completion_events cluster m) (completed-still cluster m (slice_get cluster.book.servers m.id.number)) (complete-follow cluster m))
+      (goes-follow setup cluster (completion_events cluster m) (completed-still cluster m (slice_get cluster.facts.servers m.id.number)) (complete-follow cluster m))
       (goes-completions members (cluster_over cluster (completion_events cluster m)))
 
 -- ---- the whole tick
@@ -218,14 +218,14 @@ pub upholds-tick : (head : HeadText) → length (names_of head) ≤ 16 → Uphol
 upholds-tick head few book cluster good =
     let setup : Setup = setup_of head in
     let ticked : Cluster = cluster_after cluster kinds.Tick in
-    let members : List Member = ticked.book.members in
+    let members : List Member = ticked.facts.members in
     let reset : Cluster = cluster_over ticked (each reset_events ticked members) in
     let expiries : List Event = events_of reset (next_expiries cluster) in
     let expired : Cluster = cluster_over reset expiries in
     let within = each-declared head few (λ (x : Member). x.id.number < length cluster.agents) (λ x is. subst (λ (n : ℕ). x.id.number < n) (sym good.lease.matched.agents_sized) (declared-within head few x is)) in
     let small = subst (λ (xs : List Member). Each (λ (x : Member). x.id.number < length cluster.agents) xs) (sym good.lease.matched.members) within in
     upheld-goes head book cluster (tick_events cluster) good
-    (goes-then setup cluster (event_of cluster kinds.Tick) (each reset_events ticked members ++ (expiries ++ each completion_events expired expired.book.members)) (goes-tick setup cluster)
-    (goes-then setup ticked (each reset_events ticked members) (expiries ++ each completion_events expired expired.book.members) (goes-resets setup members ticked small)
-    (goes-then setup reset expiries (each completion_events expired expired.book.members) (goes-kinds setup reset (next_expiries cluster) (next-expiries cluster)) (goes-completions setup expired.book.members expired))))
+    (goes-then setup cluster (event_of cluster kinds.Tick) (each reset_events ticked members ++ (expiries ++ each completion_events expired expired.facts.members)) (goes-tick setup cluster)
+    (goes-then setup ticked (each reset_events ticked members) (expiries ++ each completion_events expired expired.facts.members) (goes-resets setup members ticked small)
+    (goes-then setup reset expiries (each completion_events expired expired.facts.members) (goes-kinds setup reset (next_expiries cluster) (next-expiries cluster)) (goes-completions setup expired.facts.members expired))))
     (keeps-tick head few book cluster good.lease)

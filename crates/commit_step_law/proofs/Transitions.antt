@@ -103,7 +103,7 @@ state_behind head book cluster events = state_of (setup_of head) (past_over (pas
 -- what is bridged behind actions, but for what the law carries
 abbrev pub FitsBehind : HeadText → List Event → Cluster → List Event → Type 0
 FitsBehind head book cluster events = KeepMode true events → Bridged head (book ++ events) (cluster_over cluster events)
-    → FitsCommits head (book ++ events) (cluster_over cluster events) × AsksAreNumbered (state_behind head book cluster events) (cluster_over cluster events).book.flight
+    → FitsCommits head (book ++ events) (cluster_over cluster events) × AsksAreNumbered (state_behind head book cluster events) (cluster_over cluster events).facts.flight
 
 -- events that happen in order behind a run's book
 pub order-behind : (head : HeadText) (book : List Event) (cluster : Cluster) (events : List Event) → CommitsBridged head book cluster → AllInOrder (past_of head book) cluster events → AllInOrder (past_of head []) (cluster_of head) (book ++ events)
@@ -140,7 +140,7 @@ upheld-by head book cluster transitions good allowed once same kept members orde
             (subst (λ (v : ℕ → VolatileState). IsSound (state_of (setup_of head) (past_over (past_of head book) (book_of transitions)) v)) same
             (sound-last (setup_of head) (past_of head book) (volatile_of cluster) transitions allowed good.sound));
         asks =
-            subst (λ (p : Past). AsksAreNumbered (state_of (setup_of head) p (volatile_of (cluster_over cluster (book_of transitions)))) (cluster_over cluster (book_of transitions)).book.flight) (sym (past-more head book (book_of transitions)))
+            subst (λ (p : Past). AsksAreNumbered (state_of (setup_of head) p (volatile_of (cluster_over cluster (book_of transitions)))) (cluster_over cluster (book_of transitions)).facts.flight) (sym (past-more head book (book_of transitions)))
             behind.1;
         reached = ap (λ (c : Cluster). cluster_over c (book_of transitions)) good.reached ∙ sym (over-append (cluster_of head) book (book_of transitions));
         ordered = order-behind head book cluster (book_of transitions) good ordered;

@@ -24,12 +24,12 @@ use Rattle.commit_step_law.specs.Reading.{past_of, state_of_run, volatile_of}
 
 -- what commits and the law of one writer read of a book fits a cluster of so many members
 pub record FitsBy (count : ℕ) (past : Past) (named : lease_past.Past) (cluster : Cluster) : Type 0 where
-  pub store : IsSameBook past cluster.book
-  pub servers : Fits past cluster.book (volatile_of cluster)
-  pub mode : IsSynchronous cluster.book
+  pub store : IsSameBook past cluster.facts
+  pub servers : Fits past cluster.facts (volatile_of cluster)
+  pub mode : IsSynchronous cluster.facts
   pub strict : NamesMembers count past.sync
-  pub told : TellsMembers count cluster.book.flight
-  pub requests : AreSynchronous count cluster.book.flight
+  pub told : TellsMembers count cluster.facts.flight
+  pub requests : AreSynchronous count cluster.facts.flight
   pub agents : AreAgentsSynchronous count named.asked past.asked cluster.agents
 
 -- a book fits a cluster of this head
@@ -41,7 +41,7 @@ pub record CommitsBridged (head : HeadText) (book : List Event) (cluster : Clust
   pub lease : Bridged head book cluster
   pub fits : FitsCommits head book cluster
   pub sound : IsSound (state_of_run head book cluster)
-  pub asks : AsksAreNumbered (state_of_run head book cluster) cluster.book.flight
+  pub asks : AsksAreNumbered (state_of_run head book cluster) cluster.facts.flight
   pub reached : cluster ≡ cluster_over (cluster_of head) book
   pub ordered : AllInOrder (past_of head []) (cluster_of head) book
 

@@ -12,7 +12,7 @@ ghost use Rattle.event_book.specs.declared.member.Member.{Member};
 ghost use Rattle.event_book.specs.Flight.{InFlightFacts, in_flight};
 ghost use Rattle.cluster_model.specs.Commands.{kinds_of};
 ghost use Rattle.cluster_model.specs.Messages.{arrival_events_at};
-ghost use Rattle.cluster_model.specs.Next.{acknowledge_events, command_kind, declared, promote_events, receive_events_at_most, restart_events};
+ghost use Rattle.cluster_model.specs.Next.{acknowledge_events, command_kind, declared, promote_events, receive_events_at_most, agent_start_events};
 ghost use Rattle.cluster_model.specs.Parts.{event_of, events_of, for_some};
 ghost use Rattle.cluster_model.specs.Starting.{cluster_of};
 ghost use Rattle.cluster_model.specs.State.{Cluster};
@@ -39,11 +39,11 @@ pub fn parts_uphold_commits()
     ensures acknowledgements { (head : HeadText) (member : Member) → UpholdsAlways (kept_commits head) (λ (cluster : Cluster). acknowledge_events cluster member) }
     // A message that comes to the key store, which answers it; one that is lost; and what is told beside.
     ensures arrivals { (head : HeadText) (book : List Event) (cluster : Cluster) (number : ℕ) (message : InFlightFacts) → CommitsBridged head book cluster
-        → in_flight cluster.book.flight number ≡ Some message → message.message.to ≡ Store → Upholds (kept_commits head) book cluster (arrival_events_at cluster number message Store) }
+        → in_flight cluster.facts.flight number ≡ Some message → message.message.to ≡ Store → Upholds (kept_commits head) book cluster (arrival_events_at cluster number message Store) }
     ensures losses { (head : HeadText) (number : ℕ) → UpholdsAlways (kept_commits head) (λ (cluster : Cluster). event_of cluster (Message (Lost number))) }
     ensures notes { (head : HeadText) (note : SaidNote) → UpholdsAlways (kept_commits head) (λ (cluster : Cluster). event_of cluster (Note note)) }
     // Agents that start, operators that promote, which breaks a premise, and the commands that bring one event at most.
-    ensures restarts { (head : HeadText) (id : MemberId) → IsHead head → UpholdsAlways (kept_commits head) (λ (cluster : Cluster). for_some (declared cluster id) (restart_events cluster)) }
+    ensures restarts { (head : HeadText) (id : MemberId) → IsHead head → UpholdsAlways (kept_commits head) (λ (cluster : Cluster). for_some (declared cluster id) (agent_start_events cluster)) }
     ensures promotions { (head : HeadText) (member : Member) → UpholdsAlways (kept_commits head) (λ (cluster : Cluster). promote_events cluster member) }
     ensures commands { (head : HeadText) (command : Command) → IsHead head → UpholdsAlways (kept_commits head) (λ (cluster : Cluster). events_of cluster (kinds_of (command_kind cluster command))) }
 {}

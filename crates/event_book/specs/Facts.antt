@@ -10,7 +10,7 @@ use Rattle.event_book.specs.declared.event.EventKind.{EventKind}
 use Rattle.event_book.specs.declared.member.Member.{Member}
 use Rattle.event_book.specs.declared.agent_process.AgentProcess.{AgentProcess}
 use Rattle.event_book.specs.Acknowledged.{acknowledged_after, commits_after}
-use Rattle.event_book.specs.Agents.{agents_after, first_agents}
+use Rattle.event_book.specs.Processes.{processes_after, first_processes}
 use Rattle.event_book.specs.Clock.{now_after}
 use Rattle.event_book.specs.Flight.{Flight, flight_after, sent_after}
 use Rattle.event_book.specs.Frozen.{frozen_after}
@@ -28,7 +28,7 @@ pub record Facts : Type 0 where
   pub clock : ℕ
   pub keys : Keys
   pub members : List Member
-  pub agents : List AgentProcess
+  pub processes : List AgentProcess
   pub cuts : CutLinks
   pub flight : Flight
   pub sent : ℕ
@@ -45,7 +45,7 @@ facts_after facts kind = record {
   clock = now_after facts.clock kind;
   keys = keys_after (now_after facts.clock kind) facts.keys kind;
   members = facts.members;
-  agents = agents_after facts.agents kind;
+  processes = processes_after facts.processes kind;
   cuts = cuts_after facts.cuts kind;
   flight = flight_after facts.clock facts.keys facts.flight kind;
   sent = sent_after facts.sent kind;
@@ -69,7 +69,7 @@ start_of first names base = record {
   clock = 0;
   keys = first_keys first;
   members = members_from 0 names;
-  agents = first_agents (length names);
+  processes = first_processes (length names);
   cuts = none_cut;
   flight = [];
   sent = 0;

@@ -1,5 +1,5 @@
 pub mod Acknowledged
-pub mod Agents
+pub mod Processes
 pub mod Bodies
 pub mod Clock
 pub mod Facts

@@ -116,7 +116,7 @@ set-same (t ∷ known) (suc place) s is = ap (λ (xs : List ServerFacts). t ∷ 
 
 -- a cluster with other servers and other acknowledged commits
 abbrev pub telling : Cluster → List ServerFacts → List ℕ → Cluster
-telling cluster servers told = serving cluster servers cluster.book.frozen cluster.book.commits told
+telling cluster servers told = serving cluster servers cluster.facts.frozen cluster.facts.commits told
 
 -- an acknowledgement counts no counter up
 pub HasRoom-acknowledged : (cluster : Cluster) (member : Member) (commit events : ℕ) → HasRoom cluster events → HasRoom (cluster_after cluster (acknowledgement member commit)) events
@@ -127,23 +127,23 @@ HasRoom-acknowledged cluster member commit events room = record {
   runs = room.runs;
   numbers = room.numbers;
   agents = room.agents;
-  timelines = with-all (HasTimeline events) (HasTimeline events) cluster.book.servers member.id.number one_told room.timelines (λ s has. has) (λ s has. has);
+  timelines = with-all (HasTimeline events) (HasTimeline events) cluster.facts.servers member.id.number one_told room.timelines (λ s has. has) (λ s has. has);
   commits = room.commits;
 }
 
 -- what the loop does once
 pub acknowledged-one : (cluster : Cluster) (member : Member) (commit : ℕ) (s : ServerFacts) (server : ServerOf) (known : List ServerFacts) (told : List ℕ) (tick : Ticks) (has longer : List Event)
-    → slice_get cluster.book.servers member.id.number ≡ Some s → next_acknowledged s ≡ Some commit → known ≡ with_changed cluster.book.servers member.id.number acknowledged
-    → told ≡ cluster.book.acknowledged ++ commit ∷ [] → server ≡ server_of member → tick.0 ≡ cluster.book.clock
+    → slice_get cluster.facts.servers member.id.number ≡ Some s → next_acknowledged s ≡ Some commit → known ≡ with_changed cluster.facts.servers member.id.number acknowledged
+    → told ≡ cluster.facts.acknowledged ++ commit ∷ [] → server ≡ server_of member → tick.0 ≡ cluster.facts.clock
     → longer ≡ has ++ record { tick = tick; kind = kinds.Replication (replications.Acknowledged server commit) } ∷ []
     → Emits cluster (telling cluster known told) has longer (event_of cluster (acknowledgement member commit)) 0
 acknowledged-one cluster member commit s server known told tick has longer there next known_is told_is server_is at longer_is =
     let place = member.id.number in
     let kind : EventKind = acknowledgement member commit in
-    let servers : known ≡ with_changed cluster.book.servers place one_told = known_is ∙ ap (changed_at cluster.book.servers place acknowledged) there
-    ∙ ap (slice_set cluster.book.servers place) (ready-next s commit next).1 ∙ sym (ap (changed_at cluster.book.servers place one_told) there) in
+    let servers : known ≡ with_changed cluster.facts.servers place one_told = known_is ∙ ap (changed_at cluster.facts.servers place acknowledged) there
+    ∙ ap (slice_set cluster.facts.servers place) (ready-next s commit next).1 ∙ sym (ap (changed_at cluster.facts.servers place one_told) there) in
     let state : telling cluster known told ≡ cluster_after cluster kind = ap (λ (xs : List ServerFacts). telling cluster xs told) servers
-    ∙ ap (telling cluster (with_changed cluster.book.servers place one_told)) told_is ∙ sym (serving-cluster_after cluster kind tt) in
+    ∙ ap (telling cluster (with_changed cluster.facts.servers place one_told)) told_is ∙ sym (serving-cluster_after cluster kind tt) in
     record {
       state = state;
       event = longer_is ∙ ap (λ (x : ServerOf). has ++ record { tick = tick; kind = kinds.Replication (replications.Acknowledged x commit) } ∷ []) server_is ∙ ap (λ es. has ++ es) (stamped-is cluster tick kind at);
@@ -176,17 +176,17 @@ acknowledgements-same known place s members member (commit ∷ commits) there =
 -- a commit is acknowledged, and it is told who lacks it
 abbrev pub told_events : Cluster → Member → ℕ → List Event
 told_events cluster member commit =
-    events_then cluster (event_of cluster (acknowledgement member commit)) (λ later. at_once later (losses_of commit cluster.book.servers cluster.book.members))
+    events_then cluster (event_of cluster (acknowledgement member commit)) (λ later. at_once later (losses_of commit cluster.facts.servers cluster.facts.members))
 
 -- a list of them: the first is told, and then the others
 told-first : (cluster : Cluster) (member : Member) (commit : ℕ) (more : List EventKind)
-    → events_of cluster (acknowledgement member commit ∷ (losses_of commit cluster.book.servers cluster.book.members ++ more))
+    → events_of cluster (acknowledgement member commit ∷ (losses_of commit cluster.facts.servers cluster.facts.members ++ more))
     ≡ told_events cluster member commit ++ events_of (cluster_after cluster (acknowledgement member commit)) more
 told-first cluster member commit more =
     let kind : EventKind = acknowledgement member commit in
     let next : Cluster = cluster_after cluster kind in
-    let losses = losses_of commit cluster.book.servers cluster.book.members in
-    ap (λ es. event_of cluster kind ++ es) ((losses-quiet next commit cluster.book.servers cluster.book.members).behind more)
+    let losses = losses_of commit cluster.facts.servers cluster.facts.members in
+    ap (λ es. event_of cluster kind ++ es) ((losses-quiet next commit cluster.facts.servers cluster.facts.members).behind more)
     ∙ sym (append_assoc (event_of cluster kind) (at_once next losses) (events_of next more))
 
 -- what is told changes no more than the acknowledgement does
@@ -194,20 +194,20 @@ told-over : (cluster : Cluster) (member : Member) (commit : ℕ) → cluster_ove
 told-over cluster member commit =
     let kind : EventKind = acknowledgement member commit in
     let next : Cluster = cluster_after cluster kind in
-    cluster_over-append cluster (event_of cluster kind) (at_once next (losses_of commit cluster.book.servers cluster.book.members))
-    ∙ (losses-quiet next commit cluster.book.servers cluster.book.members).still
+    cluster_over-append cluster (event_of cluster kind) (at_once next (losses_of commit cluster.facts.servers cluster.facts.members))
+    ∙ (losses-quiet next commit cluster.facts.servers cluster.facts.members).still
 
 -- the first of what is left is acknowledged
-pub acknowledged-rest : (cluster : Cluster) (member : Member) (commit : ℕ) (s : ServerFacts) → slice_get cluster.book.servers member.id.number ≡ Some s → next_acknowledged s ≡ Some commit
+pub acknowledged-rest : (cluster : Cluster) (member : Member) (commit : ℕ) (s : ServerFacts) → slice_get cluster.facts.servers member.id.number ≡ Some s → next_acknowledged s ≡ Some commit
     → acknowledge_events cluster member ≡ events_then cluster (told_events cluster member commit) (λ later. acknowledge_events later member)
 acknowledged-rest cluster member commit s there next =
     let place = member.id.number in
-    let known = cluster.book.servers in
-    let members = cluster.book.members in
+    let known = cluster.facts.servers in
+    let members = cluster.facts.members in
     let later : Cluster = cluster_after cluster (acknowledgement member commit) in
     let rest = acknowledgements known members member (ready_commits (one_told s)) in
     let same : acknowledge_events later member ≡ events_of later rest =
-    ap (λ (o : Option ServerFacts). events_of later (acknowledge_kinds later.book.servers members member o)) (got-with known place s one_told there)
+    ap (λ (o : Option ServerFacts). events_of later (acknowledge_kinds later.facts.servers members member o)) (got-with known place s one_told there)
     ∙ ap (events_of later) (acknowledgements-same known place s members member (ready_commits (one_told s)) there) in
     ap (λ (o : Option ServerFacts). events_of cluster (acknowledge_kinds known members member o)) there
     ∙ ap (λ (commits : List ℕ). events_of cluster (acknowledgements known members member commits)) (ready-next s commit next).0
@@ -216,22 +216,22 @@ acknowledged-rest cluster member commit s there next =
     ∙ ap (λ (c : Cluster). told_events cluster member commit ++ acknowledge_events c member) (sym (told-over cluster member commit))
 
 pub acknowledge-more : (start cluster view : Cluster) (member : Member) (commit : ℕ) (server : ServerOf) (known : List ServerFacts) (told : List ℕ) (tick : Ticks) (had has longer longest whole : List Event)
-    → Left start cluster had has whole (acknowledge_events cluster member) 0 0 → option_and_then next_acknowledged (slice_get cluster.book.servers member.id.number) ≡ Some commit
-    → known ≡ with_changed cluster.book.servers member.id.number acknowledged → told ≡ cluster.book.acknowledged ++ commit ∷ [] → server ≡ server_of member → tick.0 ≡ cluster.book.clock
+    → Left start cluster had has whole (acknowledge_events cluster member) 0 0 → option_and_then next_acknowledged (slice_get cluster.facts.servers member.id.number) ≡ Some commit
+    → known ≡ with_changed cluster.facts.servers member.id.number acknowledged → told ≡ cluster.facts.acknowledged ++ commit ∷ [] → server ≡ server_of member → tick.0 ≡ cluster.facts.clock
     → longer ≡ has ++ record { tick = tick; kind = kinds.Replication (replications.Acknowledged server commit) } ∷ []
-    → telling cluster known told ≡ view → longest ≡ longer ++ at_once view (losses_of commit view.book.servers view.book.members)
+    → telling cluster known told ≡ view → longest ≡ longer ++ at_once view (losses_of commit view.facts.servers view.facts.members)
     → Left start (telling cluster known told) had longest whole (acknowledge_events (telling cluster known told) member) 0 0
 acknowledge-more start cluster view member commit server known told tick had has longer longest whole left is known_is told_is server_is at longer_is view_is longest_is =
-    let found = found-next (slice_get cluster.book.servers member.id.number) commit is in
+    let found = found-next (slice_get cluster.facts.servers member.id.number) commit is in
     let place = member.id.number in
     let after = telling cluster known told in
-    let losses = losses_of commit cluster.book.servers cluster.book.members in
-    let servers : known ≡ with_changed cluster.book.servers place one_told = known_is ∙ ap (changed_at cluster.book.servers place acknowledged) found.1
-    ∙ ap (slice_set cluster.book.servers place) (ready-next found.0 commit found.2).1 ∙ sym (ap (changed_at cluster.book.servers place one_told) found.1) in
-    let lost : losses_of commit known cluster.book.members ≡ losses = ap (λ (xs : List ServerFacts). losses_of commit xs cluster.book.members) servers ∙ losses-same cluster.book.servers place found.0 commit cluster.book.members found.1 in
-    let written : longest ≡ longer ++ at_once after losses = longest_is ∙ ap (λ (c : Cluster). longer ++ at_once c (losses_of commit c.book.servers c.book.members)) (sym view_is) ∙ ap (λ (ks : List EventKind). longer ++ at_once after ks) lost in
+    let losses = losses_of commit cluster.facts.servers cluster.facts.members in
+    let servers : known ≡ with_changed cluster.facts.servers place one_told = known_is ∙ ap (changed_at cluster.facts.servers place acknowledged) found.1
+    ∙ ap (slice_set cluster.facts.servers place) (ready-next found.0 commit found.2).1 ∙ sym (ap (changed_at cluster.facts.servers place one_told) found.1) in
+    let lost : losses_of commit known cluster.facts.members ≡ losses = ap (λ (xs : List ServerFacts). losses_of commit xs cluster.facts.members) servers ∙ losses-same cluster.facts.servers place found.0 commit cluster.facts.members found.1 in
+    let written : longest ≡ longer ++ at_once after losses = longest_is ∙ ap (λ (c : Cluster). longer ++ at_once c (losses_of commit c.facts.servers c.facts.members)) (sym view_is) ∙ ap (λ (ks : List EventKind). longer ++ at_once after ks) lost in
     let one = acknowledged-one cluster member commit found.0 server known told tick has longer found.1 found.2 known_is told_is server_is at longer_is in
-    let two = quiet-took after losses longer longest (losses-quiet after commit cluster.book.servers cluster.book.members) written in
+    let two = quiet-took after losses longer longest (losses-quiet after commit cluster.facts.servers cluster.facts.members) written in
     Left-more start cluster after had has longest whole (told_events cluster member commit) (λ later. acknowledge_events later member) _ 0 0 0 0 left
     (acknowledged-rest cluster member commit found.0 found.1 found.2)
     (Emits-then cluster after after has longer longest (event_of cluster (acknowledgement member commit)) (λ later. at_once later losses) 0 0 0 one two (omega arith)) (omega arith)
@@ -257,13 +257,13 @@ no-kinds known members member (Some s) is = ap (acknowledgements known members m
 
 -- none is left
 pub acknowledge-end : (start cluster : Cluster) (member : Member) (known : List ServerFacts) (had has whole : List Event)
-    → Left start cluster had has whole (acknowledge_events cluster member) 0 0 → option_and_then next_acknowledged (slice_get cluster.book.servers member.id.number) ≡ None
-    → known ≡ with_changed cluster.book.servers member.id.number acknowledged → Emits start (telling cluster known cluster.book.acknowledged) had has whole 0
+    → Left start cluster had has whole (acknowledge_events cluster member) 0 0 → option_and_then next_acknowledged (slice_get cluster.facts.servers member.id.number) ≡ None
+    → known ≡ with_changed cluster.facts.servers member.id.number acknowledged → Emits start (telling cluster known cluster.facts.acknowledged) had has whole 0
 acknowledge-end start cluster member known had has whole left none known_is =
     let place = member.id.number in
-    let same : known ≡ cluster.book.servers = known_is ∙ none-left cluster.book.servers place (slice_get cluster.book.servers place) refl none in
-    subst (λ (xs : List ServerFacts). Emits start (telling cluster xs cluster.book.acknowledged) had has whole 0) (sym same)
-    (Left-end start cluster had has whole _ 0 0 left (ap (events_of cluster) (no-kinds cluster.book.servers cluster.book.members member (slice_get cluster.book.servers place) none)))
+    let same : known ≡ cluster.facts.servers = known_is ∙ none-left cluster.facts.servers place (slice_get cluster.facts.servers place) refl none in
+    subst (λ (xs : List ServerFacts). Emits start (telling cluster xs cluster.facts.acknowledged) had has whole 0) (sym same)
+    (Left-end start cluster had has whole _ 0 0 left (ap (events_of cluster) (no-kinds cluster.facts.servers cluster.facts.members member (slice_get cluster.facts.servers place) none)))
 
 cons-met : (met : Bool) (serial commit : ℕ) (rest more : List ℕ) → (if met then serial ∷ rest else []) ≡ commit ∷ more → (met ≡ true) × (rest ≡ more)
 cons-met true serial commit rest more is = (refl, inner rest more serial commit is)
@@ -289,18 +289,18 @@ nothing-of true required confirmed (first ∷ rest) is = nothing-met (is_met req
 
 -- no commit is left that may be acknowledged at the server of this number
 abbrev DoneAt : Cluster → ℕ → Type 0
-DoneAt cluster place = IsDone (slice_get cluster.book.servers place)
+DoneAt cluster place = IsDone (slice_get cluster.facts.servers place)
 
 -- a part of a step that leaves the members, and leaves done what is done
 record Keeps (before after : Cluster) : Type 0 where
-  members : after.book.members ≡ before.book.members
+  members : after.facts.members ≡ before.facts.members
   done : (place : ℕ) → DoneAt before place → DoneAt after place
 
 Keeps-then : (first second third : Cluster) → Keeps first second → Keeps second third → Keeps first third
 Keeps-then first second third one two = record { members = two.members ∙ one.members; done = λ place done. two.done place (one.done place done) }
 
 -- an acknowledgement concerns one server, which isn't done
-keeps-one : (cluster : Cluster) (member : Member) (commit : ℕ) (s : ServerFacts) → slice_get cluster.book.servers member.id.number ≡ Some s → may_acknowledge s ≡ true → Keeps cluster (cluster_after cluster (acknowledgement member commit))
+keeps-one : (cluster : Cluster) (member : Member) (commit : ℕ) (s : ServerFacts) → slice_get cluster.facts.servers member.id.number ≡ Some s → may_acknowledge s ≡ true → Keeps cluster (cluster_after cluster (acknowledgement member commit))
 keeps-one cluster member commit s there may = record { members = refl; done = λ place done. at place done (cases_eq place member.id.number) }
   where
     at : (place : ℕ) → DoneAt cluster place → (place ≡ member.id.number) ⊎ (place ≡ member.id.number → ⊥) → DoneAt (cluster_after cluster (acknowledgement member commit)) place
@@ -308,27 +308,27 @@ keeps-one cluster member commit s there may = record { members = refl; done = λ
         let here : may_acknowledge s ≡ false = subst IsDone there (subst (λ (n : ℕ). DoneAt cluster n) e done) in
         absurd (clash (sym here ∙ may))
     at place done (inr other) =
-        subst IsDone (sym (ap (λ (o : Option ServerFacts). slice_get (changed_at cluster.book.servers member.id.number one_told o) place) there ∙ got-set_other cluster.book.servers member.id.number place (one_told s) other)) done
+        subst IsDone (sym (ap (λ (o : Option ServerFacts). slice_get (changed_at cluster.facts.servers member.id.number one_told o) place) there ∙ got-set_other cluster.facts.servers member.id.number place (one_told s) other)) done
 
 -- once all that may be acknowledged at a server are, it is done
-done-there : (cluster : Cluster) (member : Member) (s : ServerFacts) (commits : List ℕ) → slice_get cluster.book.servers member.id.number ≡ Some s → ready_commits s ≡ commits
-    → let after = cluster_over cluster (events_of cluster (acknowledgements cluster.book.servers cluster.book.members member commits)) in Keeps cluster after × DoneAt after member.id.number
+done-there : (cluster : Cluster) (member : Member) (s : ServerFacts) (commits : List ℕ) → slice_get cluster.facts.servers member.id.number ≡ Some s → ready_commits s ≡ commits
+    → let after = cluster_over cluster (events_of cluster (acknowledgements cluster.facts.servers cluster.facts.members member commits)) in Keeps cluster after × DoneAt after member.id.number
 done-there cluster member s [] there none =
     (record { members = refl; done = λ place done. done }, subst IsDone (sym there) (nothing-of (writes s.state) s.required s.confirmed s.waiting none))
 done-there cluster member s (commit ∷ more) there ready =
     let next = cons-of (writes s.state) s.required s.confirmed s.waiting commit more ready in
     let later : Cluster = cluster_after cluster (acknowledgement member commit) in
-    let rest = done-there later member (one_told s) more (got-with cluster.book.servers member.id.number s one_told there) next.1 in
-    let others = acknowledgements cluster.book.servers cluster.book.members member more in
-    let same : cluster_over cluster (events_of cluster (acknowledgement member commit ∷ (losses_of commit cluster.book.servers cluster.book.members ++ others))) ≡ cluster_over later (events_of later (acknowledgements later.book.servers later.book.members member more)) =
+    let rest = done-there later member (one_told s) more (got-with cluster.facts.servers member.id.number s one_told there) next.1 in
+    let others = acknowledgements cluster.facts.servers cluster.facts.members member more in
+    let same : cluster_over cluster (events_of cluster (acknowledgement member commit ∷ (losses_of commit cluster.facts.servers cluster.facts.members ++ others))) ≡ cluster_over later (events_of later (acknowledgements later.facts.servers later.facts.members member more)) =
     ap (cluster_over cluster) (told-first cluster member commit others) ∙ cluster_over-append cluster (told_events cluster member commit) (events_of later others)
     ∙ ap (λ (c : Cluster). cluster_over c (events_of later others)) (told-over cluster member commit)
-    ∙ ap (λ (ks : List EventKind). cluster_over later (events_of later ks)) (sym (acknowledgements-same cluster.book.servers member.id.number s cluster.book.members member more there)) in
+    ∙ ap (λ (ks : List EventKind). cluster_over later (events_of later ks)) (sym (acknowledgements-same cluster.facts.servers member.id.number s cluster.facts.members member more there)) in
     let P : Cluster → Type 0 = λ after. Keeps cluster after × DoneAt after member.id.number in
     subst P (sym same) (Keeps-then cluster later _ (keeps-one cluster member commit s there next.0) rest.0, rest.1)
 
-done-for : (cluster : Cluster) (member : Member) (found : Option ServerFacts) → slice_get cluster.book.servers member.id.number ≡ found
-    → let after = cluster_over cluster (events_of cluster (acknowledge_kinds cluster.book.servers cluster.book.members member found)) in Keeps cluster after × DoneAt after member.id.number
+done-for : (cluster : Cluster) (member : Member) (found : Option ServerFacts) → slice_get cluster.facts.servers member.id.number ≡ found
+    → let after = cluster_over cluster (events_of cluster (acknowledge_kinds cluster.facts.servers cluster.facts.members member found)) in Keeps cluster after × DoneAt after member.id.number
 done-for cluster member None there = (record { members = refl; done = λ place done. done }, subst IsDone (sym there) tt)
 done-for cluster member (Some s) there = done-there cluster member s (ready_commits s) there refl
 
@@ -338,15 +338,15 @@ done-each cluster [] = (record { members = refl; done = λ place done. done }, A
 done-each cluster (member ∷ more) =
     let next = cluster_over cluster (acknowledge_events cluster member) in
     let end : Cluster = cluster_over next (each acknowledge_events next more) in
-    let one = done-for cluster member (slice_get cluster.book.servers member.id.number) refl in
+    let one = done-for cluster member (slice_get cluster.facts.servers member.id.number) refl in
     let rest = done-each next more in
     let P : Cluster → Type 0 = λ after. Keeps cluster after × All (λ m. DoneAt after m.id.number) (member ∷ more) in
     subst P (sym (cluster_over-append cluster (acknowledge_events cluster member) (each acknowledge_events next more)))
     (Keeps-then cluster next end one.0 rest.0, All-cons (λ (m : Member). DoneAt end m.id.number) member more (rest.0.done member.id.number one.1) rest.1)
 
 -- after that no commit is left that may be acknowledged
-pub acknowledged-all : (before after : Cluster) (had has : List Event) (cost : ℕ) → Emits before after had has (each acknowledge_events before before.book.members) cost → AreAcknowledged after.book.members after.book.servers
+pub acknowledged-all : (before after : Cluster) (had has : List Event) (cost : ℕ) → Emits before after had has (each acknowledge_events before before.facts.members) cost → AreAcknowledged after.facts.members after.facts.servers
 acknowledged-all before after had has cost took =
-    let all = done-each before before.book.members in
-    let end : Cluster = cluster_over before (each acknowledge_events before before.book.members) in
-    subst (λ (c : Cluster). AreAcknowledged c.book.members c.book.servers) (sym took.state) (subst (λ (ms : List Member). AreAcknowledged ms end.book.servers) (sym all.0.members) all.1)
+    let all = done-each before before.facts.members in
+    let end : Cluster = cluster_over before (each acknowledge_events before before.facts.members) in
+    subst (λ (c : Cluster). AreAcknowledged c.facts.members c.facts.servers) (sym took.state) (subst (λ (ms : List Member). AreAcknowledged ms end.facts.servers) (sym all.0.members) all.1)

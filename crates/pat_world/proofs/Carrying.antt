@@ -102,9 +102,9 @@ order-took cluster after had has member heard output found is kind took =
 
 -- a repair of a log
 pub repair-took : (cluster after : Cluster) (had has : List Event) (member : Member) (heard : HeardMessage) (leader : MemberId) (repair : Repair) (output : Output) (found : Option Member)
-    → output ≡ outputs.Repair leader repair → found ≡ slice_get cluster.book.members leader.number
-    → Emits cluster after had has (events_of cluster (kinds_of (option_and_then (repair_over cluster.book.cuts cluster.book.servers member repair) found))) 1 → Emits cluster after had has (output_events member heard cluster output) output_cost
+    → output ≡ outputs.Repair leader repair → found ≡ slice_get cluster.facts.members leader.number
+    → Emits cluster after had has (events_of cluster (kinds_of (option_and_then (repair_over cluster.facts.cuts cluster.facts.servers member repair) found))) 1 → Emits cluster after had has (output_events member heard cluster output) output_cost
 repair-took cluster after had has member heard leader repair output found is there took =
     subst (λ (o : Output). Emits cluster after had has (output_events member heard cluster o) output_cost) (sym is)
-    (Emits-weaker cluster after had has (repair_events cluster member repair (slice_get cluster.book.members leader.number)) 1 output_cost
-    (subst (λ (o : Option Member). Emits cluster after had has (events_of cluster (kinds_of (option_and_then (repair_over cluster.book.cuts cluster.book.servers member repair) o))) 1) there took) (omega arith))
+    (Emits-weaker cluster after had has (repair_events cluster member repair (slice_get cluster.facts.members leader.number)) 1 output_cost
+    (subst (λ (o : Option Member). Emits cluster after had has (events_of cluster (kinds_of (option_and_then (repair_over cluster.facts.cuts cluster.facts.servers member repair) o))) 1) there took) (omega arith))

@@ -24,13 +24,13 @@ sent-same last (kinds.Message (messages.Sent number message)) bare = absurd bare
 sent-same last _ bare = refl
 
 -- one thing happened, and was written down
-pub Emits-told : (before after : Cluster) (tick : Ticks) (kind : EventKind) (had has : List Event) → Counts before kind → after ≡ cluster_after before kind → tick.0 ≡ after.book.clock → has ≡ had ++ record { tick = tick; kind = kind } ∷ []
+pub Emits-told : (before after : Cluster) (tick : Ticks) (kind : EventKind) (had has : List Event) → Counts before kind → after ≡ cluster_after before kind → tick.0 ≡ after.facts.clock → has ≡ had ++ record { tick = tick; kind = kind } ∷ []
     → Emits before after had has (event_of before kind) 1
 Emits-told before after tick kind had has counts state at told =
-    Emits-one before after had has kind counts state (told ∙ ap (λ es. had ++ es) (stamped-is before tick kind (at ∙ ap (λ (c : Cluster). c.book.clock) state)))
+    Emits-one before after had has kind counts state (told ∙ ap (λ es. had ++ es) (stamped-is before tick kind (at ∙ ap (λ (c : Cluster). c.facts.clock) state)))
 
 -- what becomes of agents where nothing is brought that they act on
-agents-apart-by : (cluster : Cluster) (happening : AgentEvent) → IsBare (kinds.Agent happening) → agent_facts_by cluster happening ≡ agent_facts_moved cluster.scope cluster.options cluster.book.members cluster.book.clock cluster.agents happening
+agents-apart-by : (cluster : Cluster) (happening : AgentEvent) → IsBare (kinds.Agent happening) → agent_facts_by cluster happening ≡ agent_facts_moved cluster.scope cluster.options cluster.facts.members cluster.facts.clock cluster.agents happening
 agents-apart-by cluster (agents.Woken member) bare = absurd bare
 agents-apart-by cluster (agents.Operated member action) bare = absurd bare
 agents-apart-by cluster _ bare = refl
@@ -39,7 +39,7 @@ agents-apart-message : (cluster : Cluster) (happening : MessageEvent) → IsBare
 agents-apart-message cluster (messages.Delivered number) bare = absurd bare
 agents-apart-message cluster _ bare = refl
 
-pub agents-apart : (cluster : Cluster) (kind : EventKind) → IsBare kind → agent_facts_after cluster kind ≡ agents_apart cluster.scope cluster.options cluster.book.members cluster.book.clock cluster.agents kind
+pub agents-apart : (cluster : Cluster) (kind : EventKind) → IsBare kind → agent_facts_after cluster kind ≡ agents_apart cluster.scope cluster.options cluster.facts.members cluster.facts.clock cluster.agents kind
 agents-apart cluster (kinds.Agent happening) bare = agents-apart-by cluster happening bare
 agents-apart cluster (kinds.Message happening) bare = agents-apart-message cluster happening bare
 agents-apart cluster _ bare = refl

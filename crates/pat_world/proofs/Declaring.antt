@@ -23,5 +23,5 @@ named-from number (name ∷ names) few =
     put-named number (nat_lt number 16) refl name (members_from (number + 1) names) (omega (arith, few)) ∙ ap (λ (ns : List Name). name ∷ ns) (named-from (number + 1) names (omega (arith, few)))
 
 -- before the first event the declared members have the names of the head
-pub names-start : (head : HeadText) → length head.members ≤ 16 → names_in (cluster_of head).book.members ≡ names_of head
+pub names-start : (head : HeadText) → length head.members ≤ 16 → names_in (cluster_of head).facts.members ≡ names_of head
 names-start head few = named-from 0 (names_of head) (omega (arith, few, length-map head.members (λ (m : MemberText). m.name)))

@@ -66,20 +66,20 @@ heard-outputs cluster member heard points machine outputs told is did = did ∙ 
 
 -- a machine is that of a member where each part of it is
 pub machine-is : (cluster : Cluster) (member : Member) (result : Option Machine) (receives : Bool) (replication : Option Replication) (options : Option MemberOptions) (deadline hold : Option (Option Ticks)) (server : Option ServerFacts)
-    → result ≡ machine_from receives replication options deadline hold server → receives ≡ is_some (source_of cluster.book.members cluster.book.servers cluster.book.cuts member)
-    → replication ≡ option_map (replication_of cluster.book.members cluster.book.servers cluster.book.cuts member) (slice_get cluster.book.servers member.id.number)
-    → options ≡ slice_get cluster.options member.id.number → deadline ≡ slice_get cluster.book.deadlines member.id.number
-    → hold ≡ slice_get cluster.book.holds member.id.number → server ≡ slice_get cluster.book.servers member.id.number → result ≡ machine_of cluster member
+    → result ≡ machine_from receives replication options deadline hold server → receives ≡ is_some (source_of cluster.facts.members cluster.facts.servers cluster.facts.cuts member)
+    → replication ≡ option_map (replication_of cluster.facts.members cluster.facts.servers cluster.facts.cuts member) (slice_get cluster.facts.servers member.id.number)
+    → options ≡ slice_get cluster.options member.id.number → deadline ≡ slice_get cluster.facts.deadlines member.id.number
+    → hold ≡ slice_get cluster.facts.holds member.id.number → server ≡ slice_get cluster.facts.servers member.id.number → result ≡ machine_of cluster member
 machine-is cluster member result receives replication options deadline hold server is from told said due held there =
     let place = member.id.number in
-    let source = is_some (source_of cluster.book.members cluster.book.servers cluster.book.cuts member) in
-    let known = option_map (replication_of cluster.book.members cluster.book.servers cluster.book.cuts member) (slice_get cluster.book.servers place) in
+    let source = is_some (source_of cluster.facts.members cluster.facts.servers cluster.facts.cuts member) in
+    let known = option_map (replication_of cluster.facts.members cluster.facts.servers cluster.facts.cuts member) (slice_get cluster.facts.servers place) in
     is ∙ ap (λ (r : Bool). machine_from r replication options deadline hold server) from
     ∙ ap (λ (r : Option Replication). machine_from source r options deadline hold server) told
     ∙ ap (λ (o : Option MemberOptions). machine_from source known o deadline hold server) said
     ∙ ap (λ (d : Option (Option Ticks)). machine_from source known (slice_get cluster.options place) d hold server) due
-    ∙ ap (λ (h : Option (Option Ticks)). machine_from source known (slice_get cluster.options place) (slice_get cluster.book.deadlines place) h server) held
-    ∙ ap (λ (s : Option ServerFacts). machine_from source known (slice_get cluster.options place) (slice_get cluster.book.deadlines place) (slice_get cluster.book.holds place) s) there
+    ∙ ap (λ (h : Option (Option Ticks)). machine_from source known (slice_get cluster.options place) (slice_get cluster.facts.deadlines place) h server) held
+    ∙ ap (λ (s : Option ServerFacts). machine_from source known (slice_get cluster.options place) (slice_get cluster.facts.deadlines place) (slice_get cluster.facts.holds place) s) there
 
 -- the room of its history has nothing to do with the timeline of a server
 pub unspared : (found : Option ServerFacts) → IfSome (option_map without_spare found) (λ s. s.timeline < 2 ^ 60) → IfSome found (λ s. s.timeline < 2 ^ 60)

@@ -24,7 +24,7 @@ use Rattle.pat_world.proofs.Stillness.{tick-alone}
 use Rattle.pat_world.proofs.Taking.{Emits-weaker, cluster_over-append}
 
 -- each step brings its tick and nothing else
-pub brings-ticks : (step : Step) (cluster : Cluster) (later count : ℕ) → cluster.book.clock + count ≤ later → (0 < count → IsIdleIn step later cluster) → BringsTicks cluster step count
+pub brings-ticks : (step : Step) (cluster : Cluster) (later count : ℕ) → cluster.facts.clock + count ≤ later → (0 < count → IsIdleIn step later cluster) → BringsTicks cluster step count
 unfolding BringsTicks
 brings-ticks step cluster later zero h idle = tt
 brings-ticks step cluster later (suc count) h idle =
@@ -34,23 +34,23 @@ brings-ticks step cluster later (suc count) h idle =
     (first, subst (λ (c : Cluster). BringsTicks c step count) (sym left) (brings-ticks step (cluster_after cluster kinds.Tick) later count (omega (arith, h)) (λ some. idle-after step cluster later (omega (arith, h)) now)))
 
 -- and so many of them leave the cluster as it is, but for the clock
-pub passed : (step : Step) (cluster : Cluster) (later count : ℕ) → cluster.book.clock + count ≤ later → (0 < count → IsIdleIn step later cluster)
-    → cluster_over cluster (run_events cluster (replicate count step)) ≡ at_moment cluster (cluster.book.clock + count)
+pub passed : (step : Step) (cluster : Cluster) (later count : ℕ) → cluster.facts.clock + count ≤ later → (0 < count → IsIdleIn step later cluster)
+    → cluster_over cluster (run_events cluster (replicate count step)) ≡ at_moment cluster (cluster.facts.clock + count)
 passed step cluster later zero h idle =
-    let same : cluster.book.clock ≡ cluster.book.clock + 0 = omega arith in
+    let same : cluster.facts.clock ≡ cluster.facts.clock + 0 = omega arith in
     ap (at_moment cluster) same
 passed step cluster later (suc count) h idle =
     let now = idle (omega arith) in
     let ticked = cluster_after cluster kinds.Tick in
     let first = next-idle step cluster later (omega (arith, h)) now in
-    let moment : cluster.book.clock + 1 + count ≡ cluster.book.clock + suc count = omega arith in
+    let moment : cluster.facts.clock + 1 + count ≡ cluster.facts.clock + suc count = omega arith in
     ap (λ (es : List Event). cluster_over cluster (events_then cluster es (λ after. run_events after (replicate count step)))) first
     ∙ passed step ticked later count (omega (arith, h)) (λ some. idle-after step cluster later (omega (arith, h)) now)
-    ∙ ap (λ (c : Cluster). at_moment c (cluster.book.clock + 1 + count)) (ticked-idle cluster later (omega (arith, h)) (idle-ends step cluster later now))
+    ∙ ap (λ (c : Cluster). at_moment c (cluster.facts.clock + 1 + count)) (ticked-idle cluster later (omega (arith, h)) (idle-ends step cluster later now))
     ∙ ap (at_moment cluster) moment
 
 -- which takes the room of so many
-pub room-passed : (cluster : Cluster) (count more : ℕ) → HasRoomFor cluster (count + more) → HasRoomFor (at_moment cluster (cluster.book.clock + count)) more
+pub room-passed : (cluster : Cluster) (count more : ℕ) → HasRoomFor cluster (count + more) → HasRoomFor (at_moment cluster (cluster.facts.clock + count)) more
 room-passed cluster count more has =
     let fewer = HasRoom-fewer cluster (step_cost * (count + more)) (step_cost * more) (omega arith) has.room in
     record {
@@ -67,10 +67,10 @@ room-passed cluster count more has =
     }
 
 -- one tick more is noted
-pub tick-took : (cluster : Cluster) (had has : List Event) → has ≡ had ++ event_of cluster kinds.Tick → NothingEnds (cluster.book.clock + 1) cluster
-    → Emits cluster (at_moment cluster (cluster.book.clock + 1)) had has (event_of cluster kinds.Tick) 1
+pub tick-took : (cluster : Cluster) (had has : List Event) → has ≡ had ++ event_of cluster kinds.Tick → NothingEnds (cluster.facts.clock + 1) cluster
+    → Emits cluster (at_moment cluster (cluster.facts.clock + 1)) had has (event_of cluster kinds.Tick) 1
 tick-took cluster had has is ends =
-    let same = ticked-idle cluster (cluster.book.clock + 1) (omega arith) ends in
+    let same = ticked-idle cluster (cluster.facts.clock + 1) (omega arith) ends in
     record {
       state = sym same;
       event = is;
@@ -78,11 +78,11 @@ tick-took cluster had has is ends =
     }
 
 -- such a tick is all that the step brings
-pub step-took : (cluster after : Cluster) (had has : List Event) (step : Step) → IsIdleIn step (cluster.book.clock + 1) cluster → Emits cluster after had has (event_of cluster kinds.Tick) 1
+pub step-took : (cluster after : Cluster) (had has : List Event) (step : Step) → IsIdleIn step (cluster.facts.clock + 1) cluster → Emits cluster after had has (event_of cluster kinds.Tick) 1
     → Emits cluster after had has (next_events cluster step) step_cost
 step-took cluster after had has step idle took =
     Emits-weaker cluster after had has (next_events cluster step) 1 step_cost
-    (subst (λ (es : List Event). Emits cluster after had has es 1) (sym (next-idle step cluster (cluster.book.clock + 1) (omega arith) idle)) took) (omega arith)
+    (subst (λ (es : List Event). Emits cluster after had has es 1) (sym (next-idle step cluster (cluster.facts.clock + 1) (omega arith) idle)) took) (omega arith)
 
 -- what is so before a moment is so whatever the clock says
 pub idle-before-at : (step : Step) (moment now : ℕ) (cluster : Cluster) → IsIdleBefore step moment cluster → IsIdleBefore step moment (at_moment cluster now)
@@ -124,14 +124,14 @@ idle-passed step moment now stage later same idle = subst (IsIdleBefore step mom
 
 -- a step of the default schedule brought one event: the cluster is idle before the moment at which something is due
 pub idle-found : (before after : Cluster) (had has : List Event) (read : Step) (moment count : ℕ) → (0 < moment → read ≡ steps.Scheduled) → (0 < moment → count ≡ 1) → ((now : ℕ) → now < moment → NothingIsDue now after)
-    → had ≡ [] → length has ≡ count → Emits before after had has (next_events before read) step_cost → AreAcknowledged after.book.members after.book.servers → IsIdleBefore steps.Scheduled moment after
+    → had ≡ [] → length has ≡ count → Emits before after had has (next_events before read) step_cost → AreAcknowledged after.facts.members after.facts.servers → IsIdleBefore steps.Scheduled moment after
 idle-found before after had has read moment count scheduled one due none long took done = λ now h.
     let some : 0 < moment = omega (arith, h) in
     let as_scheduled = subst (λ (s : Step). Emits before after had has (next_events before s) step_cost) (scheduled some) took in
     record { due = due now h; moves = tick-alone before after had has step_cost none (long ∙ one some) as_scheduled done }
 
 -- plain ticks bring nothing before the moment at which something ends, since no commit is left that may be acknowledged
-pub ticks-idle-found : (after : Cluster) (moment : ℕ) → ((now : ℕ) → now < moment → NothingEnds now after) → AreAcknowledged after.book.members after.book.servers → IsIdleBefore steps.Tick moment after
+pub ticks-idle-found : (after : Cluster) (moment : ℕ) → ((now : ℕ) → now < moment → NothingEnds now after) → AreAcknowledged after.facts.members after.facts.servers → IsIdleBefore steps.Tick moment after
 ticks-idle-found after moment ends done = λ now h. record { ends = ends now h; commits = done }
 
 -- where steps of the default schedule bring nothing before a moment, plain ticks don't either
@@ -142,10 +142,10 @@ abbrev tick_at : ℕ → Event
 tick_at n = record { tick = record { 0 = n }; kind = kinds.Tick }
 
 -- a tick is noted, and the clock stands at it
-pub tick-noted : (cluster after : Cluster) (had has : List Event) (step : Step) (tick : Ticks) → after ≡ at_moment cluster (cluster.book.clock + 1) → tick.0 ≡ after.book.clock → has ≡ had ++ record { tick = tick; kind = kinds.Tick } ∷ []
-    → IsIdleIn step (cluster.book.clock + 1) cluster → Emits cluster after had has (next_events cluster step) step_cost
+pub tick-noted : (cluster after : Cluster) (had has : List Event) (step : Step) (tick : Ticks) → after ≡ at_moment cluster (cluster.facts.clock + 1) → tick.0 ≡ after.facts.clock → has ≡ had ++ record { tick = tick; kind = kinds.Tick } ∷ []
+    → IsIdleIn step (cluster.facts.clock + 1) cluster → Emits cluster after had has (next_events cluster step) step_cost
 tick-noted cluster after had has step tick is at noted idle =
-    let moment : tick.0 ≡ cluster.book.clock + 1 = at ∙ ap (λ (c : Cluster). c.book.clock) is in
+    let moment : tick.0 ≡ cluster.facts.clock + 1 = at ∙ ap (λ (c : Cluster). c.facts.clock) is in
     let event : has ≡ had ++ event_of cluster kinds.Tick = noted ∙ ap (λ (n : ℕ). had ++ tick_at n ∷ []) moment in
     step-took cluster after had has step idle
-    (subst (λ (c : Cluster). Emits cluster c had has (event_of cluster kinds.Tick) 1) (sym is) (tick-took cluster had has event (idle-ends step cluster (cluster.book.clock + 1) idle)))
+    (subst (λ (c : Cluster). Emits cluster c had has (event_of cluster kinds.Tick) 1) (sym is) (tick-took cluster had has event (idle-ends step cluster (cluster.facts.clock + 1) idle)))

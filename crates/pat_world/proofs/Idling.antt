@@ -62,7 +62,7 @@ use Rattle.pat_world.proofs.Silence.{kept-still}
 
 -- a cluster at another moment
 abbrev pub at_moment : Cluster → ℕ → Cluster
-at_moment cluster now = record cluster { book = record cluster.book { clock = now } }
+at_moment cluster now = record cluster { facts = record cluster.facts { clock = now } }
 
 -- a part that brings nothing
 pub then-nothing : (cluster : Cluster) (events : List Event) (more : Cluster → List Event) → events ≡ [] → events_then cluster events more ≡ more cluster
@@ -87,14 +87,14 @@ deadline-earlier : (now later : ℕ) (deadline : Option Ticks) → now ≤ later
 deadline-earlier now later None h isnt = refl
 deadline-earlier now later (Some deadline) h isnt = earlier deadline.0 now later h isnt
 
-reset-none : (cluster : Cluster) (member : Member) (found : Option (Option Ticks)) → ((deadline : Option Ticks) → found ≡ Some deadline → is_due_at cluster.book.clock deadline ≡ false)
-    → events_of cluster (kinds_of (option_and_then (reset_of cluster.book.clock member) found)) ≡ []
+reset-none : (cluster : Cluster) (member : Member) (found : Option (Option Ticks)) → ((deadline : Option Ticks) → found ≡ Some deadline → is_due_at cluster.facts.clock deadline ≡ false)
+    → events_of cluster (kinds_of (option_and_then (reset_of cluster.facts.clock member) found)) ≡ []
 reset-none cluster member None isnt = refl
 reset-none cluster member (Some deadline) isnt = ap (λ (b : Bool). events_of cluster (kinds_of (cond b (Some (kinds.Watchdog (watchdogs.Reset member))) None))) (isnt deadline refl)
 
-resets-none : (cluster : Cluster) (later : ℕ) → cluster.book.clock ≤ later → NoneResets later cluster.book.deadlines → (member : Member) → reset_events cluster member ≡ []
-resets-none cluster later h none member = reset-none cluster member (slice_get cluster.book.deadlines member.id.number)
-    (λ deadline is. deadline-earlier cluster.book.clock later deadline h (All-at (Option Ticks) (λ (d : Option Ticks). is_due_at later d ≡ false) cluster.book.deadlines member.id.number deadline none is))
+resets-none : (cluster : Cluster) (later : ℕ) → cluster.facts.clock ≤ later → NoneResets later cluster.facts.deadlines → (member : Member) → reset_events cluster member ≡ []
+resets-none cluster later h none member = reset-none cluster member (slice_get cluster.facts.deadlines member.id.number)
+    (λ deadline is. deadline-earlier cluster.facts.clock later deadline h (All-at (Option Ticks) (λ (d : Option Ticks). is_due_at later d ≡ false) cluster.facts.deadlines member.id.number deadline none is))
 
 -- keys
 abbrev Pairs : Type 0
@@ -158,46 +158,46 @@ isnt-completion now timeline (states.Starting true at) isnt = ap (λ (b : Bool).
 isnt-completion now timeline (states.Stopping true at) isnt = ap (λ (b : Bool). cond b (Some completions.Ends) None) isnt
 isnt-completion now timeline _ isnt = refl
 
-completion-none : (cluster : Cluster) (member : Member) (found : Option ServerFacts) → ((s : ServerFacts) → found ≡ Some s → is_complete_at cluster.book.clock s.state ≡ false)
-    → for_some found (λ s. events_of cluster (completion_kinds cluster.book.clock member cluster.book.acknowledged s)) ≡ []
+completion-none : (cluster : Cluster) (member : Member) (found : Option ServerFacts) → ((s : ServerFacts) → found ≡ Some s → is_complete_at cluster.facts.clock s.state ≡ false)
+    → for_some found (λ s. events_of cluster (completion_kinds cluster.facts.clock member cluster.facts.acknowledged s)) ≡ []
 completion-none cluster member None isnt = refl
 completion-none cluster member (Some s) isnt =
-    ap (λ (o : Option Completion). events_of cluster (completed_by member cluster.book.acknowledged s.log o)) (isnt-completion cluster.book.clock s.timeline s.state (isnt s refl))
+    ap (λ (o : Option Completion). events_of cluster (completed_by member cluster.facts.acknowledged s.log o)) (isnt-completion cluster.facts.clock s.timeline s.state (isnt s refl))
 
-completions-none : (cluster : Cluster) (later : ℕ) → cluster.book.clock ≤ later → NoneComplete later cluster.book.servers → (member : Member) → completion_events cluster member ≡ []
-completions-none cluster later h none member = completion-none cluster member (slice_get cluster.book.servers member.id.number)
-    (λ s is. incomplete-earlier cluster.book.clock later s.state h (All-at ServerFacts (λ (t : ServerFacts). is_complete_at later t.state ≡ false) cluster.book.servers member.id.number s none is))
+completions-none : (cluster : Cluster) (later : ℕ) → cluster.facts.clock ≤ later → NoneComplete later cluster.facts.servers → (member : Member) → completion_events cluster member ≡ []
+completions-none cluster later h none member = completion-none cluster member (slice_get cluster.facts.servers member.id.number)
+    (λ s is. incomplete-earlier cluster.facts.clock later s.state h (All-at ServerFacts (λ (t : ServerFacts). is_complete_at later t.state ≡ false) cluster.facts.servers member.id.number s none is))
 
 abbrev ticked_with : Cluster → Keys → List ServerFacts → Cluster
-ticked_with cluster known ss = record cluster { book = record cluster.book { clock = cluster.book.clock + 1; keys = known; servers = ss } }
+ticked_with cluster known ss = record cluster { facts = record cluster.facts { clock = cluster.facts.clock + 1; keys = known; servers = ss } }
 
 -- a tick changes nothing but the clock
-pub ticked-idle : (cluster : Cluster) (later : ℕ) → cluster.book.clock + 1 ≤ later → NothingEnds later cluster → cluster_after cluster kinds.Tick ≡ at_moment cluster (cluster.book.clock + 1)
+pub ticked-idle : (cluster : Cluster) (later : ℕ) → cluster.facts.clock + 1 ≤ later → NothingEnds later cluster → cluster_after cluster kinds.Tick ≡ at_moment cluster (cluster.facts.clock + 1)
 ticked-idle cluster later h ends =
-    let now = cluster.book.clock + 1 in
-    let pairs = (all-present now later cluster.book.keys.pairs h ends.keys).0 in
-    ap (λ (ps : Pairs). let known : Keys = record cluster.book.keys { pairs = ps } in ticked_with cluster known (map (ticked_unless_live (record { 0 = now })) cluster.book.servers)) pairs
-    ∙ ap (λ (ss : List ServerFacts). ticked_with cluster cluster.book.keys ss) (same-servers now later cluster.book.servers h ends.servers)
+    let now = cluster.facts.clock + 1 in
+    let pairs = (all-present now later cluster.facts.keys.pairs h ends.keys).0 in
+    ap (λ (ps : Pairs). let known : Keys = record cluster.facts.keys { pairs = ps } in ticked_with cluster known (map (ticked_unless_live (record { 0 = now })) cluster.facts.servers)) pairs
+    ∙ ap (λ (ss : List ServerFacts). ticked_with cluster cluster.facts.keys ss) (same-servers now later cluster.facts.servers h ends.servers)
 
-tick-rest : (cluster now : Cluster) (later : ℕ) → now.book.clock ≤ later → NoneResets later now.book.deadlines → next_expiries cluster ≡ [] → NoneComplete later now.book.servers
-    → events_then now (each reset_events now now.book.members) (λ reset. events_then reset (events_of reset (next_expiries cluster)) (λ expired. each completion_events expired expired.book.members)) ≡ []
+tick-rest : (cluster now : Cluster) (later : ℕ) → now.facts.clock ≤ later → NoneResets later now.facts.deadlines → next_expiries cluster ≡ [] → NoneComplete later now.facts.servers
+    → events_then now (each reset_events now now.facts.members) (λ reset. events_then reset (events_of reset (next_expiries cluster)) (λ expired. each completion_events expired expired.facts.members)) ≡ []
 tick-rest cluster now later h watchdogs keys servers =
-    then-nothing now (each reset_events now now.book.members) (λ reset. events_then reset (events_of reset (next_expiries cluster)) (λ expired. each completion_events expired expired.book.members))
-    (none-ever Member reset_events now now.book.members (resets-none now later h watchdogs))
-    ∙ then-nothing now (events_of now (next_expiries cluster)) (λ expired. each completion_events expired expired.book.members) (ap (events_of now) keys)
-    ∙ none-ever Member completion_events now now.book.members (completions-none now later h servers)
+    then-nothing now (each reset_events now now.facts.members) (λ reset. events_then reset (events_of reset (next_expiries cluster)) (λ expired. each completion_events expired expired.facts.members))
+    (none-ever Member reset_events now now.facts.members (resets-none now later h watchdogs))
+    ∙ then-nothing now (events_of now (next_expiries cluster)) (λ expired. each completion_events expired expired.facts.members) (ap (events_of now) keys)
+    ∙ none-ever Member completion_events now now.facts.members (completions-none now later h servers)
 
-expiries-none : (cluster : Cluster) (later : ℕ) → cluster.book.clock + 1 ≤ later → expired_keys cluster.book.keys later ≡ [] → next_expiries cluster ≡ []
+expiries-none : (cluster : Cluster) (later : ℕ) → cluster.facts.clock + 1 ≤ later → expired_keys cluster.facts.keys later ≡ [] → next_expiries cluster ≡ []
 expiries-none cluster later h keys =
-    ap (expiries_of (declared_member cluster.book.members (expired_holder cluster.book.keys (cluster.book.clock + 1)))) (all-present (cluster.book.clock + 1) later cluster.book.keys.pairs h keys).1
+    ap (expiries_of (declared_member cluster.facts.members (expired_holder cluster.facts.keys (cluster.facts.clock + 1)))) (all-present (cluster.facts.clock + 1) later cluster.facts.keys.pairs h keys).1
 
 -- a tick brings nothing but itself
-pub tick-idle : (cluster : Cluster) (later : ℕ) → cluster.book.clock + 1 ≤ later → NothingEnds later cluster → tick_events cluster ≡ event_of cluster kinds.Tick
+pub tick-idle : (cluster : Cluster) (later : ℕ) → cluster.facts.clock + 1 ≤ later → NothingEnds later cluster → tick_events cluster ≡ event_of cluster kinds.Tick
 tick-idle cluster later h ends =
     let ticked = cluster_after cluster kinds.Tick in
     let same = ticked-idle cluster later h ends in
-    let rest = subst (λ (c : Cluster). events_then c (each reset_events c c.book.members) (λ reset. events_then reset (events_of reset (next_expiries cluster)) (λ expired. each completion_events expired expired.book.members)) ≡ []) (sym same)
-    (tick-rest cluster (at_moment cluster (cluster.book.clock + 1)) later h ends.watchdogs (expiries-none cluster later h ends.keys) ends.servers) in
+    let rest = subst (λ (c : Cluster). events_then c (each reset_events c c.facts.members) (λ reset. events_then reset (events_of reset (next_expiries cluster)) (λ expired. each completion_events expired expired.facts.members)) ≡ []) (sym same)
+    (tick-rest cluster (at_moment cluster (cluster.facts.clock + 1)) later h ends.watchdogs (expiries-none cluster later h ends.keys) ends.servers) in
     ap (λ (es : List Event). event_of cluster kinds.Tick ++ es) rest ∙ append-nil (event_of cluster kinds.Tick)
 
 -- agents
@@ -213,38 +213,38 @@ may-earlier : (may : Bool) (before after : Bool) → (after ≡ false → before
 may-earlier true before after weaker isnt = weaker isnt
 may-earlier false before after weaker isnt = refl
 
-wake-none : (cluster : Cluster) (later : ℕ) (member : Member) (found : Option AgentProcess) → cluster.book.clock ≤ later → IsAsleep later found (standing_of cluster member) → for_some found (wake_events_if cluster member) ≡ []
+wake-none : (cluster : Cluster) (later : ℕ) (member : Member) (found : Option AgentProcess) → cluster.facts.clock ≤ later → IsAsleep later found (standing_of cluster member) → for_some found (wake_events_if cluster member) ≡ []
 wake-none cluster later member None h asleep = refl
 wake-none cluster later member (Some process) h asleep =
     let o = standing_of cluster member in
-    let now = may-earlier (may_act process) (has_work (record { 0 = cluster.book.clock }) o) (has_work (record { 0 = later }) o) (work-earlier cluster.book.clock later o h) asleep in
+    let now = may-earlier (may_act process) (has_work (record { 0 = cluster.facts.clock }) o) (has_work (record { 0 = later }) o) (work-earlier cluster.facts.clock later o h) asleep in
     ap (λ (b : Bool). cond b (wake_events_of cluster member) []) now
 
-wakes-none : (cluster : Cluster) (later : ℕ) → cluster.book.clock ≤ later → All (SleepsAt later cluster) cluster.book.members → each wake_events cluster cluster.book.members ≡ []
+wakes-none : (cluster : Cluster) (later : ℕ) → cluster.facts.clock ≤ later → All (SleepsAt later cluster) cluster.facts.members → each wake_events cluster cluster.facts.members ≡ []
 wakes-none cluster later h asleep =
-    each-nothing Member wake_events cluster cluster.book.members
-    (All-weaker Member (SleepsAt later cluster) (λ (m : Member). wake_events cluster m ≡ []) cluster.book.members (λ m sleeps. wake-none cluster later m (slice_get cluster.book.agents m.id.number) h sleeps) asleep)
+    each-nothing Member wake_events cluster cluster.facts.members
+    (All-weaker Member (SleepsAt later cluster) (λ (m : Member). wake_events cluster m ≡ []) cluster.facts.members (λ m sleeps. wake-none cluster later m (slice_get cluster.facts.processes m.id.number) h sleeps) asleep)
 
 -- replicas
 confirms-none : (cluster : Cluster) (member from : Member) (unconfirmed : Option Lsn) → unconfirmed ≡ None → events_of cluster (kinds_of (confirm_of member from unconfirmed)) ≡ []
 confirms-none cluster member from unconfirmed none = ap (λ (u : Option Lsn). events_of cluster (kinds_of (confirm_of member from u))) none
 
-no-news : (cluster : Cluster) (member from : Member) (news : Option Streamed) → IsNoNews news (unconfirmed_end member (slice_get cluster.book.servers member.id.number) (slice_get cluster.book.servers from.id.number)) → receive_events cluster member from news ≡ []
-no-news cluster member from None none = confirms-none cluster member from (unconfirmed_end member (slice_get cluster.book.servers member.id.number) (slice_get cluster.book.servers from.id.number)) none
+no-news : (cluster : Cluster) (member from : Member) (news : Option Streamed) → IsNoNews news (unconfirmed_end member (slice_get cluster.facts.servers member.id.number) (slice_get cluster.facts.servers from.id.number)) → receive_events cluster member from news ≡ []
+no-news cluster member from None none = confirms-none cluster member from (unconfirmed_end member (slice_get cluster.facts.servers member.id.number) (slice_get cluster.facts.servers from.id.number)) none
 no-news cluster member from (Some streams.NotConnected) none = refl
 no-news cluster member from (Some (streams.Diverged at)) none = absurd none
 no-news cluster member from (Some (streams.Received count)) none = absurd none
 
-source-none : (cluster : Cluster) (member : Member) (source : Option Member) → HasNoNewsFrom cluster.book.servers member source
-    → for_some source (λ from. receive_events cluster member from (news_at cluster.book.servers member.id.number from.id.number all_entries)) ≡ []
+source-none : (cluster : Cluster) (member : Member) (source : Option Member) → HasNoNewsFrom cluster.facts.servers member source
+    → for_some source (λ from. receive_events cluster member from (news_at cluster.facts.servers member.id.number from.id.number all_entries)) ≡ []
 source-none cluster member None none = refl
-source-none cluster member (Some from) none = no-news cluster member from (news_at cluster.book.servers member.id.number from.id.number all_entries) none
+source-none cluster member (Some from) none = no-news cluster member from (news_at cluster.facts.servers member.id.number from.id.number all_entries) none
 
-receive-none : (cluster : Cluster) (member : Member) (frozen : Option Bool) → ReceivesNone cluster.book.members cluster.book.servers cluster.book.cuts member frozen
+receive-none : (cluster : Cluster) (member : Member) (frozen : Option Bool) → ReceivesNone cluster.facts.members cluster.facts.servers cluster.facts.cuts member frozen
     → for_some frozen (λ is_frozen. if is_frozen then [] else receive_events_at_most cluster all_entries member) ≡ []
 receive-none cluster member None none = refl
 receive-none cluster member (Some true) none = refl
-receive-none cluster member (Some false) none = source-none cluster member (source_of cluster.book.members cluster.book.servers cluster.book.cuts member) none
+receive-none cluster member (Some false) none = source-none cluster member (source_of cluster.facts.members cluster.facts.servers cluster.facts.cuts member) none
 
 -- acknowledgements
 front-none : (can : Bool) (required : Required) (confirmed : List (Option Lsn)) (waiting : List Waiting) → (can && first_is_met required confirmed waiting) ≡ false → (if can then confirmed_front required confirmed waiting else []) ≡ []
@@ -252,32 +252,32 @@ front-none false required confirmed waiting isnt = refl
 front-none true required confirmed [] isnt = refl
 front-none true required confirmed (first ∷ more) isnt = ap (λ (b : Bool). cond b (first.serial ∷ confirmed_front required confirmed more) []) isnt
 
-acknowledges-none : (cluster : Cluster) (member : Member) (found : Option ServerFacts) → IsDone found → events_of cluster (acknowledge_kinds cluster.book.servers cluster.book.members member found) ≡ []
+acknowledges-none : (cluster : Cluster) (member : Member) (found : Option ServerFacts) → IsDone found → events_of cluster (acknowledge_kinds cluster.facts.servers cluster.facts.members member found) ≡ []
 acknowledges-none cluster member None done = refl
 acknowledges-none cluster member (Some s) done =
-    ap (λ (commits : List ℕ). events_of cluster (acknowledgements cluster.book.servers cluster.book.members member commits)) (front-none (writes s.state) s.required s.confirmed s.waiting done)
+    ap (λ (commits : List ℕ). events_of cluster (acknowledgements cluster.facts.servers cluster.facts.members member commits)) (front-none (writes s.state) s.required s.confirmed s.waiting done)
 
-acknowledged-none : (cluster : Cluster) → AreAcknowledged cluster.book.members cluster.book.servers → each acknowledge_events cluster cluster.book.members ≡ []
+acknowledged-none : (cluster : Cluster) → AreAcknowledged cluster.facts.members cluster.facts.servers → each acknowledge_events cluster cluster.facts.members ≡ []
 acknowledged-none cluster done =
-    each-nothing Member acknowledge_events cluster cluster.book.members
-    (All-weaker Member (λ (m : Member). IsDone (slice_get cluster.book.servers m.id.number)) (λ (m : Member). acknowledge_events cluster m ≡ []) cluster.book.members
-    (λ m is. acknowledges-none cluster m (slice_get cluster.book.servers m.id.number) is) done)
+    each-nothing Member acknowledge_events cluster cluster.facts.members
+    (All-weaker Member (λ (m : Member). IsDone (slice_get cluster.facts.servers m.id.number)) (λ (m : Member). acknowledge_events cluster m ≡ []) cluster.facts.members
+    (λ m is. acknowledges-none cluster m (slice_get cluster.facts.servers m.id.number) is) done)
 
-received-none : (cluster : Cluster) → NothingMoves cluster → each receive_events_of cluster cluster.book.members ≡ []
+received-none : (cluster : Cluster) → NothingMoves cluster → each receive_events_of cluster cluster.facts.members ≡ []
 received-none cluster still =
-    each-nothing Member receive_events_of cluster cluster.book.members
-    (All-weaker Member (λ (m : Member). ReceivesNone cluster.book.members cluster.book.servers cluster.book.cuts m (slice_get cluster.book.frozen m.id.number)) (λ (m : Member). receive_events_of cluster m ≡ []) cluster.book.members
-    (λ m none. receive-none cluster m (slice_get cluster.book.frozen m.id.number) none) still.replicas)
+    each-nothing Member receive_events_of cluster cluster.facts.members
+    (All-weaker Member (λ (m : Member). ReceivesNone cluster.facts.members cluster.facts.servers cluster.facts.cuts m (slice_get cluster.facts.frozen m.id.number)) (λ (m : Member). receive_events_of cluster m ≡ []) cluster.facts.members
+    (λ m none. receive-none cluster m (slice_get cluster.facts.frozen m.id.number) none) still.replicas)
 
 -- a round in which no agent is to be woken
-round-none : (cluster : Cluster) (later : ℕ) → cluster.book.clock ≤ later → IsIdle later cluster → round_events cluster ≡ []
+round-none : (cluster : Cluster) (later : ℕ) → cluster.facts.clock ≤ later → IsIdle later cluster → round_events cluster ≡ []
 round-none cluster later h idle =
-    then-nothing cluster (each wake_events cluster cluster.book.members) (λ after. each message_events after (keys_of after.book.flight)) (wakes-none cluster later h idle.due.agents)
-    ∙ none-ever ℕ message_events cluster (keys_of cluster.book.flight) (λ n. kept-still cluster n (λ message is. idle.moves.messages n message is))
+    then-nothing cluster (each wake_events cluster cluster.facts.members) (λ after. each message_events after (keys_of after.facts.flight)) (wakes-none cluster later h idle.due.agents)
+    ∙ none-ever ℕ message_events cluster (keys_of cluster.facts.flight) (λ n. kept-still cluster n (λ message is. idle.moves.messages n message is))
 
-scheduled-none : (cluster : Cluster) (later : ℕ) → cluster.book.clock ≤ later → IsIdle later cluster → scheduled_events cluster ≡ []
+scheduled-none : (cluster : Cluster) (later : ℕ) → cluster.facts.clock ≤ later → IsIdle later cluster → scheduled_events cluster ≡ []
 scheduled-none cluster later h idle =
-    then-nothing cluster (each receive_events_of cluster cluster.book.members) (λ after. rounds_events after most_rounds) (received-none cluster idle.moves)
+    then-nothing cluster (each receive_events_of cluster cluster.facts.members) (λ after. rounds_events after most_rounds) (received-none cluster idle.moves)
     ∙ rounds_events-still cluster (round-none cluster later h idle)
 
 -- what is so of an idle cluster doesn't depend on its clock
@@ -298,7 +298,7 @@ idle-ends steps.Scheduled cluster later idle = idle.due.ends
 idle-ends steps.Tick cluster later idle = idle.ends
 idle-ends (steps.Command command) cluster later idle = absurd idle
 
-pub idle-commits : (step : Step) (cluster : Cluster) (later : ℕ) → IsIdleIn step later cluster → AreAcknowledged cluster.book.members cluster.book.servers
+pub idle-commits : (step : Step) (cluster : Cluster) (later : ℕ) → IsIdleIn step later cluster → AreAcknowledged cluster.facts.members cluster.facts.servers
 idle-commits steps.Scheduled cluster later idle = idle.moves.commits
 idle-commits steps.Tick cluster later idle = idle.commits
 idle-commits (steps.Command command) cluster later idle = absurd idle
@@ -308,17 +308,17 @@ pub idle-ticks : (cluster : Cluster) (later : ℕ) → IsIdle later cluster → 
 idle-ticks cluster later idle = record { ends = idle.due.ends; commits = idle.moves.commits }
 
 -- what a tick leaves is idle as before
-pub idle-after : (step : Step) (cluster : Cluster) (later : ℕ) → cluster.book.clock + 1 ≤ later → IsIdleIn step later cluster → IsIdleIn step later (cluster_after cluster kinds.Tick)
-idle-after step cluster later h idle = subst (IsIdleIn step later) (sym (ticked-idle cluster later h (idle-ends step cluster later idle))) (idle-at step cluster later (cluster.book.clock + 1) idle)
+pub idle-after : (step : Step) (cluster : Cluster) (later : ℕ) → cluster.facts.clock + 1 ≤ later → IsIdleIn step later cluster → IsIdleIn step later (cluster_after cluster kinds.Tick)
+idle-after step cluster later h idle = subst (IsIdleIn step later) (sym (ticked-idle cluster later h (idle-ends step cluster later idle))) (idle-at step cluster later (cluster.facts.clock + 1) idle)
 
 -- a step of the default schedule, or a plain tick, brings exactly its tick
-pub next-idle : (step : Step) (cluster : Cluster) (later : ℕ) → cluster.book.clock + 1 ≤ later → IsIdleIn step later cluster → next_events cluster step ≡ event_of cluster kinds.Tick
+pub next-idle : (step : Step) (cluster : Cluster) (later : ℕ) → cluster.facts.clock + 1 ≤ later → IsIdleIn step later cluster → next_events cluster step ≡ event_of cluster kinds.Tick
 next-idle step cluster later h idle =
     let ticked = cluster_after cluster kinds.Tick in
-    ap (λ (es : List Event). events_then cluster es (λ now. each acknowledge_events now now.book.members)) (step-idle step cluster later h idle)
+    ap (λ (es : List Event). events_then cluster es (λ now. each acknowledge_events now now.facts.members)) (step-idle step cluster later h idle)
     ∙ ap (λ (es : List Event). event_of cluster kinds.Tick ++ es) (acknowledged-none ticked (idle-commits step ticked later (idle-after step cluster later h idle))) ∙ append-nil (event_of cluster kinds.Tick)
   where
-    step-idle : (step : Step) (cluster : Cluster) (later : ℕ) → cluster.book.clock + 1 ≤ later → IsIdleIn step later cluster → step_events cluster step ≡ event_of cluster kinds.Tick
+    step-idle : (step : Step) (cluster : Cluster) (later : ℕ) → cluster.facts.clock + 1 ≤ later → IsIdleIn step later cluster → step_events cluster step ≡ event_of cluster kinds.Tick
     step-idle steps.Scheduled cluster later h idle =
         ap (λ (es : List Event). events_then cluster es scheduled_events) (tick-idle cluster later h idle.due.ends)
         ∙ ap (λ (es : List Event). event_of cluster kinds.Tick ++ es) (scheduled-none (cluster_after cluster kinds.Tick) later h (idle-after steps.Scheduled cluster later h idle)) ∙ append-nil (event_of cluster kinds.Tick)
@@ -345,13 +345,13 @@ work-of receives on (Some options) (Some deadline) (Some hold) (Some s) (Some ag
 
 -- from when on there is something to do for the agent of a member
 pub work-from : (cluster : Cluster) (member : Member) (found : Option Ticks)
-    → found ≡ work_moment (slice_get cluster.options member.id.number) (slice_get cluster.book.deadlines member.id.number) (slice_get cluster.book.holds member.id.number) (slice_get cluster.book.servers member.id.number)
+    → found ≡ work_moment (slice_get cluster.options member.id.number) (slice_get cluster.facts.deadlines member.id.number) (slice_get cluster.facts.holds member.id.number) (slice_get cluster.facts.servers member.id.number)
     (agent_at cluster.agents member.id.number)
     → HasWorkFrom (standing_of cluster member) found
 work-from cluster member found is =
     subst (λ (moment : Option Ticks). HasWorkFrom (standing_of cluster member) moment) (sym is)
-    (work-of (is_some (source_of cluster.book.members cluster.book.servers cluster.book.cuts member)) (replication_of cluster.book.members cluster.book.servers cluster.book.cuts member) (slice_get cluster.options member.id.number) (slice_get cluster.book.deadlines member.id.number) (slice_get cluster.book.holds member.id.number)
-    (slice_get cluster.book.servers member.id.number) (agent_at cluster.agents member.id.number))
+    (work-of (is_some (source_of cluster.facts.members cluster.facts.servers cluster.facts.cuts member)) (replication_of cluster.facts.members cluster.facts.servers cluster.facts.cuts member) (slice_get cluster.options member.id.number) (slice_get cluster.facts.deadlines member.id.number) (slice_get cluster.facts.holds member.id.number)
+    (slice_get cluster.facts.servers member.id.number) (agent_at cluster.agents member.id.number))
 
 same-item : {X : Type 0} (xs : List X) (k place : ℕ) (x y : X) → k ≡ place → slice_get xs place ≡ Some x → slice_get xs k ≡ Some y → x ≡ y
 same-item xs k place x y e is there = same_Some x y (sym is ∙ ap (slice_get xs) (sym e) ∙ there)

@@ -18,7 +18,7 @@ use Rattle.pat_world.proofs.Taking.{cluster_over-append}
 
 -- these happenings, at the moment of a cluster
 abbrev pub at_once : Cluster → List EventKind → List Event
-at_once cluster kinds = events_at (record { 0 = cluster.book.clock }) kinds
+at_once cluster kinds = events_at (record { 0 = cluster.facts.clock }) kinds
 
 -- they change nothing
 pub record IsQuiet (cluster : Cluster) (kinds : List EventKind) : Type 0 where
@@ -53,18 +53,18 @@ pub quiet-took : (cluster : Cluster) (kinds : List EventKind) (had has : List Ev
 quiet-took cluster kinds had has quiet is = record { state = sym quiet.still; event = is; room = λ more room. HasRoom-fewer cluster (0 + more) more (omega arith) room }
 
 -- what one server lacks is written down, and then what the servers of the members behind it do
-pub losses-more : (cluster : Cluster) (commit : ℕ) (had longer whole : List Event) (place : ℕ) (member : Member) → slice_get cluster.book.members place ≡ Some member
-    → longer ≡ had ++ at_once cluster (loss_of commit member (slice_get cluster.book.servers member.id.number))
-    → had ++ at_once cluster (losses_of commit cluster.book.servers (drop place cluster.book.members)) ≡ whole
-    → longer ++ at_once cluster (losses_of commit cluster.book.servers (drop (place + 1) cluster.book.members)) ≡ whole
+pub losses-more : (cluster : Cluster) (commit : ℕ) (had longer whole : List Event) (place : ℕ) (member : Member) → slice_get cluster.facts.members place ≡ Some member
+    → longer ≡ had ++ at_once cluster (loss_of commit member (slice_get cluster.facts.servers member.id.number))
+    → had ++ at_once cluster (losses_of commit cluster.facts.servers (drop place cluster.facts.members)) ≡ whole
+    → longer ++ at_once cluster (losses_of commit cluster.facts.servers (drop (place + 1) cluster.facts.members)) ≡ whole
 losses-more cluster commit had longer whole place member is longer_is so =
-    let one = loss_of commit member (slice_get cluster.book.servers member.id.number) in
-    let rest = losses_of commit cluster.book.servers (drop (place + 1) cluster.book.members) in
+    let one = loss_of commit member (slice_get cluster.facts.servers member.id.number) in
+    let rest = losses_of commit cluster.facts.servers (drop (place + 1) cluster.facts.members) in
     ap (λ es. es ++ at_once cluster rest) longer_is ∙ append_assoc had (at_once cluster one) (at_once cluster rest) ∙ ap (λ es. had ++ es) (sym (map-append _ one rest))
-    ∙ ap (λ (ms : List Member). had ++ at_once cluster (losses_of commit cluster.book.servers ms)) (sym (drop-get Member cluster.book.members place member is)) ∙ so
+    ∙ ap (λ (ms : List Member). had ++ at_once cluster (losses_of commit cluster.facts.servers ms)) (sym (drop-get Member cluster.facts.members place member is)) ∙ so
 
 -- none is left
-pub losses-end : (cluster : Cluster) (commit : ℕ) (had whole : List Event) (place : ℕ) → length cluster.book.members ≤ place
-    → had ++ at_once cluster (losses_of commit cluster.book.servers (drop place cluster.book.members)) ≡ whole → had ≡ whole
+pub losses-end : (cluster : Cluster) (commit : ℕ) (had whole : List Event) (place : ℕ) → length cluster.facts.members ≤ place
+    → had ++ at_once cluster (losses_of commit cluster.facts.servers (drop place cluster.facts.members)) ≡ whole → had ≡ whole
 losses-end cluster commit had whole place over so =
-    sym (append-nil had) ∙ ap (λ (ms : List Member). had ++ at_once cluster (losses_of commit cluster.book.servers ms)) (sym (drop_all place cluster.book.members over)) ∙ so
+    sym (append-nil had) ∙ ap (λ (ms : List Member). had ++ at_once cluster (losses_of commit cluster.facts.servers ms)) (sym (drop_all place cluster.facts.members over)) ∙ so

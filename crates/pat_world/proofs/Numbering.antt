@@ -124,9 +124,9 @@ sent-one last sent (kinds.Message _) above low = low
 sent-one last sent _ above low = low
 
 -- the last number grows
-pub sent-over : (last : ℕ) (cluster : Cluster) (events : List Event) → AllAre (IsAbove last) events → last ≤ cluster.book.sent → last ≤ (cluster_over cluster events).book.sent
+pub sent-over : (last : ℕ) (cluster : Cluster) (events : List Event) → AllAre (IsAbove last) events → last ≤ cluster.facts.sent → last ≤ (cluster_over cluster events).facts.sent
 sent-over last cluster [] all low = low
-sent-over last cluster (event ∷ events) all low = sent-over last (cluster_after cluster event.kind) events all.1 (sent-one last cluster.book.sent event.kind all.0 low)
+sent-over last cluster (event ∷ events) all low = sent-over last (cluster_after cluster event.kind) events all.1 (sent-one last cluster.facts.sent event.kind all.0 low)
 
 absent-one : (last now : ℕ) (known : Keys) (flight : Flight) (kind : EventKind) (n : ℕ) → IsAbove last kind → n ≤ last → in_flight flight n ≡ None → in_flight (flight_after now known flight kind) n ≡ None
 absent-one last now known flight (kinds.Message (Sent number message)) n above low none = absent-put flight number n _ (omega (arith, above, low)) none
@@ -135,27 +135,27 @@ absent-one last now known flight (kinds.Message (Lost number)) n above low none 
 absent-one last now known flight _ n above low none = none
 
 -- and what wasn't in flight below it still isn't
-pub absent-over : (last : ℕ) (cluster : Cluster) (events : List Event) (n : ℕ) → AllAre (IsAbove last) events → n ≤ last → in_flight cluster.book.flight n ≡ None → in_flight (cluster_over cluster events).book.flight n ≡ None
+pub absent-over : (last : ℕ) (cluster : Cluster) (events : List Event) (n : ℕ) → AllAre (IsAbove last) events → n ≤ last → in_flight cluster.facts.flight n ≡ None → in_flight (cluster_over cluster events).facts.flight n ≡ None
 absent-over last cluster [] n all low none = none
 absent-over last cluster (event ∷ events) n all low none =
-    absent-over last (cluster_after cluster event.kind) events n all.1 low (absent-one last cluster.book.clock cluster.book.keys cluster.book.flight event.kind n all.0 low none)
+    absent-over last (cluster_after cluster event.kind) events n all.1 low (absent-one last cluster.facts.clock cluster.facts.keys cluster.facts.flight event.kind n all.0 low none)
 
 -- ---- what outputs of agents bring
 lost-above : (last : ℕ) (test : Bool) (number : ℕ) → AllKinds (IsAbove last) (lost_at_once test number)
 lost-above last true number = (tt, tt)
 lost-above last false number = tt
 
-send-above : (last : ℕ) (cluster : Cluster) (message : Message) → last ≤ cluster.book.sent → AllAre (IsAbove last) (send_events cluster message)
+send-above : (last : ℕ) (cluster : Cluster) (message : Message) → last ≤ cluster.facts.sent → AllAre (IsAbove last) (send_events cluster message)
 send-above last cluster message low =
-    all-kinds (IsAbove last) cluster (kinds.Message (Sent (cluster.book.sent + 1) message) ∷ lost_at_once (nat_le most_in_flight (length cluster.book.flight)) (cluster.book.sent + 1))
-    (omega (arith, low), lost-above last (nat_le most_in_flight (length cluster.book.flight)) (cluster.book.sent + 1))
+    all-kinds (IsAbove last) cluster (kinds.Message (Sent (cluster.facts.sent + 1) message) ∷ lost_at_once (nat_le most_in_flight (length cluster.facts.flight)) (cluster.facts.sent + 1))
+    (omega (arith, low), lost-above last (nat_le most_in_flight (length cluster.facts.flight)) (cluster.facts.sent + 1))
 
-sending-above : (last : ℕ) (cluster : Cluster) (member : Member) (process : Option AgentProcess) (to : Option LinkEnd) (sequence : ℕ) (body : Body) → last ≤ cluster.book.sent → AllAre (IsAbove last) (sending_events cluster member process to sequence body)
+sending-above : (last : ℕ) (cluster : Cluster) (member : Member) (process : Option AgentProcess) (to : Option LinkEnd) (sequence : ℕ) (body : Body) → last ≤ cluster.facts.sent → AllAre (IsAbove last) (sending_events cluster member process to sequence body)
 sending-above last cluster member None to sequence body low = tt
 sending-above last cluster member (Some process) None sequence body low = tt
 sending-above last cluster member (Some process) (Some to) sequence body low = send-above last cluster _ low
 
-replying-above : (last : ℕ) (cluster : Cluster) (member : Member) (to : Option LinkEnd) (run sequence : ℕ) (body : Body) → last ≤ cluster.book.sent → AllAre (IsAbove last) (replying_events cluster member to run sequence body)
+replying-above : (last : ℕ) (cluster : Cluster) (member : Member) (to : Option LinkEnd) (run sequence : ℕ) (body : Body) → last ≤ cluster.facts.sent → AllAre (IsAbove last) (replying_events cluster member to run sequence body)
 replying-above last cluster member None run sequence body low = tt
 replying-above last cluster member (Some to) run sequence body low = send-above last cluster _ low
 
@@ -168,9 +168,9 @@ beginning-above last member acknowledged log None = tt
 beginning-above last member acknowledged log (Some (beginnings.AtOnce timeline)) = (tt, loss-above last member (lacks_in (entries_of log) acknowledged))
 beginning-above last member acknowledged log (Some beginnings.WithItsStart) = (tt, tt)
 
-begins-above : (last : ℕ) (cluster : Cluster) (member : Member) (found : Option ServerFacts) → AllAre (IsAbove last) (for_some found (λ s. events_of cluster (begin_kinds member cluster.book.acknowledged s)))
+begins-above : (last : ℕ) (cluster : Cluster) (member : Member) (found : Option ServerFacts) → AllAre (IsAbove last) (for_some found (λ s. events_of cluster (begin_kinds member cluster.facts.acknowledged s)))
 begins-above last cluster member None = tt
-begins-above last cluster member (Some s) = all-kinds (IsAbove last) cluster (begin_kinds member cluster.book.acknowledged s) (beginning-above last member cluster.book.acknowledged s.log (beginning_of s))
+begins-above last cluster member (Some s) = all-kinds (IsAbove last) cluster (begin_kinds member cluster.facts.acknowledged s) (beginning-above last member cluster.facts.acknowledged s.log (beginning_of s))
 
 follow-above : (last : ℕ) (member : Member) (leader : Option Member) → HoldsIf (IsAbove last) (following_of member leader)
 follow-above last member None = tt
@@ -203,10 +203,10 @@ restart-above last member acknowledged states.Primary s = (tt, beginning-above l
 restart-above last member acknowledged states.Replica s = (tt, tt)
 restart-above last member acknowledged _ s = tt
 
-restarts-above : (last : ℕ) (cluster : Cluster) (member : Member) (found : Option ServerFacts) → AllAre (IsAbove last) (for_some found (λ s. events_of cluster (server_restart_kinds member cluster.book.acknowledged s)))
+restarts-above : (last : ℕ) (cluster : Cluster) (member : Member) (found : Option ServerFacts) → AllAre (IsAbove last) (for_some found (λ s. events_of cluster (server_restart_kinds member cluster.facts.acknowledged s)))
 restarts-above last cluster member None = tt
 restarts-above last cluster member (Some s) =
-    all-kinds (IsAbove last) cluster (server_restart_kinds member cluster.book.acknowledged s) (restart-above last member cluster.book.acknowledged s.state s)
+    all-kinds (IsAbove last) cluster (server_restart_kinds member cluster.facts.acknowledged s) (restart-above last member cluster.facts.acknowledged s.state s)
 
 require-above : (last : ℕ) (kind : EventKind) (test : Bool) → IsAbove last kind → HoldsIf (IsAbove last) (if test then None else Some kind)
 require-above last kind true is = tt
@@ -227,10 +227,10 @@ order-above last cluster member heard outputs.Begin = tt
 order-above last cluster member heard (outputs.StartReplica leader) = tt
 order-above last cluster member heard (outputs.Stop reason) = tt
 order-above last cluster member heard (outputs.Follow leader) =
-    holds-then (IsAbove last) (upstream_of member (slice_get cluster.book.members leader.number)) (server_at cluster member) (λ s. upstream-above last member (slice_get cluster.book.members leader.number) (is_replica s.state))
+    holds-then (IsAbove last) (upstream_of member (slice_get cluster.facts.members leader.number)) (server_at cluster member) (λ s. upstream-above last member (slice_get cluster.facts.members leader.number) (is_replica s.state))
 order-above last cluster member heard (outputs.Require required) =
-    holds-then (IsAbove last) (require_of cluster.book.members member required) (server_at cluster member)
-    (λ s. require-above last (kinds.Replication (replications.RequiredSet (server_of member) required (required_names cluster.book.members required))) (is_same_required s.required required) tt)
+    holds-then (IsAbove last) (require_of cluster.facts.members member required) (server_at cluster member)
+    (λ s. require-above last (kinds.Replication (replications.RequiredSet (server_of member) required (required_names cluster.facts.members required))) (is_same_required s.required required) tt)
 order-above last cluster member heard (outputs.Armed until) = tt
 order-above last cluster member heard (outputs.Fed until) = tt
 order-above last cluster member heard outputs.Disarmed = tt
@@ -243,32 +243,32 @@ order-above last cluster member heard (outputs.DoesNotRace bar) = tt
 order-above last cluster member heard outputs.ShutDown =
     holds-then (IsAbove last) (stop_of member) (server_at cluster member) (λ s. holds-if (IsAbove last) (is_up s.state) (stop_kind member s.state s.stop_delay) (stop-above last member (is_primary s.state && s.stop_delay.0 == 0)))
 order-above last cluster member heard (outputs.Repair leader repair) = tt
-order-above last cluster member heard (outputs.HoldTaken until from sequence) = mapped-above last (hold_taken member until heard.run sequence) (slice_get cluster.book.members from.number) (λ from. tt)
+order-above last cluster member heard (outputs.HoldTaken until from sequence) = mapped-above last (hold_taken member until heard.run sequence) (slice_get cluster.facts.members from.number) (λ from. tt)
 order-above last cluster member heard (outputs.Restart as_primary) = tt
 order-above last cluster member heard outputs.Wipe =
     holds-then (IsAbove last) (wipe_of member) (server_at cluster member) (λ s. require-above last (kinds.Log (logs.Wiped (server_of member))) (is_creating s.state || live s.state) tt)
-order-above last cluster member heard (outputs.HandsOver candidate) = mapped-above last (handing_over member) (slice_get cluster.book.members candidate.number) (λ candidate. tt)
+order-above last cluster member heard (outputs.HandsOver candidate) = mapped-above last (handing_over member) (slice_get cluster.facts.members candidate.number) (λ candidate. tt)
 order-above last cluster member heard (outputs.Told request told) = told-above last member (agent_at cluster.agents member.id.number) told
 
 ordered-above : (last : ℕ) (cluster : Cluster) (member : Member) (heard : HeardMessage) (output : Output) → AllAre (IsAbove last) (events_of cluster (kinds_of (order_kind cluster member heard output)))
 ordered-above last cluster member heard output =
     all-kinds (IsAbove last) cluster (kinds_of (order_kind cluster member heard output)) (one-kind (IsAbove last) (order_kind cluster member heard output) (order-above last cluster member heard output))
 
-output-above : (last : ℕ) (cluster : Cluster) (member : Member) (heard : HeardMessage) (output : Output) → last ≤ cluster.book.sent → AllAre (IsAbove last) (output_events member heard cluster output)
-output-above last cluster member heard (outputs.Send to sequence body) low = sending-above last cluster member (slice_get cluster.book.agents member.id.number) (receiver_of cluster.book.members to) sequence body low
-output-above last cluster member heard (outputs.Answer to run sequence answer) low = replying-above last cluster member (receiver_of cluster.book.members (targets.Member to)) run sequence (bodies.Answer answer) low
+output-above : (last : ℕ) (cluster : Cluster) (member : Member) (heard : HeardMessage) (output : Output) → last ≤ cluster.facts.sent → AllAre (IsAbove last) (output_events member heard cluster output)
+output-above last cluster member heard (outputs.Send to sequence body) low = sending-above last cluster member (slice_get cluster.facts.processes member.id.number) (receiver_of cluster.facts.members to) sequence body low
+output-above last cluster member heard (outputs.Answer to run sequence answer) low = replying-above last cluster member (receiver_of cluster.facts.members (targets.Member to)) run sequence (bodies.Answer answer) low
 output-above last cluster member heard outputs.Begin low = begins-above last cluster member (server_at cluster member)
 output-above last cluster member heard (outputs.Armed until) low = all-kinds (IsAbove last) cluster (feed_kinds member heard (arming member until heard)) (tt, (tt, tt))
 output-above last cluster member heard (outputs.Fed until) low = all-kinds (IsAbove last) cluster (feed_kinds member heard (feeding member until heard)) (tt, (tt, tt))
-output-above last cluster member heard (outputs.StartReplica leader) low = starts-above last cluster member (declared_member cluster.book.members leader) (server_at cluster member)
+output-above last cluster member heard (outputs.StartReplica leader) low = starts-above last cluster member (declared_member cluster.facts.members leader) (server_at cluster member)
 output-above last cluster member heard (outputs.Restart as_primary) low = restarts-above last cluster member (server_at cluster member)
 output-above last cluster member heard (outputs.Stop reason) low = stops-above last cluster member reason (server_at cluster member)
 output-above last cluster member heard (outputs.Repair leader repair) low =
-    let kind = option_and_then (repair_over cluster.book.cuts cluster.book.servers member repair) (slice_get cluster.book.members leader.number) in
-    all-kinds (IsAbove last) cluster (kinds_of kind) (one-kind (IsAbove last) kind (repaired-holds (IsAbove last) cluster.book.cuts cluster.book.servers member repair (slice_get cluster.book.members leader.number) (λ other r. tt) (λ other. tt)))
+    let kind = option_and_then (repair_over cluster.facts.cuts cluster.facts.servers member repair) (slice_get cluster.facts.members leader.number) in
+    all-kinds (IsAbove last) cluster (kinds_of kind) (one-kind (IsAbove last) kind (repaired-holds (IsAbove last) cluster.facts.cuts cluster.facts.servers member repair (slice_get cluster.facts.members leader.number) (λ other r. tt) (λ other. tt)))
 output-above last cluster member heard output low = ordered-above last cluster member heard output
 
-outputs-above : (last : ℕ) (cluster : Cluster) (member : Member) (heard : HeardMessage) (outs : List Output) → last ≤ cluster.book.sent → AllAre (IsAbove last) (each (output_events member heard) cluster outs)
+outputs-above : (last : ℕ) (cluster : Cluster) (member : Member) (heard : HeardMessage) (outs : List Output) → last ≤ cluster.facts.sent → AllAre (IsAbove last) (each (output_events member heard) cluster outs)
 outputs-above last cluster member heard [] low = tt
 outputs-above last cluster member heard (output ∷ more) low =
     let events = output_events member heard cluster output in
@@ -276,32 +276,32 @@ outputs-above last cluster member heard (output ∷ more) low =
     all-both (IsAbove last) events (each (output_events member heard) (cluster_over cluster events) more) first (outputs-above last (cluster_over cluster events) member heard more (sent-over last cluster events first low))
 
 -- ---- what a message brings
-decided-above : (last : ℕ) (cluster : Cluster) (number : ℕ) (message : Message) (txn : Txn) (decision : Decision) (by : LinkEnd) → last ≤ cluster.book.sent → AllAre (IsAbove last) (decision_events cluster number message txn decision by)
+decided-above : (last : ℕ) (cluster : Cluster) (number : ℕ) (message : Message) (txn : Txn) (decision : Decision) (by : LinkEnd) → last ≤ cluster.facts.sent → AllAre (IsAbove last) (decision_events cluster number message txn decision by)
 decided-above last cluster number message txn decision ends.Store low = tt
 decided-above last cluster number message txn Grant (ends.Member by) low = (tt, send-above last _ (answer_message message (decision_body number txn Grant)) low)
 decided-above last cluster number message txn (Refusal key found) (ends.Member by) low = (tt, send-above last _ (answer_message message (decision_body number txn (Refusal key found))) low)
 
-answer-above : (last : ℕ) (cluster : Cluster) (number : ℕ) (message : Message) (body : Body) → last ≤ cluster.book.sent → AllAre (IsAbove last) (answer_events_by cluster number message body)
+answer-above : (last : ℕ) (cluster : Cluster) (number : ℕ) (message : Message) (body : Body) → last ≤ cluster.facts.sent → AllAre (IsAbove last) (answer_events_by cluster number message body)
 answer-above last cluster number message bodies.Read low = send-above last cluster (answer_message message bodies.Snapshot) low
-answer-above last cluster number message (bodies.Request txn) low = decided-above last cluster number message txn (decision_on cluster.book.keys cluster.book.clock txn) message.from low
+answer-above last cluster number message (bodies.Request txn) low = decided-above last cluster number message txn (decision_on cluster.facts.keys cluster.facts.clock txn) message.from low
 answer-above last cluster number message _ low = tt
 
-arrival-above : (last : ℕ) (cluster : Cluster) (number : ℕ) (message : InFlightFacts) (to : LinkEnd) → last ≤ cluster.book.sent → AllAre (IsAbove last) (arrival_events_at cluster number message to)
+arrival-above : (last : ℕ) (cluster : Cluster) (number : ℕ) (message : InFlightFacts) (to : LinkEnd) → last ≤ cluster.facts.sent → AllAre (IsAbove last) (arrival_events_at cluster number message to)
 arrival-above last cluster number message ends.Store low = (tt, answer-above last _ number message.message message.message.body low)
 arrival-above last cluster number message (ends.Member member) low =
     (tt, outputs-above last _ member (heard_message number message) (outputs_of (outcome_of_heard cluster member (heard_from cluster message))) low)
 
-moved-above : (last : ℕ) (cluster : Cluster) (number : ℕ) (message : InFlightFacts) (delivery : Delivery) → last ≤ cluster.book.sent → AllAre (IsAbove last) (message_events_by cluster number message delivery)
+moved-above : (last : ℕ) (cluster : Cluster) (number : ℕ) (message : InFlightFacts) (delivery : Delivery) → last ≤ cluster.facts.sent → AllAre (IsAbove last) (message_events_by cluster number message delivery)
 moved-above last cluster number message deliveries.Open low = arrival-above last cluster number message message.message.to low
 moved-above last cluster number message deliveries.Cut low = (tt, tt)
 moved-above last cluster number message deliveries.Suspended low = tt
 moved-above last cluster number message deliveries.Gone low = (tt, tt)
 
-found-above : (last : ℕ) (cluster : Cluster) (number : ℕ) (found : Option InFlightFacts) → last ≤ cluster.book.sent
-    → AllAre (IsAbove last) (for_some found (λ message. message_events_by cluster number message (delivery_of cluster.book.cuts cluster.book.agents message.message)))
+found-above : (last : ℕ) (cluster : Cluster) (number : ℕ) (found : Option InFlightFacts) → last ≤ cluster.facts.sent
+    → AllAre (IsAbove last) (for_some found (λ message. message_events_by cluster number message (delivery_of cluster.facts.cuts cluster.facts.processes message.message)))
 found-above last cluster number None low = tt
-found-above last cluster number (Some message) low = moved-above last cluster number message (delivery_of cluster.book.cuts cluster.book.agents message.message) low
+found-above last cluster number (Some message) low = moved-above last cluster number message (delivery_of cluster.facts.cuts cluster.facts.processes message.message) low
 
 -- it sends nothing with a number up to the last one's
-pub message-above : (last : ℕ) (cluster : Cluster) (number : ℕ) → last ≤ cluster.book.sent → AllAre (IsAbove last) (message_events cluster number)
-message-above last cluster number low = found-above last cluster number (in_flight cluster.book.flight number) low
+pub message-above : (last : ℕ) (cluster : Cluster) (number : ℕ) → last ≤ cluster.facts.sent → AllAre (IsAbove last) (message_events cluster number)
+message-above last cluster number low = found-above last cluster number (in_flight cluster.facts.flight number) low

@@ -29,9 +29,9 @@ reached-room cluster same heard_so member heard is state room =
 -- what it does is what it makes of the message
 pub reached-took : (cluster same heard_so after : Cluster) (member : Member) (number : ℕ) (message : InFlightFacts) (heard : Option Heard) (told : HeardMessage) (outputs : List Output) (tick : Ticks) (had mid has : List Event)
     → same ≡ cluster → heard ≡ heard_from cluster message → heard_so ≡ record same { agents = agent_facts_with same.agents member (outcome_of_heard same member heard) } → outputs ≡ outputs_of (outcome_of_heard same member heard)
-    → told ≡ heard_message number message → tick.0 ≡ cluster.book.clock → mid ≡ had ++ record { tick = tick; kind = kinds.Message (Delivered number) } ∷ []
+    → told ≡ heard_message number message → tick.0 ≡ cluster.facts.clock → mid ≡ had ++ record { tick = tick; kind = kinds.Message (Delivered number) } ∷ []
     → Emits heard_so after mid has (each (output_events member told) heard_so outputs) outputs_cost
-    → Emits (reached_by cluster member message) after (had ++ record { tick = record { 0 = cluster.book.clock }; kind = kinds.Message (Delivered number) } ∷ []) has
+    → Emits (reached_by cluster member message) after (had ++ record { tick = record { 0 = cluster.facts.clock }; kind = kinds.Message (Delivered number) } ∷ []) has
     (input_events (reached_by cluster member message) member (heard_message number message) (outcome_of_heard cluster member (heard_from cluster message))) outputs_cost
 reached-took cluster same heard_so after member number message heard told outputs tick had mid has is said state did told_is at mid_is took =
     let there : heard_so ≡ reached_by cluster member message = state ∙ ap (λ (c : Cluster). with_agents c (agent_facts_with c.agents member (outcome_of_heard c member heard))) is

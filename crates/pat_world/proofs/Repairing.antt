@@ -56,16 +56,16 @@ rewound-told : (known : List ServerFacts) (place from : ℕ) (rewind : Rewound) 
 rewound-told known place from rewind is = rewound-by known place from rewind (slice_get known place) (slice_get known from) refl refl is is
 
 pub rewound-took : (cluster : Cluster) (member leader : Member) (rewind : Rewound) (server from : ServerOf) (known : List ServerFacts) (tick : Ticks) (had has : List Event)
-    → rewind_at cluster.book.servers member.id.number leader.id.number ≡ Some rewind → known ≡ rewound_at cluster.book.servers member.id.number leader.id.number
-    → server ≡ server_of member → from ≡ server_of leader → tick.0 ≡ cluster.book.clock → has ≡ had ++ record { tick = tick; kind = kinds.Log (logs.Rewound server from rewind.kept rewind.at) } ∷ []
-    → Emits cluster (with_servers cluster known) had has (events_of cluster (kinds_of (option_map (rewinding member leader) (rewind_at cluster.book.servers member.id.number leader.id.number)))) 1
+    → rewind_at cluster.facts.servers member.id.number leader.id.number ≡ Some rewind → known ≡ rewound_at cluster.facts.servers member.id.number leader.id.number
+    → server ≡ server_of member → from ≡ server_of leader → tick.0 ≡ cluster.facts.clock → has ≡ had ++ record { tick = tick; kind = kinds.Log (logs.Rewound server from rewind.kept rewind.at) } ∷ []
+    → Emits cluster (with_servers cluster known) had has (events_of cluster (kinds_of (option_map (rewinding member leader) (rewind_at cluster.facts.servers member.id.number leader.id.number)))) 1
 rewound-took cluster member leader rewind server from known tick had has is state server_is from_is moment has_is =
     let place = member.id.number in
     let written : has ≡ had ++ record { tick = tick; kind = rewinding member leader rewind } ∷ [] = has_is
     ∙ ap (λ (s : ServerOf). had ++ record { tick = tick; kind = kinds.Log (logs.Rewound s from rewind.kept rewind.at) } ∷ []) server_is
     ∙ ap (λ (s : ServerOf). had ++ record { tick = tick; kind = kinds.Log (logs.Rewound (server_of member) s rewind.kept rewind.at) } ∷ []) from_is in
     subst (λ (o : Option Rewound). Emits cluster (with_servers cluster known) had has (events_of cluster (kinds_of (option_map (rewinding member leader) o))) 1) (sym is)
-    (serving-took cluster (with_servers cluster known) (rewinding member leader rewind) tick had has tt tt (ap (with_servers cluster) (state ∙ rewound-told cluster.book.servers place leader.id.number rewind is)) moment written)
+    (serving-took cluster (with_servers cluster known) (rewinding member leader rewind) tick had has tt tt (ap (with_servers cluster) (state ∙ rewound-told cluster.facts.servers place leader.id.number rewind is)) moment written)
 
 not-may : (may : Bool) (x : Rewound) → cond may (Some x) None ≡ None → may ≡ false
 not-may false x e = refl
@@ -78,10 +78,10 @@ not-rewound known place from (Some s) (Some source) p q e = rw (p, q) (not-may (
 
 -- nothing is rewound
 pub unrewound-took : (cluster : Cluster) (member leader : Member) (known : List ServerFacts) (had : List Event)
-    → rewind_at cluster.book.servers member.id.number leader.id.number ≡ None → known ≡ rewound_at cluster.book.servers member.id.number leader.id.number
-    → Emits cluster (with_servers cluster known) had had (events_of cluster (kinds_of (option_map (rewinding member leader) (rewind_at cluster.book.servers member.id.number leader.id.number)))) 1
+    → rewind_at cluster.facts.servers member.id.number leader.id.number ≡ None → known ≡ rewound_at cluster.facts.servers member.id.number leader.id.number
+    → Emits cluster (with_servers cluster known) had had (events_of cluster (kinds_of (option_map (rewinding member leader) (rewind_at cluster.facts.servers member.id.number leader.id.number)))) 1
 unrewound-took cluster member leader known had none state =
-    let servers = cluster.book.servers in
+    let servers = cluster.facts.servers in
     let place = member.id.number in
     let from = leader.id.number in
     let may = not-rewound servers place from (slice_get servers place) (slice_get servers from) refl refl none in
@@ -113,23 +113,23 @@ cloned-told known place from may =
     ∙ cloned-by known place (slice_get known place) (slice_get known from) refl may
 
 pub copied-took : (cluster : Cluster) (member leader : Member) (server from : ServerOf) (known : List ServerFacts) (tick : Ticks) (had has : List Event)
-    → may_clone_at cluster.book.servers member.id.number leader.id.number ≡ true → known ≡ cloned_at cluster.book.servers member.id.number leader.id.number
-    → server ≡ server_of member → from ≡ server_of leader → tick.0 ≡ cluster.book.clock → has ≡ had ++ record { tick = tick; kind = kinds.Log (logs.Copied server from) } ∷ []
-    → Emits cluster (with_servers cluster known) had has (events_of cluster (kinds_of (if may_clone_at cluster.book.servers member.id.number leader.id.number then Some (copying member leader) else None))) 1
+    → may_clone_at cluster.facts.servers member.id.number leader.id.number ≡ true → known ≡ cloned_at cluster.facts.servers member.id.number leader.id.number
+    → server ≡ server_of member → from ≡ server_of leader → tick.0 ≡ cluster.facts.clock → has ≡ had ++ record { tick = tick; kind = kinds.Log (logs.Copied server from) } ∷ []
+    → Emits cluster (with_servers cluster known) had has (events_of cluster (kinds_of (if may_clone_at cluster.facts.servers member.id.number leader.id.number then Some (copying member leader) else None))) 1
 copied-took cluster member leader server from known tick had has may state server_is from_is moment has_is =
     let place = member.id.number in
     let written : has ≡ had ++ record { tick = tick; kind = copying member leader } ∷ [] = has_is
     ∙ ap (λ (s : ServerOf). had ++ record { tick = tick; kind = kinds.Log (logs.Copied s from) } ∷ []) server_is
     ∙ ap (λ (s : ServerOf). had ++ record { tick = tick; kind = kinds.Log (logs.Copied (server_of member) s) } ∷ []) from_is in
     subst (λ (b : Bool). Emits cluster (with_servers cluster known) had has (events_of cluster (kinds_of (if b then Some (copying member leader) else None))) 1) (sym may)
-    (serving-took cluster (with_servers cluster known) (copying member leader) tick had has tt tt (ap (with_servers cluster) (state ∙ cloned-told cluster.book.servers place leader.id.number may)) moment written)
+    (serving-took cluster (with_servers cluster known) (copying member leader) tick had has tt tt (ap (with_servers cluster) (state ∙ cloned-told cluster.facts.servers place leader.id.number may)) moment written)
 
 -- nothing is copied
 pub uncopied-took : (cluster : Cluster) (member leader : Member) (known : List ServerFacts) (had : List Event)
-    → may_clone_at cluster.book.servers member.id.number leader.id.number ≡ false → known ≡ cloned_at cluster.book.servers member.id.number leader.id.number
-    → Emits cluster (with_servers cluster known) had had (events_of cluster (kinds_of (if may_clone_at cluster.book.servers member.id.number leader.id.number then Some (copying member leader) else None))) 1
+    → may_clone_at cluster.facts.servers member.id.number leader.id.number ≡ false → known ≡ cloned_at cluster.facts.servers member.id.number leader.id.number
+    → Emits cluster (with_servers cluster known) had had (events_of cluster (kinds_of (if may_clone_at cluster.facts.servers member.id.number leader.id.number then Some (copying member leader) else None))) 1
 uncopied-took cluster member leader known had may state =
-    let servers = cluster.book.servers in
+    let servers = cluster.facts.servers in
     let same : known ≡ servers = state ∙ ap (λ (b : Bool). cond b (changed_from servers member.id.number cloned (slice_get servers leader.id.number)) servers) may in
     subst (λ (b : Bool). Emits cluster (with_servers cluster known) had had (events_of cluster (kinds_of (if b then Some (copying member leader) else None))) 1) (sym may)
     (subst (λ (s : List ServerFacts). Emits cluster (with_servers cluster s) had had [] 1) (sym same) (Emits-nothing cluster had 1))

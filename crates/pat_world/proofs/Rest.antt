@@ -71,14 +71,14 @@ EachLeft-end X events one start cluster had has xs at l h =
 
 -- meanwhile the members stay
 pub EachLeft-members : (X : Type 0) (events : Cluster → X → List Event) (one : ℕ) (start cluster : Cluster) (had has : List Event) (xs : List X) (at : ℕ)
-    → EachLeft events one start cluster had has xs at → cluster.book.members ≡ start.book.members
+    → EachLeft events one start cluster had has xs at → cluster.facts.members ≡ start.facts.members
 EachLeft-members X events one start cluster had has xs at l =
-    sym (members-stay cluster (each events cluster (drop at xs))) ∙ ap (λ (c : Cluster). c.book.members) l.left.state ∙ members-stay start (each events start xs)
+    sym (members-stay cluster (each events cluster (drop at xs))) ∙ ap (λ (c : Cluster). c.facts.members) l.left.state ∙ members-stay start (each events start xs)
 
 -- so the member that is at a place was there from the start
 pub EachLeft-place : (events : Cluster → Member → List Event) (one : ℕ) (start cluster : Cluster) (had has : List Event) (at : ℕ) (member : Member)
-    → EachLeft events one start cluster had has start.book.members at → slice_get cluster.book.members at ≡ Some member → slice_get start.book.members at ≡ Some member
-EachLeft-place events one start cluster had has at member l is = subst (λ (ms : List Member). slice_get ms at ≡ Some member) (EachLeft-members Member events one start cluster had has start.book.members at l) is
+    → EachLeft events one start cluster had has start.facts.members at → slice_get cluster.facts.members at ≡ Some member → slice_get start.facts.members at ≡ Some member
+EachLeft-place events one start cluster had has at member l is = subst (λ (ms : List Member). slice_get ms at ≡ Some member) (EachLeft-members Member events one start cluster had has start.facts.members at l) is
 
 rounds_events-one : (cluster : Cluster) (n k : ℕ) → n ≡ suc k → is_empty (round_events cluster) ≡ false → rounds_events cluster n ≡ events_then cluster (round_events cluster) (λ later. rounds_events later k)
 unfolding rounds_events

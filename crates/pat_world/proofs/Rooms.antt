@@ -21,7 +21,7 @@ use Rattle.event_book.specs.declared.event.WatchdogEvent.TheVariants as watchdog
 use Rattle.event_book.specs.declared.link.LinkEnd.{LinkEnd}
 use Rattle.event_book.specs.declared.link.LinkEnd.TheVariants as link_ends
 use Rattle.event_book.specs.declared.member.Member.{Member}
-use Rattle.event_book.specs.Agents.{with_member_changed, agents_by, agents_by_watchdog, agents_after}
+use Rattle.event_book.specs.Processes.{with_member_changed, processes_by, processes_by_watchdog, processes_after}
 use Rattle.event_book.specs.Clock.{now_after}
 use Rattle.event_book.specs.Flight.{InFlightFacts, Flight, in_flight, sent_after}
 use Rattle.event_book.specs.Keys.{keys_after}
@@ -68,8 +68,8 @@ message-more : (sent : ℕ) (happening : MessageEvent) → CountsMessage sent ha
 message-more sent (messages.Sent number message) counts = counts
 message-more sent _ counts = omega arith
 
-sent-more : (cluster : Cluster) (kind : EventKind) → Counts cluster kind → sent_after cluster.book.sent kind ≤ cluster.book.sent + 1
-sent-more cluster (kinds.Message happening) counts = message-more cluster.book.sent happening counts
+sent-more : (cluster : Cluster) (kind : EventKind) → Counts cluster kind → sent_after cluster.facts.sent kind ≤ cluster.facts.sent + 1
+sent-more cluster (kinds.Message happening) counts = message-more cluster.facts.sent happening counts
 sent-more cluster _ counts = omega arith
 
 abbrev HasRun : ℕ → AgentProcess → Type 0
@@ -81,27 +81,27 @@ run-at agents events place found process all is there =
     omega (arith, has)
 
 -- an agent may begin one more run
-pub run-below : (cluster : Cluster) (events place : ℕ) (process : AgentProcess) → HasRoom cluster events → slice_get cluster.book.agents place ≡ Some process → process.run < 2 ^ 60
-run-below cluster events place process room is = run-at cluster.book.agents events place (slice_get cluster.book.agents place) process room.runs refl is
+pub run-below : (cluster : Cluster) (events place : ℕ) (process : AgentProcess) → HasRoom cluster events → slice_get cluster.facts.processes place ≡ Some process → process.run < 2 ^ 60
+run-below cluster events place process room is = run-at cluster.facts.processes events place (slice_get cluster.facts.processes place) process room.runs refl is
 
 run-fewer : (events : ℕ) (state : AgentProcess) → HasRun (1 + events) state → HasRun events state
 run-fewer events state room = omega (arith, room)
 
-agents-room : (states : List AgentProcess) (events : ℕ) (happening : AgentEvent) → CountsAgent states happening → All (HasRun (1 + events)) states → All (HasRun events) (agents_by states happening)
+agents-room : (states : List AgentProcess) (events : ℕ) (happening : AgentEvent) → CountsAgent states happening → All (HasRun (1 + events)) states → All (HasRun events) (processes_by states happening)
 agents-room states events (agents.Suspended agent) counts all = with_member_changed-all AgentProcess _ _ states agent _ all (run-fewer events) (λ state is. run-fewer events state)
 agents-room states events (agents.Resumed agent) counts all = with_member_changed-all AgentProcess _ _ states agent _ all (run-fewer events) (λ state is. run-fewer events state)
 agents-room states events (agents.Killed agent) counts all = with_member_changed-all AgentProcess _ _ states agent _ all (run-fewer events) (λ state is. run-fewer events state)
 agents-room states events (agents.Started agent run) counts all = with_member_changed-all AgentProcess _ _ states agent _ all (run-fewer events) (λ state is room. omega (arith, room, counts state is))
 agents-room states events _ counts all = All-weaker AgentProcess _ _ states (run-fewer events) all
 
-agents-watched : (states : List AgentProcess) (events : ℕ) (happening : WatchdogEvent) → All (HasRun (1 + events)) states → All (HasRun events) (agents_by_watchdog states happening)
+agents-watched : (states : List AgentProcess) (events : ℕ) (happening : WatchdogEvent) → All (HasRun (1 + events)) states → All (HasRun events) (processes_by_watchdog states happening)
 agents-watched states events (watchdogs.Reset member) all = with_member_changed-all AgentProcess _ _ states member _ all (run-fewer events) (λ state is. run-fewer events state)
 agents-watched states events _ all = All-weaker AgentProcess _ _ states (run-fewer events) all
 
-runs-room : (cluster : Cluster) (events : ℕ) (kind : EventKind) → Counts cluster kind → All (HasRun (1 + events)) cluster.book.agents → All (HasRun events) (agents_after cluster.book.agents kind)
-runs-room cluster events (kinds.Agent happening) counts all = agents-room cluster.book.agents events happening counts all
-runs-room cluster events (kinds.Watchdog happening) counts all = agents-watched cluster.book.agents events happening all
-runs-room cluster events _ counts all = All-weaker AgentProcess _ _ cluster.book.agents (run-fewer events) all
+runs-room : (cluster : Cluster) (events : ℕ) (kind : EventKind) → Counts cluster kind → All (HasRun (1 + events)) cluster.facts.processes → All (HasRun events) (processes_after cluster.facts.processes kind)
+runs-room cluster events (kinds.Agent happening) counts all = agents-room cluster.facts.processes events happening counts all
+runs-room cluster events (kinds.Watchdog happening) counts all = agents-watched cluster.facts.processes events happening all
+runs-room cluster events _ counts all = All-weaker AgentProcess _ _ cluster.facts.processes (run-fewer events) all
 
 abbrev Numbered : ℕ → List (Option AgentFacts) → Type 0
 Numbered events agents = All (HasNumbers events) agents
@@ -149,7 +149,7 @@ moved-numbers scope options members now events known _ enough all = numbered-few
 agent-numbers : (cluster : Cluster) (events : ℕ) (happening : AgentEvent) → most_outputs * (1 + events) ≤ most_messages → Numbered (1 + events) cluster.agents → Numbered events (agent_facts_by cluster happening)
 agent-numbers cluster events (agents.Woken member) enough all = input-numbers cluster member Wake events all
 agent-numbers cluster events (agents.Operated member action) enough all = input-numbers cluster member (Operated action) events all
-agent-numbers cluster events happening enough all = moved-numbers cluster.scope cluster.options cluster.book.members cluster.book.clock events cluster.agents happening enough all
+agent-numbers cluster events happening enough all = moved-numbers cluster.scope cluster.options cluster.facts.members cluster.facts.clock events cluster.agents happening enough all
 
 reached-numbers_at : (cluster : Cluster) (events : ℕ) (message : InFlightFacts) (to : LinkEnd) → Numbered (1 + events) cluster.agents → Numbered events (agent_facts_reached_at cluster message to)
 reached-numbers_at cluster events message link_ends.Store all = numbered-fewer events cluster.agents all
@@ -160,7 +160,7 @@ reached-numbers cluster events None all = numbered-fewer events cluster.agents a
 reached-numbers cluster events (Some message) all = reached-numbers_at cluster events message message.message.to all
 
 message-numbers : (cluster : Cluster) (events : ℕ) (happening : MessageEvent) → Numbered (1 + events) cluster.agents → Numbered events (agent_facts_by_message cluster happening)
-message-numbers cluster events (messages.Delivered number) all = reached-numbers cluster events (in_flight cluster.book.flight number) all
+message-numbers cluster events (messages.Delivered number) all = reached-numbers cluster events (in_flight cluster.facts.flight number) all
 message-numbers cluster events _ all = numbered-fewer events cluster.agents all
 
 watched-numbers : (events : ℕ) (agents : List (Option AgentFacts)) (happening : WatchdogEvent) → Numbered (1 + events) agents → Numbered events (agent_facts_by_watchdog agents happening)
@@ -174,21 +174,21 @@ agents-numbers cluster events (kinds.Watchdog happening) enough all = watched-nu
 agents-numbers cluster events (kinds.Agent happening) enough all = agent-numbers cluster events happening enough all
 agents-numbers cluster events _ enough all = numbered-fewer events cluster.agents all
 
-commit-counts : (cluster : Cluster) (kind : EventKind) → Counts cluster kind → CountsCommit cluster.book.commits kind
+commit-counts : (cluster : Cluster) (kind : EventKind) → Counts cluster kind → CountsCommit cluster.facts.commits kind
 commit-counts cluster (kinds.Log happening) counts = counts
 commit-counts cluster _ counts = tt
 
 -- one more event takes the room of one
 pub HasRoom-cluster_after : (cluster : Cluster) (kind : EventKind) (events : ℕ) → Counts cluster kind → HasRoom cluster (1 + events) → HasRoom (cluster_after cluster kind) events
 HasRoom-cluster_after cluster kind events counts room = record {
-  clock = omega (arith, room.clock, (now-more cluster.book.clock kind).0);
-  revision = omega (arith, room.revision, revision-more (now_after cluster.book.clock kind) cluster.book.keys kind);
+  clock = omega (arith, room.clock, (now-more cluster.facts.clock kind).0);
+  revision = omega (arith, room.revision, revision-more (now_after cluster.facts.clock kind) cluster.facts.keys kind);
   sent = omega (arith, room.sent, sent-more cluster kind counts);
   runs = runs-room cluster events kind counts room.runs;
   numbers = omega (arith, room.numbers);
   agents = agents-numbers cluster events kind room.numbers room.agents;
-  timelines = servers-room (now_after cluster.book.clock kind) events cluster.book.servers kind room.timelines;
-  commits = omega (arith, room.commits, commits-more cluster.book.commits kind (commit-counts cluster kind counts));
+  timelines = servers-room (now_after cluster.facts.clock kind) events cluster.facts.servers kind room.timelines;
+  commits = omega (arith, room.commits, commits-more cluster.facts.commits kind (commit-counts cluster kind counts));
 }
 
 -- an input of an agent takes the room of one event
@@ -197,15 +197,15 @@ HasRoom-heard cluster member heard events room = record {
   clock = omega (arith, room.clock);
   revision = omega (arith, room.revision);
   sent = omega (arith, room.sent);
-  runs = All-weaker AgentProcess (HasRun (1 + events)) (HasRun events) cluster.book.agents (run-fewer events) room.runs;
+  runs = All-weaker AgentProcess (HasRun (1 + events)) (HasRun events) cluster.facts.processes (run-fewer events) room.runs;
   numbers = omega (arith, room.numbers);
   agents = input-numbers-if cluster member heard events room.agents;
-  timelines = All-weaker ServerFacts (HasTimeline (1 + events)) (HasTimeline events) cluster.book.servers (λ s has. omega (arith, has)) room.timelines;
+  timelines = All-weaker ServerFacts (HasTimeline (1 + events)) (HasTimeline events) cluster.facts.servers (λ s has. omega (arith, has)) room.timelines;
   commits = omega (arith, room.commits);
 }
 
 -- so it is whatever is in flight
-pub HasRoom-landed : (cluster : Cluster) (flight : Flight) (events : ℕ) → HasRoom cluster events → HasRoom (record cluster { book = record cluster.book { flight = flight } }) events
+pub HasRoom-landed : (cluster : Cluster) (flight : Flight) (events : ℕ) → HasRoom cluster events → HasRoom (record cluster { facts = record cluster.facts { flight = flight } }) events
 HasRoom-landed cluster flight events room = record {
   clock = room.clock;
   revision = room.revision;
@@ -223,9 +223,9 @@ HasRoom-fewer cluster more fewer h room = record {
   clock = omega (arith, room.clock);
   revision = omega (arith, room.revision);
   sent = omega (arith, room.sent);
-  runs = All-weaker AgentProcess (HasRun more) (HasRun fewer) cluster.book.agents (λ state has. omega (arith, has, h)) room.runs;
+  runs = All-weaker AgentProcess (HasRun more) (HasRun fewer) cluster.facts.processes (λ state has. omega (arith, has, h)) room.runs;
   numbers = omega (arith, room.numbers, h);
   agents = All-weaker (Option AgentFacts) (HasNumbers more) (HasNumbers fewer) cluster.agents (numbers-fewer more fewer h) room.agents;
-  timelines = All-weaker ServerFacts (HasTimeline more) (HasTimeline fewer) cluster.book.servers (λ s has. omega (arith, has, h)) room.timelines;
+  timelines = All-weaker ServerFacts (HasTimeline more) (HasTimeline fewer) cluster.facts.servers (λ s has. omega (arith, has, h)) room.timelines;
   commits = omega (arith, room.commits);
 }

@@ -35,26 +35,26 @@ entry-is : (found : Option ServerFacts) (serial bytes : ℕ) (entry : Entry) →
 entry-is None serial bytes entry is = absurd (none-some entry is)
 entry-is (Some s) serial bytes entry is = entry-if (writes s.state && nat_le (end_of (entries_of s.log) + bytes) (2 ^ 63)) s serial bytes entry is
 
-comes-if : (cluster : Cluster) (member : Member) (bytes : ℕ) (found : Option Entry) → entry_for cluster.book.servers member.id.number (cluster.book.commits + 1) bytes ≡ found → MayCome cluster (commit_of member found)
+comes-if : (cluster : Cluster) (member : Member) (bytes : ℕ) (found : Option Entry) → entry_for cluster.facts.servers member.id.number (cluster.facts.commits + 1) bytes ≡ found → MayCome cluster (commit_of member found)
 comes-if cluster member bytes None is = record { bare = tt; counts = tt; serves = tt }
 comes-if cluster member bytes (Some entry) is =
-    let entry_is = entry-is (slice_get cluster.book.servers member.id.number) (cluster.book.commits + 1) bytes entry is in
+    let entry_is = entry-is (slice_get cluster.facts.servers member.id.number) (cluster.facts.commits + 1) bytes entry is in
     let place = member.id.number in
-    let same = ap (λ (n : ℕ). entry_for cluster.book.servers place n entry.bytes) entry_is.serial_is ∙ ap (λ (n : ℕ). entry_for cluster.book.servers place (cluster.book.commits + 1) n) entry_is.bytes_are ∙ is in
+    let same = ap (λ (n : ℕ). entry_for cluster.facts.servers place n entry.bytes) entry_is.serial_is ∙ ap (λ (n : ℕ). entry_for cluster.facts.servers place (cluster.facts.commits + 1) n) entry_is.bytes_are ∙ is in
     record { bare = tt; counts = omega (arith, entry_is.serial_is); serves = same }
 
 -- a commit with the next number may be appended, or be refused
-pub commit-comes : (cluster : Cluster) (member : Member) (bytes : ℕ) → MayCome cluster (commit_of member (entry_for cluster.book.servers member.id.number (cluster.book.commits + 1) bytes))
-commit-comes cluster member bytes = comes-if cluster member bytes (entry_for cluster.book.servers member.id.number (cluster.book.commits + 1) bytes) refl
+pub commit-comes : (cluster : Cluster) (member : Member) (bytes : ℕ) → MayCome cluster (commit_of member (entry_for cluster.facts.servers member.id.number (cluster.facts.commits + 1) bytes))
+commit-comes cluster member bytes = comes-if cluster member bytes (entry_for cluster.facts.servers member.id.number (cluster.facts.commits + 1) bytes) refl
 
 roomy-at : (known : List ServerFacts) (place : ℕ) (found : Option ServerFacts) → slice_get known place ≡ found → ((s : ServerFacts) → slice_get known place ≡ Some s → s.timeline + 2 < 2 ^ 60) → IfSome found (λ s. s.timeline < 2 ^ 60)
 roomy-at known place None is room = tt
 roomy-at known place (Some s) is room = omega (arith, room s is)
 
 -- where there is room for two more events, the timeline of no server is at its end
-pub timeline-below : (cluster : Cluster) (place : ℕ) → HasRoom cluster 2 → IfSome (slice_get cluster.book.servers place) (λ s. s.timeline < 2 ^ 60)
+pub timeline-below : (cluster : Cluster) (place : ℕ) → HasRoom cluster 2 → IfSome (slice_get cluster.facts.servers place) (λ s. s.timeline < 2 ^ 60)
 timeline-below cluster place room =
-    roomy-at cluster.book.servers place (slice_get cluster.book.servers place) refl (λ s is. All-at ServerFacts (λ s. s.timeline + 2 < 2 ^ 60) cluster.book.servers place s room.timelines is)
+    roomy-at cluster.facts.servers place (slice_get cluster.facts.servers place) refl (λ s is. All-at ServerFacts (λ s. s.timeline + 2 < 2 ^ 60) cluster.facts.servers place s room.timelines is)
 
 pub replica-if : (replica : Bool) (next timeline : ℕ) → (if replica then Some next else None) ≡ Some timeline → (replica ≡ true) × (next ≡ timeline)
 replica-if true next timeline is = (refl, same_Some next timeline is)
@@ -83,8 +83,8 @@ no-primary-start known place now s there quick =
     ∙ ap (λ (slow : Bool). slice_set known place (if slow then primary_started (record { 0 = now }) s else s)) quick ∙ set-got known place s there)
 
 -- where there is room for one more event, the timeline of no server is at its end
-pub timeline-under : (cluster : Cluster) (place : ℕ) → HasRoom cluster 1 → IfSome (slice_get cluster.book.servers place) (λ s. s.timeline < 2 ^ 60)
-timeline-under cluster place room = roomy-under cluster.book.servers place (slice_get cluster.book.servers place) refl (λ s is. All-at ServerFacts (λ s. s.timeline + 1 < 2 ^ 60) cluster.book.servers place s room.timelines is)
+pub timeline-under : (cluster : Cluster) (place : ℕ) → HasRoom cluster 1 → IfSome (slice_get cluster.facts.servers place) (λ s. s.timeline < 2 ^ 60)
+timeline-under cluster place room = roomy-under cluster.facts.servers place (slice_get cluster.facts.servers place) refl (λ s is. All-at ServerFacts (λ s. s.timeline + 1 < 2 ^ 60) cluster.facts.servers place s room.timelines is)
   where
     roomy-under : (known : List ServerFacts) (place : ℕ) (found : Option ServerFacts) → slice_get known place ≡ found → ((s : ServerFacts) → slice_get known place ≡ Some s → s.timeline + 1 < 2 ^ 60) → IfSome found (λ s. s.timeline < 2 ^ 60)
     roomy-under known place None is room = tt

@@ -18,7 +18,7 @@ use Rattle.pat_world.proofs.Taking.{Emits-one}
 
 -- a cluster with other servers, other frozen ones, another last commit and other acknowledged ones
 abbrev pub serving : Cluster → List ServerFacts → List Bool → ℕ → List ℕ → Cluster
-serving cluster servers frozen commits acknowledged = record cluster { book = record cluster.book { servers = servers; frozen = frozen; commits = commits; acknowledged = acknowledged } }
+serving cluster servers frozen commits acknowledged = record cluster { facts = record cluster.facts { servers = servers; frozen = frozen; commits = commits; acknowledged = acknowledged } }
 
 -- what concerns servers, their logs and their replication, and notes
 abbrev pub IsServing : EventKind → Type 0
@@ -29,7 +29,7 @@ IsServing (kinds.Note note) = Unit {0}
 IsServing _ = ⊥
 
 abbrev pub served : Cluster → EventKind → Cluster
-served cluster kind = serving cluster (servers_after cluster.book.clock cluster.book.servers kind) (frozen_after cluster.book.frozen kind) (commits_after cluster.book.commits kind) (acknowledged_after cluster.book.acknowledged kind)
+served cluster kind = serving cluster (servers_after cluster.facts.clock cluster.facts.servers kind) (frozen_after cluster.facts.frozen kind) (commits_after cluster.facts.commits kind) (acknowledged_after cluster.facts.acknowledged kind)
 
 -- it changes nothing else
 pub serving-cluster_after : (cluster : Cluster) (kind : EventKind) → IsServing kind → cluster_after cluster kind ≡ served cluster kind
@@ -40,8 +40,8 @@ serving-cluster_after cluster (kinds.Note note) is = refl
 serving-cluster_after cluster _ is = absurd is
 
 -- one thing happened at servers
-pub serving-took : (cluster after : Cluster) (kind : EventKind) (tick : Ticks) (had has : List Event) → IsServing kind → Counts cluster kind → after ≡ served cluster kind → tick.0 ≡ cluster.book.clock
+pub serving-took : (cluster after : Cluster) (kind : EventKind) (tick : Ticks) (had has : List Event) → IsServing kind → Counts cluster kind → after ≡ served cluster kind → tick.0 ≡ cluster.facts.clock
     → has ≡ had ++ record { tick = tick; kind = kind } ∷ [] → Emits cluster after had has (event_of cluster kind) 1
 serving-took cluster after kind tick had has is counts state at has_is =
     Emits-one cluster after had has kind counts (state ∙ sym (serving-cluster_after cluster kind is))
-    (has_is ∙ ap (λ es. had ++ es) (stamped-is cluster tick kind (at ∙ ap (λ (c : Cluster). c.book.clock) (sym (serving-cluster_after cluster kind is)))))
+    (has_is ∙ ap (λ es. had ++ es) (stamped-is cluster tick kind (at ∙ ap (λ (c : Cluster). c.facts.clock) (sym (serving-cluster_after cluster kind is)))))

@@ -41,21 +41,21 @@ held-if cluster number message deliveries.Cut e = no-events _ _ e
 held-if cluster number message deliveries.Gone e = no-events _ _ e
 
 -- a message that doesn't move is kept for a receiver that is suspended
-still-held : (cluster : Cluster) (number : ℕ) (message : InFlightFacts) → in_flight cluster.book.flight number ≡ Some message → message_events cluster number ≡ [] → delivery_of cluster.book.cuts cluster.book.agents message.message ≡ deliveries.Suspended
+still-held : (cluster : Cluster) (number : ℕ) (message : InFlightFacts) → in_flight cluster.facts.flight number ≡ Some message → message_events cluster number ≡ [] → delivery_of cluster.facts.cuts cluster.facts.processes message.message ≡ deliveries.Suspended
 still-held cluster number message is none =
-    held-if cluster number message (delivery_of cluster.book.cuts cluster.book.agents message.message)
-    (subst (λ (o : Option InFlightFacts). for_some o (λ m. message_events_by cluster number m (delivery_of cluster.book.cuts cluster.book.agents m.message)) ≡ []) is none)
+    held-if cluster number message (delivery_of cluster.facts.cuts cluster.facts.processes message.message)
+    (subst (λ (o : Option InFlightFacts). for_some o (λ m. message_events_by cluster number m (delivery_of cluster.facts.cuts cluster.facts.processes m.message)) ≡ []) is none)
 
-kept-if : (cluster : Cluster) (number : ℕ) (found : Option InFlightFacts) → in_flight cluster.book.flight number ≡ found
-    → ((message : InFlightFacts) → in_flight cluster.book.flight number ≡ Some message → delivery_of cluster.book.cuts cluster.book.agents message.message ≡ deliveries.Suspended)
-    → for_some found (λ m. message_events_by cluster number m (delivery_of cluster.book.cuts cluster.book.agents m.message)) ≡ []
+kept-if : (cluster : Cluster) (number : ℕ) (found : Option InFlightFacts) → in_flight cluster.facts.flight number ≡ found
+    → ((message : InFlightFacts) → in_flight cluster.facts.flight number ≡ Some message → delivery_of cluster.facts.cuts cluster.facts.processes message.message ≡ deliveries.Suspended)
+    → for_some found (λ m. message_events_by cluster number m (delivery_of cluster.facts.cuts cluster.facts.processes m.message)) ≡ []
 kept-if cluster number None is kept = refl
 kept-if cluster number (Some message) is kept = ap (message_events_by cluster number message) (kept message is)
 
 -- and one that is kept doesn't move
-pub kept-still : (cluster : Cluster) (number : ℕ) → ((message : InFlightFacts) → in_flight cluster.book.flight number ≡ Some message → delivery_of cluster.book.cuts cluster.book.agents message.message ≡ deliveries.Suspended)
+pub kept-still : (cluster : Cluster) (number : ℕ) → ((message : InFlightFacts) → in_flight cluster.facts.flight number ≡ Some message → delivery_of cluster.facts.cuts cluster.facts.processes message.message ≡ deliveries.Suspended)
     → message_events cluster number ≡ []
-kept-still cluster number kept = kept-if cluster number (in_flight cluster.book.flight number) refl kept
+kept-still cluster number kept = kept-if cluster number (in_flight cluster.facts.flight number) refl kept
 
 no-yes : false ≡ true → ⊥
 no-yes e = cc
@@ -81,9 +81,9 @@ entries-still cluster (entry ∷ entries) none n message is =
     found-still cluster entry (in_flight entries n) n message (is_at (nat_cmp n) entry.0) refl both.0 (λ there. entries-still cluster entries rest n message there) is
 
 -- after a round in which nothing happens all that is in flight is kept
-pub round_events-kept : (cluster : Cluster) → round_events cluster ≡ [] → (n : ℕ) (message : InFlightFacts) → in_flight cluster.book.flight n ≡ Some message → delivery_of cluster.book.cuts cluster.book.agents message.message ≡ deliveries.Suspended
+pub round_events-kept : (cluster : Cluster) → round_events cluster ≡ [] → (n : ℕ) (message : InFlightFacts) → in_flight cluster.facts.flight n ≡ Some message → delivery_of cluster.facts.cuts cluster.facts.processes message.message ≡ deliveries.Suspended
 round_events-kept cluster none n message is =
-    let woken = each wake_events cluster cluster.book.members in
-    let both = first-empty woken (each message_events (cluster_over cluster woken) (keys_of (cluster_over cluster woken).book.flight)) none in
-    let rest : each message_events cluster (keys_of cluster.book.flight) ≡ [] = ap (λ (es : List Event). each message_events (cluster_over cluster es) (keys_of (cluster_over cluster es).book.flight)) (sym both.0) ∙ both.1 in
-    still-held cluster n message is (entries-still cluster cluster.book.flight rest n message is)
+    let woken = each wake_events cluster cluster.facts.members in
+    let both = first-empty woken (each message_events (cluster_over cluster woken) (keys_of (cluster_over cluster woken).facts.flight)) none in
+    let rest : each message_events cluster (keys_of cluster.facts.flight) ≡ [] = ap (λ (es : List Event). each message_events (cluster_over cluster es) (keys_of (cluster_over cluster es).facts.flight)) (sym both.0) ∙ both.1 in
+    still-held cluster n message is (entries-still cluster cluster.facts.flight rest n message is)

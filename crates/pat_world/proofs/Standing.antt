@@ -16,22 +16,22 @@ use Rattle.pat_world.specs.Emits.{Emits}
 use Rattle.pat_world.proofs.Taking.{cluster_over-append}
 
 -- what a book leaves is what it leaves of the facts, and where the agents stand
-book-left : (cluster : Cluster) (events : List Event) → (cluster_over cluster events).book ≡ facts_over cluster.book events
+book-left : (cluster : Cluster) (events : List Event) → (cluster_over cluster events).facts ≡ facts_over cluster.facts events
 book-left cluster [] = refl
 book-left cluster (event ∷ events) = book-left (cluster_after cluster event.kind) events
 
 -- what a book leaves stands for it
 pub is-stands : (start : Cluster) (book : List Event) (world : Cluster) → world ≡ left_by start book → StandsFor start book world
 is-stands start book world is =
-    let facts : world.book ≡ facts_over start.book book = ap (λ (w : Cluster). w.book) is ∙ book-left start book in
-    let servers : world.book.servers ≡ (facts_over start.book book).servers = ap (λ (f : Facts). f.servers) facts in
+    let facts : world.facts ≡ facts_over start.facts book = ap (λ (w : Cluster). w.facts) is ∙ book-left start book in
+    let servers : world.facts.servers ≡ (facts_over start.facts book).servers = ap (λ (f : Facts). f.servers) facts in
     record {
       world_is = is;
-      logs = ap logs_in servers ∙ logs-told start.book book;
-      writers = λ n declared. ap (λ (known : List ServerFacts). writes_in known n) servers ∙ writes-told start.book book n declared;
-      required = ap required_in servers ∙ required-told start.book book;
-      confirmed = ap confirmed_in servers ∙ confirmed-told start.book book;
-      acknowledged = ap (λ (f : Facts). f.acknowledged) facts ∙ acknowledged-told start.book book;
+      logs = ap logs_in servers ∙ logs-told start.facts book;
+      writers = λ n declared. ap (λ (known : List ServerFacts). writes_in known n) servers ∙ writes-told start.facts book n declared;
+      required = ap required_in servers ∙ required-told start.facts book;
+      confirmed = ap confirmed_in servers ∙ confirmed-told start.facts book;
+      acknowledged = ap (λ (f : Facts). f.acknowledged) facts ∙ acknowledged-told start.facts book;
     }
 
 -- a step adds the events that come next to the book

@@ -12,7 +12,7 @@ use Rattle.cluster_script.specs.declared.head.MemberOptions.{MemberOptions}
 use Rattle.cluster_script.specs.Script.{HeadText, names_of}
 use Rattle.event_book.specs.declared.member.Member.{Member}
 use Rattle.event_book.specs.declared.agent_process.AgentProcess.{AgentProcess}
-use Rattle.event_book.specs.Agents.{first_agents, running_in}
+use Rattle.event_book.specs.Processes.{first_processes, running_in}
 use Rattle.event_book.specs.Members.{members_from, put_first}
 use Rattle.cluster_model.specs.Starting.{cluster_of, first_agent}
 use Rattle.pat_world.specs.Room.{HasNumbers, HasRoom}
@@ -35,13 +35,13 @@ members-more names done longer place member so id name is =
     ∙ ap (λ ns. done ++ members_from place ns) (sym (drop-get Name names place member.name name))
     ∙ so
 
-agents-one : (n k : ℕ) → n ≡ suc k → first_agents n ≡ running_in 1 ∷ first_agents k
+agents-one : (n k : ℕ) → n ≡ suc k → first_processes n ≡ running_in 1 ∷ first_processes k
 agents-one n k e = rw e refl
 
-pub agents-more : (done longer : List AgentProcess) (place count : ℕ) → place < count → done ++ first_agents (count - place) ≡ first_agents count → longer ≡ done ++ running_in 1 ∷ [] → longer ++ first_agents (count - (place + 1)) ≡ first_agents count
+pub agents-more : (done longer : List AgentProcess) (place count : ℕ) → place < count → done ++ first_processes (count - place) ≡ first_processes count → longer ≡ done ++ running_in 1 ∷ [] → longer ++ first_processes (count - (place + 1)) ≡ first_processes count
 agents-more done longer place count h so is =
-    ap (λ l. l ++ first_agents (count - (place + 1))) is
-    ∙ append_assoc done (running_in 1 ∷ []) (first_agents (count - (place + 1)))
+    ap (λ l. l ++ first_processes (count - (place + 1))) is
+    ∙ append_assoc done (running_in 1 ∷ []) (first_processes (count - (place + 1)))
     ∙ ap (λ t. done ++ t) (sym (agents-one (count - place) (count - (place + 1)) (omega arith)))
     ∙ so
 
@@ -71,9 +71,9 @@ rest-end X all done place so h = sym (append-nil done) ∙ ap (λ xs. done ++ xs
 abbrev pub ample : ℕ
 ample = 2 ^ 54
 
-first-run : (count : ℕ) → All (λ (state : AgentProcess). state.run + ample < 2 ^ 60) (first_agents count)
+first-run : (count : ℕ) → All (λ (state : AgentProcess). state.run + ample < 2 ^ 60) (first_processes count)
 first-run zero = All-nil (λ (state : AgentProcess). state.run + ample < 2 ^ 60)
-first-run (suc count) = All-cons (λ (state : AgentProcess). state.run + ample < 2 ^ 60) (running_in 1) (first_agents count) (omega arith) (first-run count)
+first-run (suc count) = All-cons (λ (state : AgentProcess). state.run + ample < 2 ^ 60) (running_in 1) (first_processes count) (omega arith) (first-run count)
 
 first-numbers : (scope : Name) (options : List MemberOptions) (members all : List Member) → All (HasNumbers ample) (map (first_agent scope options members) all)
 first-numbers scope options members [] = All-nil (HasNumbers ample)
@@ -91,7 +91,7 @@ start-room head = record {
   sent = omega arith;
   runs = first-run (length (names_of head));
   numbers = omega arith;
-  agents = first-numbers head.cluster (cluster_of head).options (cluster_of head).book.members (cluster_of head).book.members;
+  agents = first-numbers head.cluster (cluster_of head).options (cluster_of head).facts.members (cluster_of head).facts.members;
   timelines = first-timeline head.base (length (names_of head));
   commits = omega arith;
 }

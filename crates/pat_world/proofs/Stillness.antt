@@ -37,33 +37,33 @@ unconfirmed-none : (cluster : Cluster) (member from : Member) (unconfirmed : Opt
 unconfirmed-none cluster member from None none = refl
 unconfirmed-none cluster member from (Some end) none = no-events _ _ none
 
-no-news : (cluster : Cluster) (member from : Member) (news : Option Streamed) → receive_events cluster member from news ≡ [] → IsNoNews news (unconfirmed_end member (slice_get cluster.book.servers member.id.number) (slice_get cluster.book.servers from.id.number))
-no-news cluster member from None none = unconfirmed-none cluster member from (unconfirmed_end member (slice_get cluster.book.servers member.id.number) (slice_get cluster.book.servers from.id.number)) none
+no-news : (cluster : Cluster) (member from : Member) (news : Option Streamed) → receive_events cluster member from news ≡ [] → IsNoNews news (unconfirmed_end member (slice_get cluster.facts.servers member.id.number) (slice_get cluster.facts.servers from.id.number))
+no-news cluster member from None none = unconfirmed-none cluster member from (unconfirmed_end member (slice_get cluster.facts.servers member.id.number) (slice_get cluster.facts.servers from.id.number)) none
 no-news cluster member from (Some streams.NotConnected) none = tt
 no-news cluster member from (Some (streams.Diverged at)) none = no-events _ _ none
 no-news cluster member from (Some (streams.Received count)) none = no-events _ _ none
 
-no-source : (cluster : Cluster) (member : Member) (source : Option Member) → for_some source (λ from. receive_events cluster member from (news_at cluster.book.servers member.id.number from.id.number all_entries)) ≡ []
-    → HasNoNewsFrom cluster.book.servers member source
+no-source : (cluster : Cluster) (member : Member) (source : Option Member) → for_some source (λ from. receive_events cluster member from (news_at cluster.facts.servers member.id.number from.id.number all_entries)) ≡ []
+    → HasNoNewsFrom cluster.facts.servers member source
 no-source cluster member None none = tt
-no-source cluster member (Some from) none = no-news cluster member from (news_at cluster.book.servers member.id.number from.id.number all_entries) none
+no-source cluster member (Some from) none = no-news cluster member from (news_at cluster.facts.servers member.id.number from.id.number all_entries) none
 
 receives-none : (cluster : Cluster) (member : Member) (frozen : Option Bool) → for_some frozen (λ is_frozen. if is_frozen then [] else receive_events_at_most cluster all_entries member) ≡ []
-    → ReceivesNone cluster.book.members cluster.book.servers cluster.book.cuts member frozen
+    → ReceivesNone cluster.facts.members cluster.facts.servers cluster.facts.cuts member frozen
 receives-none cluster member None none = tt
 receives-none cluster member (Some true) none = tt
-receives-none cluster member (Some false) none = no-source cluster member (source_of cluster.book.members cluster.book.servers cluster.book.cuts member) none
+receives-none cluster member (Some false) none = no-source cluster member (source_of cluster.facts.members cluster.facts.servers cluster.facts.cuts member) none
 
 -- nothing moves where nothing was received, no round brought anything, and no commit may be acknowledged
-still-if : (cluster : Cluster) → scheduled_events cluster ≡ [] → AreAcknowledged cluster.book.members cluster.book.servers → NothingMoves cluster
+still-if : (cluster : Cluster) → scheduled_events cluster ≡ [] → AreAcknowledged cluster.facts.members cluster.facts.servers → NothingMoves cluster
 still-if cluster none done =
-    let received = each receive_events_of cluster cluster.book.members in
+    let received = each receive_events_of cluster cluster.facts.members in
     let both = first-empty received (rounds_events (cluster_over cluster received) most_rounds) none in
     let rounds : rounds_events cluster most_rounds ≡ [] = ap (λ (es : List Event). rounds_events (cluster_over cluster es) most_rounds) (sym both.0) ∙ both.1 in
     record {
       messages = round_events-kept cluster (rounds_events-silent cluster rounds);
-      replicas = All-weaker Member (λ (m : Member). receive_events_of cluster m ≡ []) (λ (m : Member). ReceivesNone cluster.book.members cluster.book.servers cluster.book.cuts m (slice_get cluster.book.frozen m.id.number)) cluster.book.members
-          (λ m received. receives-none cluster m (slice_get cluster.book.frozen m.id.number) received) (each-none Member receive_events_of cluster cluster.book.members both.0);
+      replicas = All-weaker Member (λ (m : Member). receive_events_of cluster m ≡ []) (λ (m : Member). ReceivesNone cluster.facts.members cluster.facts.servers cluster.facts.cuts m (slice_get cluster.facts.frozen m.id.number)) cluster.facts.members
+          (λ m received. receives-none cluster m (slice_get cluster.facts.frozen m.id.number) received) (each-none Member receive_events_of cluster cluster.facts.members both.0);
       commits = done;
     }
 
@@ -76,20 +76,20 @@ one-event event first second third one =
 -- what a tick brings beside itself
 abbrev tick_rest : Cluster → List Event
 tick_rest cluster =
-    events_then (cluster_after cluster kinds.Tick) (each reset_events (cluster_after cluster kinds.Tick) cluster.book.members) (λ reset.
+    events_then (cluster_after cluster kinds.Tick) (each reset_events (cluster_after cluster kinds.Tick) cluster.facts.members) (λ reset.
     events_then reset (events_of reset (next_expiries cluster)) (λ expired.
-    each completion_events expired expired.book.members))
+    each completion_events expired expired.facts.members))
 
 -- a step of the default schedule that brought one event brought its tick alone, and nothing moves behind it
-pub tick-alone : (before after : Cluster) (had has : List Event) (cost : ℕ) → had ≡ [] → length has ≡ 1 → Emits before after had has (next_events before steps.Scheduled) cost → AreAcknowledged after.book.members after.book.servers
+pub tick-alone : (before after : Cluster) (had has : List Event) (cost : ℕ) → had ≡ [] → length has ≡ 1 → Emits before after had has (next_events before steps.Scheduled) cost → AreAcknowledged after.facts.members after.facts.servers
     → NothingMoves after
 tick-alone before after had has cost none one took done =
     let ticked = cluster_after before kinds.Tick in
     let rest = tick_rest before in
     let scheduled = scheduled_events (cluster_over ticked rest) in
     let played = step_events before steps.Scheduled in
-    let acks = each acknowledge_events (cluster_over before played) (cluster_over before played).book.members in
-    let event : Event = record { tick = record { 0 = ticked.book.clock }; kind = kinds.Tick } in
+    let acks = each acknowledge_events (cluster_over before played) (cluster_over before played).facts.members in
+    let event : Event = record { tick = record { 0 = ticked.facts.clock }; kind = kinds.Tick } in
     let whole : has ≡ next_events before steps.Scheduled = took.event ∙ ap (λ (es : List Event). es ++ next_events before steps.Scheduled) none in
     let parts = one-event event rest scheduled acks (ap length (sym whole) ∙ one) in
     let silent : scheduled_events ticked ≡ [] = ap (λ (es : List Event). scheduled_events (cluster_over ticked es)) (sym parts.0) ∙ parts.1 in
@@ -98,5 +98,5 @@ tick-alone before after had has cost none one took done =
     ∙ ap (cluster_over before) (append-nil ((event ∷ rest) ++ scheduled))
     ∙ ap (λ (es : List Event). cluster_over before ((event ∷ rest) ++ es)) parts.1
     ∙ ap (λ (es : List Event). cluster_over before ((event ∷ es) ++ [])) parts.0 in
-    let acknowledged = subst (λ (c : Cluster). AreAcknowledged c.book.members c.book.servers) state done in
+    let acknowledged = subst (λ (c : Cluster). AreAcknowledged c.facts.members c.facts.servers) state done in
     subst NothingMoves (sym state) (still-if ticked silent acknowledged)

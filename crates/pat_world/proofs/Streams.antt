@@ -34,15 +34,15 @@ use Rattle.pat_world.proofs.Taking.{Emits-weaker}
 
 -- a cluster with other servers
 abbrev pub with_servers : Cluster → List ServerFacts → Cluster
-with_servers cluster servers = record cluster { book = record cluster.book { servers = servers } }
+with_servers cluster servers = record cluster { facts = record cluster.facts { servers = servers } }
 
 abbrev confirmed : ServerOf → Member → Lsn → EventKind
 confirmed server member end = kinds.Replication (replications.Confirmed server member end)
 
 -- a replica confirmed the end of its log
 pub confirm-took : (cluster : Cluster) (member from : Member) (end : Lsn) (server : ServerOf) (known : List ServerFacts) (tick : Ticks) (had has : List Event)
-    → unconfirmed_end member (slice_get cluster.book.servers member.id.number) (slice_get cluster.book.servers from.id.number) ≡ Some end → server ≡ server_of from
-    → known ≡ with_changed cluster.book.servers from.id.number (confirming member.id end) → tick.0 ≡ cluster.book.clock → has ≡ had ++ record { tick = tick; kind = confirmed server member end } ∷ []
+    → unconfirmed_end member (slice_get cluster.facts.servers member.id.number) (slice_get cluster.facts.servers from.id.number) ≡ Some end → server ≡ server_of from
+    → known ≡ with_changed cluster.facts.servers from.id.number (confirming member.id end) → tick.0 ≡ cluster.facts.clock → has ≡ had ++ record { tick = tick; kind = confirmed server member end } ∷ []
     → Emits cluster (with_servers cluster known) had has (confirm_events cluster member from) 1
 confirm-took cluster member from end server known tick had has is of_is told at has_is =
     subst (λ (o : Option Lsn). Emits cluster (with_servers cluster known) had has (events_of cluster (kinds_of (confirm_of member from o))) 1) (sym is)
@@ -50,18 +50,18 @@ confirm-took cluster member from end server known tick had has is of_is told at 
     (has_is ∙ ap (λ (s : ServerOf). had ++ record { tick = tick; kind = confirmed s member end } ∷ []) of_is))
 
 -- there was nothing new, and the replica confirms
-pub quiet-took : (cluster after : Cluster) (member from : Member) (most : ℕ) (known : List ServerFacts) (had has : List Event) → news_at cluster.book.servers member.id.number from.id.number most ≡ None
-    → known ≡ streamed_at cluster.book.servers member.id.number from.id.number most → Emits (with_servers cluster known) after had has (confirm_events (with_servers cluster known) member from) 1
-    → Emits cluster after had has (receive_events cluster member from (news_at cluster.book.servers member.id.number from.id.number most)) 2
+pub quiet-took : (cluster after : Cluster) (member from : Member) (most : ℕ) (known : List ServerFacts) (had has : List Event) → news_at cluster.facts.servers member.id.number from.id.number most ≡ None
+    → known ≡ streamed_at cluster.facts.servers member.id.number from.id.number most → Emits (with_servers cluster known) after had has (confirm_events (with_servers cluster known) member from) 1
+    → Emits cluster after had has (receive_events cluster member from (news_at cluster.facts.servers member.id.number from.id.number most)) 2
 quiet-took cluster after member from most known had has none state took =
-    let same : known ≡ cluster.book.servers = state ∙ ap (after_news_at cluster.book.servers member.id.number from.id.number) none in
+    let same : known ≡ cluster.facts.servers = state ∙ ap (after_news_at cluster.facts.servers member.id.number from.id.number) none in
     let confirming : Emits cluster after had has (confirm_events cluster member from) 1 = subst (λ (s : List ServerFacts). Emits (with_servers cluster s) after had has (confirm_events (with_servers cluster s) member from) 1) same took in
     subst (λ (o : Option Streamed). Emits cluster after had has (receive_events cluster member from o) 2) (sym none) (Emits-weaker cluster after had has (confirm_events cluster member from) 1 2 confirming (omega arith))
 
-pub quiet-room : (cluster : Cluster) (member from : Member) (most : ℕ) (known : List ServerFacts) → news_at cluster.book.servers member.id.number from.id.number most ≡ None
-    → known ≡ streamed_at cluster.book.servers member.id.number from.id.number most → HasRoom cluster 2 → HasRoom (with_servers cluster known) 1
+pub quiet-room : (cluster : Cluster) (member from : Member) (most : ℕ) (known : List ServerFacts) → news_at cluster.facts.servers member.id.number from.id.number most ≡ None
+    → known ≡ streamed_at cluster.facts.servers member.id.number from.id.number most → HasRoom cluster 2 → HasRoom (with_servers cluster known) 1
 quiet-room cluster member from most known none state room =
-    let same : known ≡ cluster.book.servers = state ∙ ap (after_news_at cluster.book.servers member.id.number from.id.number) none in
+    let same : known ≡ cluster.facts.servers = state ∙ ap (after_news_at cluster.facts.servers member.id.number from.id.number) none in
     subst (λ (s : List ServerFacts). HasRoom (with_servers cluster s) 1) (sym same) (HasRoom-fewer cluster 2 1 (omega arith) room)
 
 no-news : (answer : Streamed) → None ≡ Some answer → ⊥
@@ -102,13 +102,13 @@ diverges-from known place most at found (Some upstream) is = refl
 
 -- the log of a replica diverged
 pub diverged-took : (cluster : Cluster) (member from : Member) (most : ℕ) (at : Lsn) (server upstream : ServerOf) (known : List ServerFacts) (tick : Ticks) (had has : List Event)
-    → news_at cluster.book.servers member.id.number from.id.number most ≡ Some (streams.Diverged at) → known ≡ streamed_at cluster.book.servers member.id.number from.id.number most
-    → server ≡ server_of member → upstream ≡ server_of from → tick.0 ≡ cluster.book.clock → has ≡ had ++ record { tick = tick; kind = kinds.Server (servers.Diverged server upstream at) } ∷ []
-    → Emits cluster (with_servers cluster known) had has (receive_events cluster member from (news_at cluster.book.servers member.id.number from.id.number most)) 2
+    → news_at cluster.facts.servers member.id.number from.id.number most ≡ Some (streams.Diverged at) → known ≡ streamed_at cluster.facts.servers member.id.number from.id.number most
+    → server ≡ server_of member → upstream ≡ server_of from → tick.0 ≡ cluster.facts.clock → has ≡ had ++ record { tick = tick; kind = kinds.Server (servers.Diverged server upstream at) } ∷ []
+    → Emits cluster (with_servers cluster known) had has (receive_events cluster member from (news_at cluster.facts.servers member.id.number from.id.number most)) 2
 diverged-took cluster member from most at server upstream known tick had has news state server_is upstream_is moment has_is =
     let place = member.id.number in
-    let told : known ≡ with_changed cluster.book.servers place (λ s. record s { diverged = true }) = state ∙ ap (after_news_at cluster.book.servers place from.id.number) news
-    ∙ diverges-from cluster.book.servers place most at (slice_get cluster.book.servers place) (slice_get cluster.book.servers from.id.number) news in
+    let told : known ≡ with_changed cluster.facts.servers place (λ s. record s { diverged = true }) = state ∙ ap (after_news_at cluster.facts.servers place from.id.number) news
+    ∙ diverges-from cluster.facts.servers place most at (slice_get cluster.facts.servers place) (slice_get cluster.facts.servers from.id.number) news in
     let kind : EventKind = kinds.Server (servers.Diverged (server_of member) (server_of from) at) in
     let written : has ≡ had ++ record { tick = tick; kind = kind } ∷ [] = has_is
     ∙ ap (λ (s : ServerOf). had ++ record { tick = tick; kind = kinds.Server (servers.Diverged s upstream at) } ∷ []) server_is
@@ -125,23 +125,23 @@ receive_events-by known place count None = refl
 receive_events-by known place count (Some upstream) = refl
 
 -- a replica received what was new
-pub received-state : (cluster : Cluster) (member from : Member) (most count : ℕ) (known : List ServerFacts) → news_at cluster.book.servers member.id.number from.id.number most ≡ Some (streams.Received count)
-    → known ≡ streamed_at cluster.book.servers member.id.number from.id.number most → with_servers cluster known ≡ cluster_after cluster (receipt member from count)
+pub received-state : (cluster : Cluster) (member from : Member) (most count : ℕ) (known : List ServerFacts) → news_at cluster.facts.servers member.id.number from.id.number most ≡ Some (streams.Received count)
+    → known ≡ streamed_at cluster.facts.servers member.id.number from.id.number most → with_servers cluster known ≡ cluster_after cluster (receipt member from count)
 received-state cluster member from most count known news state =
-    ap (with_servers cluster) (state ∙ ap (after_news_at cluster.book.servers member.id.number from.id.number) news ∙ receive_events-by cluster.book.servers member.id.number count (slice_get cluster.book.servers from.id.number))
+    ap (with_servers cluster) (state ∙ ap (after_news_at cluster.facts.servers member.id.number from.id.number) news ∙ receive_events-by cluster.facts.servers member.id.number count (slice_get cluster.facts.servers from.id.number))
     ∙ sym (serving-cluster_after cluster (receipt member from count) tt)
 
-pub received-room : (cluster : Cluster) (member from : Member) (most count : ℕ) (known : List ServerFacts) → news_at cluster.book.servers member.id.number from.id.number most ≡ Some (streams.Received count)
-    → known ≡ streamed_at cluster.book.servers member.id.number from.id.number most → HasRoom cluster 2 → HasRoom (with_servers cluster known) 1
+pub received-room : (cluster : Cluster) (member from : Member) (most count : ℕ) (known : List ServerFacts) → news_at cluster.facts.servers member.id.number from.id.number most ≡ Some (streams.Received count)
+    → known ≡ streamed_at cluster.facts.servers member.id.number from.id.number most → HasRoom cluster 2 → HasRoom (with_servers cluster known) 1
 received-room cluster member from most count known news state room =
     subst (λ (c : Cluster). HasRoom c 1) (sym (received-state cluster member from most count known news state)) (HasRoom-cluster_after cluster (receipt member from count) 1 tt room)
 
 -- and confirms
 pub received-took : (cluster after : Cluster) (member from : Member) (most count : ℕ) (server upstream : ServerOf) (known : List ServerFacts) (tick : Ticks) (had mid has : List Event)
-    → news_at cluster.book.servers member.id.number from.id.number most ≡ Some (streams.Received count) → known ≡ streamed_at cluster.book.servers member.id.number from.id.number most
-    → server ≡ server_of member → upstream ≡ server_of from → tick.0 ≡ cluster.book.clock → mid ≡ had ++ record { tick = tick; kind = kinds.Log (logs.Received server upstream count) } ∷ []
+    → news_at cluster.facts.servers member.id.number from.id.number most ≡ Some (streams.Received count) → known ≡ streamed_at cluster.facts.servers member.id.number from.id.number most
+    → server ≡ server_of member → upstream ≡ server_of from → tick.0 ≡ cluster.facts.clock → mid ≡ had ++ record { tick = tick; kind = kinds.Log (logs.Received server upstream count) } ∷ []
     → Emits (with_servers cluster known) after mid has (confirm_events (with_servers cluster known) member from) 1
-    → Emits cluster after had has (receive_events cluster member from (news_at cluster.book.servers member.id.number from.id.number most)) 2
+    → Emits cluster after had has (receive_events cluster member from (news_at cluster.facts.servers member.id.number from.id.number most)) 2
 received-took cluster after member from most count server upstream known tick had mid has news state server_is upstream_is moment mid_is rest =
     let written : mid ≡ had ++ record { tick = tick; kind = receipt member from count } ∷ [] = mid_is
     ∙ ap (λ (s : ServerOf). had ++ record { tick = tick; kind = kinds.Log (logs.Received s upstream count) } ∷ []) server_is

@@ -14,12 +14,12 @@ cluster_over-append cluster [] ys = refl
 cluster_over-append cluster (x ∷ xs) ys = cluster_over-append (cluster_after cluster x.kind) xs ys
 
 -- who is declared stays so
-pub members-stay : (cluster : Cluster) (events : List Event) → (cluster_over cluster events).book.members ≡ cluster.book.members
+pub members-stay : (cluster : Cluster) (events : List Event) → (cluster_over cluster events).facts.members ≡ cluster.facts.members
 members-stay cluster [] = refl
 members-stay cluster (event ∷ events) = members-stay (cluster_after cluster event.kind) events
 
-pub Emits-members : (before after : Cluster) (had has events : List Event) (cost : ℕ) → Emits before after had has events cost → after.book.members ≡ before.book.members
-Emits-members before after had has events cost took = ap (λ (c : Cluster). c.book.members) took.state ∙ members-stay before events
+pub Emits-members : (before after : Cluster) (had has events : List Event) (cost : ℕ) → Emits before after had has events cost → after.facts.members ≡ before.facts.members
+Emits-members before after had has events cost took = ap (λ (c : Cluster). c.facts.members) took.state ∙ members-stay before events
 
 -- nothing happened
 pub Emits-nothing : (cluster : Cluster) (had : List Event) (cost : ℕ) → Emits cluster cluster had had [] cost

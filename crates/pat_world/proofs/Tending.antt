@@ -15,7 +15,7 @@ use Rattle.event_book.specs.declared.link.Link.{Link}
 use Rattle.event_book.specs.declared.link.LinkEnd.{LinkEnd}
 use Rattle.event_book.specs.declared.link.LinkEnd.TheVariants as ends
 use Rattle.event_book.specs.declared.message.Message.{Message}
-use Rattle.event_book.specs.Agents.{agents_after, agents_by, agents_by_watchdog}
+use Rattle.event_book.specs.Processes.{processes_after, processes_by, processes_by_watchdog}
 use Rattle.event_book.specs.Flight.{Flight, InFlightFacts, in_flight}
 use Rattle.event_book.specs.Links.{CutLinks, cuts_after, end_count, end_number, is_cut, link_place}
 use Rattle.cluster_model.specs.declared.delivery.Delivery.{Delivery}
@@ -90,7 +90,7 @@ tended-kept old new number found flight states cuts there looser listed suspende
 ]
 
 -- ---- a happening that doesn't concern a message
-receiver-stays : (states : List AgentProcess) (happening : AgentEvent) (message : Message) (to : LinkEnd) → (ConcernsReceiver happening (end_number to) → ⊥) → delivery_to (agents_by states happening) message to ≡ delivery_to states message to
+receiver-stays : (states : List AgentProcess) (happening : AgentEvent) (message : Message) (to : LinkEnd) → (ConcernsReceiver happening (end_number to) → ⊥) → delivery_to (processes_by states happening) message to ≡ delivery_to states message to
 receiver-stays states happening message ends.Store apart = refl
 receiver-stays states (agents.Suspended agent) message (ends.Member member) apart = ap (delivery_to_agent message) (get-elsewhere states agent.id.number member.id.number _ apart)
 receiver-stays states (agents.Resumed agent) message (ends.Member member) apart = ap (delivery_to_agent message) (get-elsewhere states agent.id.number member.id.number _ apart)
@@ -98,7 +98,7 @@ receiver-stays states (agents.Killed agent) message (ends.Member member) apart =
 receiver-stays states (agents.Started agent run) message (ends.Member member) apart = ap (delivery_to_agent message) (get-elsewhere states agent.id.number member.id.number _ apart)
 receiver-stays states _ message (ends.Member member) apart = refl
 
-machine-stays : (states : List AgentProcess) (happening : WatchdogEvent) (message : Message) (to : LinkEnd) → (ConcernsMachine happening (end_number to) → ⊥) → delivery_to (agents_by_watchdog states happening) message to ≡ delivery_to states message to
+machine-stays : (states : List AgentProcess) (happening : WatchdogEvent) (message : Message) (to : LinkEnd) → (ConcernsMachine happening (end_number to) → ⊥) → delivery_to (processes_by_watchdog states happening) message to ≡ delivery_to states message to
 machine-stays states happening message ends.Store apart = refl
 machine-stays states (watchdogs.Reset by) message (ends.Member member) apart = ap (delivery_to_agent message) (get-elsewhere states by.id.number member.id.number _ apart)
 machine-stays states _ message (ends.Member member) apart = refl
@@ -131,7 +131,7 @@ link-stays cuts (links.Joined link) message apart = get_or-set_other cuts (link_
 
 -- leaves it where it is
 delivery-stays : (cuts : CutLinks) (states : List AgentProcess) (kind : EventKind) (message : Message) → (Concerns kind (end_number message.to) (end_number message.from) → ⊥)
-    → delivery_of (cuts_after cuts kind) (agents_after states kind) message ≡ delivery_of cuts states message
+    → delivery_of (cuts_after cuts kind) (processes_after states kind) message ≡ delivery_of cuts states message
 delivery-stays cuts states (kinds.Agent happening) message apart =
     ap (λ (d : Delivery). if is_cut cuts (link_of_message message) then deliveries.Cut else d) (receiver-stays states happening message message.to apart)
 delivery-stays cuts states (kinds.Watchdog happening) message apart =
@@ -144,7 +144,7 @@ delivery-stays cuts states _ message apart = refl
 pub tended-after : (old new : IndexFacts) (before after : Flight) (states : List AgentProcess) (cuts : CutLinks) (kind : EventKind) → IsLooser old new
     → ((to from : ℕ) → from < end_count → Concerns kind to from → kept_on new (way_of to from) ≡ [])
     → ((n : ℕ) (message : InFlightFacts) → in_flight after n ≡ Some message → in_flight before n ≡ Some message)
-    → AreTended old before states cuts → AreTended new after (agents_after states kind) (cuts_after cuts kind)
+    → AreTended old before states cuts → AreTended new after (processes_after states kind) (cuts_after cuts kind)
 tended-after old new before after states cuts kind looser woken others tended n message is out =
     let held = tended-looser old new before states cuts looser tended n message (others n message is) out in
     let to = end_number message.message.to in

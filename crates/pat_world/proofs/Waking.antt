@@ -68,15 +68,15 @@ pub operate-took : (cluster obeying after : Cluster) (member : Member) (action :
 operate-took cluster obeying after member action outputs had mid has one is rest = own-input-took cluster obeying after member (Operated member action) (HearsOperator action) call_cost outputs had mid has (omega arith) one is rest
 
 -- an agent is woken that has something to do
-pub wake-took : (cluster after : Cluster) (member : Member) (process : AgentProcess) (had has : List Event) → slice_get cluster.book.agents member.id.number ≡ Some process
+pub wake-took : (cluster after : Cluster) (member : Member) (process : AgentProcess) (had has : List Event) → slice_get cluster.facts.processes member.id.number ≡ Some process
     → is_to_wake (moment_of cluster) process (standing_of cluster member) ≡ true → Emits cluster after had has (wake_events_of cluster member) input_cost → Emits cluster after had has (wake_events cluster member) input_cost
 wake-took cluster after member process had has there ready woken =
-    found-took AgentProcess cluster after had has (wake_events_if cluster member) (slice_get cluster.book.agents member.id.number) process input_cost there
+    found-took AgentProcess cluster after had has (wake_events_if cluster member) (slice_get cluster.facts.processes member.id.number) process input_cost there
     (subst (λ (b : Bool). Emits cluster after had has (if b then wake_events_of cluster member else []) input_cost) (sym ready) woken)
 
 -- so is one that a script wakes, where it may act
-pub turn-took : (cluster after : Cluster) (member : Member) (process : AgentProcess) (had has : List Event) → slice_get cluster.book.agents member.id.number ≡ Some process
+pub turn-took : (cluster after : Cluster) (member : Member) (process : AgentProcess) (had has : List Event) → slice_get cluster.facts.processes member.id.number ≡ Some process
     → may_act process ≡ true → Emits cluster after had has (wake_events_of cluster member) input_cost → Emits cluster after had has (turn_events cluster member) input_cost
 turn-took cluster after member process had has there ready woken =
-    found-took AgentProcess cluster after had has (turn_events_if cluster member) (slice_get cluster.book.agents member.id.number) process input_cost there
+    found-took AgentProcess cluster after had has (turn_events_if cluster member) (slice_get cluster.facts.processes member.id.number) process input_cost there
     (subst (λ (b : Bool). Emits cluster after had has (if b then wake_events_of cluster member else []) input_cost) (sym ready) woken)

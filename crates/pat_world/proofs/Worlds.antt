@@ -7,11 +7,11 @@ abbrev pub seen : Inside → Cluster
 seen w = record {
   scope = w.scope;
   options = w.options.items;
-  book = record {
+  facts = record {
     clock = w.clock.0;
     keys = w.store;
     members = w.members.items;
-    agents = w.processes.items;
+    processes = w.processes.items;
     cuts = w.cuts;
     flight = w.flight;
     sent = w.sent;

@@ -17,11 +17,11 @@ left_by start book = cluster_over start book
 -- a world is what the book determines, and what the book alone says of servers and commits is so of those that it keeps
 pub record StandsFor (start : Cluster) (book : List Event) (world : Cluster) : Type 0 where
   pub world_is : world ≡ left_by start book
-  pub logs : logs_in world.book.servers ≡ logs_over (logs_in start.book.servers) book
-  pub writers : (n : ℕ) → n < length start.book.servers → writes_in world.book.servers n ≡ writes_over (writes_in start.book.servers) book n
-  pub required : required_in world.book.servers ≡ required_over (required_in start.book.servers) book
-  pub confirmed : confirmed_in world.book.servers ≡ confirmed_over (confirmed_in start.book.servers) book
-  pub acknowledged : world.book.acknowledged ≡ start.book.acknowledged ++ acknowledged_in book
+  pub logs : logs_in world.facts.servers ≡ logs_over (logs_in start.facts.servers) book
+  pub writers : (n : ℕ) → n < length start.facts.servers → writes_in world.facts.servers n ≡ writes_over (writes_in start.facts.servers) book n
+  pub required : required_in world.facts.servers ≡ required_over (required_in start.facts.servers) book
+  pub confirmed : confirmed_in world.facts.servers ≡ confirmed_over (confirmed_in start.facts.servers) book
+  pub acknowledged : world.facts.acknowledged ≡ start.facts.acknowledged ++ acknowledged_in book
 
 -- the events that a step adds to a book
 abbrev pub next_of : Cluster → List Event → Step → List Event

@@ -40,9 +40,9 @@ CountsLog last _ = Unit {0}
 
 -- what a happening counts up, it counts up by one at most
 abbrev pub Counts : Cluster → EventKind → Type 0
-Counts cluster (kinds.Message happening) = CountsMessage cluster.book.sent happening
-Counts cluster (kinds.Agent happening) = CountsAgent cluster.book.agents happening
-Counts cluster (kinds.Log happening) = CountsLog cluster.book.commits happening
+Counts cluster (kinds.Message happening) = CountsMessage cluster.facts.sent happening
+Counts cluster (kinds.Agent happening) = CountsAgent cluster.facts.processes happening
+Counts cluster (kinds.Log happening) = CountsLog cluster.facts.commits happening
 Counts cluster _ = Unit {0}
 
 -- it brings nothing but itself: a message that is sent has a grant and a snapshot, a grant has an answer, and an agent acts that is woken or does what an
@@ -107,4 +107,4 @@ ServesAt now known _ = Unit {0}
 pub record MayCome (cluster : Cluster) (kind : EventKind) : Type 0 where
   pub bare : IsBare kind
   pub counts : Counts cluster kind
-  pub serves : ServesAt cluster.book.clock cluster.book.servers kind
+  pub serves : ServesAt cluster.facts.clock cluster.facts.servers kind

@@ -47,7 +47,7 @@ IsAsleep now (Some process) o = is_to_wake (record { 0 = now }) process o ≡ fa
 
 -- at this moment the agent of a member isn't to be woken
 abbrev pub SleepsAt : ℕ → Cluster → Member → Type 0
-SleepsAt now cluster member = IsAsleep now (slice_get cluster.book.agents member.id.number) (standing_of cluster member)
+SleepsAt now cluster member = IsAsleep now (slice_get cluster.facts.processes member.id.number) (standing_of cluster member)
 
 -- no watchdog resets its machine at this moment or before
 abbrev pub NoneResets : ℕ → List (Option Ticks) → Type 0
@@ -55,14 +55,14 @@ NoneResets now deadlines = All (λ deadline. is_due_at now deadline ≡ false) d
 
 -- up to this moment nothing ends by the clock: no watchdog resets its machine, no key expires, and no start or stop of a server is complete
 pub record NothingEnds (now : ℕ) (cluster : Cluster) : Type 0 where
-  pub watchdogs : NoneResets now cluster.book.deadlines
-  pub keys : expired_keys cluster.book.keys now ≡ []
-  pub servers : NoneComplete now cluster.book.servers
+  pub watchdogs : NoneResets now cluster.facts.deadlines
+  pub keys : expired_keys cluster.facts.keys now ≡ []
+  pub servers : NoneComplete now cluster.facts.servers
 
 -- up to this moment nothing is due by the clock: nothing ends, and no agent has something to do
 pub record NothingIsDue (now : ℕ) (cluster : Cluster) : Type 0 where
   pub ends : NothingEnds now cluster
-  pub agents : All (SleepsAt now cluster) cluster.book.members
+  pub agents : All (SleepsAt now cluster) cluster.facts.members
 
 -- such news of a replica from its upstream bring nothing, with this end of its log where that isn't confirmed there
 abbrev pub IsNoNews : Option Streamed → Option Lsn → Type 0
@@ -88,9 +88,9 @@ AreKept flight agents cuts = (n : ℕ) (message : InFlightFacts) → in_flight f
 
 -- nothing moves but by the clock: no message comes or is lost, no replica receives or confirms anything, and no commit may be acknowledged
 pub record NothingMoves (cluster : Cluster) : Type 0 where
-  pub messages : AreKept cluster.book.flight cluster.book.agents cluster.book.cuts
-  pub replicas : All (λ member. ReceivesNone cluster.book.members cluster.book.servers cluster.book.cuts member (slice_get cluster.book.frozen member.id.number)) cluster.book.members
-  pub commits : AreAcknowledged cluster.book.members cluster.book.servers
+  pub messages : AreKept cluster.facts.flight cluster.facts.processes cluster.facts.cuts
+  pub replicas : All (λ member. ReceivesNone cluster.facts.members cluster.facts.servers cluster.facts.cuts member (slice_get cluster.facts.frozen member.id.number)) cluster.facts.members
+  pub commits : AreAcknowledged cluster.facts.members cluster.facts.servers
 
 -- up to this moment nothing happens in steps of the default schedule but their ticks
 pub record IsIdle (now : ℕ) (cluster : Cluster) : Type 0 where
@@ -100,7 +100,7 @@ pub record IsIdle (now : ℕ) (cluster : Cluster) : Type 0 where
 -- up to this moment nothing happens in plain ticks but themselves
 pub record IsIdleButForAgents (now : ℕ) (cluster : Cluster) : Type 0 where
   pub ends : NothingEnds now cluster
-  pub commits : AreAcknowledged cluster.book.members cluster.book.servers
+  pub commits : AreAcknowledged cluster.facts.members cluster.facts.servers
 
 -- up to this moment steps of this kind bring their ticks and nothing else
 abbrev pub IsIdleIn : Step → ℕ → Cluster → Type 0

@@ -11,15 +11,15 @@ HasNumbers inputs agent = IfSome agent (λ a. a.knows.sequence + most_outputs * 
 
 -- so many more events can't bring a counter to its end: each counts one up by one at most, or is an input of an agent
 pub record HasRoom (cluster : Cluster) (events : ℕ) : Type 0 where
-  pub clock : cluster.book.clock + events < 2 ^ 60
-  pub revision : cluster.book.keys.revision + events < 2 ^ 60
-  pub sent : cluster.book.sent + events < 2 ^ 60
-  pub runs : All (λ state. state.run + events < 2 ^ 60) cluster.book.agents
+  pub clock : cluster.facts.clock + events < 2 ^ 60
+  pub revision : cluster.facts.keys.revision + events < 2 ^ 60
+  pub sent : cluster.facts.sent + events < 2 ^ 60
+  pub runs : All (λ state. state.run + events < 2 ^ 60) cluster.facts.processes
   -- an agent that starts has numbers too
   pub numbers : most_outputs * events ≤ most_messages
   pub agents : All (HasNumbers events) cluster.agents
-  pub timelines : All (λ s. s.timeline + events < 2 ^ 60) cluster.book.servers
-  pub commits : cluster.book.commits + events < 2 ^ 60
+  pub timelines : All (λ s. s.timeline + events < 2 ^ 60) cluster.facts.servers
+  pub commits : cluster.facts.commits + events < 2 ^ 60
 
 -- a message that is sent may be lost at once
 abbrev pub sending_cost : ℕ
@@ -74,8 +74,8 @@ abbrev pub promotion_cost : ℕ
 promotion_cost = 1 + beginning_cost
 
 -- an agent starts, and removes the deadline of its watchdog
-abbrev pub restart_cost : ℕ
-restart_cost = 1 + 1
+abbrev pub agent_start_cost : ℕ
+agent_start_cost = 1 + 1
 
 -- a request comes to an agent, and it acts; what it answers of itself is less
 abbrev pub call_cost : ℕ

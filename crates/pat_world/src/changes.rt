@@ -2,7 +2,7 @@
 ghost use Rattle.std.specs.Prelude.{ℕ, ◌≡◌, ◌≤◌, ◌<◌, ◌+◌, ◌^◌, OnOk, Some, length};
 ghost use Rattle.pat_base.specs.Changes.{with_changed};
 ghost use Rattle.event_book.specs.Acknowledged.{acknowledged_after, commits_after};
-ghost use Rattle.event_book.specs.Agents.{agents_after};
+ghost use Rattle.event_book.specs.Processes.{processes_after};
 ghost use Rattle.event_book.specs.Clock.{now_after};
 ghost use Rattle.event_book.specs.Flight.{Flight, InFlightFacts, flight_after, in_flight, sent_after};
 ghost use Rattle.event_book.specs.Frozen.{frozen_after};
@@ -53,7 +53,7 @@ pub fn change_keys(store: &mut Store, now: Ticks, kind: &EventKind)
 
 /// The processes of agents after a happening.
 pub fn change_processes(processes: &mut Vec<AgentProcess>, kind: &EventKind)
-    ensures { processes.new.items ≡ agents_after processes.old.items kind.now }
+    ensures { processes.new.items ≡ processes_after processes.old.items kind.now }
 {
     match kind {
         EventKind::Agent(happening) => change_process(processes, happening),

@@ -2,7 +2,7 @@
 ghost use Rattle.std.specs.Prelude.{ℕ, ◌≡◌, ◌≤◌, ◌<◌, length, IfOk, Some, slice_get};
 ghost use Rattle.pat_base.specs.MemberId.{member_of};
 ghost use Rattle.cluster_script.specs.Script.{names_of};
-ghost use Rattle.event_book.specs.Agents.{first_agents};
+ghost use Rattle.event_book.specs.Processes.{first_processes};
 ghost use Rattle.event_book.specs.Members.{members_from};
 ghost use Rattle.cluster_model.specs.Limits.{most_members};
 ghost use Rattle.cluster_model.specs.Machines.{hosts_of};
@@ -78,7 +78,7 @@ pub fn hosts_of(
 
 /// So many processes of agents, each in its first run.
 pub fn processes_of(alloc: Global, count: usize) -> Result<Vec<AgentProcess>, AllocError>
-    ensures { IfOk result (λ processes. processes.items ≡ first_agents count) }
+    ensures { IfOk result (λ processes. processes.items ≡ first_processes count) }
 {
     let mut processes = Vec::new(alloc);
     for made in 0..count {

@@ -70,7 +70,7 @@ pub fn upstream_of(servers: &Servers, member: Member, leader: Option<Member>) ->
 /// A shutdown by the agent: what happens where the server runs or starts.
 pub fn stop_of(servers: &Servers, member: Member) -> Option<EventKind>
     ensures kind { result ≡ option_and_then (stop_of member) (slice_get servers.now member.id.number) }
-    ensures comes { (cluster : Cluster) → cluster.book.servers ≡ servers.now → IfSome result (MayCome cluster) }
+    ensures comes { (cluster : Cluster) → cluster.facts.servers ≡ servers.now → IfSome result (MayCome cluster) }
 {
     let server = servers.get(member.id.number as usize)?;
     match server.state() {
@@ -97,7 +97,7 @@ fn stop_kind(member: Member, state: State, delay: Ticks) -> EventKind
 /// for a copy already.
 pub fn wipe_of(servers: &Servers, member: Member) -> Option<EventKind>
     ensures kind { result ≡ option_and_then (wipe_of member) (slice_get servers.now member.id.number) }
-    ensures comes { (cluster : Cluster) → cluster.book.servers ≡ servers.now → IfSome result (MayCome cluster) }
+    ensures comes { (cluster : Cluster) → cluster.facts.servers ≡ servers.now → IfSome result (MayCome cluster) }
 {
     let server = servers.get(member.id.number as usize)?;
     if server.state() == State::Creating || server.live() {

@@ -1,7 +1,7 @@
 //! The processes of agents: what commands and resets change of them.
 ghost use Rattle.std.specs.Prelude.{◌≡◌, ◌<◌, ◌^◌, true, false, IfSome};
-ghost use Rattle.event_book.specs.Agents.{agents_by, agents_by_watchdog, ended_process, with_member_changed, running_in};
-ghost use Rattle.cluster_model.specs.Commands.{hold_of, resume_of, kill_of, restarted};
+ghost use Rattle.event_book.specs.Processes.{processes_by, processes_by_watchdog, ended_process, with_member_changed, running_in};
+ghost use Rattle.cluster_model.specs.Commands.{suspend_of, resume_of, kill_of, agent_started};
 ghost use Rattle.cluster_model.specs.Inputs.{may_act};
 ghost use Rattle.cluster_model.specs.State.{Cluster};
 ghost use Rattle.pat_world.specs.Comes.{MayCome};
@@ -16,8 +16,8 @@ pub fn may_act(process: AgentProcess) -> bool
 }
 
 /// The suspension of an agent: what happens where it runs and isn't suspended already.
-pub fn hold_of(member: Member, process: AgentProcess) -> Option<EventKind>
-    ensures kind { result ≡ hold_of member process }
+pub fn suspend_of(member: Member, process: AgentProcess) -> Option<EventKind>
+    ensures kind { result ≡ suspend_of member process }
     ensures comes { (cluster : Cluster) → IfSome result (MayCome cluster) }
 {
     if may_act(process) {
@@ -52,9 +52,9 @@ pub fn kill_of(member: Member, process: AgentProcess) -> Option<EventKind>
 }
 
 /// The start of an agent: it is in its next run then. Of one that runs it is said that it does.
-pub fn restarted(member: Member, process: AgentProcess) -> EventKind
+pub fn agent_started(member: Member, process: AgentProcess) -> EventKind
     requires { process.run < 2 ^ 60 }
-    ensures { result ≡ restarted member process }
+    ensures { result ≡ agent_started member process }
 {
     let agent = member;
     if process.running {
@@ -67,7 +67,7 @@ pub fn restarted(member: Member, process: AgentProcess) -> EventKind
 
 /// The processes of agents after what happens to one of them.
 pub fn change_process(agents: &mut Vec<AgentProcess>, happening: &AgentEvent)
-    ensures { agents.new.items ≡ agents_by agents.old.items happening.now }
+    ensures { agents.new.items ≡ processes_by agents.old.items happening.now }
 {
     match happening {
         AgentEvent::Suspended { agent } => suspend(agents, *agent),
@@ -80,7 +80,7 @@ pub fn change_process(agents: &mut Vec<AgentProcess>, happening: &AgentEvent)
 
 /// A reset of its machine ends the process of an agent.
 pub fn reset_process(agents: &mut Vec<AgentProcess>, happening: &WatchdogEvent)
-    ensures { agents.new.items ≡ agents_by_watchdog agents.old.items happening.now }
+    ensures { agents.new.items ≡ processes_by_watchdog agents.old.items happening.now }
 {
     if let WatchdogEvent::Reset { member } = happening {
         end(agents, *member);

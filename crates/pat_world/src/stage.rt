@@ -32,7 +32,7 @@ use crate::from_head::{hosts_of, members_of, options_of, processes_of};
 use crate::links::{CutLinks, cut_of, join_of, link_of};
 use crate::members;
 use crate::places::{close_all, first_agents};
-use crate::processes::{hold_of, kill_of, resume_of};
+use crate::processes::{suspend_of, kill_of, resume_of};
 use crate::server_commands::{commit_of, crash_of, freezing_of, slow_of};
 use cluster_script::{Command, End, Head, MemberOptions, Step};
 use event_book::{AgentProcess, Event, EventKind, Link, Member};
@@ -92,11 +92,11 @@ impl Model for Stage {
     ghost view = { λ w. record {
       scope = w.scope;
       options = w.options.items;
-      book = record {
+      facts = record {
         clock = w.clock.0;
         keys = w.store;
         members = w.members.items;
-        agents = w.processes.items;
+        processes = w.processes.items;
         cuts = w.cuts;
         flight = w.flight;
         sent = w.sent;
@@ -187,7 +187,7 @@ impl Stage {
 
     /// The moment, in ticks of 100 ms.
     pub fn clock(&self) -> Ticks
-        ensures { result.0 ≡ self.now.book.clock }
+        ensures { result.0 ≡ self.now.facts.clock }
     {
         self.clock
     }
@@ -196,9 +196,9 @@ impl Stage {
     /// isn't to be used any more.
     pub fn play(&mut self, step: &Step, events: &mut Vec<Event>) -> Result<(), AllocError>
         requires room { HasRoomFor self.old 1 }
-        requires declared { IsStep self.old.book.members step.now }
+        requires declared { IsStep self.old.facts.members step.now }
         ensures emits { OnOk result (Emits self.old self.new events.old.items events.new.items (next_events self.old step.now) step_cost) }
-        ensures acknowledged { OnOk result (AreAcknowledged self.new.book.members self.new.book.servers) }
+        ensures acknowledged { OnOk result (AreAcknowledged self.new.facts.members self.new.facts.servers) }
     {
         self.perform(step, events)?;
         self.acknowledge_all(events)
@@ -207,7 +207,7 @@ impl Stage {
     /// What happens in a step.
     fn perform(&mut self, step: &Step, events: &mut Vec<Event>) -> Result<(), AllocError>
         requires room { HasRoomFor self.old 1 }
-        requires declared { IsStep self.old.book.members step.now }
+        requires declared { IsStep self.old.facts.members step.now }
         ensures { OnOk result (Emits self.old self.new events.old.items events.new.items (step_events self.old step.now) step_cost) }
     {
         match step {
@@ -232,14 +232,14 @@ impl Stage {
     /// What a command comes to.
     fn command(&mut self, command: &Command, events: &mut Vec<Event>) -> Result<(), AllocError>
         requires room { HasRoom self.old command_cost }
-        requires declared { IsCommand (names_in self.old.book.members) command.now }
+        requires declared { IsCommand (names_in self.old.facts.members) command.now }
         ensures { OnOk result (Emits self.old self.new events.old.items events.new.items (command_events self.old command.now) command_cost) }
     {
         match command {
             Command::Turn(id) => self.turn(self.declared(*id), events),
             Command::Deliver(number) => self.deliver(*number, events),
             Command::Lose(number) => self.lose(*number, events),
-            Command::Restart(id) => self.restart(self.declared(*id), events),
+            Command::StartAgent(id) => self.start_agent(self.declared(*id), events),
             Command::Promote(id) => self.promote(self.declared(*id), events),
             Command::Stream(id, most) => self.receive(self.declared(*id), *most, events),
             Command::Rest(id, call, body) => {
@@ -252,14 +252,14 @@ impl Stage {
     /// What a command comes to that brings one event at most.
     fn command_kind(&self, command: &Command) -> Option<EventKind>
         requires room { HasRoom self.now 1 }
-        requires declared { IsCommand (names_in self.now.book.members) command.now }
+        requires declared { IsCommand (names_in self.now.facts.members) command.now }
         ensures kind { result ≡ command_kind self.now command.now }
         ensures comes { IfSome result (MayCome self.now) }
     {
         match command {
-            Command::Hold(id) => {
+            Command::Suspend(id) => {
                 let member = self.declared(*id);
-                hold_of(member, self.process(member)?)
+                suspend_of(member, self.process(member)?)
             }
             Command::Resume(id) => {
                 let member = self.declared(*id);
@@ -311,15 +311,15 @@ impl Stage {
 
     /// The member at a place.
     fn member(&self, place: usize) -> Member
-        requires { place < length self.now.book.members }
-        ensures { slice_get self.now.book.members place ≡ Some result }
+        requires { place < length self.now.facts.members }
+        ensures { slice_get self.now.facts.members place ≡ Some result }
     {
         self.members[place]
     }
 
     /// The declared member of this number.
     fn declared(&self, id: MemberId) -> Member
-        requires { IsMember (names_in self.now.book.members) id }
+        requires { IsMember (names_in self.now.facts.members) id }
         ensures { declared self.now id ≡ Some result }
     {
         members::declared(&self.members, id)
@@ -327,8 +327,8 @@ impl Stage {
 
     /// The link between two ends that a script names.
     fn link(&self, first: End, second: End) -> Link
-        requires { IsLink (names_in self.now.book.members) first second }
-        ensures { link_of self.now.book.members first second ≡ Some result }
+        requires { IsLink (names_in self.now.facts.members) first second }
+        ensures { link_of self.now.facts.members first second ≡ Some result }
     {
         link_of(&self.members, first, second)
     }

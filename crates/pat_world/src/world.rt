@@ -78,7 +78,7 @@ impl World {
 
     /// The moment, in ticks of 100 ms.
     pub fn clock(&self) -> Ticks
-        ensures { result.0 ≡ self.now.book.clock }
+        ensures { result.0 ≡ self.now.facts.clock }
     {
         self.stage.clock()
     }
@@ -94,7 +94,7 @@ impl World {
     /// more.
     pub fn step(&mut self, step: &Step, events: &mut Vec<Event>) -> Result<(), AllocError>
         requires room { HasRoomFor self.old 1 }
-        requires declared { IsStep self.old.book.members step.now }
+        requires declared { IsStep self.old.facts.members step.now }
         requires empty { events.old.items ≡ [] }
         ensures emits { OnOk result (Emits self.old self.new events.old.items events.new.items (next_events self.old step.now) step_cost) }
         ensures book { OnOk result ((start : Cluster) (book : List Event) → StandsFor start book self.old
@@ -103,7 +103,7 @@ impl World {
         ensures one_writer { OnOk result (KeepsOneWriter self.old events.new.items) }
         // Each server that accepts writes has each acknowledged commit then, where the run began with synchronous mode on, which stays on.
         ensures commits { OnOk result (KeepsCommits self.old events.new.items) }
-        ensures acknowledged { OnOk result (AreAcknowledged self.new.book.members self.new.book.servers) }
+        ensures acknowledged { OnOk result (AreAcknowledged self.new.facts.members self.new.facts.servers) }
         ensures refused { OnErr result (events.new.items ≡ events.old.items) }
     {
         let taken = self.play(step, events);
@@ -124,7 +124,7 @@ impl World {
             → StandsFor start (book ++ run_events (left_by start book) (replicate result step.now)) self.new }
         ensures one_writer { KeepsOneWriter self.old (run_events self.old (replicate result step.now)) }
         ensures commits { KeepsCommits self.old (run_events self.old (replicate result step.now)) }
-        ensures acknowledged { 0 < result → AreAcknowledged self.new.book.members self.new.book.servers }
+        ensures acknowledged { 0 < result → AreAcknowledged self.new.facts.members self.new.facts.servers }
     {
         let ticks = self.idle_ticks(step, most);
         self.stage.pass(ticks);
@@ -134,10 +134,10 @@ impl World {
     /// A step: a tick that is known to bring nothing else, or any other one.
     fn play(&mut self, step: &Step, events: &mut Vec<Event>) -> Result<(), AllocError>
         requires room { HasRoomFor self.old 1 }
-        requires declared { IsStep self.old.book.members step.now }
+        requires declared { IsStep self.old.facts.members step.now }
         requires empty { events.old.items ≡ [] }
         ensures emits { OnOk result (Emits self.old self.new events.old.items events.new.items (next_events self.old step.now) step_cost) }
-        ensures acknowledged { OnOk result (AreAcknowledged self.new.book.members self.new.book.servers) }
+        ensures acknowledged { OnOk result (AreAcknowledged self.new.facts.members self.new.facts.servers) }
     {
         if self.idle_ticks(step, 1) == 0 {
             return self.take(step, events);
@@ -148,9 +148,9 @@ impl World {
     /// A tick that is known to bring nothing else.
     fn tick(&mut self, step: &Step, events: &mut Vec<Event>) -> Result<(), AllocError>
         requires room { HasRoomFor self.old 1 }
-        requires idle { IsIdleIn step.now (self.old.book.clock + 1) self.old }
+        requires idle { IsIdleIn step.now (self.old.facts.clock + 1) self.old }
         ensures emits { OnOk result (Emits self.old self.new events.old.items events.new.items (next_events self.old step.now) step_cost) }
-        ensures acknowledged { OnOk result (AreAcknowledged self.new.book.members self.new.book.servers) }
+        ensures acknowledged { OnOk result (AreAcknowledged self.new.facts.members self.new.facts.servers) }
     {
         self.stage.pass(1);
         note(events, self.stage.clock(), EventKind::Tick)
@@ -160,10 +160,10 @@ impl World {
     /// a plain tick, up to when plain ticks bring nothing.
     fn take(&mut self, step: &Step, events: &mut Vec<Event>) -> Result<(), AllocError>
         requires room { HasRoomFor self.old 1 }
-        requires declared { IsStep self.old.book.members step.now }
+        requires declared { IsStep self.old.facts.members step.now }
         requires empty { events.old.items ≡ [] }
         ensures emits { OnOk result (Emits self.old self.new events.old.items events.new.items (next_events self.old step.now) step_cost) }
-        ensures acknowledged { OnOk result (AreAcknowledged self.new.book.members self.new.book.servers) }
+        ensures acknowledged { OnOk result (AreAcknowledged self.new.facts.members self.new.facts.servers) }
     {
         self.idle_before = 0;
         self.ticks_idle_before = 0;
@@ -176,8 +176,8 @@ impl World {
     /// How many of the next steps of one kind are known to bring nothing but their ticks, at most as many as wanted.
     fn idle_ticks(&self, step: &Step, most: u64) -> u64
         ensures most { result ≤ most }
-        ensures fits { self.now.book.clock + result < 2 ^ 64 }
-        ensures idle { 0 < result → IsIdleIn step.now (self.now.book.clock + result) self.now }
+        ensures fits { self.now.facts.clock + result < 2 ^ 64 }
+        ensures idle { 0 < result → IsIdleIn step.now (self.now.facts.clock + result) self.now }
     {
         let clock = self.stage.clock().0;
         let before = self.steps_idle_before(step);

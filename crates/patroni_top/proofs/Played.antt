@@ -139,9 +139,9 @@ Playing-room {start = start} {now = now} {whole = whole} {left = left} piece res
     HasRoomFor-fewer now.world (length left + 0) (length piece) all (omega (arith, ap length is, length-append piece rest))
 
 -- meanwhile the members stay
-pub Playing-members : {K : Type 0} {sink : Ghosts K} {start now : Player} {out then : K} {whole left : List Step} → Playing sink start now out then whole left → now.world.book.members ≡ start.world.book.members
+pub Playing-members : {K : Type 0} {sink : Ghosts K} {start now : Player} {out then : K} {whole left : List Step} → Playing sink start now out then whole left → now.world.facts.members ≡ start.world.facts.members
 Playing-members {start = start} {now = now} {whole = whole} {left = left} p =
-    sym (members-stay now.world (run_events now.world left)) ∙ ap (λ (c : Cluster). c.book.members) p.state ∙ members-stay start.world (run_events start.world whole)
+    sym (members-stay now.world (run_events now.world left)) ∙ ap (λ (c : Cluster). c.facts.members) p.state ∙ members-stay start.world (run_events start.world whole)
 
 -- each line of a script names declared members only
 pub line-declared : (members : List Name) (body : List Line) (i : ℕ) (line : Line) → AllAreLines members body → slice_get body i ≡ Some line → IsLine members line

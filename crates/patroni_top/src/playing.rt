@@ -98,7 +98,7 @@ impl Player {
     /// The lines of a script, one after another, and then the closing summary.
     fn play<K: Sink>(&mut self, script: &Script, out: &mut K) -> Result<(), PrintError>
         requires room { HasRoomFor self.old.world (length (steps_of script.now.body)) }
-        requires members { names_in self.old.world.book.members ≡ names_of script.now.head }
+        requires members { names_in self.old.world.facts.members ≡ names_of script.now.head }
         ensures world { OnOk result (self.new.world ≡ cluster_over self.old.world (run_events self.old.world (steps_of script.now.body))) }
         ensures printed { Prints K.Sink out.old out.new PrintError.Write result
             (printed_from self.old.world self.old.trace (steps_of script.now.body) ++ closing_text (noted_from self.old.summary self.old.world (steps_of script.now.body)).watch.closing) }
@@ -110,7 +110,7 @@ impl Player {
     /// The lines of a body, one after another.
     fn play_body<K: Sink>(&mut self, script: &Script, out: &mut K) -> Result<(), PrintError>
         requires room { HasRoomFor self.old.world (length (steps_of script.now.body)) }
-        requires members { names_in self.old.world.book.members ≡ names_of script.now.head }
+        requires members { names_in self.old.world.facts.members ≡ names_of script.now.head }
         ensures { Plays K.Sink self.old self.new out.old out.new result (steps_of script.now.body) }
     {
         for place in 0..script.len() {
@@ -121,7 +121,7 @@ impl Player {
 
     fn play_line<K: Sink>(&mut self, line: &Line, out: &mut K) -> Result<(), PrintError>
         requires room { HasRoomFor self.old.world (length (steps_of_line line.now)) }
-        requires declared { IsLine (names_in self.old.world.book.members) line.now }
+        requires declared { IsLine (names_in self.old.world.facts.members) line.now }
         ensures { Plays K.Sink self.old self.new out.old out.new result (steps_of_line line.now) }
     {
         match line {
@@ -162,7 +162,7 @@ impl Player {
 
     fn play_step<K: Sink>(&mut self, step: &Step, out: &mut K) -> Result<(), PrintError>
         requires room { HasRoomFor self.old.world 1 }
-        requires declared { IsStep self.old.world.book.members step.now }
+        requires declared { IsStep self.old.world.facts.members step.now }
         ensures { Plays K.Sink self.old self.new out.old out.new result (step.now ∷ []) }
     {
         self.events.clear();

@@ -51,9 +51,9 @@ lives-behind : (head : HeadText) (book : List Event) (cluster : Cluster) (events
     → (n : ℕ) → writes_over (past_of book).writes events n ≡ true → ((act (Behind head book cluster) action).members n).live ≡ true
 lives-behind head book cluster events action tells n is =
     let later : Cluster = cluster_over cluster events in
-    let told : writes_in later.book.servers n ≡ writes_over (past_of book).writes events n =
+    let told : writes_in later.facts.servers n ≡ writes_over (past_of book).writes events n =
     sym (tells.matched.machines.writes n) ∙ ap (λ (past : Past). past.writes n) (past-append first_past book events) ∙ ap (λ (w : ℕ → Bool). w n) (writes-past (past_of book) events) in
-    sym (ap (λ (s : Lease). (s.members n).live) tells.shown) ∙ writer-lives (slice_get later.book.servers n) (told ∙ is)
+    sym (ap (λ (s : Lease). (s.members n).live) tells.shown) ∙ writer-lives (slice_get later.facts.servers n) (told ∙ is)
 
 -- events that are an action, in which only who may begin begins, keep the law
 pub action-kept : (head : HeadText) (book : List Event) (cluster : Cluster) (events : List Event) (action : Action) → Bridged head book cluster

@@ -11,7 +11,7 @@ use Rattle.event_book.specs.declared.event.ServerEvent.TheVariants as servers
 use Rattle.event_book.specs.declared.event.StoreEvent.TheVariants as stores
 use Rattle.event_book.specs.declared.event.WatchdogEvent.TheVariants as watchdogs
 use Rattle.event_book.specs.declared.member.Member.{Member}
-use Rattle.event_book.specs.Agents.{agents_after, running_in}
+use Rattle.event_book.specs.Processes.{processes_after, running_in}
 use Rattle.event_book.specs.Facts.{Facts}
 use Rattle.event_book.specs.Writers.{BeginsKind}
 use Rattle.agent_model.specs.Agents.{AgentFacts}
@@ -117,18 +117,18 @@ knows-suspended to processes agents k before m agent is =
     subst (λ (o : Option AgentProcess). KnowsItself m o agent) (sym (get-changed processes k m _)) (suspended-knows m to (m == k) (slice_get processes m) agent (before m agent is))
 
 aside-knows : (May : ℕ → Type 0) (cluster : Cluster) (kind : EventKind) → IsAsideIn May kind
-    → KnowThemselves cluster.book.agents cluster.agents → KnowThemselves (agents_after cluster.book.agents kind) (agent_facts_after cluster kind)
+    → KnowThemselves cluster.facts.processes cluster.agents → KnowThemselves (processes_after cluster.facts.processes kind) (agent_facts_after cluster kind)
 aside-knows May cluster (kinds.Message (messages.Sent number message)) is old = absurd is
 aside-knows May cluster (kinds.Message (messages.Delivered number)) is old = absurd is
 aside-knows May cluster (kinds.Watchdog (watchdogs.Reset member)) is old =
-    knows-changed cluster.book.agents cluster.agents member.id.number _ _ (λ m agent here none. absurd (none-there (slice_get cluster.agents m) agent none)) old
+    knows-changed cluster.facts.processes cluster.agents member.id.number _ _ (λ m agent here none. absurd (none-there (slice_get cluster.agents m) agent none)) old
 aside-knows May cluster (kinds.Agent (agents.Woken agent)) is old = absurd is
 aside-knows May cluster (kinds.Agent (agents.Operated agent action)) is old = absurd is
 aside-knows May cluster (kinds.Agent (agents.Killed member)) is old =
-    knows-changed cluster.book.agents cluster.agents member.id.number _ _ (λ m agent here none. absurd (none-there (slice_get cluster.agents m) agent none)) old
+    knows-changed cluster.facts.processes cluster.agents member.id.number _ _ (λ m agent here none. absurd (none-there (slice_get cluster.agents m) agent none)) old
 aside-knows May cluster (kinds.Agent (agents.Started member run)) is old = absurd is
-aside-knows May cluster (kinds.Agent (agents.Suspended member)) is old = knows-suspended true cluster.book.agents cluster.agents member.id.number old
-aside-knows May cluster (kinds.Agent (agents.Resumed member)) is old = knows-suspended false cluster.book.agents cluster.agents member.id.number old
+aside-knows May cluster (kinds.Agent (agents.Suspended member)) is old = knows-suspended true cluster.facts.processes cluster.agents member.id.number old
+aside-knows May cluster (kinds.Agent (agents.Resumed member)) is old = knows-suspended false cluster.facts.processes cluster.agents member.id.number old
 aside-knows May cluster _ is old = old
 
 -- one such event, in which one of the members begins if anybody does
@@ -137,12 +137,12 @@ pub aside-matched : (May : ℕ → Type 0) (head : HeadText) (past : Past) (clus
 aside-matched May head past cluster kind is within old = record {
   members = old.members;
   options = old.options;
-  sized = sized-by (member_count head) cluster.book kind old.sized;
+  sized = sized-by (member_count head) cluster.facts kind old.sized;
   agents_sized = aside-sized May cluster kind is ∙ old.agents_sized;
-  store = same-by past cluster.book kind (aside-spanned May kind is) old.store;
-  flight = flight-by past cluster.book kind (aside-causal May past cluster.book kind is) old.store old.flight;
-  machines = machines-by (member_count head) past cluster.book kind old.sized (aside-within May (member_count head) kind is (aside-begins May (λ n. n < member_count head) kind is within)) old.machines;
-  unpaused = pauses-by cluster.book kind (aside-hands_off May kind is) old.unpaused;
+  store = same-by past cluster.facts kind (aside-spanned May kind is) old.store;
+  flight = flight-by past cluster.facts kind (aside-causal May past cluster.facts kind is) old.store old.flight;
+  machines = machines-by (member_count head) past cluster.facts kind old.sized (aside-within May (member_count head) kind is (aside-begins May (λ n. n < member_count head) kind is within)) old.machines;
+  unpaused = pauses-by cluster.facts kind (aside-hands_off May kind is) old.unpaused;
   agents = aside-knows May cluster kind is old.agents;
   waiting = waiting-aside May head past cluster kind is old;
 }
@@ -169,12 +169,12 @@ pub matched-behind : (head : HeadText) (book : List Event) (cluster : Cluster) (
 matched-behind head book cluster events all old = matched-behind-as (λ n. ⊥) head book cluster events all (λ n e. absurd e) old
 
 -- ---- an agent starts
-started-knows : (count : ℕ) (cluster : Cluster) (member : Member) (run : ℕ) → length cluster.book.agents ≡ count → member.id.number < count
-    → KnowThemselves cluster.book.agents cluster.agents → KnowThemselves (agents_after cluster.book.agents (kinds.Agent (agents.Started member run))) (agent_facts_after cluster (kinds.Agent (agents.Started member run)))
+started-knows : (count : ℕ) (cluster : Cluster) (member : Member) (run : ℕ) → length cluster.facts.processes ≡ count → member.id.number < count
+    → KnowThemselves cluster.facts.processes cluster.agents → KnowThemselves (processes_after cluster.facts.processes (kinds.Agent (agents.Started member run))) (agent_facts_after cluster (kinds.Agent (agents.Started member run)))
 started-knows count cluster member run sized is old =
-    knows-changed cluster.book.agents cluster.agents member.id.number _ _ (λ m agent here started.
+    knows-changed cluster.facts.processes cluster.agents member.id.number _ _ (λ m agent here started.
     let one = the-started (slice_get cluster.agents m) _ agent started in
-    let process = there cluster.book.agents m (subst (λ (n : ℕ). n < length cluster.book.agents) (sym here) (subst (λ (n : ℕ). member.id.number < n) (sym sized) is)) in
+    let process = there cluster.facts.processes m (subst (λ (n : ℕ). n < length cluster.facts.processes) (sym here) (subst (λ (n : ℕ). member.id.number < n) (sym sized) is)) in
     record {
       found = running_in run;
       is = ap (option_map (λ (process : AgentProcess). running_in run)) process.1;
@@ -185,19 +185,19 @@ started-knows count cluster member run sized is old =
     }) old
 
 -- in a run above that of its process
-pub started-matched : (head : HeadText) (past : Past) (cluster : Cluster) (member : Member) (run : ℕ) → member.id.number < member_count head → run_in cluster.book.agents member.id.number < run
+pub started-matched : (head : HeadText) (past : Past) (cluster : Cluster) (member : Member) (run : ℕ) → member.id.number < member_count head → run_in cluster.facts.processes member.id.number < run
     → IsMatched head past cluster → IsMatched head (past_after past (kinds.Agent (agents.Started member run))) (cluster_after cluster (kinds.Agent (agents.Started member run)))
 started-matched head past cluster member run small later old =
     let kind : EventKind = kinds.Agent (agents.Started member run) in
     record {
       members = old.members;
       options = old.options;
-      sized = sized-by (member_count head) cluster.book kind old.sized;
+      sized = sized-by (member_count head) cluster.facts kind old.sized;
       agents_sized = length-changed cluster.agents _ _ ∙ old.agents_sized;
-      store = same-by past cluster.book kind tt old.store;
-      flight = flight-by past cluster.book kind tt old.store old.flight;
-      machines = machines-by (member_count head) past cluster.book kind old.sized small old.machines;
-      unpaused = pauses-by cluster.book kind tt old.unpaused;
+      store = same-by past cluster.facts kind tt old.store;
+      flight = flight-by past cluster.facts kind tt old.store old.flight;
+      machines = machines-by (member_count head) past cluster.facts kind old.sized small old.machines;
+      unpaused = pauses-by cluster.facts kind tt old.unpaused;
       agents = started-knows (member_count head) cluster member run old.sized.agents small old.agents;
       waiting = waiting-started head past cluster member run small later old;
     }

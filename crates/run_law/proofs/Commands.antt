@@ -19,9 +19,9 @@ use Rattle.cluster_script.specs.declared.line.Command.TheVariants as commands
 use Rattle.cluster_script.specs.declared.line.SlowedCall.{SlowedCall}
 use Rattle.cluster_script.specs.declared.line.SlowedCall.TheVariants as slowed_calls
 use Rattle.cluster_script.specs.declared.ranges.Delay.{Delay}
-use Rattle.cluster_model.specs.Commands.{cut_of, hold_of, join_of, kill_of, kinds_of, link_of, resume_of}
+use Rattle.cluster_model.specs.Commands.{cut_of, suspend_of, join_of, kill_of, kinds_of, link_of, resume_of}
 use Rattle.cluster_script.specs.Script.{HeadText, names_of}
-use Rattle.cluster_model.specs.Next.{command_kind, declared, process_kind, promote_events, restart_events}
+use Rattle.cluster_model.specs.Next.{command_kind, declared, process_kind, promote_events, agent_start_events}
 use Rattle.cluster_model.specs.Parts.{event_of, events_of, for_some}
 use Rattle.cluster_model.specs.ServerCommands.{commit_of, crash_of, freezing_of, is_gone, slow_of, ticks_of}
 use Rattle.cluster_model.specs.State.{Cluster}
@@ -49,14 +49,14 @@ quiet-mapped : {X : Type 0} (found : Option X) (change : X → EventKind) → ((
 quiet-mapped None change all = tt
 quiet-mapped (Some x) change all = all x
 
-hold-quiet : (member : Member) (process : AgentProcess) → IsQuietIf (hold_of member process)
-hold-quiet member process = quiet-cond _ (Some (kinds.Agent (agents.Suspended member))) None tt tt
+suspend-quiet : (member : Member) (process : AgentProcess) → IsQuietIf (suspend_of member process)
+suspend-quiet member process = quiet-cond _ (Some (kinds.Agent (agents.Suspended member))) None tt tt
 
 resume-quiet : (member : Member) (process : AgentProcess) → IsQuietIf (resume_of member process)
 resume-quiet member process = quiet-cond _ (Some (kinds.Agent (agents.Resumed member))) None tt tt
 
 process-quiet : (change : Member → AgentProcess → Option EventKind) → ((m : Member) (process : AgentProcess) → IsQuietIf (change m process)) → (cluster : Cluster) (id : MemberId) → IsQuietIf (process_kind change cluster id)
-process-quiet change all cluster id = quiet-found (declared cluster id) _ (λ m. quiet-found (slice_get cluster.book.agents m.id.number) (change m) (all m))
+process-quiet change all cluster id = quiet-found (declared cluster id) _ (λ m. quiet-found (slice_get cluster.facts.processes m.id.number) (change m) (all m))
 
 commit-quiet : (member : Member) (entry : Option Entry) → IsQuiet (commit_of member entry)
 commit-quiet member None = tt
@@ -85,17 +85,17 @@ IsQuietCommand (commands.Crash id) = ⊥
 IsQuietCommand command = Unit {0}
 
 pub command-quiet : (cluster : Cluster) (command : Command) → IsQuietCommand command → IsQuietIf (command_kind cluster command)
-command-quiet cluster (commands.Hold id) is = process-quiet hold_of hold-quiet cluster id
+command-quiet cluster (commands.Suspend id) is = process-quiet suspend_of suspend-quiet cluster id
 command-quiet cluster (commands.Resume id) is = process-quiet resume_of resume-quiet cluster id
 command-quiet cluster (commands.Kill id) is = absurd is
 command-quiet cluster (commands.Crash id) is = absurd is
 command-quiet cluster (commands.Commit id size) is =
-    quiet-mapped (declared cluster id) _ (λ m. commit-quiet m (entry_for cluster.book.servers m.id.number _ size.bytes))
-command-quiet cluster (commands.Freeze id) is = quiet-found (declared cluster id) _ (λ m. quiet-found (slice_get cluster.book.frozen m.id.number) (freezing_of true m) (freezing-quiet true m))
-command-quiet cluster (commands.Thaw id) is = quiet-found (declared cluster id) _ (λ m. quiet-found (slice_get cluster.book.frozen m.id.number) (freezing_of false m) (freezing-quiet false m))
-command-quiet cluster (commands.Slow id slowed delay) is = quiet-found (declared cluster id) _ (λ m. quiet-found (slice_get cluster.book.servers m.id.number) (slow_of m slowed delay) (slow-quiet m slowed delay))
-command-quiet cluster (commands.Cut first second) is = quiet-found (link_of cluster.book.members first second) (cut_of cluster.book.cuts) (cut-quiet cluster.book.cuts)
-command-quiet cluster (commands.Join first second) is = quiet-found (link_of cluster.book.members first second) (join_of cluster.book.cuts) (join-quiet cluster.book.cuts)
+    quiet-mapped (declared cluster id) _ (λ m. commit-quiet m (entry_for cluster.facts.servers m.id.number _ size.bytes))
+command-quiet cluster (commands.Freeze id) is = quiet-found (declared cluster id) _ (λ m. quiet-found (slice_get cluster.facts.frozen m.id.number) (freezing_of true m) (freezing-quiet true m))
+command-quiet cluster (commands.Thaw id) is = quiet-found (declared cluster id) _ (λ m. quiet-found (slice_get cluster.facts.frozen m.id.number) (freezing_of false m) (freezing-quiet false m))
+command-quiet cluster (commands.Slow id slowed delay) is = quiet-found (declared cluster id) _ (λ m. quiet-found (slice_get cluster.facts.servers m.id.number) (slow_of m slowed delay) (slow-quiet m slowed delay))
+command-quiet cluster (commands.Cut first second) is = quiet-found (link_of cluster.facts.members first second) (cut_of cluster.facts.cuts) (cut-quiet cluster.facts.cuts)
+command-quiet cluster (commands.Join first second) is = quiet-found (link_of cluster.facts.members first second) (join_of cluster.facts.cuts) (join-quiet cluster.facts.cuts)
 command-quiet cluster _ is = tt
 
 -- ---- commands that bring one event at most
@@ -114,9 +114,9 @@ kill-found head book cluster m None small good = kept-none head book cluster goo
 kill-found head book cluster m (Some process) small good = kill-by head book cluster m process.running small good
 
 kill-declared : (head : HeadText) (book : List Event) (cluster : Cluster) (found : Option Member) → ((m : Member) → found ≡ Some m → m.id.number < member_count head) → Bridged head book cluster
-    → IsKept head book cluster (events_of cluster (kinds_of (option_and_then (λ m. option_and_then (kill_of m) (slice_get cluster.book.agents m.id.number)) found)))
+    → IsKept head book cluster (events_of cluster (kinds_of (option_and_then (λ m. option_and_then (kill_of m) (slice_get cluster.facts.processes m.id.number)) found)))
 kill-declared head book cluster None small good = kept-none head book cluster good
-kill-declared head book cluster (Some m) small good = kill-found head book cluster m (slice_get cluster.book.agents m.id.number) (small m refl) good
+kill-declared head book cluster (Some m) small good = kill-found head book cluster m (slice_get cluster.facts.processes m.id.number) (small m refl) good
 
 crash-by : (head : HeadText) (book : List Event) (cluster : Cluster) (m : Member) (gone : Bool) → Bridged head book cluster
     → IsKept head book cluster (events_of cluster (kinds_of (cond gone None (Some (kinds.Server (servers.Crashed (server_of m)))))))
@@ -130,9 +130,9 @@ crash-found head book cluster m None good = kept-none head book cluster good
 crash-found head book cluster m (Some s) good = crash-by head book cluster m (is_gone s.state) good
 
 crash-declared : (head : HeadText) (book : List Event) (cluster : Cluster) (found : Option Member) → Bridged head book cluster
-    → IsKept head book cluster (events_of cluster (kinds_of (option_and_then (λ m. option_and_then (crash_of m) (slice_get cluster.book.servers m.id.number)) found)))
+    → IsKept head book cluster (events_of cluster (kinds_of (option_and_then (λ m. option_and_then (crash_of m) (slice_get cluster.facts.servers m.id.number)) found)))
 crash-declared head book cluster None good = kept-none head book cluster good
-crash-declared head book cluster (Some m) good = crash-found head book cluster m (slice_get cluster.book.servers m.id.number) good
+crash-declared head book cluster (Some m) good = crash-found head book cluster m (slice_get cluster.facts.servers m.id.number) good
 
 pub kept-command-kind : (head : HeadText) → length (names_of head) ≤ 16 → (book : List Event) (cluster : Cluster) (command : Command) → Bridged head book cluster
     → IsKept head book cluster (events_of cluster (kinds_of (command_kind cluster command)))
@@ -149,8 +149,8 @@ promote-by head book cluster m more false good = kept-none head book cluster goo
 
 pub kept-promote : (head : HeadText) (book : List Event) (cluster : Cluster) (m : Member) → Bridged head book cluster → IsKept head book cluster (promote_events cluster m)
 kept-promote head book cluster m good =
-    kept-for_some head book cluster (slice_get cluster.book.servers m.id.number) _ good (λ s is. promote-by head book cluster m _ (is_replica s.state) good)
+    kept-for_some head book cluster (slice_get cluster.facts.servers m.id.number) _ good (λ s is. promote-by head book cluster m _ (is_replica s.state) good)
 
-pub kept-restarts : (head : HeadText) → length (names_of head) ≤ 16 → (book : List Event) (cluster : Cluster) (id : MemberId) → Bridged head book cluster → IsKept head book cluster (for_some (declared cluster id) (restart_events cluster))
+pub kept-restarts : (head : HeadText) → length (names_of head) ≤ 16 → (book : List Event) (cluster : Cluster) (id : MemberId) → Bridged head book cluster → IsKept head book cluster (for_some (declared cluster id) (agent_start_events cluster))
 kept-restarts head few book cluster id good =
-    kept-for_some head book cluster (declared cluster id) (restart_events cluster) good (λ m is. kept-restart head book cluster m (declared-within head few m (declared-now head few cluster good.matched.members id m is)) good)
+    kept-for_some head book cluster (declared cluster id) (agent_start_events cluster) good (λ m is. kept-restart head book cluster m (declared-within head few m (declared-now head few cluster good.matched.members id m is)) good)

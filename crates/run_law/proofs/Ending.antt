@@ -42,7 +42,7 @@ killed-machine : (cluster : Cluster) (member : Member) → member.id.number < le
     → machine_in (cluster_after cluster (kinds.Agent (agents.Killed member))) m ≡ put_at (machine_in cluster) member.id.number (kill_machine (machine_in cluster member.id.number)) m
 killed-machine cluster member small =
     let k : ℕ = member.id.number in
-    let runs : (m : ℕ) → run_in _ m ≡ run_in cluster.book.agents m = λ m. seen-kept run_now cluster.book.agents k m _ ended-run in
+    let runs : (m : ℕ) → run_in _ m ≡ run_in cluster.facts.processes m = λ m. seen-kept run_now cluster.facts.processes k m _ ended-run in
     machines-put (machine_in cluster) (machine_in (cluster_after cluster (kinds.Agent (agents.Killed member)))) k (kill_machine (machine_in cluster k))
     (machine-same _ _ _ _ _ _ _ _ _ _ _ _ refl refl refl refl (ap agent_now (get-here cluster.agents k _) ∙ agent-without cluster.agents k small) (runs k))
     (λ m other. machine-same _ _ _ _ _ _ _ _ _ _ _ _ refl refl refl refl (ap agent_now (get-elsewhere cluster.agents k m _ other)) (runs m))
@@ -66,8 +66,8 @@ crashed-machine : (cluster : Cluster) (server : ServerOf) (m : ℕ)
 crashed-machine cluster server =
     let k : ℕ = server.id.number in
     machines-put (machine_in cluster) (machine_in (cluster_after cluster (kinds.Server (servers.Crashed server)))) k (crash_machine (machine_in cluster k))
-    (machine-same _ _ _ _ _ _ _ _ _ _ _ _ (ap live_now (get-here cluster.book.servers k _) ∙ crashed-now (slice_get cluster.book.servers k)) refl refl refl refl refl)
-    (λ m other. machine-same _ _ _ _ _ _ _ _ _ _ _ _ (ap live_now (get-elsewhere cluster.book.servers k m _ other)) refl refl refl refl refl)
+    (machine-same _ _ _ _ _ _ _ _ _ _ _ _ (ap live_now (get-here cluster.facts.servers k _) ∙ crashed-now (slice_get cluster.facts.servers k)) refl refl refl refl refl)
+    (λ m other. machine-same _ _ _ _ _ _ _ _ _ _ _ _ (ap live_now (get-elsewhere cluster.facts.servers k m _ other)) refl refl refl refl refl)
 
 pub kept-crash : (head : HeadText) (book : List Event) (cluster : Cluster) (server : ServerOf) → Bridged head book cluster
     → IsKept head book cluster (event_of cluster (kinds.Server (servers.Crashed server)))
@@ -81,6 +81,6 @@ kept-loss head book cluster number good =
     action-kept head book cluster events (Lose number) good (asides-begin (MayBeginBehind (state_of (declared_of head) (past_of book) (volatile_of cluster)) (Lose number)) [] events (tt, tt)) (λ meets. record {
       lawful = tt;
       shows = tt;
-      shown = loss-shown (declared_of head) book (volatile_of cluster) (record { 0 = cluster.book.clock }) number;
+      shown = loss-shown (declared_of head) book (volatile_of cluster) (record { 0 = cluster.facts.clock }) number;
       matched = matched-behind head book cluster events (tt, tt) good.matched;
     })

@@ -129,7 +129,7 @@ module _ (head : HeadText) (book : List Event) (cluster : Cluster) (member : Mem
   called-by (Some agent) None a m = unheard (the-outcome cluster member heard (Some agent) None a m)
   called-by (Some agent) (Some machine) a m =
       input-kept head book cluster good member agent machine (found-of cluster member machine m) (agent-here cluster member agent a) heard None no_message (kinds.Agent happening) opens
-      (λ n e. absurd (none-some n e)) (from-none cluster.book.sent)
+      (λ n e. absurd (none-some n e)) (from-none cluster.facts.sent)
       (acts ∙ ap (λ (o : Option Outcome). agent_facts_with cluster.agents member o) (the-outcome cluster member heard (Some agent) (Some machine) a m)) calm (λ works. hears _ _ _ _)
 
   kept-called : IsKept head book cluster (event_of cluster (kinds.Agent happening) ++ input_events (cluster_after cluster (kinds.Agent happening)) member no_message (outcome_of cluster member heard))
@@ -195,7 +195,7 @@ addressed-to from to body member is addressed = store-to from body member (subst
     store-to (ends.Member by) body member addressed = inr addressed
 
 module _ (head : HeadText) (book : List Event) (cluster : Cluster) (number : ℕ) (message : InFlightFacts) (member : Member) (good : Bridged head book cluster)
-    (found : in_flight cluster.book.flight number ≡ Some message) (to : message.message.to ≡ ends.Member member) (open_is : delivery_of cluster.book.cuts cluster.book.agents message.message ≡ deliveries.Open) where
+    (found : in_flight cluster.facts.flight number ≡ Some message) (to : message.message.to ≡ ends.Member member) (open_is : delivery_of cluster.facts.cuts cluster.facts.processes message.message ≡ deliveries.Open) where
   abbrev Arrived : EventKind
   Arrived = kinds.Message (Delivered number)
 
@@ -209,9 +209,9 @@ module _ (head : HeadText) (book : List Event) (cluster : Cluster) (number : ℕ
   pub sender : ((message.message.from ≡ ends.Store) × IsAnswer message.message.body) ⊎ IsPeerBody message.message.body
   sender = addressed-to message.message.from message.message.to message.message.body member to (good.matched.waiting.carried number message found).addressed
 
-  pub opened : IsOpen message.message (slice_get cluster.book.agents member.id.number)
-  opened = open-of message.message (slice_get cluster.book.agents member.id.number) (is_cut cluster.book.cuts (link_of_message message.message))
-      (ap (λ (end : LinkEnd). cond (is_cut cluster.book.cuts (link_of_message message.message)) deliveries.Cut (delivery_to cluster.book.agents message.message end)) (sym to) ∙ open_is)
+  pub opened : IsOpen message.message (slice_get cluster.facts.processes member.id.number)
+  opened = open-of message.message (slice_get cluster.facts.processes member.id.number) (is_cut cluster.facts.cuts (link_of_message message.message))
+      (ap (λ (end : LinkEnd). cond (is_cut cluster.facts.cuts (link_of_message message.message)) deliveries.Cut (delivery_to cluster.facts.processes message.message end)) (sym to) ∙ open_is)
 
   pub same-run : IsAnswer message.message.body → (agent : AgentFacts) → slice_get cluster.agents member.id.number ≡ Some (Some agent) → message.message.run ≡ agent.knows.run
   same-run answered agent here =
@@ -229,7 +229,7 @@ module _ (head : HeadText) (book : List Event) (cluster : Cluster) (number : ℕ
       let machine_found = found-of cluster member machine m in
       let flown = good.matched.flight.flown number message found in
       input-kept head book cluster good member agent machine machine_found here heard (Some number) (heard_message number message) Arrived refl
-      (λ n e. let same : number ≡ n = some-is number n e in (same, subst (λ (k : ℕ). k ≤ cluster.book.sent) same flown)) flown
+      (λ n e. let same : number ≡ n = some-is number n e in (same, subst (λ (k : ℕ). k ≤ cluster.facts.sent) same flown)) flown
       (acted ∙ ap (λ (o : Option Outcome). agent_facts_with cluster.agents member o) (ap (outcome_of_heard cluster member) h ∙ the-outcome cluster member heard (Some agent) (Some machine) a m))
       (calm-from cluster message (unpaused-told cluster number message good.matched.unpaused found) heard h)
       (λ works. elim sender [

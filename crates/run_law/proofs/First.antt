@@ -8,7 +8,7 @@ use Rattle.pat_base.specs.declared.name.Name.{Name}
 use Rattle.pat_base.specs.declared.ticks.Ticks.{Ticks}
 use Rattle.pg_model.specs.Facts.{fresh}
 use Rattle.event_book.specs.declared.member.Member.{Member}
-use Rattle.event_book.specs.Agents.{first_agents, running_in}
+use Rattle.event_book.specs.Processes.{first_processes, running_in}
 use Rattle.event_book.specs.Writers.{writes_now}
 use Rattle.agent_model.specs.Agents.{AgentFacts}
 use Rattle.cluster_script.specs.declared.head.MemberOptions.{MemberOptions}
@@ -40,24 +40,24 @@ module _ {A B : Type 0} (x : A) (see : Option A → B) (y : B) (none : see None 
   seen-replicate (suc count) zero = some
   seen-replicate (suc count) (suc m) = seen-replicate count m
 
-first-run : (count m : ℕ) → run_in (first_agents count) m ≡ 1
+first-run : (count m : ℕ) → run_in (first_processes count) m ≡ 1
 first-run zero m = refl
 first-run (suc count) zero = refl
 first-run (suc count) (suc m) = first-run count m
 
-first-sized : (count : ℕ) → length (first_agents count) ≡ count
+first-sized : (count : ℕ) → length (first_processes count) ≡ count
 first-sized zero = refl
 first-sized (suc count) = ap suc (first-sized count)
 
 less-before : (m count : ℕ) → suc m < suc count → m < count
 less-before m count small = omega (arith, small)
 
-first-process : (count m : ℕ) → m < count → slice_get (first_agents count) m ≡ Some (running_in 1)
+first-process : (count m : ℕ) → m < count → slice_get (first_processes count) m ≡ Some (running_in 1)
 first-process zero m small = absurd (omega (arith, small))
 first-process (suc count) zero small = refl
 first-process (suc count) (suc m) small = first-process count m (less-before m count small)
 
-first-machines : (head : HeadText) → IsSameEverywhere first_past (cluster_of head).book
+first-machines : (head : HeadText) → IsSameEverywhere first_past (cluster_of head).facts
 first-machines head = record {
   deadline = λ m. sym (seen-replicate (let none : Option Ticks = None in none) deadline_now None refl refl (member_count head) m);
   hold = λ m. sym (seen-replicate (let none : Option Ticks = None in none) hold_now 0 refl refl (member_count head) m);
@@ -82,7 +82,7 @@ first-volatile head =
 
 knows-first : (scope : Name) (options : List MemberOptions) (members : List Member) (count m : ℕ) (found : Option Member) (agent : AgentFacts) → slice_get members m ≡ found → m < count
     → ((member : Member) → slice_get members m ≡ Some member → member.id.number ≡ m)
-    → option_map (first_agent scope options members) found ≡ Some (Some agent) → KnowsItself m (slice_get (first_agents count) m) agent
+    → option_map (first_agent scope options members) found ≡ Some (Some agent) → KnowsItself m (slice_get (first_processes count) m) agent
 knows-first scope options members count m None agent is small number there = absurd (none-some (Some agent) there)
 knows-first scope options members count m (Some member) agent is small number there =
     let same = some-is _ agent (some-is _ (Some agent) there) in
@@ -95,7 +95,7 @@ knows-first scope options members count m (Some member) agent is small number th
       unpaused = ap (λ (a : AgentFacts). is_paused a.knows) (sym same);
     }
 
-first-knows : (head : HeadText) → length (names_of head) ≤ 16 → KnowThemselves (first_agents (member_count head)) (cluster_of head).agents
+first-knows : (head : HeadText) → length (names_of head) ≤ 16 → KnowThemselves (first_processes (member_count head)) (cluster_of head).agents
 first-knows head few m agent is =
     let members : List Member = declared_members head in
     let there : option_map (first_agent head.cluster (options_of head) members) (slice_get members m) ≡ Some (Some agent) = sym (slice_get-map (first_agent head.cluster (options_of head) members) members m) ∙ is in

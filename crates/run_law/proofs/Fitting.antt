@@ -71,13 +71,13 @@ carried-by past facts _ same sends old i carried e = old i carried e
 
 -- ---- all but agents
 pub record Fits (head : HeadText) (past : Past) (cluster : Cluster) : Type 0 where
-  pub members : cluster.book.members ≡ declared_members head
+  pub members : cluster.facts.members ≡ declared_members head
   pub options : cluster.options ≡ options_of head
-  pub sized : IsSized (member_count head) cluster.book
-  pub book : IsSameBook past cluster.book
-  pub machines : IsSameEverywhere past cluster.book
-  pub unpaused : NobodyPauses cluster.book
-  pub carried : AreCarriedWell cluster.book.flight
+  pub sized : IsSized (member_count head) cluster.facts
+  pub book : IsSameBook past cluster.facts
+  pub machines : IsSameEverywhere past cluster.facts
+  pub unpaused : NobodyPauses cluster.facts
+  pub carried : AreCarriedWell cluster.facts.flight
 
 pub fits-of : (head : HeadText) (past : Past) (cluster : Cluster) → IsMatched head past cluster → Fits head past cluster
 fits-of head past cluster matched = record {
@@ -94,23 +94,23 @@ fits-of head past cluster matched = record {
 abbrev pub IsFitting : ℕ → EventKind → Type 0
 IsFitting count kind = IsHandsOffKind kind × IsWithinMembers count kind × SendsAddressed kind
 
-pub fits-over : (head : HeadText) (past : Past) (cluster : Cluster) (events : List Event) → AreCausal past cluster.book events → AllAre (IsFitting (member_count head)) events
+pub fits-over : (head : HeadText) (past : Past) (cluster : Cluster) (events : List Event) → AreCausal past cluster.facts events → AllAre (IsFitting (member_count head)) events
     → Fits head past cluster → Fits head (past_over past events) (cluster_over cluster events)
 fits-over head past cluster [] causal all old = old
 fits-over head past cluster (event ∷ events) causal all old =
     fits-over head (past_after past event.kind) (cluster_after cluster event.kind) events causal.1.1 all.1 (record {
       members = old.members;
       options = old.options;
-      sized = sized-by (member_count head) cluster.book event.kind old.sized;
-      book = book-by past cluster.book event.kind causal.0 causal.1.0 old.book;
-      machines = machines-by (member_count head) past cluster.book event.kind old.sized all.0.1 old.machines;
-      unpaused = pauses-by cluster.book event.kind all.0.0 old.unpaused;
-      carried = carried-by past cluster.book event.kind old.book all.0.2 old.carried;
+      sized = sized-by (member_count head) cluster.facts event.kind old.sized;
+      book = book-by past cluster.facts event.kind causal.0 causal.1.0 old.book;
+      machines = machines-by (member_count head) past cluster.facts event.kind old.sized all.0.1 old.machines;
+      unpaused = pauses-by cluster.facts event.kind all.0.0 old.unpaused;
+      carried = carried-by past cluster.facts event.kind old.book all.0.2 old.carried;
     })
 
 -- with agents
-pub matched-from : (head : HeadText) (past : Past) (cluster : Cluster) → Fits head past cluster → length cluster.agents ≡ member_count head → KnowThemselves cluster.book.agents cluster.agents
-    → ((m : ℕ) → IsLastRun past.asked m (run_in cluster.book.agents m)) → AreAgentsSound past.asked cluster.agents → IsMatched head past cluster
+pub matched-from : (head : HeadText) (past : Past) (cluster : Cluster) → Fits head past cluster → length cluster.agents ≡ member_count head → KnowThemselves cluster.facts.processes cluster.agents
+    → ((m : ℕ) → IsLastRun past.asked m (run_in cluster.facts.processes m)) → AreAgentsSound past.asked cluster.agents → IsMatched head past cluster
 matched-from head past cluster fits sized knows runs sound = record {
   members = fits.members;
   options = fits.options;

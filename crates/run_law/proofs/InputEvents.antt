@@ -99,9 +99,9 @@ module _ (member : Member) (run heard : ℕ) (Q : Output → Type 0) where
   begin-mine acknowledged log (Some (beginnings.AtOnce timeline)) is = ((refl, is), loss-mine (lacks_in (entries_of log) acknowledged))
   begin-mine acknowledged log (Some beginnings.WithItsStart) is = (refl, tt)
 
-  begins-mine : (cluster : Cluster) (found : Option ServerFacts) → IsToBegin Q → AllAre Mine (for_some found (λ s. events_of cluster (begin_kinds member cluster.book.acknowledged s)))
+  begins-mine : (cluster : Cluster) (found : Option ServerFacts) → IsToBegin Q → AllAre Mine (for_some found (λ s. events_of cluster (begin_kinds member cluster.facts.acknowledged s)))
   begins-mine cluster None is = tt
-  begins-mine cluster (Some s) is = all-kinds Mine cluster (begin_kinds member cluster.book.acknowledged s) (begin-mine cluster.book.acknowledged s.log (beginning_of s) is)
+  begins-mine cluster (Some s) is = all-kinds Mine cluster (begin_kinds member cluster.facts.acknowledged s) (begin-mine cluster.facts.acknowledged s.log (beginning_of s) is)
 
   -- it starts again
   pub again-mine : (acknowledged : List ℕ) (state : State) (s : ServerFacts) → IsToBegin Q → AllKinds Mine (server_restart_in member acknowledged state s)
@@ -109,9 +109,9 @@ module _ (member : Member) (run heard : ℕ) (Q : Output → Type 0) where
   again-mine acknowledged states.Replica s is = (refl, tt)
   again-mine acknowledged _ s is = tt
 
-  restarts-mine : (cluster : Cluster) (found : Option ServerFacts) → IsToBegin Q → AllAre Mine (for_some found (λ s. events_of cluster (server_restart_kinds member cluster.book.acknowledged s)))
+  restarts-mine : (cluster : Cluster) (found : Option ServerFacts) → IsToBegin Q → AllAre Mine (for_some found (λ s. events_of cluster (server_restart_kinds member cluster.facts.acknowledged s)))
   restarts-mine cluster None is = tt
-  restarts-mine cluster (Some s) is = all-kinds Mine cluster (server_restart_kinds member cluster.book.acknowledged s) (again-mine cluster.book.acknowledged s.state s is)
+  restarts-mine cluster (Some s) is = all-kinds Mine cluster (server_restart_kinds member cluster.facts.acknowledged s) (again-mine cluster.facts.acknowledged s.state s is)
 
   follow-mine : (leader : Option Member) → HoldsIf Mine (following_of member leader)
   follow-mine None = tt
@@ -150,23 +150,23 @@ module _ (member : Member) (run heard : ℕ) (Q : Output → Type 0) where
       → AllAre Mine (sending_events cluster member found (Some ends.Store) sequence body)
   sends-mine cluster sequence body None runs is = tt
   sends-mine cluster sequence body (Some process) runs is =
-      all-kinds Mine cluster (kinds.Message (Sent (cluster.book.sent + 1) (agent_message member ends.Store process.run sequence body)) ∷ lost_at_once (nat_le most_in_flight (length cluster.book.flight)) (cluster.book.sent + 1))
-      (Asks (record { sequence = sequence; body = body; is = ap (λ (r : ℕ). agent_message member ends.Store r sequence body) (runs process refl); from = is }), lost-mine (nat_le most_in_flight (length cluster.book.flight)) (cluster.book.sent + 1))
+      all-kinds Mine cluster (kinds.Message (Sent (cluster.facts.sent + 1) (agent_message member ends.Store process.run sequence body)) ∷ lost_at_once (nat_le most_in_flight (length cluster.facts.flight)) (cluster.facts.sent + 1))
+      (Asks (record { sequence = sequence; body = body; is = ap (λ (r : ℕ). agent_message member ends.Store r sequence body) (runs process refl); from = is }), lost-mine (nat_le most_in_flight (length cluster.facts.flight)) (cluster.facts.sent + 1))
 
   asks-mine : (cluster : Cluster) (id : MemberId) (sequence : ℕ) (found : Option AgentProcess) (peer : Option Member) → ((process : AgentProcess) → found ≡ Some process → process.run ≡ run) → Q (outputs.Send (targets.Member id) sequence bodies.Ask)
       → AllAre Mine (sending_events cluster member found (option_map (λ (m : Member). ends.Member m) peer) sequence bodies.Ask)
   asks-mine cluster id sequence None peer runs is = tt
   asks-mine cluster id sequence (Some process) None runs is = tt
   asks-mine cluster id sequence (Some process) (Some peer) runs is =
-      all-kinds Mine cluster (kinds.Message (Sent (cluster.book.sent + 1) (agent_message member (ends.Member peer) process.run sequence bodies.Ask)) ∷ lost_at_once (nat_le most_in_flight (length cluster.book.flight)) (cluster.book.sent + 1))
-      (AsksPeer peer id sequence (ap (λ (r : ℕ). agent_message member (ends.Member peer) r sequence bodies.Ask) (runs process refl)) is, lost-mine (nat_le most_in_flight (length cluster.book.flight)) (cluster.book.sent + 1))
+      all-kinds Mine cluster (kinds.Message (Sent (cluster.facts.sent + 1) (agent_message member (ends.Member peer) process.run sequence bodies.Ask)) ∷ lost_at_once (nat_le most_in_flight (length cluster.facts.flight)) (cluster.facts.sent + 1))
+      (AsksPeer peer id sequence (ap (λ (r : ℕ). agent_message member (ends.Member peer) r sequence bodies.Ask) (runs process refl)) is, lost-mine (nat_le most_in_flight (length cluster.facts.flight)) (cluster.facts.sent + 1))
 
   replies-mine : (cluster : Cluster) (id : MemberId) (asked sequence : ℕ) (answer : PeerAnswer) (peer : Option Member) → Q (outputs.Answer id asked sequence answer)
       → AllAre Mine (replying_events cluster member (option_map (λ (m : Member). ends.Member m) peer) asked sequence (bodies.Answer answer))
   replies-mine cluster id asked sequence answer None is = tt
   replies-mine cluster id asked sequence answer (Some peer) is =
-      all-kinds Mine cluster (kinds.Message (Sent (cluster.book.sent + 1) (agent_message member (ends.Member peer) asked sequence (bodies.Answer answer))) ∷ lost_at_once (nat_le most_in_flight (length cluster.book.flight)) (cluster.book.sent + 1))
-      (AnswersPeer peer id asked sequence answer refl is, lost-mine (nat_le most_in_flight (length cluster.book.flight)) (cluster.book.sent + 1))
+      all-kinds Mine cluster (kinds.Message (Sent (cluster.facts.sent + 1) (agent_message member (ends.Member peer) asked sequence (bodies.Answer answer))) ∷ lost_at_once (nat_le most_in_flight (length cluster.facts.flight)) (cluster.facts.sent + 1))
+      (AnswersPeer peer id asked sequence answer refl is, lost-mine (nat_le most_in_flight (length cluster.facts.flight)) (cluster.facts.sent + 1))
 
   member-mine : (cluster : Cluster) (id : MemberId) (sequence : ℕ) (body : Body) (found : Option AgentProcess) (peer : Option Member) → IsAsk body → ((process : AgentProcess) → found ≡ Some process → process.run ≡ run)
       → Q (outputs.Send (targets.Member id) sequence body) → AllAre Mine (sending_events cluster member found (option_map (λ (m : Member). ends.Member m) peer) sequence body)
@@ -179,10 +179,10 @@ module _ (member : Member) (run heard : ℕ) (Q : Output → Type 0) where
   order-mine cluster message at outputs.Begin table is = tt
   order-mine cluster message at (outputs.StartReplica leader) table is = tt
   order-mine cluster message at (outputs.Stop reason) table is = tt
-  order-mine cluster message at (outputs.Follow leader) table is = holds-then Mine (upstream_of member (slice_get cluster.book.members leader.number)) (server_at cluster member) (λ s. upstream-mine (slice_get cluster.book.members leader.number) (is_replica s.state))
+  order-mine cluster message at (outputs.Follow leader) table is = holds-then Mine (upstream_of member (slice_get cluster.facts.members leader.number)) (server_at cluster member) (λ s. upstream-mine (slice_get cluster.facts.members leader.number) (is_replica s.state))
   order-mine cluster message at (outputs.Require required) table is =
-      holds-then Mine (require_of cluster.book.members member required) (server_at cluster member)
-      (λ s. unless-mine (kinds.Replication (replications.RequiredSet (server_of member) required (required_names cluster.book.members required))) (is_same_required s.required required) refl)
+      holds-then Mine (require_of cluster.facts.members member required) (server_at cluster member)
+      (λ s. unless-mine (kinds.Replication (replications.RequiredSet (server_of member) required (required_names cluster.facts.members required))) (is_same_required s.required required) refl)
   order-mine cluster message at (outputs.Armed until) table is = tt
   order-mine cluster message at (outputs.Fed until) table is = tt
   order-mine cluster message at outputs.Disarmed table is = refl
@@ -198,7 +198,7 @@ module _ (member : Member) (run heard : ℕ) (Q : Output → Type 0) where
   order-mine cluster message at (outputs.Restart as_primary) table is = tt
   order-mine cluster message at outputs.Wipe table is =
       holds-then Mine (wipe_of member) (server_at cluster member) (λ s. unless-mine (kinds.Log (logs.Wiped (server_of member))) (is_creating s.state || live s.state) refl)
-  order-mine cluster message at (outputs.HandsOver candidate) table is = holds-mapped Mine (handing_over member) (slice_get cluster.book.members candidate.number) (λ other. tt)
+  order-mine cluster message at (outputs.HandsOver candidate) table is = holds-mapped Mine (handing_over member) (slice_get cluster.facts.members candidate.number) (λ other. tt)
   order-mine cluster message at (outputs.Told request told) table is = told-holds Mine member (agent_at cluster.agents member.id.number) told (λ status body. tt)
   order-mine cluster message at (outputs.HoldTaken until from sequence) table is = absurd table
 
@@ -206,19 +206,19 @@ module _ (member : Member) (run heard : ℕ) (Q : Output → Type 0) where
   ordered-mine cluster message at output table is =
       all-kinds Mine cluster (kinds_of (order_kind cluster member message output)) (one-kind Mine (order_kind cluster member message output) (order-mine cluster message at output table is))
 
-  pub output-mine : (cluster : Cluster) (message : HeardMessage) → message.number ≡ heard → ((process : AgentProcess) → slice_get cluster.book.agents member.id.number ≡ Some process → process.run ≡ run)
+  pub output-mine : (cluster : Cluster) (message : HeardMessage) → message.number ≡ heard → ((process : AgentProcess) → slice_get cluster.facts.processes member.id.number ≡ Some process → process.run ≡ run)
       → (output : Output) → IsOfTable output → Q output → AllAre Mine (output_events member message cluster output)
-  output-mine cluster message at runs (outputs.Send targets.Store sequence body) table is = sends-mine cluster sequence body (slice_get cluster.book.agents member.id.number) runs is
-  output-mine cluster message at runs (outputs.Send (targets.Member id) sequence body) table is = member-mine cluster id sequence body (slice_get cluster.book.agents member.id.number) (slice_get cluster.book.members id.number) table runs is
-  output-mine cluster message at runs (outputs.Answer to asked sequence answer) table is = replies-mine cluster to asked sequence answer (slice_get cluster.book.members to.number) is
+  output-mine cluster message at runs (outputs.Send targets.Store sequence body) table is = sends-mine cluster sequence body (slice_get cluster.facts.processes member.id.number) runs is
+  output-mine cluster message at runs (outputs.Send (targets.Member id) sequence body) table is = member-mine cluster id sequence body (slice_get cluster.facts.processes member.id.number) (slice_get cluster.facts.members id.number) table runs is
+  output-mine cluster message at runs (outputs.Answer to asked sequence answer) table is = replies-mine cluster to asked sequence answer (slice_get cluster.facts.members to.number) is
   output-mine cluster message at runs outputs.Begin table is = begins-mine cluster (server_at cluster member) (inl is)
   output-mine cluster message at runs (outputs.Restart as_primary) table is = restarts-mine cluster (server_at cluster member) (inr (as_primary, is))
   output-mine cluster message at runs (outputs.Armed until) table is = all-kinds Mine cluster (feed_kinds member message (arming member until message)) (refl, ((refl, at, is), tt))
   output-mine cluster message at runs (outputs.Fed until) table is = all-kinds Mine cluster (feed_kinds member message (feeding member until message)) (refl, ((refl, ap (λ (n : ℕ). bases.Grant n) at, is), tt))
-  output-mine cluster message at runs (outputs.StartReplica leader) table is = starts-mine cluster (declared_member cluster.book.members leader) (server_at cluster member)
+  output-mine cluster message at runs (outputs.StartReplica leader) table is = starts-mine cluster (declared_member cluster.facts.members leader) (server_at cluster member)
   output-mine cluster message at runs (outputs.Stop reason) table is = stops-mine cluster reason (server_at cluster member)
   output-mine cluster message at runs (outputs.Repair leader repair) table is =
-      let kind = option_and_then (repair_over cluster.book.cuts cluster.book.servers member repair) (slice_get cluster.book.members leader.number) in
+      let kind = option_and_then (repair_over cluster.facts.cuts cluster.facts.servers member repair) (slice_get cluster.facts.members leader.number) in
       all-kinds Mine cluster (kinds_of kind) (one-kind Mine kind
-      (repaired-holds Mine cluster.book.cuts cluster.book.servers member repair (slice_get cluster.book.members leader.number) (λ other r. refl) (λ other. refl)))
+      (repaired-holds Mine cluster.facts.cuts cluster.facts.servers member repair (slice_get cluster.facts.members leader.number) (λ other r. refl) (λ other. refl)))
   output-mine cluster message at runs output table is = ordered-mine cluster message at output table is

@@ -105,8 +105,8 @@ unpaused-entry : (found : Option KeyEntry) → IsUnpausedHeld found → (setting
 unpaused-entry None is = refl
 unpaused-entry (Some found) is = unpaused-value found.value is
 
-pub unpaused-told : (cluster : Cluster) (number : ℕ) (carried : InFlightFacts) → NobodyPauses cluster.book → in_flight cluster.book.flight number ≡ Some carried → (config_in (snapshot_in cluster carried)).pause ≡ false
-unpaused-told cluster number carried calm there = unpaused-entry (find key_cmp keys.Config carried.snapshot) (unpaused-flight number cluster.book.flight carried calm.flight there)
+pub unpaused-told : (cluster : Cluster) (number : ℕ) (carried : InFlightFacts) → NobodyPauses cluster.facts → in_flight cluster.facts.flight number ≡ Some carried → (config_in (snapshot_in cluster carried)).pause ≡ false
+unpaused-told cluster number carried calm there = unpaused-entry (find key_cmp keys.Config carried.snapshot) (unpaused-flight number cluster.facts.flight carried calm.flight there)
 
 -- so nobody reads of a pause
 calm-granted : (cluster : Cluster) (carried : InFlightFacts) (given : Option Granted) → (config_in (snapshot_in cluster carried)).pause ≡ false → (heard : Heard)
@@ -132,7 +132,7 @@ calm-from cluster carried calm heard e = calm-in cluster carried carried.message
 -- ---- what is heard
 module _ (head : HeadText) (past : Past) (cluster : Cluster) (matched : IsMatched head past cluster) (declared : Declared) (volatile_states : ℕ → VolatileState)
     (member : Member) (agent : AgentFacts) (machine : Machine) (found : IsFound cluster member machine) (here : slice_get cluster.agents member.id.number ≡ Some (Some agent)) (works : works_of head member.id.number ≡ true)
-    (number : ℕ) (carried : InFlightFacts) (there : in_flight cluster.book.flight number ≡ Some carried) (from : carried.message.from ≡ ends.Store) (to : carried.message.to ≡ ends.Member member)
+    (number : ℕ) (carried : InFlightFacts) (there : in_flight cluster.facts.flight number ≡ Some carried) (from : carried.message.from ≡ ends.Store) (to : carried.message.to ≡ ends.Member member)
     (run : carried.message.run ≡ agent.knows.run) (now : Ticks) where
   abbrev Law : State
   Law = state_of declared past volatile_states
@@ -148,7 +148,7 @@ module _ (head : HeadText) (past : Past) (cluster : Cluster) (matched : IsMatche
     number = number;
     answer = _;
     heard_is = refl;
-    is = heard-snapshot past cluster.book number carried member carried.message.run carried.message.sequence matched.flight there (message-is carried.message ends.Store (ends.Member member) bodies.Snapshot from to body);
+    is = heard-snapshot past cluster.facts number carried member carried.message.run carried.message.sequence matched.flight there (message-is carried.message ends.Store (ends.Member member) bodies.Snapshot from to body);
     member = refl;
     run = run;
     sequence_is = refl;
@@ -177,7 +177,7 @@ module _ (head : HeadText) (past : Past) (cluster : Cluster) (matched : IsMatche
   granted-heard : (request : ℕ) (leased_is : Bool) → carried.message.body ≡ bodies.Granted request leased_is → (grant : Granted) → carried.grant ≡ Some grant
       → HearsGrant Law member.id.number (Some number) now carried.message.sequence grant (snapshot_in cluster carried) (made agent.role agent.knows machine [])
   granted-heard request leased_is body grant grant-is =
-      let told = heard-granted past cluster.book number carried member carried.message.run carried.message.sequence request leased_is matched.flight there (message-is carried.message ends.Store (ends.Member member) (bodies.Granted request leased_is) from to body) in
+      let told = heard-granted past cluster.facts number carried member carried.message.run carried.message.sequence request leased_is matched.flight there (message-is carried.message ends.Store (ends.Member member) (bodies.Granted request leased_is) from to body) in
       let same : grant ≡ record { revision = told.revision; by = member.id; leased = leased_is } = some-is grant _ (sym grant-is ∙ told.grant) in
       record {
         answer = record {

@@ -82,12 +82,12 @@ use Rattle.run_law.proofs.Questions.{step-asks-anew}
 
 -- ---- the event with which it begins
 pub record IsBegun (m : ℕ) (cluster later : Cluster) : Type 0 where
-  pub processes : later.book.agents ≡ cluster.book.agents
-  pub clock : later.book.clock ≡ cluster.book.clock
-  pub servers : later.book.servers ≡ cluster.book.servers
-  pub deadlines : later.book.deadlines ≡ cluster.book.deadlines
-  pub holds : later.book.holds ≡ cluster.book.holds
-  pub sent : later.book.sent ≡ cluster.book.sent
+  pub processes : later.facts.processes ≡ cluster.facts.processes
+  pub clock : later.facts.clock ≡ cluster.facts.clock
+  pub servers : later.facts.servers ≡ cluster.facts.servers
+  pub deadlines : later.facts.deadlines ≡ cluster.facts.deadlines
+  pub holds : later.facts.holds ≡ cluster.facts.holds
+  pub sent : later.facts.sent ≡ cluster.facts.sent
 
 pub begun-by : (m : ℕ) (cluster : Cluster) (heard : Option ℕ) (kind : EventKind) → IsOpening heard kind → IsBegun m cluster (cluster_after cluster kind)
 begun-by m cluster heard (kinds.Agent (agents.Woken by)) is = record { processes = refl; clock = refl; servers = refl; deadlines = refl; holds = refl; sent = refl }
@@ -145,7 +145,7 @@ both-all P Q outs p q = λ k d h. (p k d h, q k d h)
 -- ---- the input
 module _ (head : HeadText) (book : List Event) (cluster : Cluster) (good : Bridged head book cluster) (member : Member) (agent : AgentFacts) (machine : Machine) (found : IsFound cluster member machine)
     (here : slice_get cluster.agents member.id.number ≡ Some (Some agent)) (heard : Heard) (hn : Option ℕ) (message : HeardMessage) (opening : EventKind) (opens : IsOpening hn opening)
-    (numbered : (n : ℕ) → hn ≡ Some n → (message.number ≡ n) × (n ≤ cluster.book.sent)) (low : message.number ≤ cluster.book.sent) where
+    (numbered : (n : ℕ) → hn ≡ Some n → (message.number ≡ n) × (n ≤ cluster.facts.sent)) (low : message.number ≤ cluster.facts.sent) where
   abbrev M : ℕ
   M = member.id.number
 
@@ -165,7 +165,7 @@ module _ (head : HeadText) (book : List Event) (cluster : Cluster) (good : Bridg
   Rest = each (output_events member message) First After.outputs
 
   abbrev Events : List Event
-  Events = record { tick = record { 0 = First.book.clock }; kind = opening } ∷ Rest
+  Events = record { tick = record { 0 = First.facts.clock }; kind = opening } ∷ Rest
 
   abbrev Later : Cluster
   Later = cluster_over First Rest
@@ -191,13 +191,13 @@ module _ (head : HeadText) (book : List Event) (cluster : Cluster) (good : Bridg
   pub begun : IsBegun M cluster First
   begun = begun-by M cluster hn opening opens
 
-  pub knows-it : KnowsItself M (slice_get cluster.book.agents M) agent
+  pub knows-it : KnowsItself M (slice_get cluster.facts.processes M) agent
   knows-it = good.matched.agents M agent here
 
   same-process : (a b process : AgentProcess) (o : Option AgentProcess) → o ≡ Some a → o ≡ Some process → a ≡ process
   same-process a b process o e f = some-is a process (sym e ∙ f)
 
-  pub runs : (process : AgentProcess) → slice_get First.book.agents M ≡ Some process → process.run ≡ agent.knows.run
+  pub runs : (process : AgentProcess) → slice_get First.facts.processes M ≡ Some process → process.run ≡ agent.knows.run
   runs process e = ap (λ (p : AgentProcess). p.run) (some-is process knows-it.found (sym e ∙ ap (λ (l : List AgentProcess). slice_get l M) begun.processes ∙ knows-it.is)) ∙ sym knows-it.run
 
   pub mine : AllAre (IsOfInput member agent.knows.run message.number Q) Rest
@@ -211,10 +211,10 @@ module _ (head : HeadText) (book : List Event) (cluster : Cluster) (good : Bridg
   all-events : (P : EventKind → Type 0) → P opening → ((kind : EventKind) → IsOfInput member agent.knows.run message.number Q kind → P kind) → AllAre P Events
   all-events P first rest = (first, all-more (IsOfInput member agent.knows.run message.number Q) P Rest rest mine)
 
-  pub numbers : AreNumberedAbove cluster.book.sent Events
+  pub numbers : AreNumberedAbove cluster.facts.sent Events
   numbers = (
-    opening-above cluster.book.sent hn opening opens,
-    subst (λ (n : ℕ). AreNumberedAbove n Rest) (begun.sent ∙ sym (opening-sent hn opening cluster.book.sent opens)) (each-numbered member agent.knows.run message First After.outputs runs table),
+    opening-above cluster.facts.sent hn opening opens,
+    subst (λ (n : ℕ). AreNumberedAbove n Rest) (begun.sent ∙ sym (opening-sent hn opening cluster.facts.sent opens)) (each-numbered member agent.knows.run message First After.outputs runs table),
   )
 
   sends : AllAre (SendsOnly (IsSentBy M agent.knows.run Told.clock After.outputs) Told.clock) Events
@@ -234,7 +234,7 @@ module _ (head : HeadText) (book : List Event) (cluster : Cluster) (good : Bridg
 
   fits : Fits head (past_over Told Events) Later
   fits = fits-over head Told cluster Events
-      (own-causal Told cluster.book Events (all-events IsFromMembers (opening-from hn opening opens) (mine-from member agent.knows.run message.number Q)) numbers)
+      (own-causal Told cluster.facts Events (all-events IsFromMembers (opening-from hn opening opens) (mine-from member agent.knows.run message.number Q)) numbers)
       fitting (fits-of head Told cluster good.matched)
 
   -- ---- agents
@@ -244,14 +244,14 @@ module _ (head : HeadText) (book : List Event) (cluster : Cluster) (good : Bridg
   pub questions : (i : ℕ) (q : Question) → (past_over Told Events).asked i ≡ Some q → (Told.asked i ≡ Some q) ⊎ IsSentBy M agent.knows.run Told.clock After.outputs (Requested q)
   questions = asked-over (IsSentBy M agent.knows.run Told.clock After.outputs) Told.clock Told Events refl sends
 
-  run-is : agent.knows.run ≡ run_in cluster.book.agents M
+  run-is : agent.knows.run ≡ run_in cluster.facts.processes M
   run-is = knows-it.run ∙ sym (ap run_now knows-it.is)
 
   module _ (acts : agent_facts_after cluster opening ≡ with_changed cluster.agents M (agent_after (Some After))) where
     pub agents-are : Later.agents ≡ with_changed cluster.agents M (agent_after (Some After))
     agents-are = stays.agents ∙ acts
 
-    pub processes-are : Later.book.agents ≡ cluster.book.agents
+    pub processes-are : Later.facts.processes ≡ cluster.facts.processes
     processes-are = stays.processes ∙ begun.processes
 
     ends-alone : EndsAlone After.role After.knows.waited
@@ -290,10 +290,10 @@ module _ (head : HeadText) (book : List Event) (cluster : Cluster) (good : Bridg
     matched-over = matched-from head (past_over Told Events) Later fits
         (ap (λ (l : List (Option AgentFacts)). length l) (agents-are acts) ∙ length-changed cluster.agents M (agent_after (Some After)) ∙ good.matched.agents_sized)
         (subst (λ (p : List AgentProcess). KnowThemselves p Later.agents) (sym (processes-are acts))
-        (subst (KnowThemselves cluster.book.agents) (sym (agents-are acts))
-        (knows-after M agent After cluster.book.agents cluster.agents here anew.who anew.run unpaused good.matched.agents)))
+        (subst (KnowThemselves cluster.facts.processes) (sym (agents-are acts))
+        (knows-after M agent After cluster.facts.processes cluster.agents here anew.who anew.run unpaused good.matched.agents)))
         (λ n. subst (λ (p : List AgentProcess). IsLastRun (past_over Told Events).asked n (run_in p n)) (sym (processes-are acts))
-        (runs-after M Told.clock agent.knows.run After.outputs Told.asked (past_over Told Events).asked cluster.book.agents run-is questions good.matched.waiting.runs n))
+        (runs-after M Told.clock agent.knows.run After.outputs Told.asked (past_over Told Events).asked cluster.facts.processes run-is questions good.matched.waiting.runs n))
         (subst (AreAgentsSound (past_over Told Events).asked) (sym (agents-are acts))
         (agents-after M Told.clock Now agent After Told.asked (past_over Told Events).asked cluster.agents here questions anew clock-is (ends-alone acts) good.matched.waiting.agents))
 
@@ -303,13 +303,13 @@ module _ (head : HeadText) (book : List Event) (cluster : Cluster) (good : Bridg
     matched : IsMatched head (past_of (book ++ Events)) Later
     matched = subst (λ (p : Past). IsMatched head p Later) (sym behind) matched-over
 
-    machine-later : machine_told (past_over Told Events) (volatile_of Later M) M ≡ machine_seen After.role After.knows After.machine false (run_in cluster.book.agents M)
+    machine-later : machine_told (past_over Told Events) (volatile_of Later M) M ≡ machine_seen After.role After.knows After.machine false (run_in cluster.facts.processes M)
     machine-later =
         machine-is head (past_over Told Events) Later matched-over M
         ∙ seen-of Later M (record { role = After.role; knows = After.knows }) After.machine (resembles-later acts) (after-here acts)
         ∙ ap (λ (p : List AgentProcess). machine_seen After.role After.knows After.machine false (run_in p M)) (processes-are acts)
 
-    pub stands : StandsIn S M (run_in cluster.book.agents M) Now Before
+    pub stands : StandsIn S M (run_in cluster.facts.processes M) Now Before
     stands = record {
       member = machine-is head Told cluster good.matched M ∙ seen-of cluster M agent machine (mirrored cluster M machine found.mirrors) here;
       me = knows-it.me;
@@ -325,20 +325,20 @@ module _ (head : HeadText) (book : List Event) (cluster : Cluster) (good : Bridg
     gone-if o (kinds.Message (Delivered n)) is number e = ap (λ (k : ℕ). kinds.Message (Delivered k)) (some-is n number (sym is ∙ e))
     gone-if o _ is number e = absurd is
 
-    is-input : IsInputOf S M (run_in cluster.book.agents M) Before After Theirs
+    is-input : IsInputOf S M (run_in cluster.facts.processes M) Before After Theirs
     is-input = record {
       feeds = refl;
       takes = refl;
       machine = machine-later;
-      gone = λ number e. heard-gone Told (record { tick = record { 0 = First.book.clock }; kind = opening }) Rest cluster.book.sent number (gone-if hn opening opens number e) (numbered number e).1
-          (subst (λ (n : ℕ). AreNumberedAbove n Rest) (opening-sent hn opening cluster.book.sent opens) numbers.1);
+      gone = λ number e. heard-gone Told (record { tick = record { 0 = First.facts.clock }; kind = opening }) Rest cluster.facts.sent number (gone-if hn opening opens number e) (numbered number e).1
+          (subst (λ (n : ℕ). AreNumberedAbove n Rest) (opening-sent hn opening cluster.facts.sent opens) numbers.1);
       flight = λ i flying e. old-or-sent (IsSentBy M agent.knows.run Told.clock After.outputs) Told.clock Told Events refl sends i flying e;
     }
 
     -- ---- who begins, and what is fed
     kept : AllAre (KeepsMomentOf message.number) Rest
-    kept = moments-all member agent.knows.run message.number cluster.book.sent message.number Q Rest low
-        (subst (λ (n : ℕ). AreNumberedAbove n Rest) (opening-sent hn opening cluster.book.sent opens) numbers.1) mine
+    kept = moments-all member agent.knows.run message.number cluster.facts.sent message.number Q Rest low
+        (subst (λ (n : ℕ). AreNumberedAbove n Rest) (opening-sent hn opening cluster.facts.sent opens) numbers.1) mine
 
     abbrev May : List Event → ℕ → Type 0
     May before n = MayBeginBehind S (Input M Theirs) before n
@@ -375,7 +375,7 @@ module _ (head : HeadText) (book : List Event) (cluster : Cluster) (good : Bridg
     begins-all : IsLawfulAnd S M After Theirs → BeginsBehind (MayBeginBehind S (Input M Theirs)) [] Events
     begins-all lawful = (
       opening-begins (May []) hn opening opens,
-      each-begins member agent.knows.run message (MayPromote S M Theirs) May grow makes First machine [] (record { tick = record { 0 = First.book.clock }; kind = opening } ∷ []) After.outputs (mirrors-first acts)
+      each-begins member agent.knows.run message (MayPromote S M Theirs) May grow makes First machine [] (record { tick = record { 0 = First.facts.clock }; kind = opening } ∷ []) After.outputs (mirrors-first acts)
           (λ alive. (refl, inl (inl (ap (λ (x : MachineSeen). x.live) stands.member ∙ alive)))) runs table (step-carried-out Now (points_of cluster member) heard agent.role agent.knows machine).last
           (opening-moments message.number hn opening opens, tt) kept (λ e. absurd (no-one e)) lawful.begins,
     )
@@ -388,7 +388,7 @@ module _ (head : HeadText) (book : List Event) (cluster : Cluster) (good : Bridg
     shows-if false is = inl is
     shows-if true is =
         let fed = each-fed member agent.knows.run message First After.outputs is in
-        let first : Event = record { tick = record { 0 = First.book.clock }; kind = opening } in
+        let first : Event = record { tick = record { 0 = First.facts.clock }; kind = opening } in
         inr (
           first ∷ fed.front,
           fed.event,
@@ -430,7 +430,7 @@ module _ (head : HeadText) (book : List Event) (cluster : Cluster) (good : Bridg
     input-kept hears = kept-if-works head book cluster Events (λ works.
         let sound = good.matched.waiting.agents M agent here in
         let lawful = input-lawful-from Now (points_of cluster member) heard agent.role agent.knows machine (λ waited is. (sound.waits waited is).span) sound.ends
-        S M (run_in cluster.book.agents M) Theirs stands (hears works) is-input in
+        S M (run_in cluster.facts.processes M) Theirs stands (hears works) is-input in
         action-kept head book cluster Events (Input M Theirs) good (begins-all lawful) (λ meets. record {
           lawful = lawful.lawful;
           shows = shows-if (has_one is_feeding After.outputs) refl;
@@ -459,9 +459,9 @@ module _ (head : HeadText) (book : List Event) (cluster : Cluster) (good : Bridg
     comes-to-act meets acts_behind rests was agent_behind (Undone ready live_before) = absurd (rests (inl live_before))
 
     -- where the premises are met, whoever comes to act in an input armed its watchdog in time, on the grant that it hears
-    pub arms-in-time : ((m : ℕ) → works_of head m ≡ true) → Hears S M hn Now heard Before → MeetsPremises head (book ++ Events) → Acts (machine_seen After.role After.knows After.machine false (run_in cluster.book.agents M)) → (Acts (S.members M) → ⊥) → ArmsInTime S M hn
+    pub arms-in-time : ((m : ℕ) → works_of head m ≡ true) → Hears S M hn Now heard Before → MeetsPremises head (book ++ Events) → Acts (machine_seen After.role After.knows After.machine false (run_in cluster.facts.processes M)) → (Acts (S.members M) → ⊥) → ArmsInTime S M hn
     arms-in-time works hears meets acts_behind rests =
         let sound = good.matched.waiting.agents M agent here in
         let lawful = input-lawful-from Now (points_of cluster member) heard agent.role agent.knows machine (λ waited is. (sound.waits waited is).span) sound.ends
-        S M (run_in cluster.book.agents M) Theirs stands hears is-input in
+        S M (run_in cluster.facts.processes M) Theirs stands hears is-input in
         comes-to-act meets (subst (λ (x : MachineSeen). Acts x) (sym machine-later) acts_behind) rests lawful.lawful.was lawful.lawful.agent lawful.lawful.watchdog

@@ -77,14 +77,14 @@ status_seen s = record { state = s.state; was_primary = s.was_primary; stop = s.
 -- the server of a member is seen so
 pub record IsServer (cluster : Cluster) (m : ℕ) (seen : Seen) : Type 0 where
   pub server : ServerFacts
-  pub is : slice_get cluster.book.servers m ≡ Some server
+  pub is : slice_get cluster.facts.servers m ≡ Some server
   pub seen_is : facts_seen server ≡ seen
 
 -- the member's machine, as far as the law reads it
 pub record Mirrors (cluster : Cluster) (m : ℕ) (machine : Machine) : Type 0 where
   pub server : IsServer cluster m (status_seen machine.server)
-  pub deadline : slice_get cluster.book.deadlines m ≡ Some machine.watchdog.deadline
-  pub hold : slice_get cluster.book.holds m ≡ Some machine.hold
+  pub deadline : slice_get cluster.facts.deadlines m ≡ Some machine.watchdog.deadline
+  pub hold : slice_get cluster.facts.holds m ≡ Some machine.hold
 
 -- ---- what orders make of what is seen
 abbrev seen_begun : Seen → Seen
@@ -279,19 +279,19 @@ ended-by now x true false z up is = no-both (sym is)
 ended-by now x false primary z up is = no-both (sym up)
 
 -- ---- the server behind an event of its own
-moves : (cluster later : Cluster) (m : ℕ) (change : ServerFacts → ServerFacts) (x after : Seen) → slice_get later.book.servers m ≡ slice_get (with_changed cluster.book.servers m change) m
+moves : (cluster later : Cluster) (m : ℕ) (change : ServerFacts → ServerFacts) (x after : Seen) → slice_get later.facts.servers m ≡ slice_get (with_changed cluster.facts.servers m change) m
     → ((s : ServerFacts) → facts_seen s ≡ x → facts_seen (change s) ≡ after) → IsServer cluster m x → IsServer later m after
 moves cluster later m change x after same makes old =
-    record { server = change old.server; is = same ∙ item-here cluster.book.servers m change old.server old.is; seen_is = makes old.server old.seen_is }
+    record { server = change old.server; is = same ∙ item-here cluster.facts.servers m change old.server old.is; seen_is = makes old.server old.seen_is }
 
-stays-server : (cluster later : Cluster) (m : ℕ) (x : Seen) → slice_get later.book.servers m ≡ slice_get cluster.book.servers m → IsServer cluster m x → IsServer later m x
+stays-server : (cluster later : Cluster) (m : ℕ) (x : Seen) → slice_get later.facts.servers m ≡ slice_get cluster.facts.servers m → IsServer cluster m x → IsServer later m x
 stays-server cluster later m x same old = record { server = old.server; is = same ∙ old.is; seen_is = old.seen_is }
 
 as-server : (later : Cluster) (m : ℕ) (x after : Seen) → after ≡ x → IsServer later m x → IsServer later m after
 as-server later m x after e is = record { server = is.server; is = is.is; seen_is = is.seen_is ∙ sym e }
 
 -- an order changes the server alone
-ordered : (cluster later : Cluster) (m : ℕ) (machine : Machine) (after : ServerStatus) (x : Seen) → slice_get later.book.deadlines m ≡ slice_get cluster.book.deadlines m → slice_get later.book.holds m ≡ slice_get cluster.book.holds m
+ordered : (cluster later : Cluster) (m : ℕ) (machine : Machine) (after : ServerStatus) (x : Seen) → slice_get later.facts.deadlines m ≡ slice_get cluster.facts.deadlines m → slice_get later.facts.holds m ≡ slice_get cluster.facts.holds m
     → status_seen after ≡ x → IsServer later m x → Mirrors cluster m machine → Mirrors later m (with_server after machine)
 ordered cluster later m machine after x deadlines holds e is old = record {
   server = as-server later m x (status_seen after) e is;
@@ -299,7 +299,7 @@ ordered cluster later m machine after x deadlines holds e is old = record {
   hold = holds ∙ old.hold;
 }
 
-unmoved : (cluster later : Cluster) (m : ℕ) (machine : Machine) → slice_get later.book.servers m ≡ slice_get cluster.book.servers m → slice_get later.book.deadlines m ≡ slice_get cluster.book.deadlines m → slice_get later.book.holds m ≡ slice_get cluster.book.holds m
+unmoved : (cluster later : Cluster) (m : ℕ) (machine : Machine) → slice_get later.facts.servers m ≡ slice_get cluster.facts.servers m → slice_get later.facts.deadlines m ≡ slice_get cluster.facts.deadlines m → slice_get later.facts.holds m ≡ slice_get cluster.facts.holds m
     → Mirrors cluster m machine → Mirrors later m machine
 unmoved cluster later m machine servers deadlines holds old = record {
   server = stays-server cluster later m (status_seen machine.server) servers old.server;
@@ -314,9 +314,9 @@ RepairsNone _ = Unit {0}
 
 -- the member's machine, of which the server may have been repaired: it is live as the machine's is
 pub record Resembles (cluster : Cluster) (m : ℕ) (machine : Machine) : Type 0 where
-  pub lives : live_in cluster.book.servers m ≡ live machine.server.state
-  pub deadline : slice_get cluster.book.deadlines m ≡ Some machine.watchdog.deadline
-  pub hold : slice_get cluster.book.holds m ≡ Some machine.hold
+  pub lives : live_in cluster.facts.servers m ≡ live machine.server.state
+  pub deadline : slice_get cluster.facts.deadlines m ≡ Some machine.watchdog.deadline
+  pub hold : slice_get cluster.facts.holds m ≡ Some machine.hold
 
 pub mirrored : (cluster : Cluster) (m : ℕ) (machine : Machine) → Mirrors cluster m machine → Resembles cluster m machine
 mirrored cluster m machine mirrors = record {
@@ -328,7 +328,7 @@ mirrored cluster m machine mirrors = record {
 -- a change of a log leaves who is live
 logged-resembles : (cluster : Cluster) (m : ℕ) (machine : Machine) (happening : LogEvent) → Resembles cluster m machine → Resembles (cluster_after cluster (kinds.Log happening)) m machine
 logged-resembles cluster m machine happening old = record {
-  lives = live-kept cluster.book.servers (servers_by_log cluster.book.servers happening) m (logged-kept (λ s. live s.state) (λ s t live writes required confirmed. live) cluster.book.servers happening) ∙ old.lives;
+  lives = live-kept cluster.facts.servers (servers_by_log cluster.facts.servers happening) m (logged-kept (λ s. live s.state) (λ s t live writes required confirmed. live) cluster.facts.servers happening) ∙ old.lives;
   deadline = old.deadline;
   hold = old.hold;
 }
@@ -349,8 +349,8 @@ may-resemble cluster m machine (Some kind) is old = one-resembles cluster m mach
 pub repair-resembles : (cluster : Cluster) (member : Member) (message : HeardMessage) (machine : Machine) (leader : MemberId) (repair : Repair) → Resembles cluster member.id.number machine
     → Resembles (cluster_over cluster (output_events member message cluster (outputs.Repair leader repair))) member.id.number machine
 repair-resembles cluster member message machine leader repair old =
-    may-resemble cluster member.id.number machine (option_and_then (repair_over cluster.book.cuts cluster.book.servers member repair) (slice_get cluster.book.members leader.number))
-    (repaired-holds IsOfLog cluster.book.cuts cluster.book.servers member repair (slice_get cluster.book.members leader.number) (λ other r. tt) (λ other. tt)) old
+    may-resemble cluster member.id.number machine (option_and_then (repair_over cluster.facts.cuts cluster.facts.servers member repair) (slice_get cluster.facts.members leader.number))
+    (repaired-holds IsOfLog cluster.facts.cuts cluster.facts.servers member repair (slice_get cluster.facts.members leader.number) (λ other r. tt) (λ other. tt)) old
 
 abbrev IsOfNote : EventKind → Type 0
 IsOfNote (kinds.Note note) = Unit {0}
@@ -384,91 +384,91 @@ module _ (member : Member) where
       old
 
   -- it begins at once
-  at-once : (cluster : Cluster) (machine : Machine) (after : ServerStatus) (timeline : ℕ) (test : Bool) (s : ServerFacts) → slice_get cluster.book.servers member.id.number ≡ Some s → status_seen after ≡ seen_begun (facts_seen s)
+  at-once : (cluster : Cluster) (machine : Machine) (after : ServerStatus) (timeline : ℕ) (test : Bool) (s : ServerFacts) → slice_get cluster.facts.servers member.id.number ≡ Some s → status_seen after ≡ seen_begun (facts_seen s)
       → Here cluster machine → Here (Behind cluster (kinds.Server (servers.Began (server_of member) timeline) ∷ kinds_of (loss_if member test))) (with_server after machine)
   at-once cluster machine after timeline test s is e old =
       let later = cluster_after cluster (kinds.Server (servers.Began (server_of member) timeline)) in
       loss-here later (with_server after machine) test
       (ordered cluster later member.id.number machine after (seen_begun (facts_seen s)) refl refl e
-      (record { server = begun_in s.state s; is = item-here cluster.book.servers member.id.number (λ s. begun_in s.state s) s is; seen_is = begun-seen s.state s }) old)
+      (record { server = begun_in s.state s; is = item-here cluster.facts.servers member.id.number (λ s. begun_in s.state s) s is; seen_is = begun-seen s.state s }) old)
 
   -- or when its start is complete
-  with-start : (cluster : Cluster) (machine : Machine) (after : ServerStatus) (s : ServerFacts) → slice_get cluster.book.servers member.id.number ≡ Some s → is_down s.state ≡ true → (s.start_delay.0 == 0) ≡ false
-      → status_seen after ≡ seen_starting true (record { 0 = cluster.book.clock }) (facts_seen s)
+  with-start : (cluster : Cluster) (machine : Machine) (after : ServerStatus) (s : ServerFacts) → slice_get cluster.facts.servers member.id.number ≡ Some s → is_down s.state ≡ true → (s.start_delay.0 == 0) ≡ false
+      → status_seen after ≡ seen_starting true (record { 0 = cluster.facts.clock }) (facts_seen s)
       → Here cluster machine → Here (cluster_after cluster (kinds.Server (servers.StartsAsPrimary (server_of member)))) (with_server after machine)
   with-start cluster machine after s is down slow e old =
       let later = cluster_after cluster (kinds.Server (servers.StartsAsPrimary (server_of member))) in
-      ordered cluster later member.id.number machine after (seen_starting true (record { 0 = cluster.book.clock }) (facts_seen s)) refl refl e
-      (record { server = starts_as_primary cluster.book.clock s; is = item-here cluster.book.servers member.id.number (starts_as_primary cluster.book.clock) s is; seen_is = slowly-started cluster.book.clock s false slow down refl }) old
+      ordered cluster later member.id.number machine after (seen_starting true (record { 0 = cluster.facts.clock }) (facts_seen s)) refl refl e
+      (record { server = starts_as_primary cluster.facts.clock s; is = item-here cluster.facts.servers member.id.number (starts_as_primary cluster.facts.clock) s is; seen_is = slowly-started cluster.facts.clock s false slow down refl }) old
 
   -- nothing comes of it
-  no-start : (cluster : Cluster) (machine : Machine) (after : ServerStatus) (s : ServerFacts) → slice_get cluster.book.servers member.id.number ≡ Some s → status_seen after ≡ facts_seen s → Here cluster machine → Here cluster (with_server after machine)
+  no-start : (cluster : Cluster) (machine : Machine) (after : ServerStatus) (s : ServerFacts) → slice_get cluster.facts.servers member.id.number ≡ Some s → status_seen after ≡ facts_seen s → Here cluster machine → Here cluster (with_server after machine)
   no-start cluster machine after s is e old = ordered cluster cluster member.id.number machine after (facts_seen s) refl refl e (record { server = s; is = is; seen_is = refl }) old
 
-  again-here : (cluster : Cluster) (machine : Machine) (after : ServerStatus) (s : ServerFacts) (was z : Bool) → slice_get cluster.book.servers member.id.number ≡ Some s → is_down s.state ≡ true → s.was_primary ≡ was → (s.start_delay.0 == 0) ≡ z
-      → status_seen after ≡ seen_again (record { 0 = cluster.book.clock }) (facts_seen s) → Here cluster machine
-      → Here (Behind cluster (kinds_by member cluster.book.acknowledged s.log (if was then Some (if z then beginnings.AtOnce s.timeline else beginnings.WithItsStart) else None))) (with_server after machine)
+  again-here : (cluster : Cluster) (machine : Machine) (after : ServerStatus) (s : ServerFacts) (was z : Bool) → slice_get cluster.facts.servers member.id.number ≡ Some s → is_down s.state ≡ true → s.was_primary ≡ was → (s.start_delay.0 == 0) ≡ z
+      → status_seen after ≡ seen_again (record { 0 = cluster.facts.clock }) (facts_seen s) → Here cluster machine
+      → Here (Behind cluster (kinds_by member cluster.facts.acknowledged s.log (if was then Some (if z then beginnings.AtOnce s.timeline else beginnings.WithItsStart) else None))) (with_server after machine)
   again-here cluster machine after s false z is down was zero e old =
-      no-start cluster machine after s is (e ∙ ap (λ (b : Bool). if b then seen_starting true (record { 0 = cluster.book.clock }) (facts_seen s) else facts_seen s) was) old
+      no-start cluster machine after s is (e ∙ ap (λ (b : Bool). if b then seen_starting true (record { 0 = cluster.facts.clock }) (facts_seen s) else facts_seen s) was) old
   again-here cluster machine after s true true is down was zero e old =
-      at-once cluster machine after s.timeline (lacks_in (entries_of s.log) cluster.book.acknowledged) s is
-      (e ∙ ap (λ (b : Bool). if b then seen_starting true (record { 0 = cluster.book.clock }) (facts_seen s) else facts_seen s) was
-      ∙ ap (λ (b : Bool). if b then seen_begun (facts_seen s) else record (facts_seen s) { state = states.Starting true (moment_after (record { 0 = cluster.book.clock }) s.start_delay) }) zero) old
+      at-once cluster machine after s.timeline (lacks_in (entries_of s.log) cluster.facts.acknowledged) s is
+      (e ∙ ap (λ (b : Bool). if b then seen_starting true (record { 0 = cluster.facts.clock }) (facts_seen s) else facts_seen s) was
+      ∙ ap (λ (b : Bool). if b then seen_begun (facts_seen s) else record (facts_seen s) { state = states.Starting true (moment_after (record { 0 = cluster.facts.clock }) s.start_delay) }) zero) old
   again-here cluster machine after s true false is down was zero e old =
       with-start cluster machine after s is down zero
-      (e ∙ ap (λ (b : Bool). if b then seen_starting true (record { 0 = cluster.book.clock }) (facts_seen s) else facts_seen s) was) old
+      (e ∙ ap (λ (b : Bool). if b then seen_starting true (record { 0 = cluster.facts.clock }) (facts_seen s) else facts_seen s) was) old
 
-  begin-by : (cluster : Cluster) (machine : Machine) (after : ServerStatus) (s : ServerFacts) (state : State) → slice_get cluster.book.servers member.id.number ≡ Some s → s.state ≡ state
-      → status_seen after ≡ seen_begins (record { 0 = cluster.book.clock }) state (facts_seen s) → Here cluster machine
-      → Here (Behind cluster (kinds_by member cluster.book.acknowledged s.log (beginning_in state s))) (with_server after machine)
-  begin-by cluster machine after s states.Replica is here e old = at-once cluster machine after (s.timeline + 1) (lacks_in (entries_of s.log) cluster.book.acknowledged) s is e old
+  begin-by : (cluster : Cluster) (machine : Machine) (after : ServerStatus) (s : ServerFacts) (state : State) → slice_get cluster.facts.servers member.id.number ≡ Some s → s.state ≡ state
+      → status_seen after ≡ seen_begins (record { 0 = cluster.facts.clock }) state (facts_seen s) → Here cluster machine
+      → Here (Behind cluster (kinds_by member cluster.facts.acknowledged s.log (beginning_in state s))) (with_server after machine)
+  begin-by cluster machine after s states.Replica is here e old = at-once cluster machine after (s.timeline + 1) (lacks_in (entries_of s.log) cluster.facts.acknowledged) s is e old
   begin-by cluster machine after s states.Stopped is here e old = again-here cluster machine after s s.was_primary (s.start_delay.0 == 0) is (ap is_down here) refl refl e old
   begin-by cluster machine after s states.Crashed is here e old = again-here cluster machine after s s.was_primary (s.start_delay.0 == 0) is (ap is_down here) refl refl e old
   begin-by cluster machine after s _ is here e old = no-start cluster machine after s is e old
 
   begin-here : (cluster : Cluster) (machine : Machine) → Here cluster machine
-      → Here (cluster_over cluster (for_some (server_at cluster member) (λ s. events_of cluster (begin_kinds member cluster.book.acknowledged s)))) (with_server (status_begun (record { 0 = cluster.book.clock }) machine.server) machine)
+      → Here (cluster_over cluster (for_some (server_at cluster member) (λ s. events_of cluster (begin_kinds member cluster.facts.acknowledged s)))) (with_server (status_begun (record { 0 = cluster.facts.clock }) machine.server) machine)
   begin-here cluster machine old =
       let s = old.server.server in
-      let now : Ticks = record { 0 = cluster.book.clock } in
+      let now : Ticks = record { 0 = cluster.facts.clock } in
       let after = status_begun now machine.server in
-      subst (λ (found : Option ServerFacts). Here (cluster_over cluster (for_some found (λ s. events_of cluster (begin_kinds member cluster.book.acknowledged s)))) (with_server after machine)) (sym old.server.is)
+      subst (λ (found : Option ServerFacts). Here (cluster_over cluster (for_some found (λ s. events_of cluster (begin_kinds member cluster.facts.acknowledged s)))) (with_server after machine)) (sym old.server.is)
       (begin-by cluster machine after s s.state old.server.is refl
       (status-begun-seen now machine.server ∙ ap (λ (x : Seen). seen_begins now x.state x) (sym old.server.seen_is)) old)
 
   -- a primary ends and starts again: at once, or when its start is complete
-  ended-again : (cluster : Cluster) (machine : Machine) (after : ServerStatus) (s : ServerFacts) (z : Bool) → slice_get cluster.book.servers member.id.number ≡ Some s → (s.start_delay.0 == 0) ≡ z
-      → status_seen after ≡ seen_starting true (record { 0 = cluster.book.clock }) (facts_seen s) → Here cluster machine
-      → Here (Behind cluster (kinds.Server (servers.Ended (server_of member)) ∷ kinds_by member cluster.book.acknowledged s.log (Some (if z then beginnings.AtOnce s.timeline else beginnings.WithItsStart)))) (with_server after machine)
+  ended-again : (cluster : Cluster) (machine : Machine) (after : ServerStatus) (s : ServerFacts) (z : Bool) → slice_get cluster.facts.servers member.id.number ≡ Some s → (s.start_delay.0 == 0) ≡ z
+      → status_seen after ≡ seen_starting true (record { 0 = cluster.facts.clock }) (facts_seen s) → Here cluster machine
+      → Here (Behind cluster (kinds.Server (servers.Ended (server_of member)) ∷ kinds_by member cluster.facts.acknowledged s.log (Some (if z then beginnings.AtOnce s.timeline else beginnings.WithItsStart)))) (with_server after machine)
   ended-again cluster machine after s true is zero e old =
-      at-once (Ends cluster) (with_server (down-status machine) machine) after s.timeline (lacks_in (entries_of s.log) cluster.book.acknowledged) (stopped s) (item-here cluster.book.servers member.id.number stopped s is)
-      (e ∙ ap (λ (b : Bool). if b then seen_begun (facts_seen s) else record (facts_seen s) { state = states.Starting true (moment_after (record { 0 = cluster.book.clock }) s.start_delay) }) zero) (ended-here cluster machine old)
+      at-once (Ends cluster) (with_server (down-status machine) machine) after s.timeline (lacks_in (entries_of s.log) cluster.facts.acknowledged) (stopped s) (item-here cluster.facts.servers member.id.number stopped s is)
+      (e ∙ ap (λ (b : Bool). if b then seen_begun (facts_seen s) else record (facts_seen s) { state = states.Starting true (moment_after (record { 0 = cluster.facts.clock }) s.start_delay) }) zero) (ended-here cluster machine old)
   ended-again cluster machine after s false is zero e old =
-      with-start (Ends cluster) (with_server (down-status machine) machine) after (stopped s) (item-here cluster.book.servers member.id.number stopped s is) refl zero e (ended-here cluster machine old)
+      with-start (Ends cluster) (with_server (down-status machine) machine) after (stopped s) (item-here cluster.facts.servers member.id.number stopped s is) refl zero e (ended-here cluster machine old)
 
   -- a replica starts again
-  replica-again : (cluster : Cluster) (machine : Machine) (after : ServerStatus) (s : ServerFacts) → slice_get cluster.book.servers member.id.number ≡ Some s → s.state ≡ states.Replica
-      → status_seen after ≡ seen_restarted (record { 0 = cluster.book.clock }) states.Replica (facts_seen s) → Here cluster machine
+  replica-again : (cluster : Cluster) (machine : Machine) (after : ServerStatus) (s : ServerFacts) → slice_get cluster.facts.servers member.id.number ≡ Some s → s.state ≡ states.Replica
+      → status_seen after ≡ seen_restarted (record { 0 = cluster.facts.clock }) states.Replica (facts_seen s) → Here cluster machine
       → Here (cluster_after cluster (kinds.Server (servers.StartsAsReplica (server_of member)))) (with_server after machine)
   replica-again cluster machine after s is here e old =
       let later = cluster_after cluster (kinds.Server (servers.StartsAsReplica (server_of member))) in
-      ordered cluster later member.id.number machine after (seen_restarted (record { 0 = cluster.book.clock }) states.Replica (facts_seen s)) refl refl e
-      (record { server = starts_as_replica cluster.book.clock s; is = item-here cluster.book.servers member.id.number (starts_as_replica cluster.book.clock) s is; seen_is = replica-again-seen cluster.book.clock s here }) old
+      ordered cluster later member.id.number machine after (seen_restarted (record { 0 = cluster.facts.clock }) states.Replica (facts_seen s)) refl refl e
+      (record { server = starts_as_replica cluster.facts.clock s; is = item-here cluster.facts.servers member.id.number (starts_as_replica cluster.facts.clock) s is; seen_is = replica-again-seen cluster.facts.clock s here }) old
 
-  again-by : (cluster : Cluster) (machine : Machine) (after : ServerStatus) (s : ServerFacts) (state : State) → slice_get cluster.book.servers member.id.number ≡ Some s → s.state ≡ state
-      → status_seen after ≡ seen_restarted (record { 0 = cluster.book.clock }) state (facts_seen s) → Here cluster machine
-      → Here (Behind cluster (server_restart_in member cluster.book.acknowledged state s)) (with_server after machine)
+  again-by : (cluster : Cluster) (machine : Machine) (after : ServerStatus) (s : ServerFacts) (state : State) → slice_get cluster.facts.servers member.id.number ≡ Some s → s.state ≡ state
+      → status_seen after ≡ seen_restarted (record { 0 = cluster.facts.clock }) state (facts_seen s) → Here cluster machine
+      → Here (Behind cluster (server_restart_in member cluster.facts.acknowledged state s)) (with_server after machine)
   again-by cluster machine after s states.Primary is here e old = ended-again cluster machine after s (s.start_delay.0 == 0) is refl e old
   again-by cluster machine after s states.Replica is here e old = replica-again cluster machine after s is here e old
   again-by cluster machine after s _ is here e old = no-start cluster machine after s is e old
 
   restart-here : (cluster : Cluster) (machine : Machine) → Here cluster machine
-      → Here (cluster_over cluster (for_some (server_at cluster member) (λ s. events_of cluster (server_restart_kinds member cluster.book.acknowledged s)))) (with_server (status_restarted (record { 0 = cluster.book.clock }) machine.server) machine)
+      → Here (cluster_over cluster (for_some (server_at cluster member) (λ s. events_of cluster (server_restart_kinds member cluster.facts.acknowledged s)))) (with_server (status_restarted (record { 0 = cluster.facts.clock }) machine.server) machine)
   restart-here cluster machine old =
       let s = old.server.server in
-      let now : Ticks = record { 0 = cluster.book.clock } in
+      let now : Ticks = record { 0 = cluster.facts.clock } in
       let after = status_restarted now machine.server in
-      subst (λ (found : Option ServerFacts). Here (cluster_over cluster (for_some found (λ s. events_of cluster (server_restart_kinds member cluster.book.acknowledged s)))) (with_server after machine)) (sym old.server.is)
+      subst (λ (found : Option ServerFacts). Here (cluster_over cluster (for_some found (λ s. events_of cluster (server_restart_kinds member cluster.facts.acknowledged s)))) (with_server after machine)) (sym old.server.is)
       (again-by cluster machine after s s.state old.server.is refl
       (status-restarted now machine.server.state machine.server ∙ ap (λ (x : Seen). seen_restarted now x.state x) (sym old.server.seen_is)) old)
 
@@ -534,43 +534,43 @@ module _ (member : Member) where
       }
 
   require-here : (cluster : Cluster) (machine : Machine) (required : Required) → Here cluster machine
-      → Here (Behind cluster (kinds_of (option_and_then (require_of cluster.book.members member required) (server_at cluster member)))) machine
+      → Here (Behind cluster (kinds_of (option_and_then (require_of cluster.facts.members member required) (server_at cluster member)))) machine
   require-here cluster machine required old =
       let s = old.server.server in
-      subst (λ (found : Option ServerFacts). Here (Behind cluster (kinds_of (option_and_then (require_of cluster.book.members member required) found))) machine) (sym old.server.is)
-      (require-by cluster machine required (required_names cluster.book.members required) (is_same_required s.required required) old)
+      subst (λ (found : Option ServerFacts). Here (Behind cluster (kinds_of (option_and_then (require_of cluster.facts.members member required) found))) machine) (sym old.server.is)
+      (require-by cluster machine required (required_names cluster.facts.members required) (is_same_required s.required required) old)
 
   -- it starts as a replica, where it is down
   start-by : (cluster : Cluster) (machine : Machine) (upstream : Option ServerId) (leader : Option Member) (b : Bool) → is_down machine.server.state ≡ b → Here cluster machine
-      → Here (Behind cluster (if b then kinds.Server (servers.StartsAsReplica (server_of member)) ∷ kinds_of (following_of member leader) else [])) (with_server (status_replica_started (record { 0 = cluster.book.clock }) upstream machine.server) machine)
+      → Here (Behind cluster (if b then kinds.Server (servers.StartsAsReplica (server_of member)) ∷ kinds_of (following_of member leader) else [])) (with_server (status_replica_started (record { 0 = cluster.facts.clock }) upstream machine.server) machine)
   start-by cluster machine upstream leader true down old =
-      let now : Ticks = record { 0 = cluster.book.clock } in
+      let now : Ticks = record { 0 = cluster.facts.clock } in
       let after = status_replica_started now upstream machine.server in
       let later = cluster_after cluster (kinds.Server (servers.StartsAsReplica (server_of member))) in
       let x = seen_replica_started now (status_seen machine.server) in
       follows-here later (with_server after machine) leader
       (ordered cluster later member.id.number machine after x refl refl (status-replica-started now upstream machine.server)
-      (moves cluster later member.id.number (starts_as_replica cluster.book.clock) (status_seen machine.server) x refl
-      (λ s seen. facts-replica-started cluster.book.clock s (ap (λ (x : Seen). is_down x.state) seen ∙ down) ∙ ap (seen_replica_started now) seen) old.server)
+      (moves cluster later member.id.number (starts_as_replica cluster.facts.clock) (status_seen machine.server) x refl
+      (λ s seen. facts-replica-started cluster.facts.clock s (ap (λ (x : Seen). is_down x.state) seen ∙ down) ∙ ap (seen_replica_started now) seen) old.server)
       old)
   start-by cluster machine upstream leader false down old =
-      let now : Ticks = record { 0 = cluster.book.clock } in
+      let now : Ticks = record { 0 = cluster.facts.clock } in
       ordered cluster cluster member.id.number machine (status_replica_started now upstream machine.server) (status_seen machine.server) refl refl
       (status-replica-started now upstream machine.server
       ∙ ap (λ (b : Bool). if b then seen_starting false now (record (status_seen machine.server) { was_primary = false }) else status_seen machine.server) down) old.server old
 
   start-here : (cluster : Cluster) (machine : Machine) (upstream : Option ServerId) (leader : Option Member) → Here cluster machine
-      → Here (cluster_over cluster (for_some (server_at cluster member) (λ s. events_of cluster (replica_start_kinds member leader s)))) (with_server (status_replica_started (record { 0 = cluster.book.clock }) upstream machine.server) machine)
+      → Here (cluster_over cluster (for_some (server_at cluster member) (λ s. events_of cluster (replica_start_kinds member leader s)))) (with_server (status_replica_started (record { 0 = cluster.facts.clock }) upstream machine.server) machine)
   start-here cluster machine upstream leader old =
       let s = old.server.server in
-      subst (λ (found : Option ServerFacts). Here (cluster_over cluster (for_some found (λ s. events_of cluster (replica_start_kinds member leader s)))) (with_server (status_replica_started (record { 0 = cluster.book.clock }) upstream machine.server) machine)) (sym old.server.is)
+      subst (λ (found : Option ServerFacts). Here (cluster_over cluster (for_some found (λ s. events_of cluster (replica_start_kinds member leader s)))) (with_server (status_replica_started (record { 0 = cluster.facts.clock }) upstream machine.server) machine)) (sym old.server.is)
       (start-by cluster machine upstream leader (is_down s.state) (ap (λ (x : Seen). is_down x.state) (sym old.server.seen_is)) old)
 
   -- it shuts down, where it runs or starts
   stop-kind : (cluster : Cluster) (machine : Machine) (b : Bool) → is_up machine.server.state ≡ true → (is_primary machine.server.state && machine.server.stop_delay.0 == 0) ≡ b → Here cluster machine
-      → Here (cluster_after cluster (if b then kinds.Server (servers.Ended (server_of member)) else kinds.Server (servers.Stops (server_of member)))) (with_server (status_stopping (record { 0 = cluster.book.clock }) machine.server) machine)
+      → Here (cluster_after cluster (if b then kinds.Server (servers.Ended (server_of member)) else kinds.Server (servers.Stops (server_of member)))) (with_server (status_stopping (record { 0 = cluster.facts.clock }) machine.server) machine)
   stop-kind cluster machine true up is old =
-      let now : Ticks = record { 0 = cluster.book.clock } in
+      let now : Ticks = record { 0 = cluster.facts.clock } in
       let later = cluster_after cluster (kinds.Server (servers.Ended (server_of member))) in
       let x = status_seen machine.server in
       ordered cluster later member.id.number machine (status_stopping now machine.server) (record x { state = states.Stopped }) refl refl
@@ -578,20 +578,20 @@ module _ (member : Member) where
       (moves cluster later member.id.number _ x (record x { state = states.Stopped }) refl (λ s seen. ap (λ (y : Seen). let z : Seen = record y { state = states.Stopped } in z) seen) old.server)
       old
   stop-kind cluster machine false up is old =
-      let now : Ticks = record { 0 = cluster.book.clock } in
+      let now : Ticks = record { 0 = cluster.facts.clock } in
       let later = cluster_after cluster (kinds.Server (servers.Stops (server_of member))) in
       let x = status_seen machine.server in
       ordered cluster later member.id.number machine (status_stopping now machine.server) (seen_stopping now x) refl refl (status-stopping now machine.server)
-      (moves cluster later member.id.number (stops cluster.book.clock) x (seen_stopping now x) refl
-      (λ s seen. stops-seen cluster.book.clock s (ap (λ (y : Seen). is_primary y.state && y.stop.0 == 0) seen ∙ is) ∙ ap (seen_stopping now) seen) old.server)
+      (moves cluster later member.id.number (stops cluster.facts.clock) x (seen_stopping now x) refl
+      (λ s seen. stops-seen cluster.facts.clock s (ap (λ (y : Seen). is_primary y.state && y.stop.0 == 0) seen ∙ is) ∙ ap (seen_stopping now) seen) old.server)
       old
 
   stop-by : (cluster : Cluster) (machine : Machine) (s : ServerFacts) (b : Bool) → facts_seen s ≡ status_seen machine.server → is_up machine.server.state ≡ b → Here cluster machine
-      → Here (Behind cluster (kinds_of (if b then Some (stop_kind member s.state s.stop_delay) else None))) (with_server (status_stopping (record { 0 = cluster.book.clock }) machine.server) machine)
+      → Here (Behind cluster (kinds_of (if b then Some (stop_kind member s.state s.stop_delay) else None))) (with_server (status_stopping (record { 0 = cluster.facts.clock }) machine.server) machine)
   stop-by cluster machine s true seen up old =
       stop-kind cluster machine (is_primary s.state && s.stop_delay.0 == 0) up (ap (λ (y : Seen). is_primary y.state && y.stop.0 == 0) (sym seen)) old
   stop-by cluster machine s false seen up old =
-      let now : Ticks = record { 0 = cluster.book.clock } in
+      let now : Ticks = record { 0 = cluster.facts.clock } in
       ordered cluster cluster member.id.number machine (status_stopping now machine.server) (status_seen machine.server) refl refl
       (status-stopping now machine.server ∙ ap (λ (b : Bool). if b then seen_ending now (is_primary machine.server.state) (status_seen machine.server) else status_seen machine.server) up) old.server old
 
@@ -603,10 +603,10 @@ module _ (member : Member) where
   }
 
   stop-here : (cluster : Cluster) (machine : Machine) (reason : Reason) → Here cluster machine
-      → Here (cluster_over cluster (for_some (server_at cluster member) (λ s. events_of cluster (stop_kinds member reason s)))) (with_server (status_stopping (record { 0 = cluster.book.clock }) machine.server) machine)
+      → Here (cluster_over cluster (for_some (server_at cluster member) (λ s. events_of cluster (stop_kinds member reason s)))) (with_server (status_stopping (record { 0 = cluster.facts.clock }) machine.server) machine)
   stop-here cluster machine reason old =
       let s = old.server.server in
-      subst (λ (found : Option ServerFacts). Here (cluster_over cluster (for_some found (λ s. events_of cluster (stop_kinds member reason s)))) (with_server (status_stopping (record { 0 = cluster.book.clock }) machine.server) machine)) (sym old.server.is)
+      subst (λ (found : Option ServerFacts). Here (cluster_over cluster (for_some found (λ s. events_of cluster (stop_kinds member reason s)))) (with_server (status_stopping (record { 0 = cluster.facts.clock }) machine.server) machine)) (sym old.server.is)
       (stop-by (cluster_after cluster (kinds.Note (notes.EndsServer member reason))) machine s (is_up s.state) old.server.seen_is (ap (λ (x : Seen). is_up x.state) (sym old.server.seen_is)) (noted cluster machine reason old))
 
   lost-here : (cluster : Cluster) (machine : Machine) (test : Bool) (number : ℕ) → Here cluster machine → Here (Behind cluster (lost_at_once test number)) machine
@@ -615,8 +615,8 @@ module _ (member : Member) where
 
   message-here : (cluster : Cluster) (machine : Machine) (message : Message) → Here cluster machine → Here (cluster_over cluster (send_events cluster message)) machine
   message-here cluster machine message old =
-      let sent : EventKind = kinds.Message (Sent (cluster.book.sent + 1) message) in
-      lost-here (cluster_after cluster sent) machine (nat_le most_in_flight (length cluster.book.flight)) (cluster.book.sent + 1)
+      let sent : EventKind = kinds.Message (Sent (cluster.facts.sent + 1) message) in
+      lost-here (cluster_after cluster sent) machine (nat_le most_in_flight (length cluster.facts.flight)) (cluster.facts.sent + 1)
       (unmoved cluster (cluster_after cluster sent) member.id.number machine refl refl refl old)
 
   sends-here : (cluster : Cluster) (machine : Machine) (to : Option LinkEnd) (sequence : ℕ) (body : Body) (found : Option AgentProcess) → Here cluster machine → Here (cluster_over cluster (sending_events cluster member found to sequence body)) machine
@@ -630,37 +630,37 @@ module _ (member : Member) where
 
   -- it shuts down without a word
   shut-here : (cluster : Cluster) (machine : Machine) → Here cluster machine
-      → Here (Behind cluster (kinds_of (option_and_then (stop_of member) (server_at cluster member)))) (with_server (status_stopping (record { 0 = cluster.book.clock }) machine.server) machine)
+      → Here (Behind cluster (kinds_of (option_and_then (stop_of member) (server_at cluster member)))) (with_server (status_stopping (record { 0 = cluster.facts.clock }) machine.server) machine)
   shut-here cluster machine old =
       let s = old.server.server in
-      subst (λ (found : Option ServerFacts). Here (Behind cluster (kinds_of (option_and_then (stop_of member) found))) (with_server (status_stopping (record { 0 = cluster.book.clock }) machine.server) machine)) (sym old.server.is)
+      subst (λ (found : Option ServerFacts). Here (Behind cluster (kinds_of (option_and_then (stop_of member) found))) (with_server (status_stopping (record { 0 = cluster.facts.clock }) machine.server) machine)) (sym old.server.is)
       (stop-by cluster machine s (is_up s.state) old.server.seen_is (ap (λ (x : Seen). is_up x.state) (sym old.server.seen_is)) old)
 
   pub output-here : (cluster : Cluster) (message : HeardMessage) (machine : Machine) (output : Output) → IsOfTable output → RepairsNone output → Here cluster machine
-      → Here (cluster_over cluster (output_events member message cluster output)) (machine_after_output (record { 0 = cluster.book.clock }) machine output)
+      → Here (cluster_over cluster (output_events member message cluster output)) (machine_after_output (record { 0 = cluster.facts.clock }) machine output)
   output-here cluster message machine (outputs.Repair leader repair) table none old = absurd none
   output-here cluster message machine outputs.ShutDown table none old = shut-here cluster machine old
-  output-here cluster message machine (outputs.Send to sequence body) table none old = sends-here cluster machine (receiver_of cluster.book.members to) sequence body (slice_get cluster.book.agents member.id.number) old
-  output-here cluster message machine (outputs.Answer to asked sequence answer) table none old = replies-here cluster machine (receiver_of cluster.book.members (targets.Member to)) asked sequence (bodies.Answer answer) old
+  output-here cluster message machine (outputs.Send to sequence body) table none old = sends-here cluster machine (receiver_of cluster.facts.members to) sequence body (slice_get cluster.facts.processes member.id.number) old
+  output-here cluster message machine (outputs.Answer to asked sequence answer) table none old = replies-here cluster machine (receiver_of cluster.facts.members (targets.Member to)) asked sequence (bodies.Answer answer) old
   output-here cluster message machine outputs.Begin table none old = begin-here cluster machine old
-  output-here cluster message machine (outputs.StartReplica leader) table none old = start-here cluster machine (upstream_id leader) (declared_member cluster.book.members leader) old
+  output-here cluster message machine (outputs.StartReplica leader) table none old = start-here cluster machine (upstream_id leader) (declared_member cluster.facts.members leader) old
   output-here cluster message machine (outputs.Stop reason) table none old = stop-here cluster machine reason old
-  output-here cluster message machine (outputs.Follow leader) table none old = follow-here cluster machine (server_id_of leader) (slice_get cluster.book.members leader.number) old
+  output-here cluster message machine (outputs.Follow leader) table none old = follow-here cluster machine (server_id_of leader) (slice_get cluster.facts.members leader.number) old
   output-here cluster message machine (outputs.Require required) table none old =
       let here : Here (cluster_over cluster (output_events member message cluster (outputs.Require required))) machine = require-here cluster machine required old in record { server = here.server; deadline = here.deadline; hold = here.hold }
   output-here cluster message machine (outputs.Armed until) table none old = record {
     server = stays-server cluster (cluster_after (cluster_after cluster (kinds.Watchdog (watchdogs.Measured member message.sent))) (kinds.Watchdog (watchdogs.Armed member until message.number))) member.id.number (status_seen machine.server) refl old.server;
-    deadline = item-here cluster.book.deadlines member.id.number _ machine.watchdog.deadline old.deadline;
+    deadline = item-here cluster.facts.deadlines member.id.number _ machine.watchdog.deadline old.deadline;
     hold = old.hold;
   }
   output-here cluster message machine (outputs.Fed until) table none old = record {
     server = stays-server cluster (cluster_after (cluster_after cluster (kinds.Watchdog (watchdogs.Measured member message.sent))) (kinds.Watchdog (watchdogs.Fed member until (bases.Grant message.number)))) member.id.number (status_seen machine.server) refl old.server;
-    deadline = item-here cluster.book.deadlines member.id.number _ machine.watchdog.deadline old.deadline;
+    deadline = item-here cluster.facts.deadlines member.id.number _ machine.watchdog.deadline old.deadline;
     hold = old.hold;
   }
   output-here cluster message machine outputs.Disarmed table none old = record {
     server = stays-server cluster (cluster_after cluster (kinds.Watchdog (watchdogs.Disarmed member))) member.id.number (status_seen machine.server) refl old.server;
-    deadline = item-here cluster.book.deadlines member.id.number _ machine.watchdog.deadline old.deadline;
+    deadline = item-here cluster.facts.deadlines member.id.number _ machine.watchdog.deadline old.deadline;
     hold = old.hold;
   }
   output-here cluster message machine outputs.CannotArm table none old = unmoved cluster (cluster_after cluster (kinds.Note (notes.CannotArm member))) member.id.number machine refl refl refl old
@@ -668,11 +668,11 @@ module _ (member : Member) where
   output-here cluster message machine outputs.RunsWithoutKey table none old = unmoved cluster (cluster_after cluster (kinds.Note (notes.RunsWithoutKey member))) member.id.number machine refl refl refl old
   output-here cluster message machine outputs.Passes table none old = unmoved cluster (cluster_after cluster (kinds.Agent (agents.Passed member))) member.id.number machine refl refl refl old
   output-here cluster message machine outputs.PostponesPromotion table none old = unmoved cluster (cluster_after cluster (kinds.Note (notes.PostponesPromotion member))) member.id.number machine refl refl refl old
-  output-here cluster message machine (outputs.DoesNotRace bar) table none old = unmoved cluster (cluster_after cluster (not_racing cluster.book.members member bar)) member.id.number machine refl refl refl old
+  output-here cluster message machine (outputs.DoesNotRace bar) table none old = unmoved cluster (cluster_after cluster (not_racing cluster.facts.members member bar)) member.id.number machine refl refl refl old
   output-here cluster message machine (outputs.Restart as_primary) table none old = restart-here cluster machine old
   output-here cluster message machine outputs.Wipe table none old = wipe-here cluster machine old
   output-here cluster message machine (outputs.HandsOver candidate) table none old =
-      note-here cluster machine (option_map (handing_over member) (slice_get cluster.book.members candidate.number)) (holds-mapped IsOfNote (handing_over member) (slice_get cluster.book.members candidate.number) (λ other. tt)) old
+      note-here cluster machine (option_map (handing_over member) (slice_get cluster.facts.members candidate.number)) (holds-mapped IsOfNote (handing_over member) (slice_get cluster.facts.members candidate.number) (λ other. tt)) old
   output-here cluster message machine (outputs.Told request told) table none old =
       note-here cluster machine (told_kind member (agent_at cluster.agents member.id.number) told) (told-holds IsOfNote member (agent_at cluster.agents member.id.number) told (λ status body. tt)) old
   output-here cluster message machine (outputs.HoldTaken until from sequence) table none old = absurd table

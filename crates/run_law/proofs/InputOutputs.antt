@@ -60,7 +60,7 @@ abbrev pub sent_over : ℕ → List Event → ℕ
 sent_over last [] = last
 sent_over last (event ∷ events) = sent_over (sent_after last event.kind) events
 
-pub sent-is : (cluster : Cluster) (events : List Event) → (cluster_over cluster events).book.sent ≡ sent_over cluster.book.sent events
+pub sent-is : (cluster : Cluster) (events : List Event) → (cluster_over cluster events).facts.sent ≡ sent_over cluster.facts.sent events
 sent-is cluster [] = refl
 sent-is cluster (event ∷ events) = sent-is (cluster_after cluster event.kind) events
 
@@ -145,10 +145,10 @@ module _ (member : Member) (run : ℕ) (message : HeardMessage) where
   any-all : (outs : List Output) → All Any outs
   any-all outs = λ k d h. tt
 
-  pub stays-output : (cluster : Cluster) (output : Output) → Runs cluster.book.agents → IsOfTable output → Stays member.id.number cluster (Later cluster output)
+  pub stays-output : (cluster : Cluster) (output : Output) → Runs cluster.facts.processes → IsOfTable output → Stays member.id.number cluster (Later cluster output)
   stays-output cluster output runs table = stays-over member run message.number Any cluster (Brings cluster output) (output-mine member run message.number Any cluster message refl runs output table tt)
 
-  runs-later : (cluster : Cluster) (output : Output) → Runs cluster.book.agents → IsOfTable output → Runs (Later cluster output).book.agents
+  runs-later : (cluster : Cluster) (output : Output) → Runs cluster.facts.processes → IsOfTable output → Runs (Later cluster output).facts.processes
   runs-later cluster output runs table = subst Runs (sym (stays-output cluster output runs table).processes) runs
 
   -- ---- numbers
@@ -156,27 +156,27 @@ module _ (member : Member) (run : ℕ) (message : HeardMessage) where
   lost-numbered cluster true number last = (tt, tt)
   lost-numbered cluster false number last = tt
 
-  message-numbered : (cluster : Cluster) (sends : Message) → AreNumberedAbove cluster.book.sent (send_events cluster sends)
+  message-numbered : (cluster : Cluster) (sends : Message) → AreNumberedAbove cluster.facts.sent (send_events cluster sends)
   message-numbered cluster sends =
-      let sent : EventKind = kinds.Message (Sent (cluster.book.sent + 1) sends) in
-      (omega arith, lost-numbered (cluster_after cluster sent) (nat_le most_in_flight (length cluster.book.flight)) (cluster.book.sent + 1) (cluster.book.sent + 1))
+      let sent : EventKind = kinds.Message (Sent (cluster.facts.sent + 1) sends) in
+      (omega arith, lost-numbered (cluster_after cluster sent) (nat_le most_in_flight (length cluster.facts.flight)) (cluster.facts.sent + 1) (cluster.facts.sent + 1))
 
-  send-numbered : (cluster : Cluster) (to : Option LinkEnd) (sequence : ℕ) (body : Body) (found : Option AgentProcess) → AreNumberedAbove cluster.book.sent (sending_events cluster member found to sequence body)
+  send-numbered : (cluster : Cluster) (to : Option LinkEnd) (sequence : ℕ) (body : Body) (found : Option AgentProcess) → AreNumberedAbove cluster.facts.sent (sending_events cluster member found to sequence body)
   send-numbered cluster to sequence body None = tt
   send-numbered cluster None sequence body (Some process) = tt
   send-numbered cluster (Some to) sequence body (Some process) = message-numbered cluster (agent_message member to process.run sequence body)
 
-  reply-numbered : (cluster : Cluster) (to : Option LinkEnd) (asked sequence : ℕ) (body : Body) → AreNumberedAbove cluster.book.sent (replying_events cluster member to asked sequence body)
+  reply-numbered : (cluster : Cluster) (to : Option LinkEnd) (asked sequence : ℕ) (body : Body) → AreNumberedAbove cluster.facts.sent (replying_events cluster member to asked sequence body)
   reply-numbered cluster None asked sequence body = tt
   reply-numbered cluster (Some to) asked sequence body = message-numbered cluster (agent_message member to asked sequence body)
 
-  other-numbered : (cluster : Cluster) (output : Output) → Runs cluster.book.agents → IsOfTable output → no_message output → AreNumberedAbove cluster.book.sent (Brings cluster output)
+  other-numbered : (cluster : Cluster) (output : Output) → Runs cluster.facts.processes → IsOfTable output → no_message output → AreNumberedAbove cluster.facts.sent (Brings cluster output)
   other-numbered cluster output runs table silent =
-      unnumbered-all member run message.number cluster.book.sent (Brings cluster output) (output-mine member run message.number no_message cluster message refl runs output table silent)
+      unnumbered-all member run message.number cluster.facts.sent (Brings cluster output) (output-mine member run message.number no_message cluster message refl runs output table silent)
 
-  pub output-numbered : (cluster : Cluster) (output : Output) → Runs cluster.book.agents → IsOfTable output → AreNumberedAbove cluster.book.sent (Brings cluster output)
-  output-numbered cluster (outputs.Send to sequence body) runs table = send-numbered cluster (receiver_of cluster.book.members to) sequence body (slice_get cluster.book.agents member.id.number)
-  output-numbered cluster (outputs.Answer to asked sequence answer) runs table = reply-numbered cluster (receiver_of cluster.book.members (targets.Member to)) asked sequence (bodies.Answer answer)
+  pub output-numbered : (cluster : Cluster) (output : Output) → Runs cluster.facts.processes → IsOfTable output → AreNumberedAbove cluster.facts.sent (Brings cluster output)
+  output-numbered cluster (outputs.Send to sequence body) runs table = send-numbered cluster (receiver_of cluster.facts.members to) sequence body (slice_get cluster.facts.processes member.id.number)
+  output-numbered cluster (outputs.Answer to asked sequence answer) runs table = reply-numbered cluster (receiver_of cluster.facts.members (targets.Member to)) asked sequence (bodies.Answer answer)
   output-numbered cluster outputs.Begin runs table = other-numbered cluster outputs.Begin runs table tt
   output-numbered cluster (outputs.StartReplica leader) runs table = other-numbered cluster (outputs.StartReplica leader) runs table tt
   output-numbered cluster (outputs.Stop reason) runs table = other-numbered cluster (outputs.Stop reason) runs table tt
@@ -199,11 +199,11 @@ module _ (member : Member) (run : ℕ) (message : HeardMessage) where
   output-numbered cluster (outputs.Told request told) runs table = other-numbered cluster (outputs.Told request told) runs table tt
   output-numbered cluster (outputs.HoldTaken until from sequence) runs table = absurd table
 
-  pub each-numbered : (cluster : Cluster) (outs : List Output) → Runs cluster.book.agents → All IsOfTable outs → AreNumberedAbove cluster.book.sent (each (output_events member message) cluster outs)
+  pub each-numbered : (cluster : Cluster) (outs : List Output) → Runs cluster.facts.processes → All IsOfTable outs → AreNumberedAbove cluster.facts.sent (each (output_events member message) cluster outs)
   each-numbered cluster [] runs table = tt
   each-numbered cluster (output ∷ more) runs table =
       let one = All-head IsOfTable output more table in
-      numbered-both cluster.book.sent (Brings cluster output) (each (output_events member message) (Later cluster output) more) (output-numbered cluster output runs one)
+      numbered-both cluster.facts.sent (Brings cluster output) (each (output_events member message) (Later cluster output) more) (output-numbered cluster output runs one)
       (subst (λ (n : ℕ). AreNumberedAbove n (each (output_events member message) (Later cluster output) more)) (sent-is cluster (Brings cluster output))
       (each-numbered (Later cluster output) more (runs-later cluster output runs one) (All-tail IsOfTable output more table)))
 
@@ -217,7 +217,7 @@ module _ (member : Member) (run : ℕ) (message : HeardMessage) where
       (repair-resembles cluster member message machine leader repair (mirrored cluster member.id.number machine old)))
 
   -- one output is carried out, and then the others
-  more-resemble : (now : Ticks) (cluster : Cluster) (machine : Machine) (output : Output) (more : List Output) → RepairsNone output → IsOfTable output → cluster.book.clock ≡ now.0 → Mirrors cluster member.id.number machine
+  more-resemble : (now : Ticks) (cluster : Cluster) (machine : Machine) (output : Output) (more : List Output) → RepairsNone output → IsOfTable output → cluster.facts.clock ≡ now.0 → Mirrors cluster member.id.number machine
       → (Mirrors (Later cluster output) member.id.number (machine_after_output now machine output)
       → Resembles (cluster_over (Later cluster output) (each (output_events member message) (Later cluster output) more)) member.id.number (machine_after_outputs now (machine_after_output now machine output) more))
       → Resembles (cluster_over cluster (each (output_events member message) cluster (output ∷ more))) member.id.number (machine_after_outputs now (machine_after_output now machine output) more)
@@ -231,7 +231,7 @@ module _ (member : Member) (run : ℕ) (message : HeardMessage) where
   repairs-none (outputs.Repair leader repair) later ends = inr (leader, (repair, (refl, ends)))
   repairs-none _ later ends = inl tt
 
-  pub each-resembles : (now : Ticks) (cluster : Cluster) (machine : Machine) (outs : List Output) → Runs cluster.book.agents → All IsOfTable outs → RepairsLast outs → cluster.book.clock ≡ now.0 → Mirrors cluster member.id.number machine
+  pub each-resembles : (now : Ticks) (cluster : Cluster) (machine : Machine) (outs : List Output) → Runs cluster.facts.processes → All IsOfTable outs → RepairsLast outs → cluster.facts.clock ≡ now.0 → Mirrors cluster member.id.number machine
       → Resembles (cluster_over cluster (each (output_events member message) cluster outs)) member.id.number (machine_after_outputs now machine outs)
   each-resembles now cluster machine [] runs table last clock old = mirrored cluster member.id.number machine old
   each-resembles now cluster machine (output ∷ more) runs table last clock old =
@@ -309,13 +309,13 @@ module _ (member : Member) (run : ℕ) (message : HeardMessage) where
 
   -- from when a feed is measured
   abbrev measured : Cluster → Event
-  measured cluster = record { tick = record { 0 = cluster.book.clock }; kind = kinds.Watchdog (watchdogs.Measured member message.sent) }
+  measured cluster = record { tick = record { 0 = cluster.facts.clock }; kind = kinds.Watchdog (watchdogs.Measured member message.sent) }
 
   -- an arming is told
   arming-told : (cluster : Cluster) (output : Output) (before : List Event) → Keeps before → is_arming output ≡ true → ArmedIn (before ++ Brings cluster output)
   arming-told cluster (outputs.Armed until) before kept e = record {
     front = before ++ measured cluster ∷ [];
-    event = record { tick = record { 0 = cluster.book.clock }; kind = kinds.Watchdog (watchdogs.Armed member until message.number) };
+    event = record { tick = record { 0 = cluster.facts.clock }; kind = kinds.Watchdog (watchdogs.Armed member until message.number) };
     rest = [];
     is = assoc before (measured cluster ∷ []) _;
     aside = all-both (KeepsMomentOf message.number) before (measured cluster ∷ []) kept (tt, tt);
@@ -340,16 +340,16 @@ module _ (member : Member) (run : ℕ) (message : HeardMessage) where
 
   -- a server that starts again accepted writes before, if it does behind its start
   again-begins : (R : List Event → ℕ → Type 0) → ((before more : List Event) → R before member.id.number → R (before ++ more) member.id.number) → (cluster : Cluster) (before : List Event) (state : State) (s : ServerFacts)
-      → (live state ≡ true → R before member.id.number) → BeginsBehind R before (events_of cluster (server_restart_in member cluster.book.acknowledged state s))
+      → (live state ≡ true → R before member.id.number) → BeginsBehind R before (events_of cluster (server_restart_in member cluster.facts.acknowledged state s))
   again-begins R grow cluster before states.Primary s may =
-      let list = server_restart_in member cluster.book.acknowledged states.Primary s in
+      let list = server_restart_in member cluster.facts.acknowledged states.Primary s in
       output-begins (R before member.id.number) R grow before (events_of cluster list) (λ begins. begins)
-      (all-kinds (IsOfInput member run message.number (MayBegin (R before member.id.number))) cluster list (again-mine member run message.number (MayBegin (R before member.id.number)) cluster.book.acknowledged states.Primary s (inl (may refl))))
+      (all-kinds (IsOfInput member run message.number (MayBegin (R before member.id.number))) cluster list (again-mine member run message.number (MayBegin (R before member.id.number)) cluster.facts.acknowledged states.Primary s (inl (may refl))))
   again-begins R grow cluster before states.Replica s may = (tt, tt)
   again-begins R grow cluster before _ s may = tt
 
   restart-begins : (R : List Event → ℕ → Type 0) → ((before more : List Event) → R before member.id.number → R (before ++ more) member.id.number) → (cluster : Cluster) (before : List Event) (found : Option ServerFacts)
-      → ((s : ServerFacts) → found ≡ Some s → live s.state ≡ true → R before member.id.number) → BeginsBehind R before (for_some found (λ s. events_of cluster (server_restart_kinds member cluster.book.acknowledged s)))
+      → ((s : ServerFacts) → found ≡ Some s → live s.state ≡ true → R before member.id.number) → BeginsBehind R before (for_some found (λ s. events_of cluster (server_restart_kinds member cluster.facts.acknowledged s)))
   restart-begins R grow cluster before None may = tt
   restart-begins R grow cluster before (Some s) may = again-begins R grow cluster before s.state s (may s refl)
 
@@ -364,8 +364,8 @@ module _ (member : Member) (run : ℕ) (message : HeardMessage) where
   restarts-none _ = inl tt
 
   brings-begin : (P : List Output → Type 0) (R : List Event → ℕ → Type 0) → ((before more : List Event) → R before member.id.number → R (before ++ more) member.id.number)
-      → (cluster : Cluster) (done : List Output) (before : List Event) (output : Output) → Runs cluster.book.agents → IsOfTable output → BeginsOnly (P done) output → (P done → R before member.id.number)
-      → (live_in cluster.book.servers member.id.number ≡ true → R before member.id.number) → BeginsBehind R before (Brings cluster output)
+      → (cluster : Cluster) (done : List Output) (before : List Event) (output : Output) → Runs cluster.facts.processes → IsOfTable output → BeginsOnly (P done) output → (P done → R before member.id.number)
+      → (live_in cluster.facts.servers member.id.number ≡ true → R before member.id.number) → BeginsBehind R before (Brings cluster output)
   brings-begin P R grow cluster done before output runs table begin makes lives = elim (restarts-none output) [
     | inl none ↦ output-begins (P done) R grow before (Brings cluster output) makes (output-mine member run message.number (MayBegin (P done)) cluster message refl runs output table (may-begin (P done) output none begin))
     | inr again ↦ subst (λ (x : Output). BeginsBehind R before (Brings cluster x)) (sym again.1)
@@ -386,7 +386,7 @@ module _ (member : Member) (run : ℕ) (message : HeardMessage) where
   pub each-begins : (P : List Output → Type 0) (R : List Event → ℕ → Type 0) → ((before more : List Event) → R before member.id.number → R (before ++ more) member.id.number)
       → ((outs : List Output) (before : List Event) → P outs → (has_one is_arming outs ≡ true → ArmedIn before) → R before member.id.number)
       → (cluster : Cluster) (machine : Machine) (done : List Output) (before : List Event) (outs : List Output) → Mirrors cluster member.id.number machine → (live machine.server.state ≡ true → R before member.id.number)
-      → Runs cluster.book.agents → All IsOfTable outs → RepairsLast outs → Keeps before → Keeps (each (output_events member message) cluster outs)
+      → Runs cluster.facts.processes → All IsOfTable outs → RepairsLast outs → Keeps before → Keeps (each (output_events member message) cluster outs)
       → (has_one is_arming done ≡ true → ArmedIn before) → OutputsBeginBehind P done outs → BeginsBehind R before (each (output_events member message) cluster outs)
   each-begins P R grow makes cluster machine done before [] mirrors lives runs table last kept all armed begin = tt
   each-begins P R grow makes cluster machine done before (output ∷ more) mirrors lives runs table last kept all armed begin =
@@ -394,7 +394,7 @@ module _ (member : Member) (run : ℕ) (message : HeardMessage) where
       let next = Later cluster output in
       let events = Brings cluster output in
       let rest = each (output_events member message) next more in
-      let now : Ticks = record { 0 = cluster.book.clock } in
+      let now : Ticks = record { 0 = cluster.facts.clock } in
       let may : P done → R before member.id.number = (λ p. makes done before p armed) in
       begins-both R before events rest
       (brings-begin P R grow cluster done before output runs one begin.0 may (λ alive. lives (sym (mirrored cluster member.id.number machine mirrors).lives ∙ alive)))
@@ -423,14 +423,14 @@ module _ (member : Member) (run : ℕ) (message : HeardMessage) where
   fed-now : (cluster : Cluster) (output : Output) (rest : List Event) → is_feeding output ≡ true → FedIn (Brings cluster output ++ rest)
   fed-now cluster (outputs.Armed until) rest e = record {
     front = measured cluster ∷ [];
-    event = record { tick = record { 0 = cluster.book.clock }; kind = kinds.Watchdog (watchdogs.Armed member until message.number) };
+    event = record { tick = record { 0 = cluster.facts.clock }; kind = kinds.Watchdog (watchdogs.Armed member until message.number) };
     rest = rest;
     is = refl;
     fed = (refl, refl);
   }
   fed-now cluster (outputs.Fed until) rest e = record {
     front = measured cluster ∷ [];
-    event = record { tick = record { 0 = cluster.book.clock }; kind = kinds.Watchdog (watchdogs.Fed member until (bases.Grant message.number)) };
+    event = record { tick = record { 0 = cluster.facts.clock }; kind = kinds.Watchdog (watchdogs.Fed member until (bases.Grant message.number)) };
     rest = rest;
     is = refl;
     fed = (refl, refl);

@@ -35,7 +35,7 @@ pub record IsFound (cluster : Cluster) (member : Member) (machine : Machine) : T
   pub margin : machine.watchdog.margin ≡ Some (record { 0 = ticks_of_second * options.margin.seconds })
 
 found-by : (cluster : Cluster) (member : Member) (receives : Bool) (replication : Option Replication) (machine : Machine) (options : Option MemberOptions) (deadline hold : Option (Option Ticks)) (s : Option ServerFacts)
-    → slice_get cluster.options member.id.number ≡ options → slice_get cluster.book.deadlines member.id.number ≡ deadline → slice_get cluster.book.holds member.id.number ≡ hold → slice_get cluster.book.servers member.id.number ≡ s
+    → slice_get cluster.options member.id.number ≡ options → slice_get cluster.facts.deadlines member.id.number ≡ deadline → slice_get cluster.facts.holds member.id.number ≡ hold → slice_get cluster.facts.servers member.id.number ≡ s
     → machine_from receives replication options deadline hold s ≡ Some machine → IsFound cluster member machine
 found-by cluster member receives None machine options deadline hold s a b c d e = absurd (none-some machine e)
 found-by cluster member receives (Some replication) machine (Some options) (Some deadline) (Some hold) (Some s) a b c d e =
@@ -54,9 +54,9 @@ found-by cluster member receives (Some replication) machine (Some options) (Some
 
 pub found-of : (cluster : Cluster) (member : Member) (machine : Machine) → machine_of cluster member ≡ Some machine → IsFound cluster member machine
 found-of cluster member machine e =
-    found-by cluster member (is_some (source_of cluster.book.members cluster.book.servers cluster.book.cuts member))
-    (option_map (replication_of cluster.book.members cluster.book.servers cluster.book.cuts member) (slice_get cluster.book.servers member.id.number)) machine
-    (slice_get cluster.options member.id.number) (slice_get cluster.book.deadlines member.id.number) (slice_get cluster.book.holds member.id.number) (slice_get cluster.book.servers member.id.number) refl refl refl refl e
+    found-by cluster member (is_some (source_of cluster.facts.members cluster.facts.servers cluster.facts.cuts member))
+    (option_map (replication_of cluster.facts.members cluster.facts.servers cluster.facts.cuts member) (slice_get cluster.facts.servers member.id.number)) machine
+    (slice_get cluster.options member.id.number) (slice_get cluster.facts.deadlines member.id.number) (slice_get cluster.facts.holds member.id.number) (slice_get cluster.facts.servers member.id.number) refl refl refl refl e
 
 -- ---- what the law sees of it
 deadline-is : (deadline : Option Ticks) → deadline_now (Some deadline) ≡ moment_seen deadline
@@ -68,7 +68,7 @@ hold-is None = refl
 hold-is (Some hold) = refl
 
 pub seen-of : (cluster : Cluster) (m : ℕ) (agent : AgentFacts) (machine : Machine) → Resembles cluster m machine → slice_get cluster.agents m ≡ Some (Some agent)
-    → machine_in cluster m ≡ machine_seen agent.role agent.knows machine false (run_in cluster.book.agents m)
+    → machine_in cluster m ≡ machine_seen agent.role agent.knows machine false (run_in cluster.facts.processes m)
 seen-of cluster m agent machine resembles is =
     machine-same _ _ _ _ _ _ _ _ _ _ _ _
     resembles.lives

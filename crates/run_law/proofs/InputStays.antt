@@ -17,7 +17,7 @@ use Rattle.event_book.specs.declared.event.ServerEvent.{ServerEvent}
 use Rattle.event_book.specs.declared.event.WatchdogEvent.TheVariants as watchdogs
 use Rattle.event_book.specs.declared.member.Member.{Member}
 use Rattle.event_book.specs.declared.member.ServerOf.{ServerOf}
-use Rattle.event_book.specs.Agents.{agents_after}
+use Rattle.event_book.specs.Processes.{processes_after}
 use Rattle.event_book.specs.Clock.{now_after}
 use Rattle.event_book.specs.Members.{server_of}
 use Rattle.event_book.specs.Servers.{servers_after, becomes_copy, copied_by, servers_by_log}
@@ -37,9 +37,9 @@ use Rattle.run_law.proofs.Places.{get-here, get-elsewhere}
 -- what stays as it was beside the machine of the member of this number, but for messages
 pub record Stays (m : ℕ) (cluster later : Cluster) : Type 0 where
   pub agents : later.agents ≡ cluster.agents
-  pub processes : later.book.agents ≡ cluster.book.agents
-  pub clock : later.book.clock ≡ cluster.book.clock
-  pub servers : (n : ℕ) → n ≢ m → slice_get later.book.servers n ≡ slice_get cluster.book.servers n
+  pub processes : later.facts.processes ≡ cluster.facts.processes
+  pub clock : later.facts.clock ≡ cluster.facts.clock
+  pub servers : (n : ℕ) → n ≢ m → slice_get later.facts.servers n ≡ slice_get cluster.facts.servers n
 
 pub stays-same : (m : ℕ) (cluster : Cluster) → Stays m cluster cluster
 stays-same m cluster = record { agents = refl; processes = refl; clock = refl; servers = λ n other. refl }
@@ -70,7 +70,7 @@ module _ (member : Member) (run heard : ℕ) (Q : Output → Type 0) where
   agents-one cluster (kinds.Agent _) is = absurd is
   agents-one cluster _ is = refl
 
-  processes-one : (processes : List AgentProcess) (kind : EventKind) → Mine kind → agents_after processes kind ≡ processes
+  processes-one : (processes : List AgentProcess) (kind : EventKind) → Mine kind → processes_after processes kind ≡ processes
   processes-one processes (kinds.Watchdog (watchdogs.Reset by)) is = absurd is
   processes-one processes (kinds.Agent (agents.Passed by)) is = refl
   processes-one processes (kinds.Agent _) is = absurd is
@@ -115,9 +115,9 @@ module _ (member : Member) (run heard : ℕ) (Q : Output → Type 0) where
   pub stays-one : (cluster : Cluster) (kind : EventKind) → Mine kind → Stays member.id.number cluster (cluster_after cluster kind)
   stays-one cluster kind is = record {
     agents = agents-one cluster kind is;
-    processes = processes-one cluster.book.agents kind is;
-    clock = clock-one cluster.book.clock kind is;
-    servers = servers-one (now_after cluster.book.clock kind) cluster.book.servers kind is;
+    processes = processes-one cluster.facts.processes kind is;
+    clock = clock-one cluster.facts.clock kind is;
+    servers = servers-one (now_after cluster.facts.clock kind) cluster.facts.servers kind is;
   }
 
   pub stays-over : (cluster : Cluster) (events : List Event) → AllAre Mine events → Stays member.id.number cluster (cluster_over cluster events)
@@ -129,7 +129,7 @@ module _ (member : Member) (run heard : ℕ) (Q : Output → Type 0) where
   abbrev Runs : List AgentProcess → Type 0
   Runs processes = (process : AgentProcess) → slice_get processes member.id.number ≡ Some process → process.run ≡ run
 
-  pub each-mine : (cluster : Cluster) (message : HeardMessage) → message.number ≡ heard → Runs cluster.book.agents → (outs : List Output) → All IsOfTable outs → All Q outs → AllAre Mine (each (output_events member message) cluster outs)
+  pub each-mine : (cluster : Cluster) (message : HeardMessage) → message.number ≡ heard → Runs cluster.facts.processes → (outs : List Output) → All IsOfTable outs → All Q outs → AllAre Mine (each (output_events member message) cluster outs)
   each-mine cluster message at runs [] table all = tt
   each-mine cluster message at runs (output ∷ more) table all =
       let first = output-mine member run heard Q cluster message at runs output (All-head IsOfTable output more table) (All-head Q output more all) in

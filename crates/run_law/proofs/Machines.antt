@@ -16,7 +16,7 @@ use Rattle.event_book.specs.declared.event.ServerEvent.{ServerEvent}
 use Rattle.event_book.specs.declared.event.ServerEvent.TheVariants as servers
 use Rattle.event_book.specs.declared.event.WatchdogEvent.{WatchdogEvent}
 use Rattle.event_book.specs.declared.event.WatchdogEvent.TheVariants as watchdogs
-use Rattle.event_book.specs.Agents.{agents_after, agents_by, agents_by_watchdog, ended_process}
+use Rattle.event_book.specs.Processes.{processes_after, processes_by, processes_by_watchdog, ended_process}
 use Rattle.event_book.specs.Clock.{now_after}
 use Rattle.event_book.specs.Facts.{Facts, facts_after}
 use Rattle.event_book.specs.declared.event.Event.{Event}
@@ -110,7 +110,7 @@ suspended-run to None = refl
 suspended-run to (Some process) = refl
 
 runs-by : (before : ℕ → ℕ) (processes : List AgentProcess) (happening : AgentEvent) → IsWithinMembers (length processes) (kinds.Agent happening)
-    → ((m : ℕ) → before m ≡ run_in processes m) → (m : ℕ) → runs_after before (kinds.Agent happening) m ≡ run_in (agents_by processes happening) m
+    → ((m : ℕ) → before m ≡ run_in processes m) → (m : ℕ) → runs_after before (kinds.Agent happening) m ≡ run_in (processes_by processes happening) m
 runs-by before processes (agents.Started agent run) is same m =
     seen-put run_now before processes agent.id.number m _ run (seen-there run_now processes agent.id.number _ run is (λ found. refl)) (same m)
 runs-by before processes (agents.Suspended agent) is same m = same m ∙ sym (seen-kept run_now processes agent.id.number m _ (suspended-run true))
@@ -118,12 +118,12 @@ runs-by before processes (agents.Resumed agent) is same m = same m ∙ sym (seen
 runs-by before processes (agents.Killed agent) is same m = same m ∙ sym (seen-kept run_now processes agent.id.number m _ ended-run)
 runs-by before processes _ is same m = same m
 
-runs-watched : (processes : List AgentProcess) (happening : WatchdogEvent) (m : ℕ) → run_in processes m ≡ run_in (agents_by_watchdog processes happening) m
+runs-watched : (processes : List AgentProcess) (happening : WatchdogEvent) (m : ℕ) → run_in processes m ≡ run_in (processes_by_watchdog processes happening) m
 runs-watched processes (watchdogs.Reset member) m = sym (seen-kept run_now processes member.id.number m _ ended-run)
 runs-watched processes _ m = refl
 
 pub runs-of : (before : ℕ → ℕ) (processes : List AgentProcess) (kind : EventKind) → IsWithinMembers (length processes) kind
-    → ((m : ℕ) → before m ≡ run_in processes m) → (m : ℕ) → runs_after before kind m ≡ run_in (agents_after processes kind) m
+    → ((m : ℕ) → before m ≡ run_in processes m) → (m : ℕ) → runs_after before kind m ≡ run_in (processes_after processes kind) m
 runs-of before processes (kinds.Agent happening) is same m = runs-by before processes happening is same m
 runs-of before processes (kinds.Watchdog happening) is same m = same m ∙ runs-watched processes happening m
 runs-of before processes _ is same m = same m
@@ -198,18 +198,18 @@ holds-sized : (holds : List (Option Ticks)) (happening : WatchdogEvent) → leng
 holds-sized holds (watchdogs.HoldTaken member until from run sequence) = length-changed holds _ _
 holds-sized holds _ = refl
 
-agents-sized : (processes : List AgentProcess) (happening : AgentEvent) → length (agents_by processes happening) ≡ length processes
+agents-sized : (processes : List AgentProcess) (happening : AgentEvent) → length (processes_by processes happening) ≡ length processes
 agents-sized processes (agents.Suspended agent) = length-changed processes _ _
 agents-sized processes (agents.Resumed agent) = length-changed processes _ _
 agents-sized processes (agents.Killed agent) = length-changed processes _ _
 agents-sized processes (agents.Started agent run) = length-changed processes _ _
 agents-sized processes _ = refl
 
-agents-reset : (processes : List AgentProcess) (happening : WatchdogEvent) → length (agents_by_watchdog processes happening) ≡ length processes
+agents-reset : (processes : List AgentProcess) (happening : WatchdogEvent) → length (processes_by_watchdog processes happening) ≡ length processes
 agents-reset processes (watchdogs.Reset member) = length-changed processes _ _
 agents-reset processes _ = refl
 
-sized-agents : (processes : List AgentProcess) (kind : EventKind) → length (agents_after processes kind) ≡ length processes
+sized-agents : (processes : List AgentProcess) (kind : EventKind) → length (processes_after processes kind) ≡ length processes
 sized-agents processes (kinds.Agent happening) = agents-sized processes happening
 sized-agents processes (kinds.Watchdog happening) = agents-reset processes happening
 sized-agents processes _ = refl
@@ -225,7 +225,7 @@ sized-holds holds _ = refl
 -- no event changes how many there are
 pub sized-by : (count : ℕ) (facts : Facts) (kind : EventKind) → IsSized count facts → IsSized count (facts_after facts kind)
 sized-by count facts kind old = record {
-  agents = sized-agents facts.agents kind ∙ old.agents;
+  agents = sized-agents facts.processes kind ∙ old.agents;
   servers = count-of (now_after facts.clock kind) facts.servers kind ∙ old.servers;
   deadlines = sized-deadlines facts.deadlines kind ∙ old.deadlines;
   holds = sized-holds facts.holds kind ∙ old.holds;
@@ -236,7 +236,7 @@ pub machines-by : (count : ℕ) (past : Past) (facts : Facts) (kind : EventKind)
 machines-by count past facts kind sized is old = record {
   deadline = deadline-of past.deadline facts.deadlines kind (subst (λ (n : ℕ). IsWithinMembers n kind) (sym sized.deadlines) is) old.deadline;
   hold = hold-of past.hold facts.holds kind (subst (λ (n : ℕ). IsWithinMembers n kind) (sym sized.holds) is) old.hold;
-  runs = runs-of past.runs facts.agents kind (subst (λ (n : ℕ). IsWithinMembers n kind) (sym sized.agents) is) old.runs;
+  runs = runs-of past.runs facts.processes kind (subst (λ (n : ℕ). IsWithinMembers n kind) (sym sized.agents) is) old.runs;
   by_grant = by_grant-of count past.by_failsafe kind is old.by_grant;
   writes = writes-in past.writes (now_after facts.clock kind) facts.servers kind (subst (λ (n : ℕ). IsWithinMembers n kind) (sym sized.servers) is) old.writes;
 }

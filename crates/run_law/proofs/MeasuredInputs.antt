@@ -13,7 +13,7 @@ use Rattle.event_book.specs.declared.event.EventKind.TheVariants as kinds
 use Rattle.event_book.specs.declared.event.MessageEvent.TheVariants as messages
 use Rattle.event_book.specs.declared.event.WatchdogEvent.TheVariants as watchdogs
 use Rattle.event_book.specs.declared.member.Member.{Member}
-use Rattle.event_book.specs.Agents.{agents_after}
+use Rattle.event_book.specs.Processes.{processes_after}
 use Rattle.event_book.specs.Flight.{InFlightFacts, in_flight}
 use Rattle.agent_model.specs.declared.heard.Heard.{Heard}
 use Rattle.agent_model.specs.declared.heard.Heard.TheVariants.{Operated, Wake}
@@ -56,7 +56,7 @@ mine-unfed member run heard _ is = tt
 -- the moment at which this message was sent is known, and its number is none of those to come
 record IsHeardAt (moments : Moments) (cluster : Cluster) (message : HeardMessage) : Type 0 where
   known : moments.sent message.number ≡ Some message.sent.0
-  old : message.number ≤ cluster.book.sent
+  old : message.number ≤ cluster.facts.sent
 
 later-old : (n last number : ℕ) → n ≤ last → last < number → n ≤ number
 later-old n last number low above = omega (arith, low, above)
@@ -64,16 +64,16 @@ later-old n last number low above = omega (arith, low, above)
 not-it : (n last number : ℕ) → n ≤ last → last < number → n ≢ number
 not-it n last number low above = omega (arith, low, above)
 
-heard-one : (moments : Moments) (cluster : Cluster) (message : HeardMessage) (kind : EventKind) → IsNumberedAbove cluster.book.sent kind → IsHeardAt moments cluster message → IsHeardAt (moments_after moments kind) (cluster_after cluster kind) message
+heard-one : (moments : Moments) (cluster : Cluster) (message : HeardMessage) (kind : EventKind) → IsNumberedAbove cluster.facts.sent kind → IsHeardAt moments cluster message → IsHeardAt (moments_after moments kind) (cluster_after cluster kind) message
 heard-one moments cluster message (kinds.Message (messages.Sent number sent)) above old = record {
-  known = put-there moments.sent number _ message.number (not-it message.number cluster.book.sent number old.old above) ∙ old.known;
-  old = later-old message.number cluster.book.sent number old.old above;
+  known = put-there moments.sent number _ message.number (not-it message.number cluster.facts.sent number old.old above) ∙ old.known;
+  old = later-old message.number cluster.facts.sent number old.old above;
 }
 heard-one moments cluster message (kinds.Message (messages.Delivered number)) above old = record { known = old.known; old = old.old }
 heard-one moments cluster message (kinds.Message (messages.Lost number)) above old = record { known = old.known; old = old.old }
 heard-one moments cluster message _ above old = record { known = old.known; old = old.old }
 
-heard-over : (moments : Moments) (cluster : Cluster) (message : HeardMessage) (events : List Event) → AreNumberedAbove cluster.book.sent events → IsHeardAt moments cluster message → IsHeardAt (moments_over moments events) (cluster_over cluster events) message
+heard-over : (moments : Moments) (cluster : Cluster) (message : HeardMessage) (events : List Event) → AreNumberedAbove cluster.facts.sent events → IsHeardAt moments cluster message → IsHeardAt (moments_over moments events) (cluster_over cluster events) message
 heard-over moments cluster message [] above old = old
 heard-over moments cluster message (event ∷ events) above old =
     heard-over (moments_after moments event.kind) (cluster_after cluster event.kind) message events above.1 (heard-one moments cluster message event.kind above.0 old)
@@ -85,13 +85,13 @@ module _ (member : Member) (run : ℕ) (message : HeardMessage) where
   abbrev Brings : Cluster → Output → List Event
   Brings cluster output = output_events member message cluster output
 
-  silent : (moments : Moments) (since : Ticks) (cluster : Cluster) (output : Output) → Runs cluster.book.agents → IsOfTable output → FeedsNone output → AreMeasured moments since (Brings cluster output)
+  silent : (moments : Moments) (since : Ticks) (cluster : Cluster) (output : Output) → Runs cluster.facts.processes → IsOfTable output → FeedsNone output → AreMeasured moments since (Brings cluster output)
   silent moments since cluster output runs table none =
       unfed-measured moments since (Brings cluster output)
       (all-more (IsOfInput member run message.number FeedsNone) IsUnfed (Brings cluster output) (mine-unfed member run message.number) (output-mine member run message.number FeedsNone cluster message refl runs output table none))
 
   -- one output
-  output-measured : (moments : Moments) (since : Ticks) (cluster : Cluster) (output : Output) → Runs cluster.book.agents → IsOfTable output → IsHeardAt moments cluster message → AreMeasured moments since (Brings cluster output)
+  output-measured : (moments : Moments) (since : Ticks) (cluster : Cluster) (output : Output) → Runs cluster.facts.processes → IsOfTable output → IsHeardAt moments cluster message → AreMeasured moments since (Brings cluster output)
   output-measured moments since cluster (outputs.Armed until) runs table heard = (tt, (heard.known, tt))
   output-measured moments since cluster (outputs.Fed until) runs table heard = (tt, (heard.known, tt))
   output-measured moments since cluster (outputs.Send to sequence body) runs table heard = silent moments since cluster (outputs.Send to sequence body) runs table tt
@@ -117,7 +117,7 @@ module _ (member : Member) (run : ℕ) (message : HeardMessage) where
   output-measured moments since cluster (outputs.HoldTaken until from sequence) runs table heard = absurd table
 
   -- all of them
-  each-measured : (moments : Moments) (since : Ticks) (cluster : Cluster) (outs : List Output) → Runs cluster.book.agents → All IsOfTable outs → IsHeardAt moments cluster message → AreMeasured moments since (each (output_events member message) cluster outs)
+  each-measured : (moments : Moments) (since : Ticks) (cluster : Cluster) (outs : List Output) → Runs cluster.facts.processes → All IsOfTable outs → IsHeardAt moments cluster message → AreMeasured moments since (each (output_events member message) cluster outs)
   each-measured moments since cluster [] runs table heard = tt
   each-measured moments since cluster (output ∷ more) runs table heard =
       let one = All-head IsOfTable output more table in
@@ -127,13 +127,13 @@ module _ (member : Member) (run : ℕ) (message : HeardMessage) where
       (heard-over moments cluster message (Brings cluster output) (output-numbered member run message cluster output runs one) heard))
 
   -- where nothing is fed
-  each-unfed : (moments : Moments) (since : Ticks) (cluster : Cluster) (outs : List Output) → Runs cluster.book.agents → All IsOfTable outs → All FeedsNone outs → AreMeasured moments since (each (output_events member message) cluster outs)
+  each-unfed : (moments : Moments) (since : Ticks) (cluster : Cluster) (outs : List Output) → Runs cluster.facts.processes → All IsOfTable outs → All FeedsNone outs → AreMeasured moments since (each (output_events member message) cluster outs)
   each-unfed moments since cluster outs runs table none =
       unfed-measured moments since (each (output_events member message) cluster outs)
       (all-more (IsOfInput member run message.number FeedsNone) IsUnfed (each (output_events member message) cluster outs) (mine-unfed member run message.number)
       (each-mine member run message.number FeedsNone cluster message refl runs outs table none))
 
-runs-in : (cluster : Cluster) (k : ℕ) (process : AgentProcess) → slice_get cluster.book.agents k ≡ Some process → process.run ≡ run_in cluster.book.agents k
+runs-in : (cluster : Cluster) (k : ℕ) (process : AgentProcess) → slice_get cluster.facts.processes k ≡ Some process → process.run ≡ run_in cluster.facts.processes k
 runs-in cluster k process e = sym (ap run_now e)
 
 -- ---- an agent that hears no message
@@ -142,19 +142,19 @@ abbrev FeedsNothing : Ticks → List HistoryPoint → Heard → Type 0
 FeedsNothing now points heard = (role : RoleFacts) (knows : Knowledge) (machine : Machine) → All FeedsNone (step now points heard (made role knows machine [])).outputs
 
 -- behind this event, at which no process changes
-module _ (moments : Moments) (cluster : Cluster) (member : Member) (heard : Heard) (happening : AgentEvent) (same : agents_after cluster.book.agents (kinds.Agent happening) ≡ cluster.book.agents)
+module _ (moments : Moments) (cluster : Cluster) (member : Member) (heard : Heard) (happening : AgentEvent) (same : processes_after cluster.facts.processes (kinds.Agent happening) ≡ cluster.facts.processes)
     (none : FeedsNothing (moment_of cluster) (points_of cluster member) heard) where
   abbrev Called : EventKind
   Called = kinds.Agent happening
 
   abbrev Run : ℕ
-  Run = run_in cluster.book.agents member.id.number
+  Run = run_in cluster.facts.processes member.id.number
 
-  runs-on : Runs member Run no_message (cluster_after cluster Called).book.agents
+  runs-on : Runs member Run no_message (cluster_after cluster Called).facts.processes
   runs-on = subst (Runs member Run no_message) (sym same) (runs-in cluster member.id.number)
 
   called-told : (agent : Option AgentFacts) (machine : Option Machine)
-      → Measures moments cluster (record { tick = record { 0 = cluster.book.clock }; kind = Called } ∷ input_events (cluster_after cluster Called) member no_message (outcome_at (moment_of cluster) (points_of cluster member) heard agent machine))
+      → Measures moments cluster (record { tick = record { 0 = cluster.facts.clock }; kind = Called } ∷ input_events (cluster_after cluster Called) member no_message (outcome_at (moment_of cluster) (points_of cluster member) heard agent machine))
   called-told None machine = record { measured = λ since. (tt, tt); numbered = (tt, tt) }
   called-told (Some agent) None = record { measured = λ since. (tt, tt); numbered = (tt, tt) }
   called-told (Some agent) (Some machine) =
@@ -165,7 +165,7 @@ module _ (moments : Moments) (cluster : Cluster) (member : Member) (heard : Hear
         numbered = (tt, each-numbered member Run no_message (cluster_after cluster Called) outs runs-on table);
       }
 
-  told-called : Measures moments cluster (record { tick = record { 0 = cluster.book.clock }; kind = Called } ∷ input_events (cluster_after cluster Called) member no_message (outcome_of cluster member heard))
+  told-called : Measures moments cluster (record { tick = record { 0 = cluster.facts.clock }; kind = Called } ∷ input_events (cluster_after cluster Called) member no_message (outcome_of cluster member heard))
   told-called = called-told (agent_at cluster.agents member.id.number) (machine_of cluster member)
 
 pub told-wake : (moments : Moments) (cluster : Cluster) (member : Member) → Measures moments cluster (wake_events_of cluster member)
@@ -175,18 +175,18 @@ pub told-operated : (moments : Moments) (cluster : Cluster) (member : Member) (a
 told-operated moments cluster member action = told-called moments cluster member (Operated action) (agents.Operated member action) refl (actions-feed-none (moment_of cluster) (points_of cluster member) action)
 
 -- ---- a message that comes
-module _ (moments : Moments) (cluster : Cluster) (number : ℕ) (message : InFlightFacts) (member : Member) (knows : KnowsSending moments cluster.book) (found : in_flight cluster.book.flight number ≡ Some message) where
+module _ (moments : Moments) (cluster : Cluster) (number : ℕ) (message : InFlightFacts) (member : Member) (knows : KnowsSending moments cluster.facts) (found : in_flight cluster.facts.flight number ≡ Some message) where
   abbrev Arrived : EventKind
   Arrived = kinds.Message (messages.Delivered number)
 
   hears-told : (heard : Heard) (agent : Option AgentFacts) (machine : Option Machine)
-      → Measures moments cluster (record { tick = record { 0 = cluster.book.clock }; kind = Arrived } ∷ input_events (cluster_after cluster Arrived) member (heard_message number message) (outcome_at (moment_of cluster) (points_of cluster member) heard agent machine))
+      → Measures moments cluster (record { tick = record { 0 = cluster.facts.clock }; kind = Arrived } ∷ input_events (cluster_after cluster Arrived) member (heard_message number message) (outcome_at (moment_of cluster) (points_of cluster member) heard agent machine))
   hears-told heard None machine = record { measured = λ since. (tt, tt); numbered = (tt, tt) }
   hears-told heard (Some agent) None = record { measured = λ since. (tt, tt); numbered = (tt, tt) }
   hears-told heard (Some agent) (Some machine) =
       let outs = (step (moment_of cluster) (points_of cluster member) heard (made agent.role agent.knows machine [])).outputs in
       let table = (step-carried-out (moment_of cluster) (points_of cluster member) heard agent.role agent.knows machine).kinds in
-      let run : ℕ = run_in cluster.book.agents member.id.number in
+      let run : ℕ = run_in cluster.facts.processes member.id.number in
       record {
         measured = λ since. (
           tt,
@@ -197,7 +197,7 @@ module _ (moments : Moments) (cluster : Cluster) (number : ℕ) (message : InFli
       }
 
   heard-told : (heard : Option Heard)
-      → Measures moments cluster (record { tick = record { 0 = cluster.book.clock }; kind = Arrived } ∷ input_events (cluster_after cluster Arrived) member (heard_message number message) (outcome_of_heard cluster member heard))
+      → Measures moments cluster (record { tick = record { 0 = cluster.facts.clock }; kind = Arrived } ∷ input_events (cluster_after cluster Arrived) member (heard_message number message) (outcome_of_heard cluster member heard))
   heard-told None = record { measured = λ since. (tt, tt); numbered = (tt, tt) }
   heard-told (Some heard) = hears-told heard (agent_at cluster.agents member.id.number) (machine_of cluster member)
 

@@ -30,10 +30,10 @@ use Rattle.cluster_script.specs.declared.line.Command.{Command}
 use Rattle.cluster_script.specs.declared.line.Command.TheVariants as commands
 use Rattle.cluster_model.specs.Acknowledging.{acknowledge_kinds}
 use Rattle.cluster_model.specs.Cluster.{cluster_after}
-use Rattle.cluster_model.specs.Commands.{disarm_at_start, disarm_if, disarm_of, kill_of, kinds_of, restarted}
+use Rattle.cluster_model.specs.Commands.{disarm_at_start, disarm_if, disarm_of, kill_of, kinds_of, agent_started}
 use Rattle.cluster_model.specs.Losing.{beginning_kinds, loss_if}
 use Rattle.cluster_model.specs.Messages.{answer_events_by, answer_message, decision_body, decision_kind, send_events, arrival_events_at, decision_events, lose_events}
-use Rattle.cluster_model.specs.Next.{acknowledge_events, all_entries, command_kind, confirm_events, declared, promote_events, receive_events, receive_events_at_most, receive_events_of, restart_events}
+use Rattle.cluster_model.specs.Next.{acknowledge_events, all_entries, command_kind, confirm_events, declared, promote_events, receive_events, receive_events_at_most, receive_events_of, agent_start_events}
 use Rattle.cluster_model.specs.Parts.{event_of, events_of, for_some}
 use Rattle.cluster_model.specs.ServerCommands.{crash_of, is_gone, promote_kinds}
 use Rattle.cluster_model.specs.State.{Cluster}
@@ -83,7 +83,7 @@ tells-tick moments cluster knows = told-plain moments cluster (tick_events clust
 -- ---- streams
 confirm-plain : (cluster : Cluster) (member from : Member) → AllAre IsPlain (confirm_events cluster member from)
 confirm-plain cluster member from =
-    let end = unconfirmed_end member (slice_get cluster.book.servers member.id.number) (slice_get cluster.book.servers from.id.number) in
+    let end = unconfirmed_end member (slice_get cluster.facts.servers member.id.number) (slice_get cluster.facts.servers from.id.number) in
     plain-if cluster (confirm_of member from end) (quiet-if (confirm_of member from end) (confirm-quiet member from end))
 
 receive-plain : (cluster : Cluster) (member from : Member) (news : Option Streamed) → AllAre IsPlain (receive_events cluster member from news)
@@ -92,26 +92,26 @@ receive-plain cluster member from (Some streams.NotConnected) = tt
 receive-plain cluster member from (Some (streams.Diverged at)) = (tt, tt)
 receive-plain cluster member from (Some (streams.Received count)) = (tt, confirm-plain _ member from)
 
-receives-plain : (cluster : Cluster) (most : ℕ) (member : Member) (source : Option Member) → AllAre IsPlain (for_some source (λ from. receive_events cluster member from (news_at cluster.book.servers member.id.number from.id.number most)))
+receives-plain : (cluster : Cluster) (most : ℕ) (member : Member) (source : Option Member) → AllAre IsPlain (for_some source (λ from. receive_events cluster member from (news_at cluster.facts.servers member.id.number from.id.number most)))
 receives-plain cluster most member None = tt
-receives-plain cluster most member (Some from) = receive-plain cluster member from (news_at cluster.book.servers member.id.number from.id.number most)
+receives-plain cluster most member (Some from) = receive-plain cluster member from (news_at cluster.facts.servers member.id.number from.id.number most)
 
 most-plain : (cluster : Cluster) (most : ℕ) (member : Member) → AllAre IsPlain (receive_events_at_most cluster most member)
-most-plain cluster most member = receives-plain cluster most member (source_of cluster.book.members cluster.book.servers cluster.book.cuts member)
+most-plain cluster most member = receives-plain cluster most member (source_of cluster.facts.members cluster.facts.servers cluster.facts.cuts member)
 
 pub tells-receive-at-most : (most : ℕ) (member : Member) → Tells (λ cluster. receive_events_at_most cluster most member)
 tells-receive-at-most most member moments cluster knows = told-plain moments cluster (receive_events_at_most cluster most member) (most-plain cluster most member)
 
 pub tells-receive : (member : Member) → Tells (λ cluster. receive_events_of cluster member)
 tells-receive member moments cluster knows =
-    told-for_some moments cluster (slice_get cluster.book.frozen member.id.number) _ (λ frozen is.
+    told-for_some moments cluster (slice_get cluster.facts.frozen member.id.number) _ (λ frozen is.
     told-if moments cluster frozen [] (receive_events_at_most cluster all_entries member) (tells-none moments cluster) (tells-receive-at-most all_entries member moments cluster knows))
 
 pub tells-acknowledge : (member : Member) → Tells (λ cluster. acknowledge_events cluster member)
 tells-acknowledge member moments cluster knows =
-    let list = acknowledge_kinds cluster.book.servers cluster.book.members member (slice_get cluster.book.servers member.id.number) in
+    let list = acknowledge_kinds cluster.facts.servers cluster.facts.members member (slice_get cluster.facts.servers member.id.number) in
     told-plain moments cluster (events_of cluster list)
-    (all-kinds IsPlain cluster list (quiet-kinds list (acknowledge-quiet cluster.book.servers cluster.book.members member (slice_get cluster.book.servers member.id.number))))
+    (all-kinds IsPlain cluster list (quiet-kinds list (acknowledge-quiet cluster.facts.servers cluster.facts.members member (slice_get cluster.facts.servers member.id.number))))
 
 -- ---- commands
 gone-plain : (test : Bool) (kind : EventKind) → IsPlain kind → HoldsIf IsPlain (cond test None (Some kind))
@@ -120,9 +120,9 @@ gone-plain false kind is = is
 
 kind-plain : (cluster : Cluster) (command : Command) → HoldsIf IsPlain (command_kind cluster command)
 kind-plain cluster (commands.Kill id) =
-    holds-then IsPlain _ (declared cluster id) (λ m. holds-then IsPlain (kill_of m) (slice_get cluster.book.agents m.id.number) (λ process. holds-if IsPlain process.running (kinds.Agent (agents.Killed m)) tt))
+    holds-then IsPlain _ (declared cluster id) (λ m. holds-then IsPlain (kill_of m) (slice_get cluster.facts.processes m.id.number) (λ process. holds-if IsPlain process.running (kinds.Agent (agents.Killed m)) tt))
 kind-plain cluster (commands.Crash id) =
-    holds-then IsPlain _ (declared cluster id) (λ m. holds-then IsPlain (crash_of m) (slice_get cluster.book.servers m.id.number) (λ s. gone-plain (is_gone s.state) _ tt))
+    holds-then IsPlain _ (declared cluster id) (λ m. holds-then IsPlain (crash_of m) (slice_get cluster.facts.servers m.id.number) (λ s. gone-plain (is_gone s.state) _ tt))
 kind-plain cluster command = quiet-if (command_kind cluster command) (command-quiet cluster command tt)
 
 pub tells-kind : (command : Command) → Tells (λ cluster. events_of cluster (kinds_of (command_kind cluster command)))
@@ -139,12 +139,12 @@ promoted-plain member acknowledged s false = tt
 
 pub tells-promote : (member : Member) → Tells (λ cluster. promote_events cluster member)
 tells-promote member moments cluster knows =
-    told-for_some moments cluster (slice_get cluster.book.servers member.id.number) _ (λ s is.
-    told-plain moments cluster _ (all-kinds IsPlain cluster (promote_kinds member cluster.book.acknowledged s) (promoted-plain member cluster.book.acknowledged s (is_replica s.state))))
+    told-for_some moments cluster (slice_get cluster.facts.servers member.id.number) _ (λ s is.
+    told-plain moments cluster _ (all-kinds IsPlain cluster (promote_kinds member cluster.facts.acknowledged s) (promoted-plain member cluster.facts.acknowledged s (is_replica s.state))))
 
-restarted-plain : (member : Member) (process : AgentProcess) (test : Bool) → IsPlain (cond test (kinds.Note (AlreadyRunning member)) (kinds.Agent (agents.Started member (process.run + 1))))
-restarted-plain member process true = tt
-restarted-plain member process false = tt
+agent_started-plain : (member : Member) (process : AgentProcess) (test : Bool) → IsPlain (cond test (kinds.Note (AlreadyRunning member)) (kinds.Agent (agents.Started member (process.run + 1))))
+agent_started-plain member process true = tt
+agent_started-plain member process false = tt
 
 disarm-plain : (member : Member) (deadline : Option Ticks) → HoldsIf IsPlain (disarm_if member deadline)
 disarm-plain member None = tt
@@ -158,19 +158,19 @@ disarms-plain : (member : Member) (machine : Option Machine) → HoldsIf IsPlain
 disarms-plain member None = tt
 disarms-plain member (Some machine) = none-or _ _ (disarm-plain member machine.watchdog.deadline)
 
-pub tells-restart : (member : Member) → Tells (λ cluster. restart_events cluster member)
+pub tells-restart : (member : Member) → Tells (λ cluster. agent_start_events cluster member)
 tells-restart member moments cluster knows =
-    told-for_some moments cluster (slice_get cluster.book.agents member.id.number) _ (λ process is.
+    told-for_some moments cluster (slice_get cluster.facts.processes member.id.number) _ (λ process is.
     let machine = machine_of cluster member in
-    told-plain moments cluster _ (all-kinds IsPlain cluster (restarted member process ∷ kinds_of (disarm_at_start member process machine))
-    (restarted-plain member process process.running, one-kind IsPlain (disarm_at_start member process machine) (none-or process.running (disarm_of member machine) (disarms-plain member machine)))))
+    told-plain moments cluster _ (all-kinds IsPlain cluster (agent_started member process ∷ kinds_of (disarm_at_start member process machine))
+    (agent_started-plain member process process.running, one-kind IsPlain (disarm_at_start member process machine) (none-or process.running (disarm_of member machine) (disarms-plain member machine)))))
 
 pub told-lose : (moments : Moments) (cluster : Cluster) (number : ℕ) (message : Option InFlightFacts) → Measures moments cluster (lose_events cluster number message)
 told-lose moments cluster number None = told-plain moments cluster _ (tt, tt)
 told-lose moments cluster number (Some message) = told-plain moments cluster _ (tt, tt)
 
 -- ---- the key store
-told-event : (moments : Moments) (cluster : Cluster) (kind : EventKind) (more : Cluster → List Event) → IsPlain kind → KnowsSending moments cluster.book → Tells more → Measures moments cluster (event_of cluster kind ++ more (cluster_after cluster kind))
+told-event : (moments : Moments) (cluster : Cluster) (kind : EventKind) (more : Cluster → List Event) → IsPlain kind → KnowsSending moments cluster.facts → Tells more → Measures moments cluster (event_of cluster kind ++ more (cluster_after cluster kind))
 told-event moments cluster kind more is knows rest =
     told-then moments cluster (event_of cluster kind) (more (cluster_after cluster kind)) knows (told-plain moments cluster (event_of cluster kind) (is, tt)) (λ later. rest _ (cluster_after cluster kind) later)
 
@@ -178,15 +178,15 @@ tells-decision : (number : ℕ) (message : Message) (txn : Txn) (decision : Deci
 tells-decision number message txn decision ends.Store moments cluster knows = tells-none moments cluster
 tells-decision number message txn Grant (ends.Member by) moments cluster knows =
     let answer : Message = answer_message message (decision_body number txn Grant) in
-    told-event moments cluster (decision_kind cluster.book.members number by txn Grant) (λ later. send_events later answer) tt knows (tells-send answer)
+    told-event moments cluster (decision_kind cluster.facts.members number by txn Grant) (λ later. send_events later answer) tt knows (tells-send answer)
 tells-decision number message txn (Refusal key found) (ends.Member by) moments cluster knows =
     let answer : Message = answer_message message (decision_body number txn (Refusal key found)) in
-    told-event moments cluster (decision_kind cluster.book.members number by txn (Refusal key found)) (λ later. send_events later answer) tt knows (tells-send answer)
+    told-event moments cluster (decision_kind cluster.facts.members number by txn (Refusal key found)) (λ later. send_events later answer) tt knows (tells-send answer)
 
 tells-answer : (number : ℕ) (message : Message) (body : Body) → Tells (λ cluster. answer_events_by cluster number message body)
 tells-answer number message bodies.Read moments cluster knows = tells-send (answer_message message bodies.Snapshot) moments cluster knows
-tells-answer number message (bodies.Request txn) moments cluster knows = tells-decision number message txn (decision_on cluster.book.keys cluster.book.clock txn) message.from moments cluster knows
+tells-answer number message (bodies.Request txn) moments cluster knows = tells-decision number message txn (decision_on cluster.facts.keys cluster.facts.clock txn) message.from moments cluster knows
 tells-answer number message _ moments cluster knows = tells-none moments cluster
 
-pub told-store : (moments : Moments) (cluster : Cluster) (number : ℕ) (message : InFlightFacts) → KnowsSending moments cluster.book → Measures moments cluster (arrival_events_at cluster number message ends.Store)
+pub told-store : (moments : Moments) (cluster : Cluster) (number : ℕ) (message : InFlightFacts) → KnowsSending moments cluster.facts → Measures moments cluster (arrival_events_at cluster number message ends.Store)
 told-store moments cluster number message knows = told-event moments cluster (kinds.Message (messages.Delivered number)) (λ later. answer_events_by later number message.message message.message.body) tt knows (tells-answer number message.message message.message.body)

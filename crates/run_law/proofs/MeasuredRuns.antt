@@ -22,7 +22,7 @@ use Rattle.cluster_model.specs.Deliveries.{delivery_of}
 use Rattle.cluster_model.specs.Inputs.{is_to_wake, may_act, moment_of, standing_of}
 use Rattle.cluster_model.specs.Limits.{most_rounds}
 use Rattle.cluster_model.specs.Messages.{arrival_events_at, call_events, call_events_if, call_events_of, decided_events, deliver_events, deliver_events_by, message_events, message_events_by, turn_events, turn_events_if, wake_events, wake_events_if, wake_events_of}
-use Rattle.cluster_model.specs.Next.{acknowledge_events, command_events, declared, next_events, promote_events, receive_events_at_most, receive_events_of, restart_events, round_events, rounds_events, run_events, scheduled_events, step_events}
+use Rattle.cluster_model.specs.Next.{acknowledge_events, command_events, declared, next_events, promote_events, receive_events_at_most, receive_events_of, agent_start_events, round_events, rounds_events, run_events, scheduled_events, step_events}
 use Rattle.cluster_model.specs.Parts.{each, event_of, for_some, is_empty}
 use Rattle.cluster_model.specs.Requests.{action_of, decision_on_call}
 use Rattle.cluster_model.specs.Starting.{cluster_of}
@@ -39,12 +39,12 @@ use Rattle.run_law.proofs.Moments.{KnowsSending}
 
 tells-wake : (member : Member) → Tells (λ cluster. wake_events cluster member)
 tells-wake member moments cluster knows =
-    told-for_some moments cluster (slice_get cluster.book.agents member.id.number) (wake_events_if cluster member) (λ process is.
+    told-for_some moments cluster (slice_get cluster.facts.processes member.id.number) (wake_events_if cluster member) (λ process is.
     told-if moments cluster (is_to_wake (moment_of cluster) process (standing_of cluster member)) (wake_events_of cluster member) [] (told-wake moments cluster member) (tells-none moments cluster))
 
 tells-turn : (member : Member) → Tells (λ cluster. turn_events cluster member)
 tells-turn member moments cluster knows =
-    told-for_some moments cluster (slice_get cluster.book.agents member.id.number) (turn_events_if cluster member) (λ process is.
+    told-for_some moments cluster (slice_get cluster.facts.processes member.id.number) (turn_events_if cluster member) (λ process is.
     told-if moments cluster (may_act process) (wake_events_of cluster member) [] (told-wake moments cluster member) (tells-none moments cluster))
 
 -- a call is answered, or its agent does what it asks
@@ -54,17 +54,17 @@ told-decided moments cluster member o (Err refused) = told-plain moments cluster
 
 tells-call : (call : RestCall) (body : List ℕ) (member : Member) → Tells (λ cluster. call_events cluster call body member)
 tells-call call body member moments cluster knows =
-    told-for_some moments cluster (slice_get cluster.book.agents member.id.number) (call_events_if cluster call body member) (λ process is.
+    told-for_some moments cluster (slice_get cluster.facts.processes member.id.number) (call_events_if cluster call body member) (λ process is.
     told-if moments cluster (may_act process) (for_some (standing_of cluster member) (call_events_of cluster call body member)) (event_of cluster (kinds.Note (NoAnswer member)))
     (told-for_some moments cluster (standing_of cluster member) (call_events_of cluster call body member) (λ o is. told-decided moments cluster member o (decision_on_call (moment_of cluster) o call body)))
     (told-plain moments cluster _ (tt, tt)))
 
-told-arrival : (moments : Moments) (cluster : Cluster) (number : ℕ) (message : InFlightFacts) (to : LinkEnd) → KnowsSending moments cluster.book → in_flight cluster.book.flight number ≡ Some message
+told-arrival : (moments : Moments) (cluster : Cluster) (number : ℕ) (message : InFlightFacts) (to : LinkEnd) → KnowsSending moments cluster.facts → in_flight cluster.facts.flight number ≡ Some message
     → Measures moments cluster (arrival_events_at cluster number message to)
 told-arrival moments cluster number message ends.Store knows found = told-store moments cluster number message knows
 told-arrival moments cluster number message (ends.Member member) knows found = told-hearing moments cluster number message member knows found
 
-told-message : (moments : Moments) (cluster : Cluster) (number : ℕ) (message : InFlightFacts) (delivery : Delivery) → KnowsSending moments cluster.book → in_flight cluster.book.flight number ≡ Some message
+told-message : (moments : Moments) (cluster : Cluster) (number : ℕ) (message : InFlightFacts) (delivery : Delivery) → KnowsSending moments cluster.facts → in_flight cluster.facts.flight number ≡ Some message
     → Measures moments cluster (message_events_by cluster number message delivery)
 told-message moments cluster number message deliveries.Open knows found = told-arrival moments cluster number message message.message.to knows found
 told-message moments cluster number message deliveries.Cut knows found = told-plain moments cluster _ (tt, tt)
@@ -73,26 +73,26 @@ told-message moments cluster number message deliveries.Gone knows found = told-p
 
 tells-message : (number : ℕ) → Tells (λ cluster. message_events cluster number)
 tells-message number moments cluster knows =
-    told-for_some moments cluster (in_flight cluster.book.flight number) _ (λ message found.
-    told-message moments cluster number message (delivery_of cluster.book.cuts cluster.book.agents message.message) knows found)
+    told-for_some moments cluster (in_flight cluster.facts.flight number) _ (λ message found.
+    told-message moments cluster number message (delivery_of cluster.facts.cuts cluster.facts.processes message.message) knows found)
 
-told-deliver-by : (moments : Moments) (cluster : Cluster) (number : ℕ) (message : InFlightFacts) (delivery : Delivery) → KnowsSending moments cluster.book → in_flight cluster.book.flight number ≡ Some message
+told-deliver-by : (moments : Moments) (cluster : Cluster) (number : ℕ) (message : InFlightFacts) (delivery : Delivery) → KnowsSending moments cluster.facts → in_flight cluster.facts.flight number ≡ Some message
     → Measures moments cluster (deliver_events_by cluster number message delivery)
 told-deliver-by moments cluster number message deliveries.Open knows found = told-arrival moments cluster number message message.message.to knows found
 told-deliver-by moments cluster number message deliveries.Cut knows found = told-plain moments cluster _ (tt, tt)
 told-deliver-by moments cluster number message deliveries.Suspended knows found = told-plain moments cluster _ (tt, tt)
 told-deliver-by moments cluster number message deliveries.Gone knows found = told-plain moments cluster _ (tt, tt)
 
-told-deliver : (moments : Moments) (cluster : Cluster) (number : ℕ) (message : Option InFlightFacts) → KnowsSending moments cluster.book → in_flight cluster.book.flight number ≡ message
+told-deliver : (moments : Moments) (cluster : Cluster) (number : ℕ) (message : Option InFlightFacts) → KnowsSending moments cluster.facts → in_flight cluster.facts.flight number ≡ message
     → Measures moments cluster (deliver_events cluster number message)
 told-deliver moments cluster number None knows found = told-plain moments cluster _ (tt, tt)
-told-deliver moments cluster number (Some message) knows found = told-deliver-by moments cluster number message (delivery_of cluster.book.cuts cluster.book.agents message.message) knows found
+told-deliver moments cluster number (Some message) knows found = told-deliver-by moments cluster number message (delivery_of cluster.facts.cuts cluster.facts.processes message.message) knows found
 
 tells-round : Tells round_events
 tells-round =
-    tells-then (λ cluster. each wake_events cluster cluster.book.members) (λ later. each message_events later (keys_of later.book.flight))
-    (λ moments cluster knows. tells-each wake_events tells-wake cluster.book.members moments cluster knows)
-    (λ moments cluster knows. tells-each message_events tells-message (keys_of cluster.book.flight) moments cluster knows)
+    tells-then (λ cluster. each wake_events cluster cluster.facts.members) (λ later. each message_events later (keys_of later.facts.flight))
+    (λ moments cluster knows. tells-each wake_events tells-wake cluster.facts.members moments cluster knows)
+    (λ moments cluster knows. tells-each message_events tells-message (keys_of cluster.facts.flight) moments cluster knows)
 
 tells-rounds : (count : ℕ) → Tells (λ cluster. rounds_events cluster count)
 unfolding rounds_events
@@ -102,14 +102,14 @@ tells-rounds (suc count) moments cluster knows =
 
 tells-scheduled : Tells scheduled_events
 tells-scheduled =
-    tells-then (λ cluster. each receive_events_of cluster cluster.book.members) (λ later. rounds_events later most_rounds)
-    (λ moments cluster knows. tells-each receive_events_of tells-receive cluster.book.members moments cluster knows) (tells-rounds most_rounds)
+    tells-then (λ cluster. each receive_events_of cluster cluster.facts.members) (λ later. rounds_events later most_rounds)
+    (λ moments cluster knows. tells-each receive_events_of tells-receive cluster.facts.members moments cluster knows) (tells-rounds most_rounds)
 
 tells-command : (command : Command) → Tells (λ cluster. command_events cluster command)
 tells-command (commands.Turn id) moments cluster knows = told-for_some moments cluster (declared cluster id) (turn_events cluster) (λ m is. tells-turn m moments cluster knows)
-tells-command (commands.Deliver number) moments cluster knows = told-deliver moments cluster number (in_flight cluster.book.flight number) knows refl
-tells-command (commands.Lose number) moments cluster knows = told-lose moments cluster number (in_flight cluster.book.flight number)
-tells-command (commands.Restart id) moments cluster knows = told-for_some moments cluster (declared cluster id) (restart_events cluster) (λ m is. tells-restart m moments cluster knows)
+tells-command (commands.Deliver number) moments cluster knows = told-deliver moments cluster number (in_flight cluster.facts.flight number) knows refl
+tells-command (commands.Lose number) moments cluster knows = told-lose moments cluster number (in_flight cluster.facts.flight number)
+tells-command (commands.StartAgent id) moments cluster knows = told-for_some moments cluster (declared cluster id) (agent_start_events cluster) (λ m is. tells-restart m moments cluster knows)
 tells-command (commands.Promote id) moments cluster knows = told-for_some moments cluster (declared cluster id) (promote_events cluster) (λ m is. tells-promote m moments cluster knows)
 tells-command (commands.Rest id call body) moments cluster knows = told-for_some moments cluster (declared cluster id) (call_events cluster call body) (λ m is. tells-call call body m moments cluster knows)
 tells-command (commands.Stream id most) moments cluster knows = told-for_some moments cluster (declared cluster id) (receive_events_at_most cluster most) (λ m is. tells-receive-at-most most m moments cluster knows)
@@ -122,15 +122,15 @@ tells-step (steps.Command command) = tells-command command
 
 tells-next : (step : Step) → Tells (λ cluster. next_events cluster step)
 tells-next step =
-    tells-then (λ cluster. step_events cluster step) (λ later. each acknowledge_events later later.book.members) (tells-step step)
-    (λ moments cluster knows. tells-each acknowledge_events tells-acknowledge cluster.book.members moments cluster knows)
+    tells-then (λ cluster. step_events cluster step) (λ later. each acknowledge_events later later.facts.members) (tells-step step)
+    (λ moments cluster knows. tells-each acknowledge_events tells-acknowledge cluster.facts.members moments cluster knows)
 
 tells-run : (steps : List Step) → Tells (λ cluster. run_events cluster steps)
 tells-run [] moments cluster knows = tells-none moments cluster
 tells-run (step ∷ more) moments cluster knows = tells-then (λ cluster. next_events cluster step) (λ later. run_events later more) (tells-next step) (tells-run more) moments cluster knows
 
 -- before the first event nothing is in flight
-knows-first : (head : HeadText) → KnowsSending first_moments (cluster_of head).book
+knows-first : (head : HeadText) → KnowsSending first_moments (cluster_of head).facts
 knows-first head = record { clock = refl; order = tt; flown = λ i carried e. absurd (none-some carried e); known = λ i carried e. absurd (none-some carried e) }
 
 pub runs-measured : (head : HeadText) (steps : List Step) → AreMeasured first_moments first_since (run_events (cluster_of head) steps)

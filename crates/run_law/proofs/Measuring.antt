@@ -21,25 +21,25 @@ use Rattle.run_law.proofs.Moments.{KnowsSending, moments_over, sending-over}
 
 pub record Measures (moments : Moments) (cluster : Cluster) (events : List Event) : Type 0 where
   pub measured : (since : Ticks) → AreMeasured moments since events
-  pub numbered : AreNumberedAbove cluster.book.sent events
+  pub numbered : AreNumberedAbove cluster.facts.sent events
 
 -- a part does, wherever the sending of what is in flight is known
 abbrev pub Tells : (Cluster → List Event) → Type 0
-Tells part = (moments : Moments) (cluster : Cluster) → KnowsSending moments cluster.book → Measures moments cluster (part cluster)
+Tells part = (moments : Moments) (cluster : Cluster) → KnowsSending moments cluster.facts → Measures moments cluster (part cluster)
 
 pub measured-both : (moments : Moments) (since : Ticks) (xs ys : List Event) → AreMeasured moments since xs → ((later : Ticks) → AreMeasured (moments_over moments xs) later ys) → AreMeasured moments since (xs ++ ys)
 measured-both moments since [] ys first second = second since
 measured-both moments since (x ∷ xs) ys first second = (first.0, measured-both (moments_after moments x.kind) (since_after since x.kind) xs ys first.1 second)
 
-numbered-both : (cluster : Cluster) (xs ys : List Event) → AreNumberedAbove cluster.book.sent xs → AreNumberedAbove (cluster_over cluster xs).book.sent ys → AreNumberedAbove cluster.book.sent (xs ++ ys)
+numbered-both : (cluster : Cluster) (xs ys : List Event) → AreNumberedAbove cluster.facts.sent xs → AreNumberedAbove (cluster_over cluster xs).facts.sent ys → AreNumberedAbove cluster.facts.sent (xs ++ ys)
 numbered-both cluster [] ys first second = second
 numbered-both cluster (x ∷ xs) ys first second = (first.0, numbered-both (cluster_after cluster x.kind) xs ys first.1 second)
 
 pub tells-none : (moments : Moments) (cluster : Cluster) → Measures moments cluster []
 tells-none moments cluster = record { measured = λ since. tt; numbered = tt }
 
-pub told-then : (moments : Moments) (cluster : Cluster) (xs ys : List Event) → KnowsSending moments cluster.book → Measures moments cluster xs
-    → (KnowsSending (moments_over moments xs) (cluster_over cluster xs).book → Measures (moments_over moments xs) (cluster_over cluster xs) ys) → Measures moments cluster (xs ++ ys)
+pub told-then : (moments : Moments) (cluster : Cluster) (xs ys : List Event) → KnowsSending moments cluster.facts → Measures moments cluster xs
+    → (KnowsSending (moments_over moments xs) (cluster_over cluster xs).facts → Measures (moments_over moments xs) (cluster_over cluster xs) ys) → Measures moments cluster (xs ++ ys)
 told-then moments cluster xs ys knows first second =
     let rest = second (sending-over moments cluster xs first.numbered knows) in
     record { measured = λ since. measured-both moments since xs ys (first.measured since) rest.measured; numbered = numbered-both cluster xs ys first.numbered rest.numbered }
@@ -100,7 +100,7 @@ plain-none [] all = tt
 plain-none (event ∷ events) all = (plain-unfed event.kind all.0, plain-none events all.1)
 
 pub told-plain : (moments : Moments) (cluster : Cluster) (events : List Event) → AllAre IsPlain events → Measures moments cluster events
-told-plain moments cluster events all = record { measured = λ since. unfed-measured moments since events (plain-none events all); numbered = plain-all cluster.book.sent events all }
+told-plain moments cluster events all = record { measured = λ since. unfed-measured moments since events (plain-none events all); numbered = plain-all cluster.facts.sent events all }
 
 -- ---- a message that is sent
 next-above : (sent : ℕ) → sent < sent + 1
@@ -116,8 +116,8 @@ lost-numbered last cluster false number = tt
 
 pub tells-send : (message : Message) → Tells (λ cluster. send_events cluster message)
 tells-send message moments cluster knows =
-    let test : Bool = nat_le most_in_flight (length cluster.book.flight) in
+    let test : Bool = nat_le most_in_flight (length cluster.facts.flight) in
     record {
-      measured = λ since. (tt, lost-measured _ since _ test (cluster.book.sent + 1));
-      numbered = (next-above cluster.book.sent, lost-numbered (cluster.book.sent + 1) _ test (cluster.book.sent + 1));
+      measured = λ since. (tt, lost-measured _ since _ test (cluster.facts.sent + 1));
+      numbered = (next-above cluster.facts.sent, lost-numbered (cluster.facts.sent + 1) _ test (cluster.facts.sent + 1));
     }

@@ -110,6 +110,6 @@ listed head few m small =
     listed-at m (declared_members head) m found.0 found.1 (numbered head few m found.0 found.1)
 
 -- who is found by a number among the declared members is declared
-pub declared-now : (head : HeadText) → length (names_of head) ≤ 16 → (cluster : Cluster) → cluster.book.members ≡ declared_members head
+pub declared-now : (head : HeadText) → length (names_of head) ≤ 16 → (cluster : Cluster) → cluster.facts.members ≡ declared_members head
     → (id : MemberId) (m : Member) → declared cluster id ≡ Some m → IsDeclared head m
 declared-now head few cluster members id m is = declared-at head few id.number m (sym (ap (λ (ms : List Member). slice_get ms id.number) members) ∙ is)

@@ -70,7 +70,7 @@ abbrev pub moments_over : Moments → List Event → Moments
 moments_over moments [] = moments
 moments_over moments (event ∷ events) = moments_over (moments_after moments event.kind) events
 
-pub sending-over : (moments : Moments) (cluster : Cluster) (events : List Event) → AreNumberedAbove cluster.book.sent events → KnowsSending moments cluster.book → KnowsSending (moments_over moments events) (cluster_over cluster events).book
+pub sending-over : (moments : Moments) (cluster : Cluster) (events : List Event) → AreNumberedAbove cluster.facts.sent events → KnowsSending moments cluster.facts → KnowsSending (moments_over moments events) (cluster_over cluster events).facts
 sending-over moments cluster [] above old = old
 sending-over moments cluster (event ∷ events) above old =
-    sending-over (moments_after moments event.kind) (cluster_after cluster event.kind) events above.1 (sending-by moments cluster.book event.kind above.0 old)
+    sending-over (moments_after moments event.kind) (cluster_after cluster event.kind) events above.1 (sending-by moments cluster.facts event.kind above.0 old)

@@ -64,13 +64,13 @@ quiet-server now known _ m is = absurd is
 
 pub quiet-machine : (cluster : Cluster) (kind : EventKind) → IsQuiet kind → (m : ℕ) → machine_in (cluster_after cluster kind) m ≡ machine_in cluster m
 quiet-machine cluster (kinds.Store happening) is m = refl
-quiet-machine cluster (kinds.Server happening) is m = machine-same _ _ _ _ _ _ _ _ _ _ _ _ (quiet-server cluster.book.clock cluster.book.servers happening m is) refl refl refl refl refl
+quiet-machine cluster (kinds.Server happening) is m = machine-same _ _ _ _ _ _ _ _ _ _ _ _ (quiet-server cluster.facts.clock cluster.facts.servers happening m is) refl refl refl refl refl
 quiet-machine cluster (kinds.Log happening) is m =
-    machine-same _ _ _ _ _ _ _ _ _ _ _ _ (live-kept cluster.book.servers _ m (logged-kept (λ s. live s.state) (λ s t live writes required confirmed. live) cluster.book.servers happening)) refl refl refl refl refl
+    machine-same _ _ _ _ _ _ _ _ _ _ _ _ (live-kept cluster.facts.servers _ m (logged-kept (λ s. live s.state) (λ s t live writes required confirmed. live) cluster.facts.servers happening)) refl refl refl refl refl
 quiet-machine cluster (kinds.Replication happening) is m =
-    machine-same _ _ _ _ _ _ _ _ _ _ _ _ (live-kept cluster.book.servers _ m (replicated-kept (λ s. live s.state) (λ s t state log. ap live state) cluster.book.servers happening)) refl refl refl refl refl
-quiet-machine cluster (kinds.Agent (agents.Suspended agent)) is m = machine-same _ _ _ _ _ _ _ _ _ _ _ _ refl refl refl refl refl (seen-kept run_now cluster.book.agents agent.id.number m _ (suspended-run true))
-quiet-machine cluster (kinds.Agent (agents.Resumed agent)) is m = machine-same _ _ _ _ _ _ _ _ _ _ _ _ refl refl refl refl refl (seen-kept run_now cluster.book.agents agent.id.number m _ (suspended-run false))
+    machine-same _ _ _ _ _ _ _ _ _ _ _ _ (live-kept cluster.facts.servers _ m (replicated-kept (λ s. live s.state) (λ s t state log. ap live state) cluster.facts.servers happening)) refl refl refl refl refl
+quiet-machine cluster (kinds.Agent (agents.Suspended agent)) is m = machine-same _ _ _ _ _ _ _ _ _ _ _ _ refl refl refl refl refl (seen-kept run_now cluster.facts.processes agent.id.number m _ (suspended-run true))
+quiet-machine cluster (kinds.Agent (agents.Resumed agent)) is m = machine-same _ _ _ _ _ _ _ _ _ _ _ _ refl refl refl refl refl (seen-kept run_now cluster.facts.processes agent.id.number m _ (suspended-run false))
 quiet-machine cluster (kinds.Agent (agents.Passed agent)) is m = refl
 quiet-machine cluster (kinds.Link happening) is m = refl
 quiet-machine cluster (kinds.Note note) is m = refl

@@ -14,14 +14,14 @@ use Rattle.event_book.specs.declared.event.EventKind.TheVariants as kinds
 use Rattle.event_book.specs.declared.event.Note.TheVariants.{AlreadyRunning}
 use Rattle.event_book.specs.declared.event.WatchdogEvent.TheVariants as watchdogs
 use Rattle.event_book.specs.declared.member.Member.{Member}
-use Rattle.event_book.specs.Agents.{running_in}
+use Rattle.event_book.specs.Processes.{running_in}
 use Rattle.event_book.specs.Functions.{put_at}
 use Rattle.agent_model.specs.Agents.{AgentFacts}
 use Rattle.cluster_model.specs.Cluster.{cluster_after, cluster_over}
 use Rattle.cluster_model.specs.Commands.{disarm_of, disarm_if, kinds_of}
 use Rattle.cluster_model.specs.Machines.{machine_from, machine_of, replication_of, who_of}
 use Rattle.agent_model.specs.declared.machine.Replication.{Replication}
-use Rattle.cluster_model.specs.Next.{restart_events, restart_events_of}
+use Rattle.cluster_model.specs.Next.{agent_start_events, agent_start_events_of}
 use Rattle.cluster_model.specs.Parts.{event_of, events_of}
 use Rattle.cluster_model.specs.Starting.{options_of}
 use Rattle.cluster_model.specs.State.{Cluster}
@@ -59,28 +59,28 @@ fresh-there agents k run agent small fresh = let found = there agents k small in
 started-run : (processes : List AgentProcess) (k run : ℕ) → k < length processes → run_now (option_map (λ (process : AgentProcess). running_in run) (slice_get processes k)) ≡ run
 started-run processes k run small = let found = there processes k small in ap (λ (o : Option AgentProcess). run_now (option_map (λ (process : AgentProcess). running_in run) o)) found.1
 
-started-machine : (cluster : Cluster) (member : Member) (found : Option EventKind) → member.id.number < length cluster.agents → member.id.number < length cluster.book.agents
-    → IsStartOf member (live_in cluster.book.servers member.id.number) (deadline_in cluster.book.deadlines member.id.number) found → (m : ℕ)
-    → let run : ℕ = run_in cluster.book.agents member.id.number + 1 in
+started-machine : (cluster : Cluster) (member : Member) (found : Option EventKind) → member.id.number < length cluster.agents → member.id.number < length cluster.facts.processes
+    → IsStartOf member (live_in cluster.facts.servers member.id.number) (deadline_in cluster.facts.deadlines member.id.number) found → (m : ℕ)
+    → let run : ℕ = run_in cluster.facts.processes member.id.number + 1 in
     let started : Cluster = cluster_after cluster (kinds.Agent (agents.Started member run)) in
     machine_in (cluster_over cluster (event_of cluster (kinds.Agent (agents.Started member run)) ++ events_of started (kinds_of found))) m
     ≡ put_at (machine_in cluster) member.id.number (start_machine (machine_in cluster member.id.number)) m
 started-machine cluster member None few small is =
     let k : ℕ = member.id.number in
-    let run : ℕ = run_in cluster.book.agents k + 1 in
+    let run : ℕ = run_in cluster.facts.processes k + 1 in
     machines-put (machine_in cluster) (machine_in (cluster_after cluster (kinds.Agent (agents.Started member run)))) k (start_machine (machine_in cluster k))
-    (machine-same _ _ _ _ _ _ _ _ _ _ _ _ refl (sym is) refl refl (ap agent_now (get-here cluster.agents k _) ∙ fresh-there cluster.agents k run _ few (ap Some (fresh-seen (who_of cluster.scope cluster.options cluster.book.members member) cluster.book.clock run))) (ap run_now (get-here cluster.book.agents k _) ∙ started-run cluster.book.agents k run small))
-    (λ m other. machine-same _ _ _ _ _ _ _ _ _ _ _ _ refl refl refl refl (ap agent_now (get-elsewhere cluster.agents k m _ other)) (ap run_now (get-elsewhere cluster.book.agents k m _ other)))
+    (machine-same _ _ _ _ _ _ _ _ _ _ _ _ refl (sym is) refl refl (ap agent_now (get-here cluster.agents k _) ∙ fresh-there cluster.agents k run _ few (ap Some (fresh-seen (who_of cluster.scope cluster.options cluster.facts.members member) cluster.facts.clock run))) (ap run_now (get-here cluster.facts.processes k _) ∙ started-run cluster.facts.processes k run small))
+    (λ m other. machine-same _ _ _ _ _ _ _ _ _ _ _ _ refl refl refl refl (ap agent_now (get-elsewhere cluster.agents k m _ other)) (ap run_now (get-elsewhere cluster.facts.processes k m _ other)))
 started-machine cluster member (Some kind) few small is =
     let k : ℕ = member.id.number in
-    let run : ℕ = run_in cluster.book.agents k + 1 in
+    let run : ℕ = run_in cluster.facts.processes k + 1 in
     let started : Cluster = cluster_after cluster (kinds.Agent (agents.Started member run)) in
     subst (λ (z : EventKind). (m : ℕ) → machine_in (cluster_after started z) m ≡ put_at (machine_in cluster) k (start_machine (machine_in cluster k)) m) (sym is.0)
     (machines-put (machine_in cluster) (machine_in (cluster_after started (kinds.Watchdog (watchdogs.Disarmed member)))) k (start_machine (machine_in cluster k))
-    (machine-same _ _ _ _ _ _ _ _ _ _ _ _ refl (ap deadline_now (get-here cluster.book.deadlines k _) ∙ no-deadline (slice_get cluster.book.deadlines k) ∙ sym is.1) refl refl
-    (ap agent_now (get-here cluster.agents k _) ∙ fresh-there cluster.agents k run _ few (ap Some (fresh-seen (who_of cluster.scope cluster.options cluster.book.members member) cluster.book.clock run))) (ap run_now (get-here cluster.book.agents k _) ∙ started-run cluster.book.agents k run small))
-    (λ m other. machine-same _ _ _ _ _ _ _ _ _ _ _ _ refl (ap deadline_now (get-elsewhere cluster.book.deadlines k m _ other)) refl refl
-    (ap agent_now (get-elsewhere cluster.agents k m _ other)) (ap run_now (get-elsewhere cluster.book.agents k m _ other))))
+    (machine-same _ _ _ _ _ _ _ _ _ _ _ _ refl (ap deadline_now (get-here cluster.facts.deadlines k _) ∙ no-deadline (slice_get cluster.facts.deadlines k) ∙ sym is.1) refl refl
+    (ap agent_now (get-here cluster.agents k _) ∙ fresh-there cluster.agents k run _ few (ap Some (fresh-seen (who_of cluster.scope cluster.options cluster.facts.members member) cluster.facts.clock run))) (ap run_now (get-here cluster.facts.processes k _) ∙ started-run cluster.facts.processes k run small))
+    (λ m other. machine-same _ _ _ _ _ _ _ _ _ _ _ _ refl (ap deadline_now (get-elsewhere cluster.facts.deadlines k m _ other)) refl refl
+    (ap agent_now (get-elsewhere cluster.agents k m _ other)) (ap run_now (get-elsewhere cluster.facts.processes k m _ other))))
 
 disarms-if : (member : Member) (is_live : Bool) (deadline : Option Ticks) → IsStartOf member is_live (deadline_now (Some deadline)) (cond is_live None (disarm_if member deadline))
 disarms-if member true deadline = refl
@@ -111,16 +111,16 @@ options-sized : (head : HeadText) → length (options_of head) ≡ member_count 
 options-sized head = length-map head.members _ ∙ sym (length-map head.members _)
 
 start-disarms : (head : HeadText) (book : List Event) (cluster : Cluster) (member : Member) → member.id.number < member_count head → Bridged head book cluster
-    → IsStartOf member (live_in cluster.book.servers member.id.number) (deadline_in cluster.book.deadlines member.id.number) (disarm_of member (machine_of cluster member))
+    → IsStartOf member (live_in cluster.facts.servers member.id.number) (deadline_in cluster.facts.deadlines member.id.number) (disarm_of member (machine_of cluster member))
 start-disarms head book cluster member small good =
     let k : ℕ = member.id.number in
     let within : (n : ℕ) → n ≡ member_count head → k < n = λ n e. subst (λ (n : ℕ). k < n) (sym e) small in
-    let server : IsThere (slice_get cluster.book.servers k) = is-there cluster.book.servers k (within (length cluster.book.servers) good.matched.sized.servers) in
-    disarms member _ _ (slice_get cluster.options k) (slice_get cluster.book.deadlines k) (slice_get cluster.book.holds k) (slice_get cluster.book.servers k)
-    (there-too (replication_of cluster.book.members cluster.book.servers cluster.book.cuts member) (slice_get cluster.book.servers k) server)
+    let server : IsThere (slice_get cluster.facts.servers k) = is-there cluster.facts.servers k (within (length cluster.facts.servers) good.matched.sized.servers) in
+    disarms member _ _ (slice_get cluster.options k) (slice_get cluster.facts.deadlines k) (slice_get cluster.facts.holds k) (slice_get cluster.facts.servers k)
+    (there-too (replication_of cluster.facts.members cluster.facts.servers cluster.facts.cuts member) (slice_get cluster.facts.servers k) server)
     (is-there cluster.options k (within (length cluster.options) (ap (λ xs. length xs) good.matched.options ∙ options-sized head)))
-    (is-there cluster.book.deadlines k (within (length cluster.book.deadlines) good.matched.sized.deadlines))
-    (is-there cluster.book.holds k (within (length cluster.book.holds) good.matched.sized.holds))
+    (is-there cluster.facts.deadlines k (within (length cluster.facts.deadlines) good.matched.sized.deadlines))
+    (is-there cluster.facts.holds k (within (length cluster.facts.holds) good.matched.sized.holds))
     server
 
 disarm-asides : (started : Cluster) (member : Member) (found : Option EventKind) (is_live : Bool) (deadline : Option ℕ) → IsStartOf member is_live deadline found → AllAre IsAside (events_of started (kinds_of found))
@@ -135,7 +135,7 @@ disarm-local started member (Some kind) is_live deadline is = (subst IsLocal (sy
 next-later : (run : ℕ) → run < run + 1
 next-later run = omega arith
 
-kept-start : (head : HeadText) (book : List Event) (cluster : Cluster) (member : Member) (run : ℕ) → member.id.number < member_count head → run ≡ run_in cluster.book.agents member.id.number + 1 → Bridged head book cluster
+kept-start : (head : HeadText) (book : List Event) (cluster : Cluster) (member : Member) (run : ℕ) → member.id.number < member_count head → run ≡ run_in cluster.facts.processes member.id.number + 1 → Bridged head book cluster
     → let started : Cluster = cluster_after cluster (kinds.Agent (agents.Started member run)) in
     IsKept head book cluster (event_of cluster (kinds.Agent (agents.Started member run)) ++ events_of started (kinds_of (disarm_of member (machine_of cluster member))))
 kept-start head book cluster member run small next good =
@@ -143,29 +143,29 @@ kept-start head book cluster member run small next good =
     let found : Option EventKind = disarm_of member (machine_of cluster member) in
     let is = start-disarms head book cluster member small good in
     subst (λ (r : ℕ). IsKept head book cluster (event_of cluster (kinds.Agent (agents.Started member r)) ++ events_of (cluster_after cluster (kinds.Agent (agents.Started member r))) (kinds_of found))) (sym next)
-    (let run : ℕ = run_in cluster.book.agents k + 1 in
+    (let run : ℕ = run_in cluster.facts.processes k + 1 in
     let kind : EventKind = kinds.Agent (agents.Started member run) in
     let started : Cluster = cluster_after cluster kind in
     let rest : List Event = events_of started (kinds_of found) in
-    let asides : AllAre IsAside rest = disarm-asides started member found (live_in cluster.book.servers k) (deadline_in cluster.book.deadlines k) is in
+    let asides : AllAre IsAside rest = disarm-asides started member found (live_in cluster.facts.servers k) (deadline_in cluster.facts.deadlines k) is in
     let s : State = state_of (declared_of head) (past_of book) (volatile_of cluster) in
     machines-kept head book cluster (event_of cluster kind ++ rest) (Start k) good tt
-    (tt, disarm-local started member found (live_in cluster.book.servers k) (deadline_in cluster.book.deadlines k) is)
+    (tt, disarm-local started member found (live_in cluster.facts.servers k) (deadline_in cluster.facts.deadlines k) is)
     (tt, asides-begin (MayBeginBehind s (Start k)) (event_of cluster kind) rest asides)
     (subst (λ (past : Past). IsMatched head past (cluster_over started rest)) (sym (past-append first_past book (event_of cluster kind ++ rest)))
-    (asides-matched head (past_after (past_of book) kind) started rest asides (started-matched head (past_of book) cluster member run small (next-later (run_in cluster.book.agents k)) good.matched)))
+    (asides-matched head (past_after (past_of book) kind) started rest asides (started-matched head (past_of book) cluster member run small (next-later (run_in cluster.facts.processes k)) good.matched)))
     (started-machine cluster member found (subst (λ (n : ℕ). k < n) (sym good.matched.agents_sized) small) (subst (λ (n : ℕ). k < n) (sym good.matched.sized.agents) small) is))
 
 -- an agent that is to start, by its process
 restart-by : (head : HeadText) (book : List Event) (cluster : Cluster) (member : Member) (process : AgentProcess) (running : Bool) → process.running ≡ running → member.id.number < member_count head
-    → slice_get cluster.book.agents member.id.number ≡ Some process → Bridged head book cluster
+    → slice_get cluster.facts.processes member.id.number ≡ Some process → Bridged head book cluster
     → IsKept head book cluster (events_of cluster (cond running (kinds.Note (AlreadyRunning member)) (kinds.Agent (agents.Started member (process.run + 1))) ∷ kinds_of (cond running None (disarm_of member (machine_of cluster member)))))
 restart-by head book cluster member process true runs small is good =
     kept-then head book cluster (event_of cluster (kinds.Note (AlreadyRunning member))) [] (kept-quiet head book cluster (kinds.Note (AlreadyRunning member)) tt good) (λ later. kept-none head _ _ later)
 restart-by head book cluster member process false runs small is good =
     kept-start head book cluster member (process.run + 1) small (ap (λ (o : Option AgentProcess). run_now o + 1) (sym is)) good
 
-pub kept-restart : (head : HeadText) (book : List Event) (cluster : Cluster) (member : Member) → member.id.number < member_count head → Bridged head book cluster → IsKept head book cluster (restart_events cluster member)
+pub kept-restart : (head : HeadText) (book : List Event) (cluster : Cluster) (member : Member) → member.id.number < member_count head → Bridged head book cluster → IsKept head book cluster (agent_start_events cluster member)
 kept-restart head book cluster member small good =
-    kept-for_some head book cluster (slice_get cluster.book.agents member.id.number) (restart_events_of cluster member) good
+    kept-for_some head book cluster (slice_get cluster.facts.processes member.id.number) (agent_start_events_of cluster member) good
     (λ process is. restart-by head book cluster member process process.running refl small is good)

@@ -58,8 +58,8 @@ kept-receive head book cluster member from (Some (streams.Received count)) good 
 
 pub keeps-receive-at-most : (head : HeadText) (most : ℕ) (member : Member) → Keeps head (λ cluster. receive_events_at_most cluster most member)
 keeps-receive-at-most head most member book cluster good =
-    kept-for_some head book cluster (source_of cluster.book.members cluster.book.servers cluster.book.cuts member) _ good
-    (λ from is. kept-receive head book cluster member from (news_at cluster.book.servers member.id.number from.id.number most) good)
+    kept-for_some head book cluster (source_of cluster.facts.members cluster.facts.servers cluster.facts.cuts member) _ good
+    (λ from is. kept-receive head book cluster member from (news_at cluster.facts.servers member.id.number from.id.number most) good)
 
 loss-quiet : (member : Member) (test : Bool) → AllKinds IsQuiet (kinds_of (loss_if member test))
 loss-quiet member true = (tt, tt)
@@ -85,5 +85,5 @@ acknowledge-quiet known members member (Some s) = acknowledged-quiet known membe
 
 pub keeps-acknowledge : (head : HeadText) (member : Member) → Keeps head (λ cluster. acknowledge_events cluster member)
 keeps-acknowledge head member book cluster good =
-    kept-quietly head (acknowledge_kinds cluster.book.servers cluster.book.members member (slice_get cluster.book.servers member.id.number))
-    (acknowledge-quiet cluster.book.servers cluster.book.members member (slice_get cluster.book.servers member.id.number)) book cluster good
+    kept-quietly head (acknowledge_kinds cluster.facts.servers cluster.facts.members member (slice_get cluster.facts.servers member.id.number))
+    (acknowledge-quiet cluster.facts.servers cluster.facts.members member (slice_get cluster.facts.servers member.id.number)) book cluster good

@@ -11,7 +11,7 @@ use Rattle.event_book.specs.declared.event.MessageEvent.TheVariants as messages
 use Rattle.event_book.specs.declared.event.ServerEvent.TheVariants as servers
 use Rattle.event_book.specs.declared.event.WatchdogEvent.TheVariants as watchdogs
 use Rattle.event_book.specs.declared.member.Member.{Member}
-use Rattle.event_book.specs.Agents.{agents_after}
+use Rattle.event_book.specs.Processes.{processes_after}
 use Rattle.agent_model.specs.Agents.{AgentFacts}
 use Rattle.cluster_model.specs.Cluster.{agent_facts_after, cluster_after}
 use Rattle.cluster_model.specs.Inputs.{starting_agent}
@@ -62,7 +62,7 @@ aside-runs May runs (kinds.Agent (agents.Started agent run)) m is = absurd is
 aside-runs May runs (kinds.Agent _) m is = refl
 aside-runs May runs _ m is = refl
 
-same-run : (May : ℕ → Type 0) (processes : List AgentProcess) (kind : EventKind) (m : ℕ) → IsAsideIn May kind → run_in (agents_after processes kind) m ≡ run_in processes m
+same-run : (May : ℕ → Type 0) (processes : List AgentProcess) (kind : EventKind) (m : ℕ) → IsAsideIn May kind → run_in (processes_after processes kind) m ≡ run_in processes m
 same-run May processes (kinds.Server happening) m is = refl
 same-run May processes kind m is = sym (runs-of (run_in processes) processes kind (aside-within May (length processes) kind is tt) (λ n. refl) m) ∙ aside-runs May (run_in processes) kind m is
 
@@ -90,8 +90,8 @@ pub waiting-aside : (May : ℕ → Type 0) (head : HeadText) (past : Past) (clus
 waiting-aside May head past cluster kind aside old =
     let asked = aside-asked May past kind aside in
     record {
-      carried = carried-by past cluster.book kind (record { store = old.store; flight = old.flight }) (aside-sends May kind aside) old.waiting.carried;
-      runs = λ m. subst (λ (n : ℕ). IsLastRun (past_after past kind).asked m n) (sym (same-run May cluster.book.agents kind m aside)) (subst (λ (a : ℕ → Option Question). IsLastRun a m (run_in cluster.book.agents m)) (sym asked) (old.waiting.runs m));
+      carried = carried-by past cluster.facts kind (record { store = old.store; flight = old.flight }) (aside-sends May kind aside) old.waiting.carried;
+      runs = λ m. subst (λ (n : ℕ). IsLastRun (past_after past kind).asked m n) (sym (same-run May cluster.facts.processes kind m aside)) (subst (λ (a : ℕ → Option Question). IsLastRun a m (run_in cluster.facts.processes m)) (sym asked) (old.waiting.runs m));
       agents = λ m agent e. subst (λ (a : ℕ → Option Question). IsAgentSound a m agent) (sym asked) (old.waiting.agents m agent (aside-left May cluster kind m agent aside e));
     }
 
@@ -112,19 +112,19 @@ started-by asked m k (Some found) true started agent is here there e = subst (Is
 later-run : (asked : ℕ → Option Question) (m low high : ℕ) → low < high → IsLastRun asked m low → IsLastRun asked m high
 later-run asked m low high h old i q e member = let small = old i q e member in omega (arith, small, h)
 
-pub waiting-started : (head : HeadText) (past : Past) (cluster : Cluster) (member : Member) (run : ℕ) → member.id.number < member_count head → run_in cluster.book.agents member.id.number < run → IsMatched head past cluster
+pub waiting-started : (head : HeadText) (past : Past) (cluster : Cluster) (member : Member) (run : ℕ) → member.id.number < member_count head → run_in cluster.facts.processes member.id.number < run → IsMatched head past cluster
     → AgentsAreSound (past_after past (kinds.Agent (agents.Started member run))) (cluster_after cluster (kinds.Agent (agents.Started member run)))
 waiting-started head past cluster member run small later old =
     let kind : EventKind = kinds.Agent (agents.Started member run) in
     let k : ℕ = member.id.number in
-    let runs : ℕ → ℕ = run_in cluster.book.agents in
-    let started : AgentFacts = starting_agent (who_of cluster.scope cluster.options cluster.book.members member) cluster.book.clock run in
+    let runs : ℕ → ℕ = run_in cluster.facts.processes in
+    let started : AgentFacts = starting_agent (who_of cluster.scope cluster.options cluster.facts.members member) cluster.facts.clock run in
     record {
-      carried = carried-by past cluster.book kind (record { store = old.store; flight = old.flight }) tt old.waiting.carried;
-      runs = λ m. subst (λ (n : ℕ). IsLastRun past.asked m n) (runs-of runs cluster.book.agents kind (subst (λ (n : ℕ). k < n) (sym old.sized.agents) small) (λ n. refl) m)
+      carried = carried-by past cluster.facts kind (record { store = old.store; flight = old.flight }) tt old.waiting.carried;
+      runs = λ m. subst (λ (n : ℕ). IsLastRun past.asked m n) (runs-of runs cluster.facts.processes kind (subst (λ (n : ℕ). k < n) (sym old.sized.agents) small) (λ n. refl) m)
           (put-all runs k run (λ n r. IsLastRun past.asked n r) (later-run past.asked k (runs k) run later (old.waiting.runs k)) (λ n other. old.waiting.runs n) m);
       agents = λ m agent e. started-by past.asked m k (slice_get cluster.agents m) (m == k) started agent refl
-          (λ here. fresh-sound past.asked m (runs k) run cluster.book.clock cluster.scope cluster.options cluster.book.members member later (subst (λ (n : ℕ). IsLastRun past.asked n (runs k)) (sym here) (old.waiting.runs k)))
+          (λ here. fresh-sound past.asked m (runs k) run cluster.facts.clock cluster.scope cluster.options cluster.facts.members member later (subst (λ (n : ℕ). IsLastRun past.asked n (runs k)) (sym here) (old.waiting.runs k)))
           (old.waiting.agents m agent) (sym (get-changed cluster.agents k m (λ (agent : Option AgentFacts). Some started)) ∙ e);
     }
 

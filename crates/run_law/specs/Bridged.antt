@@ -32,15 +32,15 @@ KnowThemselves processes agents = (m : ℕ) (agent : AgentFacts) → slice_get a
 
 -- the past of a book fits a cluster of this head
 pub record IsMatched (head : HeadText) (past : Past) (cluster : Cluster) : Type 0 where
-  pub members : cluster.book.members ≡ declared_members head
+  pub members : cluster.facts.members ≡ declared_members head
   pub options : cluster.options ≡ options_of head
-  pub sized : IsSized (member_count head) cluster.book
+  pub sized : IsSized (member_count head) cluster.facts
   pub agents_sized : length cluster.agents ≡ member_count head
-  pub store : IsSameStore past cluster.book
-  pub flight : IsSameFlight past cluster.book
-  pub machines : IsSameEverywhere past cluster.book
-  pub unpaused : NobodyPauses cluster.book
-  pub agents : KnowThemselves cluster.book.agents cluster.agents
+  pub store : IsSameStore past cluster.facts
+  pub flight : IsSameFlight past cluster.facts
+  pub machines : IsSameEverywhere past cluster.facts
+  pub unpaused : NobodyPauses cluster.facts
+  pub agents : KnowThemselves cluster.facts.processes cluster.agents
   pub waiting : AgentsAreSound past cluster
 
 -- a book and a cluster that it leaves, between two actions: what the law of one writer carries holds of them

@@ -56,13 +56,13 @@ run_in processes m = run_now (slice_get processes m)
 pub record IsSameEverywhere (past : Past) (facts : Facts) : Type 0 where
   pub deadline : (m : ℕ) → past.deadline m ≡ deadline_in facts.deadlines m
   pub hold : (m : ℕ) → past.hold m ≡ hold_in facts.holds m
-  pub runs : (m : ℕ) → past.runs m ≡ run_in facts.agents m
+  pub runs : (m : ℕ) → past.runs m ≡ run_in facts.processes m
   pub by_grant : (m : ℕ) → past.by_failsafe m ≡ false
   pub writes : (m : ℕ) → past.writes m ≡ writes_in facts.servers m
 
 -- lists by members are of this length
 pub record IsSized (count : ℕ) (facts : Facts) : Type 0 where
-  pub agents : length facts.agents ≡ count
+  pub agents : length facts.processes ≡ count
   pub servers : length facts.servers ≡ count
   pub deadlines : length facts.deadlines ≡ count
   pub holds : length facts.holds ≡ count

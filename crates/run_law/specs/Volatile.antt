@@ -14,15 +14,15 @@ agent_now (Some agent) = option_map agent_seen agent
 
 -- what no event says of a member, by a cluster: whether its server is live, and its agent
 abbrev pub volatile_of : Cluster → ℕ → VolatileState
-volatile_of cluster m = record { live = live_in cluster.book.servers m; agent = agent_now (slice_get cluster.agents m) }
+volatile_of cluster m = record { live = live_in cluster.facts.servers m; agent = agent_now (slice_get cluster.agents m) }
 
 -- the machine of a member, by a cluster whose deadlines are all by grants
 abbrev pub machine_in : Cluster → ℕ → Machine
 machine_in cluster m = record {
-  live = live_in cluster.book.servers m;
-  deadline = deadline_in cluster.book.deadlines m;
+  live = live_in cluster.facts.servers m;
+  deadline = deadline_in cluster.facts.deadlines m;
   by_failsafe = false;
-  hold = hold_in cluster.book.holds m;
+  hold = hold_in cluster.facts.holds m;
   agent = agent_now (slice_get cluster.agents m);
-  runs = run_in cluster.book.agents m;
+  runs = run_in cluster.facts.processes m;
 }

@@ -73,6 +73,6 @@ AreCarriedWell flight = (i : ℕ) (carried : InFlightFacts) → in_flight flight
 
 -- messages in flight are such, no question is of a run to come, and agents know what they wait for
 pub record AgentsAreSound (past : Past) (cluster : Cluster) : Type 0 where
-  pub carried : AreCarriedWell cluster.book.flight
-  pub runs : (m : ℕ) → IsLastRun past.asked m (run_in cluster.book.agents m)
+  pub carried : AreCarriedWell cluster.facts.flight
+  pub runs : (m : ℕ) → IsLastRun past.asked m (run_in cluster.facts.processes m)
   pub agents : AreAgentsSound past.asked cluster.agents

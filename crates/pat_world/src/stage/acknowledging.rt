@@ -15,8 +15,8 @@ use std::alloc::AllocError;
 impl Stage {
     /// The commits of all servers are acknowledged as far as they may be, in script order. Then none is left that may be.
     pub fn acknowledge_all(&mut self, events: &mut Vec<Event>) -> Result<(), AllocError>
-        ensures emits { OnOk result (Emits self.old self.new events.old.items events.new.items (each acknowledge_events self.old self.old.book.members) 0) }
-        ensures done { OnOk result (AreAcknowledged self.new.book.members self.new.book.servers) }
+        ensures emits { OnOk result (Emits self.old self.new events.old.items events.new.items (each acknowledge_events self.old self.old.facts.members) 0) }
+        ensures done { OnOk result (AreAcknowledged self.new.facts.members self.new.facts.servers) }
     {
         for place in 0..self.members.len() {
             self.acknowledge(self.member(place), events)?;
@@ -44,7 +44,7 @@ impl Stage {
 
     /// Writes down which servers that accept writes lack this commit, in script order.
     fn note_losses(&self, commit: u64, events: &mut Vec<Event>) -> Result<(), AllocError>
-        ensures { OnOk result (events.new.items ≡ events.old.items ++ events_at (record { 0 = self.now.book.clock }) (losses_of commit self.now.book.servers self.now.book.members)) }
+        ensures { OnOk result (events.new.items ≡ events.old.items ++ events_at (record { 0 = self.now.facts.clock }) (losses_of commit self.now.facts.servers self.now.facts.members)) }
     {
         for place in 0..self.members.len() {
             self.note_loss(self.member(place), commit, events)?;
@@ -59,7 +59,7 @@ impl Stage {
         commit: u64,
         events: &mut Vec<Event>,
     ) -> Result<(), AllocError>
-        ensures { OnOk result (events.new.items ≡ events.old.items ++ events_at (record { 0 = self.now.book.clock }) (loss_of commit member (slice_get self.now.book.servers member.id.number))) }
+        ensures { OnOk result (events.new.items ≡ events.old.items ++ events_at (record { 0 = self.now.facts.clock }) (loss_of commit member (slice_get self.now.facts.servers member.id.number))) }
     {
         match loss_at(&self.servers, member, commit) {
             None => Ok(()),

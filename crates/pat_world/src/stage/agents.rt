@@ -9,17 +9,17 @@ ghost use Rattle.cluster_model.specs.Hearing.{heard_from, member_at_end};
 ghost use Rattle.cluster_model.specs.Inputs.{moment_of, outcome_of, outcome_of_heard, outputs_of, has_work, is_to_wake, standing_of};
 ghost use Rattle.cluster_model.specs.Machines.{hosts_of, machine_of};
 ghost use Rattle.cluster_model.specs.Messages.{turn_events, wake_events, wake_events_of};
-ghost use Rattle.cluster_model.specs.Next.{restart_events};
+ghost use Rattle.cluster_model.specs.Next.{agent_start_events};
 ghost use Rattle.cluster_model.specs.Parts.{each, event_of};
 ghost use Rattle.pat_world.specs.Emits.{Emits};
-ghost use Rattle.pat_world.specs.Room.{HasRoom, input_cost, restart_cost, wakes_cost};
+ghost use Rattle.pat_world.specs.Room.{HasRoom, input_cost, agent_start_cost, wakes_cost};
 ghost use Rattle.pat_world.specs.Short.{IsSent};
 
 use super::{Stage, note};
 use crate::flight::InFlight;
 use crate::machines::{item_at, machine_from};
 use crate::places;
-use crate::processes::{may_act, restarted};
+use crate::processes::{may_act, agent_started};
 use crate::replication::replication_of;
 use crate::streaming::source_of;
 use crate::watchdogs::disarm_at_start;
@@ -47,7 +47,7 @@ impl Stage {
     /// The agents are woken where they have something to do, in script order.
     pub fn wakes(&mut self, events: &mut Vec<Event>) -> Result<(), AllocError>
         requires { HasRoom self.old wakes_cost }
-        ensures { OnOk result (Emits self.old self.new events.old.items events.new.items (each wake_events self.old self.old.book.members) wakes_cost) }
+        ensures { OnOk result (Emits self.old self.new events.old.items events.new.items (each wake_events self.old self.old.facts.members) wakes_cost) }
     {
         for place in 0..self.members.len() {
             self.wake(self.member(place), events)?;
@@ -232,23 +232,23 @@ impl Stage {
     /// The snapshot of these entries. It fails only for want of memory.
     fn snapshot(&self, entries: Vec<(Key, KeyEntry)>) -> Result<Snapshot, AllocError>
         requires { IsRead entries.items }
-        ensures { IfOk result (λ snapshot. snapshot ≡ record { scope = self.now.scope; members = hosts_of self.now.options self.now.book.members; entries = entries.items }) }
+        ensures { IfOk result (λ snapshot. snapshot ≡ record { scope = self.now.scope; members = hosts_of self.now.options self.now.facts.members; entries = entries.items }) }
     {
         Snapshot::read(self.alloc, self.scope, &self.hosts, entries)
     }
 
     /// The agent of a member starts, where it doesn't run. It removes the deadline of its watchdog, but over a live server
     /// leaves it.
-    pub fn restart(&mut self, member: Member, events: &mut Vec<Event>) -> Result<(), AllocError>
-        requires { HasRoom self.old restart_cost }
-        ensures { OnOk result (Emits self.old self.new events.old.items events.new.items (restart_events self.old member) restart_cost) }
+    pub fn start_agent(&mut self, member: Member, events: &mut Vec<Event>) -> Result<(), AllocError>
+        requires { HasRoom self.old agent_start_cost }
+        ensures { OnOk result (Emits self.old self.new events.old.items events.new.items (agent_start_events self.old member) agent_start_cost) }
     {
         let Some(process) = self.process(member) else {
             return Ok(());
         };
         let machine = self.machine(member);
         let disarm = disarm_at_start(member, process, machine.as_ref());
-        self.happen_then(restarted(member, process), disarm, events)
+        self.happen_then(agent_started(member, process), disarm, events)
     }
 
     /// What the agent of a member shows of itself and of its server. `None` exactly where none runs.
@@ -278,7 +278,7 @@ impl Stage {
 
     /// The process of a member's agent: whether it runs, whether it is suspended, and in which run.
     pub fn process(&self, member: Member) -> Option<AgentProcess>
-        ensures { result ≡ slice_get self.now.book.agents member.id.number }
+        ensures { result ≡ slice_get self.now.facts.processes member.id.number }
     {
         let process = self.processes.get(member.id.number as usize)?;
         Some(*process)

@@ -35,7 +35,7 @@ impl Stage {
     /// A moment, or the first at which an agent is to be woken where that comes sooner.
     fn wakes_from(&self, most: Ticks) -> Ticks
         ensures within { result.0 ≤ most.0 }
-        ensures asleep { (now : ℕ) → now < result.0 → All (SleepsAt now self.now) self.now.book.members }
+        ensures asleep { (now : ℕ) → now < result.0 → All (SleepsAt now self.now) self.now.facts.members }
     {
         let mut first = most;
         for place in 0..self.members.len() {
@@ -64,8 +64,8 @@ impl Stage {
 
     /// From when on there is something to do for the agent of a member, where there are it and all of its machine.
     fn work_moment(&self, member: Member) -> Option<Ticks>
-        ensures { result ≡ work_moment (slice_get self.now.options member.id.number) (slice_get self.now.book.deadlines member.id.number) (slice_get self.now.book.holds member.id.number)
-            (slice_get self.now.book.servers member.id.number) (agent_at self.now.agents member.id.number) }
+        ensures { result ≡ work_moment (slice_get self.now.options member.id.number) (slice_get self.now.facts.deadlines member.id.number) (slice_get self.now.facts.holds member.id.number)
+            (slice_get self.now.facts.servers member.id.number) (agent_at self.now.agents member.id.number) }
     {
         let place = member.id.number as usize;
         item_at(&self.options, place)?;
@@ -78,8 +78,8 @@ impl Stage {
 
     /// So many ticks pass in which nothing else happens.
     pub fn pass(&mut self, ticks: u64)
-        requires { self.old.book.clock + ticks < 2 ^ 64 }
-        ensures { self.new ≡ record self.old { book = record self.old.book { clock = self.old.book.clock + ticks } } }
+        requires { self.old.facts.clock + ticks < 2 ^ 64 }
+        ensures { self.new ≡ record self.old { facts = record self.old.facts { clock = self.old.facts.clock + ticks } } }
     {
         self.clock = Ticks(self.clock.0 + ticks);
     }

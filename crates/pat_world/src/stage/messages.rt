@@ -33,7 +33,7 @@ impl Stage {
     /// The messages that are in flight move, one after another. Those that are kept aren't looked at.
     pub fn pass_messages(&mut self, events: &mut Vec<Event>) -> Result<(), AllocError>
         requires { HasRoom self.old (message_cost * most_in_flight) }
-        ensures { OnOk result (Emits self.old self.new events.old.items events.new.items (each message_events self.old (keys_of self.old.book.flight)) (message_cost * most_in_flight)) }
+        ensures { OnOk result (Emits self.old self.new events.old.items events.new.items (each message_events self.old (keys_of self.old.facts.flight)) (message_cost * most_in_flight)) }
     {
         if self.flight.is_empty() {
             return Ok(());
@@ -65,7 +65,7 @@ impl Stage {
 
     /// A message comes to its receiver, is lost, or is kept for a receiver that is suspended.
     fn pass_message(&mut self, number: u64, events: &mut Vec<Event>) -> Result<(), AllocError>
-        requires { IfSome (in_flight self.old.book.flight number) (λ m. HasRoom self.old message_cost) }
+        requires { IfSome (in_flight self.old.facts.flight number) (λ m. HasRoom self.old message_cost) }
         ensures { OnOk result (Emits self.old self.new events.old.items events.new.items (message_events self.old number) message_cost) }
     {
         match self.delivery(number) {
@@ -81,7 +81,7 @@ impl Stage {
 
     /// No round need look for a message that isn't in flight.
     fn forget(&mut self, number: u64)
-        requires { in_flight self.old.book.flight number ≡ None }
+        requires { in_flight self.old.facts.flight number ≡ None }
         ensures { self.new ≡ self.old }
     {
         self.index.remove(number);
@@ -90,7 +90,7 @@ impl Stage {
     /// No round need look at a message whose receiver is suspended, until something happens that concerns it. It fails only
     /// for want of memory.
     fn keep(&mut self, number: u64) -> Result<(), AllocError>
-        requires { IfSome (in_flight self.old.book.flight number) (λ m. delivery_of self.old.book.cuts self.old.book.agents m.message ≡ Delivery.Suspended) }
+        requires { IfSome (in_flight self.old.facts.flight number) (λ m. delivery_of self.old.facts.cuts self.old.facts.processes m.message ≡ Delivery.Suspended) }
         ensures { self.new ≡ self.old }
     {
         let Some(carried) = self.flight.get(number) else {
@@ -103,7 +103,7 @@ impl Stage {
     /// A script delivers a message, where it is in flight and nothing stands in its way.
     pub fn deliver(&mut self, number: u64, events: &mut Vec<Event>) -> Result<(), AllocError>
         requires { HasRoom self.old message_cost }
-        ensures { OnOk result (Emits self.old self.new events.old.items events.new.items (deliver_events self.old number (in_flight self.old.book.flight number)) message_cost) }
+        ensures { OnOk result (Emits self.old self.new events.old.items events.new.items (deliver_events self.old number (in_flight self.old.facts.flight number)) message_cost) }
     {
         match self.delivery(number) {
             None => note(
@@ -128,7 +128,7 @@ impl Stage {
     /// A script loses a message, where it is in flight.
     pub fn lose(&mut self, number: u64, events: &mut Vec<Event>) -> Result<(), AllocError>
         requires { HasRoom self.old 1 }
-        ensures { OnOk result (Emits self.old self.new events.old.items events.new.items (lose_events self.old number (in_flight self.old.book.flight number)) 1) }
+        ensures { OnOk result (Emits self.old self.new events.old.items events.new.items (lose_events self.old number (in_flight self.old.facts.flight number)) 1) }
     {
         match self.delivery(number) {
             None => note(
@@ -142,7 +142,7 @@ impl Stage {
 
     /// What stands between a message and its receiver. `None` exactly where it isn't in flight.
     pub fn delivery(&self, number: u64) -> Option<Delivery>
-        ensures { result ≡ option_map (λ m. delivery_of self.now.book.cuts self.now.book.agents m.message) (in_flight self.now.book.flight number) }
+        ensures { result ≡ option_map (λ m. delivery_of self.now.facts.cuts self.now.facts.processes m.message) (in_flight self.now.facts.flight number) }
     {
         let carried = self.flight.get(number)?;
         Some(delivery_of(&self.cuts, &self.processes, carried.message.get()))
@@ -159,7 +159,7 @@ impl Stage {
     /// A message in flight comes to its receiver, which acts on it.
     pub fn arrive(&mut self, number: u64, events: &mut Vec<Event>) -> Result<(), AllocError>
         requires { HasRoom self.old message_cost }
-        ensures { OnOk result (Emits self.old self.new events.old.items events.new.items (for_some (in_flight self.old.book.flight number) (arrival_events self.old number)) message_cost) }
+        ensures { OnOk result (Emits self.old self.new events.old.items events.new.items (for_some (in_flight self.old.facts.flight number) (arrival_events self.old number)) message_cost) }
     {
         let Some(carried) = self.flight.land(number) else {
             return Ok(());
@@ -188,7 +188,7 @@ impl Stage {
     ) -> Result<(), AllocError>
         requires room { HasRoom self.old message_cost }
         requires sent { IsSent carried }
-        ensures { OnOk result (Emits (reached_by self.old member carried) self.new (events.old.items ++ record { tick = record { 0 = self.old.book.clock }; kind = EventKind.Message (MessageEvent.Delivered number) } ∷ []) events.new.items (input_events (reached_by self.old member carried) member (heard_message number carried) (outcome_of_heard self.old member (heard_from self.old carried))) outputs_cost) }
+        ensures { OnOk result (Emits (reached_by self.old member carried) self.new (events.old.items ++ record { tick = record { 0 = self.old.facts.clock }; kind = EventKind.Message (MessageEvent.Delivered number) } ∷ []) events.new.items (input_events (reached_by self.old member carried) member (heard_message number carried) (outcome_of_heard self.old member (heard_from self.old carried))) outputs_cost) }
     {
         let run = carried.message.get().run;
         let sent = carried.sent;
@@ -238,7 +238,7 @@ impl Stage {
     ) -> Result<(), AllocError>
         requires room { HasRoom self.old decision_cost }
         requires span { ttl_of txn.now ≤ 2 ^ 40 }
-        ensures { OnOk result (Emits self.old self.new events.old.items events.new.items (decision_events self.old number message.now txn.now (decision_on self.old.book.keys self.old.book.clock txn.now) message.now.from) decision_cost) }
+        ensures { OnOk result (Emits self.old self.new events.old.items events.new.items (decision_events self.old number message.now txn.now (decision_on self.old.facts.keys self.old.facts.clock txn.now) message.now.from) decision_cost) }
     {
         let LinkEnd::Member(by) = message.from else {
             return Ok(());
@@ -288,7 +288,7 @@ impl Stage {
     ) -> Result<(), AllocError>
         requires room { HasRoom self.old sending_cost }
         requires short { IsShort message.body }
-        requires grant { grant ≡ grant_for message.body message.to self.old.book.keys.revision }
+        requires grant { grant ≡ grant_for message.body message.to self.old.facts.keys.revision }
         ensures { OnOk result (Emits self.old self.new events.old.items events.new.items (send_events self.old message) sending_cost) }
     {
         let number = self.sent + 1;
@@ -312,7 +312,7 @@ impl Stage {
 
     /// What the store holds, for an answer that tells it.
     pub fn snapshot_for(&self, body: &Body) -> Result<Vec<(Key, KeyEntry)>, AllocError>
-        ensures entries { IfOk result (λ snapshot. snapshot.items ≡ snapshot_for body.now (present_pairs self.now.book.clock self.now.book.keys.pairs)) }
+        ensures entries { IfOk result (λ snapshot. snapshot.items ≡ snapshot_for body.now (present_pairs self.now.facts.clock self.now.facts.keys.pairs)) }
         ensures read { IfOk result (λ snapshot. CarriesRead body.now snapshot.items) }
     {
         match body {

@@ -126,7 +126,7 @@ impl Stage {
     ) -> Result<(), AllocError>
         requires room { HasRoom self.old sending_cost }
         requires short { IsAsked body }
-        ensures { OnOk result (Emits self.old self.new events.old.items events.new.items (sending_events self.old member (slice_get self.old.book.agents member.id.number) to sequence body) sending_cost) }
+        ensures { OnOk result (Emits self.old self.new events.old.items events.new.items (sending_events self.old member (slice_get self.old.facts.processes member.id.number) to sequence body) sending_cost) }
     {
         let Some(to) = to else {
             return Ok(());

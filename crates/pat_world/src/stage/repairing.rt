@@ -24,7 +24,7 @@ impl Stage {
         events: &mut Vec<Event>,
     ) -> Result<(), AllocError>
         requires { HasRoom self.old 1 }
-        ensures { OnOk result (Emits self.old self.new events.old.items events.new.items (events_of self.old (kinds_of (option_and_then (repair_over self.old.book.cuts self.old.book.servers member repair) leader))) 1) }
+        ensures { OnOk result (Emits self.old self.new events.old.items events.new.items (events_of self.old (kinds_of (option_and_then (repair_over self.old.facts.cuts self.old.facts.servers member repair) leader))) 1) }
     {
         let Some(leader) = leader else {
             return Ok(());
@@ -44,7 +44,7 @@ impl Stage {
         events: &mut Vec<Event>,
     ) -> Result<(), AllocError>
         requires { HasRoom self.old 1 }
-        ensures { OnOk result (Emits self.old self.new events.old.items events.new.items (events_of self.old (kinds_of (repair_by self.old.book.servers member repair leader))) 1) }
+        ensures { OnOk result (Emits self.old self.new events.old.items events.new.items (events_of self.old (kinds_of (repair_by self.old.facts.servers member repair leader))) 1) }
     {
         match repair {
             Repair::Rewind => self.rewind(member, leader, events),
@@ -60,7 +60,7 @@ impl Stage {
         events: &mut Vec<Event>,
     ) -> Result<(), AllocError>
         requires { HasRoom self.old 1 }
-        ensures { OnOk result (Emits self.old self.new events.old.items events.new.items (events_of self.old (kinds_of (option_map (rewinding member leader) (rewind_at self.old.book.servers member.id.number leader.id.number)))) 1) }
+        ensures { OnOk result (Emits self.old self.new events.old.items events.new.items (events_of self.old (kinds_of (option_map (rewinding member leader) (rewind_at self.old.facts.servers member.id.number leader.id.number)))) 1) }
     {
         let (place, from) = (member.id.number as usize, leader.id.number as usize);
         let Some(rewind) = self.servers.rewind(place, from)? else {
@@ -83,7 +83,7 @@ impl Stage {
         events: &mut Vec<Event>,
     ) -> Result<(), AllocError>
         requires { HasRoom self.old 1 }
-        ensures { OnOk result (Emits self.old self.new events.old.items events.new.items (events_of self.old (kinds_of (if may_clone_at self.old.book.servers member.id.number leader.id.number then Some (copying member leader) else None))) 1) }
+        ensures { OnOk result (Emits self.old self.new events.old.items events.new.items (events_of self.old (kinds_of (if may_clone_at self.old.facts.servers member.id.number leader.id.number then Some (copying member leader) else None))) 1) }
     {
         let (place, from) = (member.id.number as usize, leader.id.number as usize);
         if !self.servers.clone_from(place, from)? {

@@ -17,7 +17,7 @@ impl Stage {
     /// The servers receive all that they lack, in script order, but for those that are frozen.
     pub fn all_receive(&mut self, events: &mut Vec<Event>) -> Result<(), AllocError>
         requires { HasRoom self.old receiving_cost }
-        ensures { OnOk result (Emits self.old self.new events.old.items events.new.items (each receive_events_of self.old self.old.book.members) receiving_cost) }
+        ensures { OnOk result (Emits self.old self.new events.old.items events.new.items (each receive_events_of self.old self.old.facts.members) receiving_cost) }
     {
         for place in 0..self.members.len() {
             self.receive_all(self.member(place), events)?;
@@ -38,7 +38,7 @@ impl Stage {
 
     /// Whether the server of a member is frozen.
     fn frozen(&self, member: Member) -> Option<bool>
-        ensures { result ≡ slice_get self.now.book.frozen member.id.number }
+        ensures { result ≡ slice_get self.now.facts.frozen member.id.number }
     {
         let frozen = self.frozen.get(member.id.number as usize)?;
         Some(*frozen)
@@ -69,8 +69,8 @@ impl Stage {
         events: &mut Vec<Event>,
     ) -> Result<(), AllocError>
         requires room { HasRoom self.old streaming_cost }
-        requires replica { IfSome (slice_get self.old.book.servers member.id.number) (λ s. IsTrue (is_replica s.state)) }
-        ensures { OnOk result (Emits self.old self.new events.old.items events.new.items (receive_events self.old member from (news_at self.old.book.servers member.id.number from.id.number most)) streaming_cost) }
+        requires replica { IfSome (slice_get self.old.facts.servers member.id.number) (λ s. IsTrue (is_replica s.state)) }
+        ensures { OnOk result (Emits self.old self.new events.old.items events.new.items (receive_events self.old member from (news_at self.old.facts.servers member.id.number from.id.number most)) streaming_cost) }
     {
         let (place, upstream) = (member.id.number as usize, from.id.number as usize);
         match self.servers.stream(place, upstream, most as usize)? {

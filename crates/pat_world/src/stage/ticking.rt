@@ -36,7 +36,7 @@ impl Stage {
     /// The machines whose watchdogs are due are reset, in script order.
     fn resets(&mut self, events: &mut Vec<Event>) -> Result<(), AllocError>
         requires { HasRoom self.old resets_cost }
-        ensures { OnOk result (Emits self.old self.new events.old.items events.new.items (each reset_events self.old self.old.book.members) resets_cost) }
+        ensures { OnOk result (Emits self.old self.new events.old.items events.new.items (each reset_events self.old self.old.facts.members) resets_cost) }
     {
         for place in 0..self.members.len() {
             self.reset(self.member(place), events)?;
@@ -56,7 +56,7 @@ impl Stage {
     /// The starts and stops of primaries whose moment has come are complete, in script order.
     fn completions(&mut self, events: &mut Vec<Event>) -> Result<(), AllocError>
         requires { HasRoom self.old completions_cost }
-        ensures { OnOk result (Emits self.old self.new events.old.items events.new.items (each completion_events self.old self.old.book.members) completions_cost) }
+        ensures { OnOk result (Emits self.old self.new events.old.items events.new.items (each completion_events self.old self.old.facts.members) completions_cost) }
     {
         for place in 0..self.members.len() {
             self.complete(self.member(place), events)?;

@@ -23,7 +23,7 @@ play-requires-clause-room g c = has-room c.args.script.now c.in_ok-player.player
 pub play-requires-clause-members : goal.play-requires-clause-members
 play-requires-clause-members g c =
     let start = c.in_ok-player.ensures.world ∙ ap (λ h. cluster_of h) c.head.ensures.value in
-    ap (λ (w : Cluster). names_in w.book.members) start ∙ names-start c.args.script.now.head (c.head.ensures.script).head.few
+    ap (λ (w : Cluster). names_in w.facts.members) start ∙ names-start c.args.script.now.head (c.head.ensures.script).head.few
 
 pub returns-in_err-player-clause-printed : goal.returns-in_err-player-clause-printed
 returns-in_err-player-clause-printed g c =

@@ -10,7 +10,7 @@ use Rattle.pat_world.proofs.stage.Stage.acknowledge.Goals as goal
 pub loop-commit-smaller : goal.loop-commit-smaller
 loop-commit-smaller c =
     let place = c.args.member.id.number in
-    subst (λ (b : Cluster). waiting_at (slice_get c.next_acknowledged.new.self place) < waiting_at (slice_get b.book.servers place)) c.self.view_is
+    subst (λ (b : Cluster). waiting_at (slice_get c.next_acknowledged.new.self place) < waiting_at (slice_get b.facts.servers place)) c.self.view_is
     (acknowledge-fewer c.self.inside.servers c.next_acknowledged.new.self place c.in-Some.commit (sym c.next_acknowledged.ensures.commit ∙ c.in-Some.is) c.next_acknowledged.ensures.after)
 
 pub loop-commit-preserved : goal.loop-commit-preserved

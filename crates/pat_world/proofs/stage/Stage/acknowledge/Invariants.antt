@@ -9,4 +9,4 @@ abbrev pub invariant-loop-commit : goal.invariant-loop-commit
 invariant-loop-commit l = Left l.fn.self l.self l.fn.events.items l.events.items (acknowledge_events l.fn.self l.fn.member) (acknowledge_events l.self l.fn.member) 0 0
 
 abbrev pub decreases-loop-commit : goal.decreases-loop-commit
-decreases-loop-commit l = waiting_at (slice_get l.self.book.servers l.place)
+decreases-loop-commit l = waiting_at (slice_get l.self.facts.servers l.place)

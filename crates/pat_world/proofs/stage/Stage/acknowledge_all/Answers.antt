@@ -6,7 +6,7 @@ use Rattle.pat_world.proofs.Taking.{Emits-weaker}
 use Rattle.pat_world.proofs.stage.Stage.acknowledge_all.Goals as goal
 
 pub member-requires : goal.member-requires
-member-requires c = omega (arith, c.loop-place-test.true, c.len-place-end.ensures, ap (λ (b : Cluster). length b.book.members) c.self.view_is, ap length (EachLeft-members _ _ _ _ _ _ _ _ _ c.loop-place.invariant))
+member-requires c = omega (arith, c.loop-place-test.true, c.len-place-end.ensures, ap (λ (b : Cluster). length b.facts.members) c.self.view_is, ap length (EachLeft-members _ _ _ _ _ _ _ _ _ c.loop-place.invariant))
 
 pub loop-place-preserved : goal.loop-place-preserved
 loop-place-preserved c =
@@ -14,6 +14,6 @@ loop-place-preserved c =
 
 pub returns : goal.returns
 returns c =
-    let over : length c.args.self.now.book.members ≤ c.loop-place.place = omega (arith, c.loop-place-test.false, c.len-place-end.ensures, ap (λ (b : Cluster). length b.book.members) c.self.view_is) in
+    let over : length c.args.self.now.facts.members ≤ c.loop-place.place = omega (arith, c.loop-place-test.false, c.len-place-end.ensures, ap (λ (b : Cluster). length b.facts.members) c.self.view_is) in
     let took = EachLeft-end _ _ _ _ _ _ _ _ c.loop-place.place c.loop-place.invariant over in
     record { emits = Emits-weaker _ _ _ _ _ _ 0 took (omega arith); done = acknowledged-all c.args.self.now c.loop-place.self c.args.events.now.items c.loop-place.events.items _ took }

@@ -5,4 +5,4 @@ use Rattle.pat_world.proofs.stage.Stage.all_receive.Given as goal
 
 -- the servers of the members from this place on are still to receive
 abbrev pub invariant-loop-place : goal.invariant-loop-place
-invariant-loop-place l = EachLeft receive_events_of streaming_cost l.fn.self l.self l.fn.events.items l.events.items l.fn.self.book.members l.place
+invariant-loop-place l = EachLeft receive_events_of streaming_cost l.fn.self l.self l.fn.events.items l.events.items l.fn.self.facts.members l.place

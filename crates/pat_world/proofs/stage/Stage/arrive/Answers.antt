@@ -59,7 +59,7 @@ pub returns-in_default : goal.returns-in_default
 returns-in_default c =
     let before = seen c.self.inside in
     let state = ap (λ (f : Flight). landing before f before.agents) c.in_default.ensures.absent in
-    subst (λ (b : Cluster). Emits b (landing before c.land.new.self before.agents) c.args.events.now.items c.args.events.now.items (for_some (in_flight b.book.flight c.args.number) (arrival_events b c.args.number)) message_cost) c.self.view_is
+    subst (λ (b : Cluster). Emits b (landing before c.land.new.self before.agents) c.args.events.now.items c.args.events.now.items (for_some (in_flight b.facts.flight c.args.number) (arrival_events b c.args.number)) message_cost) c.self.view_is
     (nothing-took before _ c.args.number c.args.events.now.items (sym c.land.ensures.message ∙ c.in_default.is) state)
 
 pub answer-requires-clause-room : goal.answer-requires-clause-room
@@ -71,11 +71,11 @@ pub returns-in_ok-note-in-Store : goal.returns-in_ok-note-in-Store
 returns-in_ok-note-in-Store c =
     let before = seen c.self.inside in
     let carried = c.in-Some.carried in
-    let found : in_flight before.book.flight c.args.number ≡ Some carried = sym c.land.ensures.message ∙ c.in-Some.is in
+    let found : in_flight before.facts.flight c.args.number ≡ Some carried = sym c.land.ensures.message ∙ c.in-Some.is in
     let to : carried.message.to ≡ link_ends.Store = ap (λ m. m.message.to) (sym c.carried.view_is) ∙ ap (λ (m : Message). m.to) (sym c.get.ensures) ∙ c.in-Store.is in
     let state = hearing-is before c.args.number carried link_ends.Store c.land.new.self c.land.ensures.flight to found in
     on_ok_weaker c.answer.result
-    (λ took. subst (λ (b : Cluster). Emits b c.answer.new.self c.args.events.now.items c.answer.new.events.items (for_some (in_flight b.book.flight c.args.number) (arrival_events b c.args.number)) message_cost) c.self.view_is
+    (λ took. subst (λ (b : Cluster). Emits b c.answer.new.self c.args.events.now.items c.answer.new.events.items (for_some (in_flight b.facts.flight c.args.number) (arrival_events b c.args.number)) message_cost) c.self.view_is
     (stored-took before (landing before c.land.new.self before.agents) c.answer.new.self c.args.number carried c.self.inside.clock c.args.events.now.items c.note.new.events.items c.answer.new.events.items
     found to refl state c.in_ok-note-in-Store.ensures
     (subst (λ (m : Message). Emits (landing before c.land.new.self before.agents) c.answer.new.self c.note.new.events.items c.answer.new.events.items (answer_events (landing before c.land.new.self before.agents) c.args.number m) 3)
@@ -92,12 +92,12 @@ returns-in-Member c =
     let before = seen c.self.inside in
     let carried = c.in-Some.carried in
     let member = c.in-Member.member in
-    let found : in_flight before.book.flight c.args.number ≡ Some carried = sym c.land.ensures.message ∙ c.in-Some.is in
+    let found : in_flight before.facts.flight c.args.number ≡ Some carried = sym c.land.ensures.message ∙ c.in-Some.is in
     let to : carried.message.to ≡ link_ends.Member member = ap (λ m. m.message.to) (sym c.carried.view_is) ∙ ap (λ (m : Message). m.to) (sym c.get.ensures) ∙ c.in-Member.is in
     let landed = landing before c.land.new.self before.agents in
     let hearing = reached_by landed member carried in
     let state = hearing-is before c.args.number carried (link_ends.Member member) c.land.new.self c.land.ensures.flight to found in
     on_ok_weaker c.deliver_to.result
-    (λ took. subst (λ (b : Cluster). Emits b c.deliver_to.new.self c.args.events.now.items c.deliver_to.new.events.items (for_some (in_flight b.book.flight c.args.number) (arrival_events b c.args.number)) message_cost) c.self.view_is
+    (λ took. subst (λ (b : Cluster). Emits b c.deliver_to.new.self c.args.events.now.items c.deliver_to.new.events.items (for_some (in_flight b.facts.flight c.args.number) (arrival_events b c.args.number)) message_cost) c.self.view_is
     (heard-took before hearing c.deliver_to.new.self c.args.number carried member c.self.inside.clock c.args.events.now.items c.deliver_to.new.events.items found to refl state took))
     c.deliver_to.ensures

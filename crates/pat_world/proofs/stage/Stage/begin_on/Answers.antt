@@ -18,7 +18,7 @@ pub returns : goal.returns
 returns c =
     let place = c.args.member.id.number in
     let told = c.in_ok-loss.ensures.kind ∙ ap (λ (cs : List ℕ). option_and_then (loss_of_any cs c.args.member) (slice_get c.self.inside.servers place)) c.deref.ensures.value
-    ∙ ap (λ (b : Cluster). option_and_then (loss_of_any b.book.acknowledged c.args.member) (slice_get b.book.servers place)) c.self.view_is in
+    ∙ ap (λ (b : Cluster). option_and_then (loss_of_any b.facts.acknowledged c.args.member) (slice_get b.facts.servers place)) c.self.view_is in
     on_ok_weaker c.happen_then.result
     (λ took. began-took c.args.self.now c.happen_then.new.self c.args.member c.args.timeline c.of-server.result c.in_ok-loss.loss c.args.events.now.items c.happen_then.new.events.items c.of-server.ensures told took)
     c.happen_then.ensures

@@ -3,9 +3,9 @@ use Rattle.std.proofs.lemmas.Result.{on_ok_weaker}
 use Rattle.cluster_script.specs.declared.line.Command.TheVariants as commands
 use Rattle.cluster_model.specs.Commands.{kinds_of}
 use Rattle.cluster_model.specs.Messages.{turn_events}
-use Rattle.cluster_model.specs.Next.{command_events, command_kind, promote_events, receive_events_at_most, restart_events}
+use Rattle.cluster_model.specs.Next.{command_events, command_kind, promote_events, receive_events_at_most, agent_start_events}
 use Rattle.cluster_model.specs.Parts.{events_of}
-use Rattle.pat_world.specs.Room.{input_cost, promotion_cost, restart_cost, streaming_cost}
+use Rattle.pat_world.specs.Room.{input_cost, promotion_cost, agent_start_cost, streaming_cost}
 use Rattle.pat_world.proofs.Changing.{commanded, command_kind-took}
 use Rattle.pat_world.proofs.Taking.{found-took}
 use Rattle.pat_world.proofs.stage.Stage.command.Goals as goal
@@ -16,11 +16,11 @@ returns-in-Turn c =
     (λ took. commanded _ _ _ _ _ (commands.Turn c.in-Turn.id) input_cost c.in-Turn.is (found-took _ _ _ _ _ (turn_events c.args.self.now) _ _ input_cost c.declared.ensures took) (omega arith))
     c.turn.ensures
 
-pub returns-in-Restart : goal.returns-in-Restart
-returns-in-Restart c =
+pub returns-in-StartAgent : goal.returns-in-StartAgent
+returns-in-StartAgent c =
     on_ok_weaker c.restart.result
-    (λ took. commanded _ _ _ _ _ (commands.Restart c.in-Restart.id) restart_cost c.in-Restart.is
-    (found-took _ _ _ _ _ (restart_events c.args.self.now) _ _ restart_cost c.declared-in-Restart.ensures took) (omega arith))
+    (λ took. commanded _ _ _ _ _ (commands.StartAgent c.in-StartAgent.id) agent_start_cost c.in-StartAgent.is
+    (found-took _ _ _ _ _ (agent_start_events c.args.self.now) _ _ agent_start_cost c.declared-in-StartAgent.ensures took) (omega arith))
     c.restart.ensures
 
 pub returns-in-Promote : goal.returns-in-Promote

@@ -11,5 +11,5 @@ pub returns-in-Commit-clause-comes : goal.returns-in-Commit-clause-comes
 returns-in-Commit-clause-comes c =
     let member = c.declared-member-in-Commit.result in
     let bytes = c.in-Commit.size.bytes in
-    let is = c.commit_of.ensures ∙ ap (λ (b : Cluster). commit_of member (entry_for b.book.servers member.id.number (b.book.commits + 1) bytes)) c.self.view_is in
+    let is = c.commit_of.ensures ∙ ap (λ (b : Cluster). commit_of member (entry_for b.facts.servers member.id.number (b.facts.commits + 1) bytes)) c.self.view_is in
     subst (λ (k : EventKind). MayCome c.args.self.now k) (sym is) (commit-comes c.args.self.now member bytes)

@@ -31,7 +31,7 @@ returns c =
     let told : HeardMessage = record { number = c.args.number; run = c.get.result.now.run; sent = c.carried.inside.sent } in
     let read_is = ap (λ (m : Message). let h : HeardMessage = record { number = c.args.number; run = m.run; sent = c.carried.inside.sent } in h) c.get.ensures in
     let told_is = read_is ∙ ap (λ (m : InFlightFacts). let h : HeardMessage = record { number = c.args.number; run = m.message.run; sent = m.sent } in h) c.carried.view_is in
-    let moment : Cluster → ℕ = λ b. b.book.clock in
+    let moment : Cluster → ℕ = λ b. b.facts.clock in
     let at = ap moment c.self.view_is ∙ ap moment c.hear_if.ensures.world ∙ ap moment c.take_outputs.ensures.world in
     let done = subst (λ (a : Cluster). Emits c.hear_if.new.self a c.note.new.events.items c.carry_out.new.events.items (each (output_events c.args.member told) c.hear_if.new.self c.hear_if.new.outputs.outputs) outputs_cost) (sym c.self-2.view_is) c.in_ok-carry_out.ensures.emits in
     reached-took c.args.self.now c.take_outputs.new.self c.hear_if.new.self after c.args.member c.args.number c.args.carried c.in_ok-heard.heard told c.hear_if.new.outputs.outputs c.self.inside.clock c.args.events.now.items c.note.new.events.items c.carry_out.new.events.items

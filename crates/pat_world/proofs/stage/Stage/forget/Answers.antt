@@ -7,5 +7,5 @@ use Rattle.pat_world.proofs.stage.Stage.forget.Goals as goal
 pub invariant_of-self : goal.invariant_of-self
 invariant_of-self c =
     let w = c.self.inside in
-    let gone : in_flight w.flight c.args.number ≡ None = subst (λ (b : Cluster). in_flight b.book.flight c.args.number ≡ None) (sym c.self.view_is) c.requires in
+    let gone : in_flight w.flight c.args.number ≡ None = subst (λ (b : Cluster). in_flight b.facts.flight c.args.number ≡ None) (sym c.self.view_is) c.requires in
     (c.self.invariant.0, c.self.invariant.1, tended-without w.index c.remove.new.self c.args.number w.flight w.processes.items w.cuts c.remove.ensures gone c.self.invariant.2, c.self.invariant.3, c.self.invariant.4)

@@ -7,5 +7,5 @@ use Rattle.pat_world.proofs.stage.Stage.happen.Goals as goal
 pub returns : goal.returns
 returns c =
     on_ok_weaker c.note.result
-    (λ has. Emits-told c.args.self.now c.change.new.self c.self.inside.clock c.args.kind c.args.events.now.items c.note.new.events.items c.requires.comes.counts c.in_ok-change.ensures (ap (λ (b : Cluster). b.book.clock) c.self.view_is) has)
+    (λ has. Emits-told c.args.self.now c.change.new.self c.self.inside.clock c.args.kind c.args.events.now.items c.note.new.events.items c.requires.comes.counts c.in_ok-change.ensures (ap (λ (b : Cluster). b.facts.clock) c.self.view_is) has)
     c.note.ensures

@@ -24,7 +24,7 @@ returns-clause-world c =
     let member = c.args.member in
     let machine = c.in-Some.machine in
     let there : machine_of before member ≡ Some machine = subst (λ (b : Cluster). machine_of b member ≡ Some machine) (sym c.self.view_is) (sym c.machine.ensures.machine ∙ c.in-Some.is) in
-    let server : Some (without_spare c.in-Some-get.server.now) ≡ slice_get before.book.servers member.id.number = search rules in
+    let server : Some (without_spare c.in-Some-get.server.now) ≡ slice_get before.facts.servers member.id.number = search rules in
     let told : c.history.result.now.points ≡ points_of before member = c.history.ensures.points ∙ ap points_from server in
     subst (λ (b : Cluster). ◌≡◌ {A = Cluster} (record before { agents = c.hear.new.agents.items }) (record b { agents = agent_facts_with b.agents member (outcome_of b member c.args.heard) })) c.self.view_is
     (heard-state before member c.args.heard c.history.result.now.points machine c.hear.new.agents.items told there c.hear.ensures.agents)
@@ -35,7 +35,7 @@ returns-clause-outputs c =
     let member = c.args.member in
     let machine = c.in-Some.machine in
     let there : machine_of before member ≡ Some machine = subst (λ (b : Cluster). machine_of b member ≡ Some machine) (sym c.self.view_is) (sym c.machine.ensures.machine ∙ c.in-Some.is) in
-    let server : Some (without_spare c.in-Some-get.server.now) ≡ slice_get before.book.servers member.id.number = search rules in
+    let server : Some (without_spare c.in-Some-get.server.now) ≡ slice_get before.facts.servers member.id.number = search rules in
     let told : c.history.result.now.points ≡ points_of before member = c.history.ensures.points ∙ ap points_from server in
     subst (λ (b : Cluster). c.hear.new.outputs.outputs ≡ outputs_of (outcome_of b member c.args.heard)) c.self.view_is
     (heard-outputs before member c.args.heard c.history.result.now.points machine c.hear.new.outputs.outputs told there c.hear.ensures.outputs)

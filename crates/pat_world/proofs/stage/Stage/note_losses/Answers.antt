@@ -4,7 +4,7 @@ use Rattle.pat_world.proofs.Losses.{losses-end, losses-more}
 use Rattle.pat_world.proofs.stage.Stage.note_losses.Goals as goal
 
 pub member-requires : goal.member-requires
-member-requires c = omega (arith, c.loop-place-test.true, c.len-place-end.ensures, ap (λ (b : Cluster). length b.book.members) c.self.view_is)
+member-requires c = omega (arith, c.loop-place-test.true, c.len-place-end.ensures, ap (λ (b : Cluster). length b.facts.members) c.self.view_is)
 
 pub loop-place-preserved : goal.loop-place-preserved
 loop-place-preserved c =
@@ -12,5 +12,5 @@ loop-place-preserved c =
 
 pub returns : goal.returns
 returns c =
-    let over : length c.args.self.now.book.members ≤ c.loop-place.place = omega (arith, c.loop-place-test.false, c.len-place-end.ensures, ap (λ (b : Cluster). length b.book.members) c.self.view_is) in
+    let over : length c.args.self.now.facts.members ≤ c.loop-place.place = omega (arith, c.loop-place-test.false, c.len-place-end.ensures, ap (λ (b : Cluster). length b.facts.members) c.self.view_is) in
     losses-end c.args.self.now c.args.commit c.loop-place.events.items _ c.loop-place.place over c.loop-place.invariant

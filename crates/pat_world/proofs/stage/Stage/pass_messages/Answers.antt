@@ -10,29 +10,29 @@ use Rattle.pat_world.proofs.stage.Stage.pass_messages.Goals as goal
 
 pub loop-number-init : goal.loop-number-init
 loop-number-init c =
-    passing-start c.args.self.now c.args.events.now.items c.self.inside.sent (ap (λ (b : Cluster). b.book.sent) c.self.view_is)
-    (omega (arith, c.is_empty.ensures.few, ap (λ (b : Cluster). length b.book.flight) c.self.view_is))
+    passing-start c.args.self.now c.args.events.now.items c.self.inside.sent (ap (λ (b : Cluster). b.facts.sent) c.self.view_is)
+    (omega (arith, c.is_empty.ensures.few, ap (λ (b : Cluster). length b.facts.flight) c.self.view_is))
 
 pub pass_message-requires : goal.pass_message-requires
 pass_message-requires c =
-    let sorted = subst (λ (b : Cluster). IsStrictlySortedBy nat_cmp (keys_of b.book.flight)) c.self.view_is c.is_empty.ensures.order in
+    let sorted = subst (λ (b : Cluster). IsStrictlySortedBy nat_cmp (keys_of b.facts.flight)) c.self.view_is c.is_empty.ensures.order in
     let high = c.in-Some.ensures.last in
     let skipped = passing-skip c.args.self.now c.loop-number.self _ _ c.loop-number.from c.in-Some.number c.self.inside.sent c.loop-number.invariant sorted c.in-Some.ensures.from (omega (arith, high)) (λ k low below. c.in-Some.ensures.still k low (omega (arith, below, high)) below) in
     passing-room c.args.self.now c.loop-number.self _ _ c.in-Some.number c.self.inside.sent skipped sorted high c.requires
 
 pub overflow_add-from : goal.overflow_add-from
-overflow_add-from c = omega (arith, c.in-Some.ensures.last, c.requires.sent, ap (λ (b : Cluster). b.book.sent) c.self.view_is)
+overflow_add-from c = omega (arith, c.in-Some.ensures.last, c.requires.sent, ap (λ (b : Cluster). b.facts.sent) c.self.view_is)
 
 pub loop-number-preserved : goal.loop-number-preserved
 loop-number-preserved c =
-    let sorted = subst (λ (b : Cluster). IsStrictlySortedBy nat_cmp (keys_of b.book.flight)) c.self.view_is c.is_empty.ensures.order in
+    let sorted = subst (λ (b : Cluster). IsStrictlySortedBy nat_cmp (keys_of b.facts.flight)) c.self.view_is c.is_empty.ensures.order in
     let high = c.in-Some.ensures.last in
     let skipped = passing-skip c.args.self.now c.loop-number.self _ _ c.loop-number.from c.in-Some.number c.self.inside.sent c.loop-number.invariant sorted c.in-Some.ensures.from (omega (arith, high)) (λ k low below. c.in-Some.ensures.still k low (omega (arith, below, high)) below) in
     passing-more c.args.self.now c.loop-number.self c.pass_message.new.self _ _ _ c.in-Some.number c.self.inside.sent skipped sorted high c.in_ok-pass_message.ensures
 
 pub returns : goal.returns
 returns c =
-    let sorted = subst (λ (b : Cluster). IsStrictlySortedBy nat_cmp (keys_of b.book.flight)) c.self.view_is c.is_empty.ensures.order in
-    let numbered = subst (λ (b : Cluster). AreNumbered c.self.inside.sent b.book.flight) c.self.view_is c.self.invariant.1 in
+    let sorted = subst (λ (b : Cluster). IsStrictlySortedBy nat_cmp (keys_of b.facts.flight)) c.self.view_is c.is_empty.ensures.order in
+    let numbered = subst (λ (b : Cluster). AreNumbered c.self.inside.sent b.facts.flight) c.self.view_is c.self.invariant.1 in
     passing-end c.args.self.now c.loop-number.self _ _ c.loop-number.from c.self.inside.sent c.loop-number.invariant sorted numbered
     (λ k low high. c.next_to_move.ensures.still k low high (subst (λ (o : Option ℕ). IfSome o (λ n. k < n)) (sym c.in_default.is) tt))

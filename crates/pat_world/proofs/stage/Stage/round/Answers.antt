@@ -18,5 +18,5 @@ pass_messages-requires c = c.in_ok-wakes.ensures.room (message_cost * most_in_fl
 pub returns : goal.returns
 returns c =
     on_ok_weaker c.pass_messages.result
-    (λ took. Emits-then c.args.self.now c.wakes.new.self c.pass_messages.new.self _ _ _ (each wake_events c.args.self.now c.args.self.now.book.members) (λ later. each message_events later (keys_of later.book.flight)) wakes_cost (message_cost * most_in_flight) round_cost c.in_ok-wakes.ensures took (omega arith))
+    (λ took. Emits-then c.args.self.now c.wakes.new.self c.pass_messages.new.self _ _ _ (each wake_events c.args.self.now c.args.self.now.facts.members) (λ later. each message_events later (keys_of later.facts.flight)) wakes_cost (message_cost * most_in_flight) round_cost c.in_ok-wakes.ensures took (omega arith))
     c.pass_messages.ensures

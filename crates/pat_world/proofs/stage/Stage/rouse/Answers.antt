@@ -10,5 +10,5 @@ pub returns-clause-emits : goal.returns-clause-emits
 returns-clause-emits c =
     on_ok_weaker c.note.result
     (λ has. Emits-told c.args.self.now c.hear.new.self c.self.inside.clock (kinds.Agent (Woken c.args.agent)) c.args.events.now.items c.note.new.events.items tt c.hear.ensures.world
-    (ap (λ (b : Cluster). b.book.clock) c.self.view_is) has)
+    (ap (λ (b : Cluster). b.facts.clock) c.self.view_is) has)
     c.note.ensures

@@ -17,6 +17,6 @@ rounds-requires c = (c.in_ok-all_receive.ensures).room rounds_cost (HasRoom-fewe
 pub returns : goal.returns
 returns c =
     on_ok_weaker c.rounds.result
-    (λ took. Emits-then c.args.self.now c.all_receive.new.self c.rounds.new.self _ _ _ (each receive_events_of c.args.self.now c.args.self.now.book.members) (λ later. rounds_events later most_rounds)
+    (λ took. Emits-then c.args.self.now c.all_receive.new.self c.rounds.new.self _ _ _ (each receive_events_of c.args.self.now c.args.self.now.facts.members) (λ later. rounds_events later most_rounds)
     receiving_cost rounds_cost schedule_cost c.in_ok-all_receive.ensures took (omega arith))
     c.rounds.ensures

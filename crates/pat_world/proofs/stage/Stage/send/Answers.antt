@@ -59,17 +59,17 @@ pub returns : goal.returns
 returns c =
     let before = seen c.self.inside in
     let message = c.args.message in
-    let grant = c.requires.grant ∙ ap (λ (f : Cluster). grant_for message.body message.to f.book.keys.revision) (sym c.self.view_is) in
+    let grant = c.requires.grant ∙ ap (λ (f : Cluster). grant_for message.body message.to f.facts.keys.revision) (sym c.self.view_is) in
     let shared = c.in_ok-message.ensures in
     let known = c.args.self.now in
-    let told = c.in_ok-snapshot_for.ensures.entries ∙ ap (λ (m : Message). snapshot_for m.body (present_pairs known.book.clock known.book.keys.pairs)) (c.get.ensures ∙ shared) ∙ ap (λ (f : Cluster). snapshot_for message.body (present_pairs f.book.clock f.book.keys.pairs)) (sym c.self.view_is) in
+    let told = c.in_ok-snapshot_for.ensures.entries ∙ ap (λ (m : Message). snapshot_for m.body (present_pairs known.facts.clock known.facts.keys.pairs)) (c.get.ensures ∙ shared) ∙ ap (λ (f : Cluster). snapshot_for message.body (present_pairs f.facts.clock f.facts.keys.pairs)) (sym c.self.view_is) in
     let loaded = loaded-is before message c.in_ok-try_clone.field-0 c.self.inside.clock c.in_ok-snapshot_for.field-0.items c.args.grant (c.in_ok-try_clone.ensures ∙ shared) refl told grant in
-    let number = before.book.sent + 1 in
+    let number = before.facts.sent + 1 in
     let mid = c.in_ok-note.ensures ∙ ap (λ (m : Message). let event : Event = record { tick = c.self.inside.clock; kind = kinds.Message (Sent number m) } in c.args.events.now.items ++ event ∷ []) shared in
-    let after = with_flight before c.launch.new.self (before.book.sent + 1) in
+    let after = with_flight before c.launch.new.self (before.facts.sent + 1) in
     on_ok_weaker c.note_lost.result
     (λ has. subst (λ (b : Cluster). Emits b after c.args.events.now.items c.note_lost.new.events.items (send_events b message) 2) c.self.view_is
     (send-took before after message c.self.inside.clock c.launch.new.self c.in_ok-lost.lost c.args.events.now.items c.note.new.events.items c.note_lost.new.events.items refl
-    (c.in_ok-lost.ensures.flight ∙ ap (λ m. launched_into before.book.flight (before.book.sent + 1) m) loaded)
+    (c.in_ok-lost.ensures.flight ∙ ap (λ m. launched_into before.facts.flight (before.facts.sent + 1) m) loaded)
     c.in_ok-lost.ensures.lost refl mid has))
     c.note_lost.ensures

@@ -9,11 +9,11 @@ use Rattle.pat_world.proofs.KeptCommits.{steps-keep-commits}
 use Rattle.pat_world.proofs.world.World.idle_for.Goals as goal
 
 pub pass-requires : goal.pass-requires
-pass-requires c = omega (arith, c.idle_ticks-ticks.ensures.fits, ap (λ (s : Cluster). s.book.clock) c.self.view_is)
+pass-requires c = omega (arith, c.idle_ticks-ticks.ensures.fits, ap (λ (s : Cluster). s.facts.clock) c.self.view_is)
 
 pub invariant_of-self : goal.invariant_of-self
 invariant_of-self c =
-    let later = c.self.inside.stage.book.clock + c.idle_ticks-ticks.result in (
+    let later = c.self.inside.stage.facts.clock + c.idle_ticks-ticks.result in (
       idle-passed steps.Scheduled c.self.inside.idle_before later c.self.inside.stage c.pass.new.self c.pass.ensures c.self.invariant.0,
       idle-passed steps.Tick c.self.inside.ticks_idle_before later c.self.inside.stage c.pass.new.self c.pass.ensures c.self.invariant.1,
     )
@@ -23,16 +23,16 @@ returns c =
     let old = c.args.self.now in
     let step = c.args.step.now in
     let n = c.idle_ticks-ticks.result in
-    let new : c.pass.new.self ≡ at_moment old (old.book.clock + n) = c.pass.ensures ∙ ap (λ (s : Cluster). at_moment s (s.book.clock + n)) c.self.view_is in
+    let new : c.pass.new.self ≡ at_moment old (old.facts.clock + n) = c.pass.ensures ∙ ap (λ (s : Cluster). at_moment s (s.facts.clock + n)) c.self.view_is in
     let idle = c.idle_ticks-ticks.ensures.idle in
-    let left = new ∙ sym (passed step old (old.book.clock + n) n (omega arith) idle) in
+    let left = new ∙ sym (passed step old (old.facts.clock + n) n (omega arith) idle) in
     record {
       most = c.idle_ticks-ticks.ensures.most;
-      ticks = brings-ticks step old (old.book.clock + n) n (omega arith) idle;
+      ticks = brings-ticks step old (old.facts.clock + n) n (omega arith) idle;
       world = left;
       room = λ more has. subst (λ (s : Cluster). HasRoomFor s more) (sym new) (room-passed old n more has);
       book = λ start book stands. steps-stand start book old c.pass.new.self (replicate n step) left stands;
       one_writer = steps-keep old (replicate n step);
       commits = steps-keep-commits old (replicate n step);
-      acknowledged = λ some. subst (λ (s : Cluster). AreAcknowledged s.book.members s.book.servers) (sym new) (idle-commits step old (old.book.clock + n) (idle some));
+      acknowledged = λ some. subst (λ (s : Cluster). AreAcknowledged s.facts.members s.facts.servers) (sym new) (idle-commits step old (old.facts.clock + n) (idle some));
     }

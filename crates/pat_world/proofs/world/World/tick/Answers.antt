@@ -9,16 +9,16 @@ use Rattle.pat_world.proofs.world.World.tick.Goals as goal
 pub returns-clause-emits : goal.returns-clause-emits
 returns-clause-emits c =
     let old = c.args.self.now in
-    let new = c.pass.ensures ∙ ap (λ (s : Cluster). at_moment s (s.book.clock + 1)) c.self.view_is in
+    let new = c.pass.ensures ∙ ap (λ (s : Cluster). at_moment s (s.facts.clock + 1)) c.self.view_is in
     on_ok_weaker c.note.result
     (λ noted. tick-noted old c.pass.new.self c.args.events.now.items c.note.new.events.items c.args.step.now c.clock.result new c.clock.ensures noted c.requires.idle)
     c.note.ensures
 
 pub pass-requires : goal.pass-requires
-pass-requires c = omega (arith, c.requires.room.room.clock, ap (λ (s : Cluster). s.book.clock) c.self.view_is)
+pass-requires c = omega (arith, c.requires.room.room.clock, ap (λ (s : Cluster). s.facts.clock) c.self.view_is)
 
 pub invariant_of-self : goal.invariant_of-self
 invariant_of-self c = (
-  idle-passed steps.Scheduled c.self.inside.idle_before (c.self.inside.stage.book.clock + 1) c.self.inside.stage c.pass.new.self c.pass.ensures c.self.invariant.0,
-  idle-passed steps.Tick c.self.inside.ticks_idle_before (c.self.inside.stage.book.clock + 1) c.self.inside.stage c.pass.new.self c.pass.ensures c.self.invariant.1,
+  idle-passed steps.Scheduled c.self.inside.idle_before (c.self.inside.stage.facts.clock + 1) c.self.inside.stage c.pass.new.self c.pass.ensures c.self.invariant.0,
+  idle-passed steps.Tick c.self.inside.ticks_idle_before (c.self.inside.stage.facts.clock + 1) c.self.inside.stage c.pass.new.self c.pass.ensures c.self.invariant.1,
 )

@@ -13,7 +13,7 @@ play_step-requires-clause-room g c = Playing-room (c.args.step.now ∷ []) _ c.l
     (subst (λ (k : ℕ). HasRoomFor c.args.self.now.world k) (sym (length-replicate {A = Step} c.args.count c.args.step.now)) c.requires.room)
 
 pub play_step-requires-clause-declared : goal.play_step-requires-clause-declared
-play_step-requires-clause-declared g c = tick-declared c.loop-left.self.world.book.members c.args.step.now c.requires.tick
+play_step-requires-clause-declared g c = tick-declared c.loop-left.self.world.facts.members c.args.step.now c.requires.tick
 
 pub loop-left-preserved : goal.loop-left-preserved
 loop-left-preserved g c =
