@@ -13,3 +13,4 @@ pub mod Beginning
 pub mod Replying
 pub mod OperatorAnswers
 pub mod Handovers
+pub mod Bounds

@@ -1,3 +1,4 @@
+pub mod Bounds
 pub mod Fits
 pub mod FreeKey
 pub mod Handovers

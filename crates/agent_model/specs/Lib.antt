@@ -1,6 +1,7 @@
 pub mod Acting
 pub mod Agents
 pub mod Answers
+pub mod Asked
 pub mod Before
 pub mod Claiming
 pub mod Decisions

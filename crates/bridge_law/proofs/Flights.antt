@@ -32,7 +32,8 @@ use Rattle.lease_law.specs.Outcomes.{seen_of}
 use Rattle.lease_law.specs.Past.{Past, first_past, query_of, lease_span, grant_of, answer_of, question_in_flight_of, answer_in_flight_of, peer_in_flight_of, flying_of, asked_with, past_after}
 use Rattle.lease_law.specs.Stores.{leader_value, leader_key_of, failsafe_key_of, IsSameStore}
 use Rattle.lease_law.proofs.SameStore.{ge-from, present-endless}
-use Rattle.lease_law.proofs.Tools.{some-is, none-some, put-all, put-here, put-there, dropped, decide-eq, answered-requested}
+use Rattle.lease_law.proofs.Tools.{some-is, none-some, put-all, put-here, put-there, dropped, answered-requested}
+use Rattle.std.proofs.lemmas.Bool.{cases_eq}
 use Rattle.bridge_law.specs.Flights.{past_at_sending, flying_carried, flying_if, AnswersBody, Answers, IsSameFlight, IsCausal}
 use Rattle.bridge_law.proofs.Entries.{in-with, in-without, rises-with, rises-without}
 
@@ -285,9 +286,9 @@ flight-sent past facts number message above answers store old =
       order = rises-with 0 facts.flight number one (omega arith) old.order;
       flown = λ i carried e. put-all (in_flight facts.flight) number (Some one) (λ n o. o ≡ Some carried → n ≤ number)
           (λ is. omega arith) (λ n other is. omega (arith, above, old.flown n carried is)) i (sym (in-with facts.flight number one i) ∙ e);
-      asked = λ i q e. asked-below i q (decide-eq i number) e;
-      moments = λ i carried e. moment-with i carried (decide-eq i number) (sym (in-with facts.flight number one i) ∙ e);
-      asked_when = λ i q e. when-with i q (decide-eq i number) e;
+      asked = λ i q e. asked-below i q (cases_eq i number) e;
+      moments = λ i carried e. moment-with i carried (cases_eq i number) (sym (in-with facts.flight number one i) ∙ e);
+      asked_when = λ i q e. when-with i q (cases_eq i number) e;
       kept = λ i q at. put-all past.flight number flying (λ n o. o ≡ Some (Requested q) → more n ≡ Some q)
           (λ e. asked-here past.asked number flying q e)
           (λ n other e. grows n q (old.kept n q e)) i at;

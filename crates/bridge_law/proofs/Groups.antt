@@ -24,7 +24,7 @@ use Rattle.lease_law.specs.Leases.{Question}
 use Rattle.lease_law.specs.Claims.{BeginsBehind}
 use Rattle.lease_store.specs.Settings.{Settings}
 use Rattle.lease_law.specs.Past.{Past, first_past, query_of, past_after, past_over}
-use Rattle.lease_law.specs.Premises.{AllAre}
+use Rattle.event_book.specs.Kinds.{AllAre}
 use Rattle.lease_law.specs.Stores.{IsSpannedTxn, IsSpanned}
 use Rattle.lease_law.specs.Showing.{granted_events, refused_events, read_events}
 use Rattle.lease_law.proofs.SameStore.{same-first, same-by}

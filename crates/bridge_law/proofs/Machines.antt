@@ -27,8 +27,9 @@ use Rattle.event_book.specs.Watchdogs.{deadlines_after, deadlines_by, holds_afte
 use Rattle.event_book.specs.Writers.{writes_in, writes_after, writes_over}
 use Rattle.event_book.proofs.Told.{count-of, writes-of, writes-same}
 use Rattle.lease_law.specs.Past.{Past, first_past, past_after, past_over, past_of, deadline_after, deadline_by, hold_after, hold_by, runs_after}
-use Rattle.lease_law.specs.Premises.{AllAre}
-use Rattle.lease_law.proofs.Tools.{put-all, put-here, put-there, decide-eq}
+use Rattle.event_book.specs.Kinds.{AllAre}
+use Rattle.lease_law.proofs.Tools.{put-all, put-here, put-there}
+use Rattle.std.proofs.lemmas.Bool.{cases_eq}
 use Rattle.bridge_law.specs.Machines.{deadline_if, hold_if, run_if, IsSameMachines, FeedsByGrants}
 
 -- ---- a list of which one item changes, and a function that is put at that place
@@ -60,7 +61,7 @@ Agrees found items f = (m : ℕ) → m < length items → f m ≡ found (slice_g
 module _ {A B : Type 0} (found : Option A → B) (items : List A) (f : ℕ → B) (k : ℕ) (change : A → A) where
   pub agrees-put : (x : B) → ((item : A) → slice_get items k ≡ Some item → x ≡ found (Some (change item)))
       → Agrees found items f → Agrees found (with_changed items k change) (put_at f k x)
-  agrees-put x here old m small = at-place (decide-eq m k)
+  agrees-put x here old m small = at-place (cases_eq m k)
     where
       few : m < length items
       few = omega (arith, small, length-changed items k change)
@@ -74,7 +75,7 @@ module _ {A B : Type 0} (found : Option A → B) (items : List A) (f : ℕ → B
       at-place (inr other) = put-there f k x m other ∙ old m few ∙ ap found (sym (changed-there items k change m other))
 
   pub agrees-kept : ((item : A) → found (Some (change item)) ≡ found (Some item)) → Agrees found items f → Agrees found (with_changed items k change) f
-  agrees-kept same old m small = at-place (decide-eq m k)
+  agrees-kept same old m small = at-place (cases_eq m k)
     where
       few : m < length items
       few = omega (arith, small, length-changed items k change)

@@ -10,7 +10,7 @@ use Rattle.event_book.specs.declared.message.Body.{Body}
 use Rattle.event_book.specs.Flight.{sent_after}
 use Rattle.lease_law.specs.Leases.{Flying}
 use Rattle.lease_law.specs.Past.{Past, first_past, flying_of, past_after, past_over}
-use Rattle.lease_law.specs.Premises.{AllAre}
+use Rattle.event_book.specs.Kinds.{AllAre}
 use Rattle.lease_law.proofs.Tools.{put-all, put-here, put-there, dropped}
 use Rattle.bridge_law.specs.Groups.{IsMemberEnd, IsNumberedAbove, AreNumberedAbove}
 use Rattle.bridge_law.specs.Sending.{SendsOnly}

@@ -14,7 +14,8 @@ use Rattle.event_book.specs.Flight.{InFlightFacts, in_flight}
 use Rattle.event_book.specs.Facts.{Facts}
 use Rattle.lease_law.specs.Leases.{Read, Question, Flying, Requested}
 use Rattle.lease_law.specs.Past.{Past, query_of, grant_of, answer_of, question_in_flight_of, answer_in_flight_of, peer_in_flight_of, flying_of, asked_with, past_after}
-use Rattle.lease_law.proofs.Tools.{decide-eq, answered-requested}
+use Rattle.lease_law.proofs.Tools.{answered-requested}
+use Rattle.std.proofs.lemmas.Bool.{cases_eq}
 use Rattle.bridge_law.specs.Flights.{IsSameFlight}
 use Rattle.bridge_law.specs.Groups.{CarriesGrant}
 use Rattle.bridge_law.specs.Waiting.{IsAskedOnce, IsLastAsked, IsLastRun, AsksFrom, AsksOnly}
@@ -57,7 +58,7 @@ sent-asks P past number message i q is (inr other) at =
     inl (sym (asked-there past.asked number (flying_of past message.from message.to message.run message.sequence message.body) i other) ∙ at)
 
 pub asked-by : (P : ℕ → ℕ → ℕ → Type 0) (past : Past) (kind : EventKind) → AsksOnly P kind → (i : ℕ) (q : Question) → (past_after past kind).asked i ≡ Some q → (past.asked i ≡ Some q) ⊎ P q.member q.run q.sequence
-asked-by P past (kinds.Message (Sent number message)) is i q at = sent-asks P past number message i q is (decide-eq i number) at
+asked-by P past (kinds.Message (Sent number message)) is i q at = sent-asks P past number message i q is (cases_eq i number) at
 asked-by P past (kinds.Message (Delivered number)) is i q at = inl at
 asked-by P past (kinds.Message (Lost number)) is i q at = inl at
 asked-by P past _ is i q at = inl at
@@ -86,7 +87,7 @@ run-new asked m runs run above old i q at a b = absurd (omega (arith, above, b, 
 pub once-sent : (past : Past) (number : ℕ) (by : Member) (run sequence last : ℕ) (txn : Txn) → IsLastAsked past.asked by.id.number run last → last < sequence
     → IsAskedOnce (past_after past (kinds.Message (Sent number (record { from = ends.Member by; to = ends.Store; run = run; sequence = sequence; body = bodies.Request txn })))).asked
     (record { member = by.id.number; run = run; sequence = sequence; sent = past.clock; query = query_of txn })
-once-sent past number by run sequence last txn old above i q at a b c = found (decide-eq i number)
+once-sent past number by run sequence last txn old above i q at a b c = found (cases_eq i number)
   where
     one : Question
     one = record { member = by.id.number; run = run; sequence = sequence; sent = past.clock; query = query_of txn }

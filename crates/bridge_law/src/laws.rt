@@ -29,7 +29,7 @@ ghost use Rattle.lease_law.specs.Inputs.{AgentInput, MaySend};
 ghost use Rattle.lease_law.specs.Leases.{Flying, Read, Question, Requested, Answered, FailsafeRequested, Acknowledged};
 ghost use Rattle.lease_law.specs.Outcomes.{seen_of};
 ghost use Rattle.lease_law.specs.Past.{Past, VolatileState, first_past, past_after, past_over, past_of, query_of, state_of};
-ghost use Rattle.lease_law.specs.Premises.{AllAre};
+ghost use Rattle.event_book.specs.Kinds.{AllAre};
 ghost use Rattle.lease_law.specs.States.{Agent, Declared, State};
 ghost use Rattle.lease_law.specs.Stores.{IsSameStore, IsSpanned, IsSpannedTxn, leader_key_of, failsafe_key_of};
 ghost use Rattle.lease_law.specs.Showing.{granted_events, refused_events, read_events};

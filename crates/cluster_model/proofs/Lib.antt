@@ -1,1 +1,4 @@
 pub mod Staying
+pub mod Places
+pub mod Lists
+pub mod Founds

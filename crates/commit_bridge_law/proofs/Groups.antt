@@ -30,7 +30,7 @@ use Rattle.event_book.specs.Facts.{Facts, facts_after, facts_over, start_of}
 use Rattle.event_book.specs.Logs.{Logs}
 use Rattle.lease_law.specs.Leases.{LeaderKey}
 use Rattle.lease_law.specs.Past.{extended_by}
-use Rattle.lease_law.specs.Premises.{AllAre}
+use Rattle.event_book.specs.Kinds.{AllAre}
 use Rattle.lease_law.specs.Showing.{granted_events, refused_events, read_events}
 use Rattle.lease_law.specs.Stores.{IsSpannedTxn, IsSpanned}
 use Rattle.bridge_law.proofs.Groups.{members-spanned}

@@ -12,7 +12,8 @@ use Rattle.event_book.specs.Facts.{Facts}
 use Rattle.event_book.specs.Functions.{put_at}
 use Rattle.lease_law.specs.Leases.{Question, Requested}
 use Rattle.lease_law.specs.Past as lease_past
-use Rattle.lease_law.proofs.Tools.{decide-eq, put-here, put-there}
+use Rattle.lease_law.proofs.Tools.{put-here, put-there}
+use Rattle.std.proofs.lemmas.Bool.{cases_eq}
 use Rattle.bridge_law.specs.Flights as bridge_flights
 use Rattle.bridge_law.specs.Groups.{IsNumberedAbove}
 use Rattle.bridge_law.specs.Waiting.{IsLastAsked, AsksOnly}
@@ -30,7 +31,7 @@ use Rattle.commit_bridge_law.proofs.Hearing.{heard-write}
 pub once-sent : (p : lease_past.Past) (past : Past) (number : ℕ) (by : Member) (run sequence last : ℕ) (txn : Txn) → IsLastAsked p.asked by.id.number run last → last < sequence
     → let kind = kinds.Message (Sent number (record { from = ends.Member by; to = ends.Store; run = run; sequence = sequence; body = bodies.Request txn })) in
     IsAskedOnce (lease_past.past_after p kind).asked (past_after past kind).asked by.id.number run sequence (query_of by.id.number run sequence txn)
-once-sent p past number by run sequence last txn old above i question at a b c = found (decide-eq i number)
+once-sent p past number by run sequence last txn old above i question at a b c = found (cases_eq i number)
   where
     asks : Query
     asks = query_of by.id.number run sequence txn

@@ -27,7 +27,7 @@ ghost use Rattle.event_book.specs.Flight.{InFlightFacts, in_flight};
 ghost use Rattle.event_book.specs.Facts.{Facts, facts_after, facts_over, start_of};
 ghost use Rattle.event_book.specs.Logs.{Logs};
 ghost use Rattle.lease_law.specs.Past as lease_past;
-ghost use Rattle.lease_law.specs.Premises.{AllAre};
+ghost use Rattle.event_book.specs.Kinds.{AllAre};
 ghost use Rattle.lease_law.specs.Showing.{granted_events, refused_events, read_events};
 ghost use Rattle.lease_law.specs.Stores.{IsSpanned, IsSpannedTxn, failsafe_key_of, is_granted as is_grant, leader_key_of};
 ghost use Rattle.bridge_law.specs.Flights as bridge_flights;

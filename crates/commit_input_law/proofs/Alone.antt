@@ -38,8 +38,8 @@ use Rattle.commit_law.specs.Past.{Past, Setup, past_over}
 use Rattle.commit_log_law.specs.Acting.{Fits}
 use Rattle.commit_log_law.specs.Happening.{MayFollow, MayHappen}
 use Rattle.commit_log_law.proofs.Repairing.{repair-follow, wipe-follow}
-use Rattle.run_law.proofs.InputEvents.{holds-then, repaired-holds}
-use Rattle.run_law.proofs.Lists.{AllKinds, HoldsIf, all-kinds, all-more, one-kind}
+use Rattle.cluster_model.proofs.Founds.{holds-then, repaired-holds}
+use Rattle.cluster_model.proofs.Lists.{AllKinds, HoldsIf, all-kinds, all-more, one-kind}
 use Rattle.commit_step_law.specs.Reading.{volatile_of}
 use Rattle.commit_step_law.proofs.Moving.{Moves, moves-none, moves-then}
 use Rattle.commit_input_law.proofs.Sending.{member-moves, question-moves}

@@ -43,8 +43,9 @@ use Rattle.cluster_model.specs.State.{Cluster}
 use Rattle.lease_law.specs.Leases.{Flying, Read, Requested}
 use Rattle.lease_law.specs.Leases.{Question as Asked}
 use Rattle.lease_law.specs.Past as lease_past
-use Rattle.lease_law.specs.Premises.{AllAre}
-use Rattle.lease_law.proofs.Tools.{decide-eq, eq-from, ne-from, none-some, put-here, put-there, some-is}
+use Rattle.event_book.specs.Kinds.{AllAre}
+use Rattle.lease_law.proofs.Tools.{eq-from, ne-from, none-some, put-here, put-there, some-is}
+use Rattle.std.proofs.lemmas.Bool.{cases_eq}
 use Rattle.bridge_law.specs.Flights as bridge_flights
 use Rattle.bridge_law.specs.Groups.{AreNumberedAbove, IsNumberedAbove}
 use Rattle.bridge_law.proofs.Flights.{asked-new, asked-there, none-requested, requested-is}
@@ -59,7 +60,7 @@ use Rattle.run_law.proofs.InputKinds.{IsOpening}
 use Rattle.run_law.proofs.InputSeen.{IsFound}
 use Rattle.run_law.proofs.InputStays.{clock-one}
 use Rattle.run_law.proofs.InputWaiting.{IsNew, new-number, the-after}
-use Rattle.run_law.proofs.Places.{get-changed}
+use Rattle.cluster_model.proofs.Places.{get-changed}
 use Rattle.commit_step_law.specs.Agents.{AreAgentsSynchronous, IsAgentSynchronous, IsWriteAsked, IsWriteOf}
 use Rattle.commit_step_law.specs.Bridged.{CommitsBridged}
 use Rattle.commit_step_law.specs.Reading.{past_of}
@@ -198,7 +199,7 @@ module _ (member : Member) (run heard : ℕ) (outs : List Output) (Q : Output �
   asked-one named past (kinds.Message (Sent number message)) last is above low i q e =
       let flying : Option Flying = lease_past.flying_of named message.from message.to message.run message.sequence message.body in
       let asks : Query = query_sent message.from message.run message.sequence message.body in
-      elim (decide-eq i number) [
+      elim (cases_eq i number) [
         | inl here ↦ elim (asked-new named.asked number flying q (ap (λ (n : ℕ). lease_past.asked_with named.asked number flying n) (sym here) ∙ e)) [
           | inl new ↦ inr (message-new named message q (put_at past.asked number asks i) is (ap (λ (n : ℕ). put_at past.asked number asks n) here ∙ put-here past.asked number asks) new)
           | inr was ↦ absurd (omega (arith, above, low number q was))
@@ -211,7 +212,7 @@ module _ (member : Member) (run heard : ℕ) (outs : List Output) (Q : Output �
 
   -- numbers rise
   low-one : (named : lease_past.Past) (kind : EventKind) (last : ℕ) → Mine kind → IsNumberedAbove last kind → AreLow named.asked last → AreLow (lease_past.past_after named kind).asked (sent_after last kind)
-  low-one named (kinds.Message (Sent number message)) last is above low i q e = elim (decide-eq i number) [
+  low-one named (kinds.Message (Sent number message)) last is above low i q e = elim (cases_eq i number) [
     | inl here ↦ omega (arith, here)
     | inr other ↦
         let small = low i q (sym (asked-there named.asked number (lease_past.flying_of named message.from message.to message.run message.sequence message.body) i other) ∙ e) in

@@ -33,7 +33,7 @@ use Rattle.commit_log_law.proofs.Beginning.{begins-ahead}
 use Rattle.commit_log_law.proofs.Completions.{loss-may}
 use Rattle.commit_log_law.proofs.Following.{follow-if}
 use Rattle.commit_log_law.proofs.Places.{changed-there}
-use Rattle.run_law.proofs.Lists.{all-kinds}
+use Rattle.cluster_model.proofs.Lists.{all-kinds}
 use Rattle.commit_step_law.specs.Reading.{agent_now, volatile_of}
 use Rattle.commit_step_law.proofs.Moving.{MovesFrom, moves-from-then, moves-one}
 use Rattle.commit_step_law.proofs.Servers.{moves-follow}

@@ -32,7 +32,7 @@ use Rattle.agent_law.specs.Orders.{IsOfTable}
 use Rattle.agent_commit_law.proofs.CommitQuiet.{asks-last, IsUnasking}
 use Rattle.agent_model.specs.Outputs.{has_one}
 use Rattle.cluster_model.specs.Cluster.{agent_after, cluster_after, cluster_over}
-use Rattle.run_law.proofs.Places.{get-here}
+use Rattle.cluster_model.proofs.Places.{get-here}
 use Rattle.cluster_model.specs.Limits.{most_in_flight}
 use Rattle.cluster_model.specs.Messages.{agent_message, lost_at_once, send_events, sending_events}
 use Rattle.cluster_model.specs.Parts.{each, event_of, events_of}

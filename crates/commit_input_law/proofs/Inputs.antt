@@ -51,7 +51,7 @@ use Rattle.commit_log_law.specs.Matching.{live_in}
 use Rattle.run_law.specs.Declaring.{declared_of, member_count, works_of}
 use Rattle.run_law.specs.Volatile as run_volatile
 use Rattle.run_law.proofs.InputKinds.{IsOpening}
-use Rattle.run_law.proofs.Places.{get-elsewhere, get-here}
+use Rattle.cluster_model.proofs.Places.{get-elsewhere, get-here}
 use Rattle.commit_step_law.specs.Bridged.{CommitsBridged}
 use Rattle.sync_order_law.specs.Changes.{AllLeaveOrder, ChangeOrderOnce, LeavesOrder}
 use Rattle.commit_step_law.specs.Ordered.{AllInOrder, HappensInOrder}

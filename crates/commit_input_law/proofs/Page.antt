@@ -41,7 +41,7 @@ use Rattle.commit_log_law.proofs.Kept.{others-by}
 use Rattle.commit_log_law.proofs.Matching.{same-by}
 use Rattle.commit_log_law.proofs.Keeping.{sound-by}
 use Rattle.run_law.proofs.InputKinds.{IsOpening}
-use Rattle.run_law.proofs.Places.{get-here}
+use Rattle.cluster_model.proofs.Places.{get-here}
 use Rattle.sync_order_law.specs.Changes.{ChangeOrderOnce}
 use Rattle.commit_input_law.proofs.Covering.{IsCarried, NoneAbove, Told, told_of}
 use Rattle.event_book.specs.Logs.{logs_in}

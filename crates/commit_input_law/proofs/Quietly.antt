@@ -12,7 +12,7 @@ use Rattle.agent_commit_law.specs.Committing.{IsCovered, IsQuietBody}
 use Rattle.agent_commit_law.proofs.CommitQuiet.{IsUnasking}
 use Rattle.cluster_model.specs.Cluster.{cluster_after}
 use Rattle.cluster_model.specs.State.{Cluster}
-use Rattle.lease_law.specs.Premises.{AllAre}
+use Rattle.event_book.specs.Kinds.{AllAre}
 use Rattle.commit_law.specs.Past.{Past, past_after}
 use Rattle.run_law.specs.InputEvents.{AnswersPeer, Asks, AsksPeer, IsMessageOf, IsOfInput}
 use Rattle.commit_step_law.specs.Ordered.{AllInOrder, AsksInOrder, HappensInOrder}

@@ -40,7 +40,7 @@ use Rattle.cluster_model.specs.Parts.{each}
 use Rattle.cluster_model.specs.State.{Cluster}
 use Rattle.cluster_model.specs.declared.heard_message.HeardMessage.{HeardMessage}
 use Rattle.cluster_model.specs.Messages.{output_events}
-use Rattle.lease_law.specs.Premises.{AllAre}
+use Rattle.event_book.specs.Kinds.{AllAre}
 use Rattle.lease_law.proofs.Tools.{some-is}
 use Rattle.bridge_law.specs.Groups.{IsOfMembers}
 use Rattle.commit_law.specs.Actions.{IsNumbered}
@@ -61,8 +61,8 @@ use Rattle.run_law.specs.Questions.{IsQuestion, SendsBetween}
 use Rattle.run_law.proofs.InputKept.{agents-are, mine, numbers}
 use Rattle.run_law.proofs.InputKinds.{IsOpening, mine-from, opening-from}
 use Rattle.run_law.proofs.InputSeen.{found-of}
-use Rattle.run_law.proofs.Lists.{all-more}
-use Rattle.run_law.proofs.Places.{get-here}
+use Rattle.cluster_model.proofs.Lists.{all-more}
+use Rattle.cluster_model.proofs.Places.{get-here}
 use Rattle.commit_step_law.specs.Agents.{IsAskNumbered}
 use Rattle.commit_step_law.specs.Bridged.{CommitsBridged, MeetsMode, kept_commits}
 use Rattle.commit_step_law.specs.Reading.{agent_now, past_of, setup_of, state_of_run, volatile_of}

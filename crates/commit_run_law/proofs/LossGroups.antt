@@ -27,7 +27,7 @@ use Rattle.cluster_model.specs.Losing.{beginning_kinds, is_lacking, loss_if, los
 use Rattle.cluster_model.specs.Next.{acknowledge_events}
 use Rattle.cluster_model.specs.Parts.{event_of, events_of}
 use Rattle.cluster_model.specs.State.{Cluster}
-use Rattle.lease_law.specs.Premises.{AllAre}
+use Rattle.event_book.specs.Kinds.{AllAre}
 use Rattle.lease_law.proofs.Tools.{both}
 use Rattle.commit_law.specs.Past.{Past, past_after}
 use Rattle.commit_log_law.specs.Happening.{MayHappen, Takes}
@@ -37,9 +37,9 @@ use Rattle.commit_log_law.proofs.Places.{changed-there}
 use Rattle.run_law.specs.Asides.{IsQuiet}
 use Rattle.run_law.specs.Declaring.{declared_members, member_count}
 use Rattle.run_law.specs.Promise.{Upholds, UpholdsAlways}
-use Rattle.run_law.proofs.Lists.{all-kinds}
+use Rattle.cluster_model.proofs.Lists.{all-kinds}
 use Rattle.run_law.proofs.Members.{counted, numbered}
-use Rattle.run_law.proofs.Places.{there}
+use Rattle.cluster_model.proofs.Places.{there}
 use Rattle.run_law.proofs.Streams.{acknowledge-quiet}
 use Rattle.wal_model.specs.Lacking.{has_serial, lacks_in}
 use Rattle.summary.specs.Losses.{WriterLacksOf}

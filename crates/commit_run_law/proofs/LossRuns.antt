@@ -41,16 +41,16 @@ use Rattle.cluster_model.specs.Orders.{declared_member, following_of, is_same_re
 use Rattle.cluster_model.specs.Parts.{event_of, events_of}
 use Rattle.cluster_model.specs.Starting.{cluster_of}
 use Rattle.cluster_model.specs.State.{Cluster}
-use Rattle.lease_law.specs.Premises.{AllAre}
+use Rattle.event_book.specs.Kinds.{AllAre}
 use Rattle.commit_log_law.specs.Happening.{MayFollow}
 use Rattle.commit_log_law.proofs.Matching.{same-first}
 use Rattle.commit_log_law.proofs.Repairing.{repair-follow}
 use Rattle.run_law.specs.Parts.{PartsUphold}
 use Rattle.run_law.specs.Promise.{Upholds, UpholdsAlways}
 use Rattle.lease_law.proofs.Tools.{both}
-use Rattle.run_law.proofs.InputEvents.{holds-if, holds-then, repaired-holds, told-holds}
+use Rattle.cluster_model.proofs.Founds.{holds-if, holds-then, repaired-holds, told-holds}
 use Rattle.run_law.proofs.InputStays.{item-here}
-use Rattle.run_law.proofs.Lists.{HoldsIf}
+use Rattle.cluster_model.proofs.Lists.{HoldsIf}
 use Rattle.run_law.proofs.Upholding.{upheld-for_some, upheld-none, upheld-then, upholds-all}
 use Rattle.run_law.proofs.Walking.{upholds-run}
 use Rattle.summary.specs.Telling.{TellLosses}

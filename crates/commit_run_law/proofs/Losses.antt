@@ -13,7 +13,7 @@ use Rattle.event_book.specs.Writers.{Begins, BeginsKind}
 use Rattle.event_book.proofs.Told.{count-of}
 use Rattle.cluster_model.specs.Cluster.{cluster_after, cluster_over}
 use Rattle.cluster_model.specs.State.{Cluster}
-use Rattle.lease_law.specs.Premises.{AllAre}
+use Rattle.event_book.specs.Kinds.{AllAre}
 use Rattle.lease_law.proofs.Runs.{assoc, none-more}
 use Rattle.lease_law.proofs.Tools.{both}
 use Rattle.commit_law.specs.Past.{Past, past_after, past_over}

@@ -24,7 +24,7 @@ use Rattle.commit_log_law.proofs.Kept.{change-once}
 use Rattle.run_law.specs.Declaring.{member_count}
 use Rattle.run_law.specs.Promise.{Upholds}
 use Rattle.run_law.proofs.Ending.{kept-kill}
-use Rattle.run_law.proofs.Places.{get-changed, get-elsewhere, get-here, there}
+use Rattle.cluster_model.proofs.Places.{get-changed, get-elsewhere, get-here, there}
 use Rattle.commit_step_law.specs.Bridged.{CommitsBridged, kept_commits}
 use Rattle.commit_step_law.specs.Reading.{agent_now, past_of, setup_of, volatile_of}
 use Rattle.commit_step_law.proofs.Moving.{Moves, OnlyLeave, agents-leave, upheld-moves}

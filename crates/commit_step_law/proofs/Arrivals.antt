@@ -27,7 +27,7 @@ use Rattle.cluster_model.specs.Parts.{event_of, events_of}
 use Rattle.cluster_model.specs.State.{Cluster}
 use Rattle.lease_law.specs.Leases.{Question}
 use Rattle.lease_law.specs.Past as lease_past
-use Rattle.lease_law.specs.Premises.{AllAre}
+use Rattle.event_book.specs.Kinds.{AllAre}
 use Rattle.lease_law.specs.Showing.{granted_events, read_events, refused_events}
 use Rattle.lease_law.specs.Stores.{IsSpannedTxn, is_granted as is_grant}
 use Rattle.lease_law.proofs.Tools.{put-there}

@@ -37,7 +37,7 @@ use Rattle.run_law.specs.Declaring.{member_count}
 use Rattle.run_law.specs.Promise.{Upholds, UpholdsAlways}
 use Rattle.run_law.proofs.Commands.{IsQuietCommand, command-quiet}
 use Rattle.run_law.proofs.Ending.{kept-loss}
-use Rattle.run_law.proofs.Lists.{HoldsIf}
+use Rattle.cluster_model.proofs.Lists.{HoldsIf}
 use Rattle.run_law.proofs.Members.{declared-now, declared-within}
 use Rattle.run_law.proofs.Promoting.{hands-off-back}
 use Rattle.run_law.proofs.Upholding.{upheld-for_some, upheld-none}

@@ -5,7 +5,7 @@ use Rattle.event_book.specs.declared.event.Event.{Event}
 use Rattle.cluster_model.specs.Cluster.{cluster_after, cluster_over}
 use Rattle.cluster_model.specs.State.{Cluster}
 use Rattle.lease_law.specs.Past as lease_past
-use Rattle.lease_law.specs.Premises.{AllAre}
+use Rattle.event_book.specs.Kinds.{AllAre}
 use Rattle.lease_law.proofs.Showing.{past-append as lease-append}
 use Rattle.commit_law.specs.Past.{Past, Setup, past_after, past_over}
 use Rattle.commit_law.proofs.Fronts.{past-append}

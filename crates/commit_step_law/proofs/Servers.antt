@@ -22,7 +22,7 @@ use Rattle.cluster_model.specs.Parts.{event_of, events_of, for_some}
 use Rattle.cluster_model.specs.State.{Cluster}
 use Rattle.cluster_model.specs.Streaming.{confirm_of, source_of}
 use Rattle.lease_law.specs.Past as lease_past
-use Rattle.lease_law.specs.Premises.{AllAre}
+use Rattle.event_book.specs.Kinds.{AllAre}
 use Rattle.commit_law.specs.Past.{Past, Setup, past_after, past_over}
 use Rattle.commit_law.specs.States.{State}
 use Rattle.commit_bridge_law.specs.Flights.{AreCausal}
@@ -35,7 +35,7 @@ use Rattle.run_law.specs.Asides.{IsQuiet}
 use Rattle.run_law.specs.Declaring.{member_count}
 use Rattle.run_law.specs.Kept.{IsKept}
 use Rattle.run_law.specs.Promise.{Upholds, UpholdsAlways}
-use Rattle.run_law.proofs.Lists.{AllKinds, HoldsIf, all-kinds, all-more}
+use Rattle.cluster_model.proofs.Lists.{AllKinds, HoldsIf, all-kinds, all-more}
 use Rattle.run_law.proofs.Ending.{kept-crash}
 use Rattle.run_law.proofs.Quiet.{kept-quiet}
 use Rattle.run_law.proofs.Streams.{IsQuietIf, acknowledge-quiet, confirm-quiet, keeps-acknowledge, keeps-receive-at-most}

@@ -23,7 +23,7 @@ use Rattle.cluster_model.specs.Next.{agent_start_events, agent_start_events_of}
 use Rattle.cluster_model.specs.Parts.{event_of, events_of, for_some}
 use Rattle.cluster_model.specs.State.{Cluster}
 use Rattle.lease_law.specs.Past as lease_past
-use Rattle.lease_law.specs.Premises.{AllAre}
+use Rattle.event_book.specs.Kinds.{AllAre}
 use Rattle.lease_law.proofs.Tools.{none-some, some-is}
 use Rattle.commit_law.specs.Actions.{Start, fresh_agent}
 use Rattle.commit_law.specs.Past.{Past, Setup, VolatileState, past_after, past_over, runs_after}
@@ -37,8 +37,8 @@ use Rattle.run_law.specs.Declaring.{member_count}
 use Rattle.run_law.specs.Kept.{IsKept}
 use Rattle.run_law.specs.Machines.{run_in, run_now}
 use Rattle.run_law.specs.Promise.{Upholds}
-use Rattle.run_law.proofs.Lists.{HoldsIf}
-use Rattle.run_law.proofs.Places.{get-changed, get-elsewhere, get-here, there}
+use Rattle.cluster_model.proofs.Lists.{HoldsIf}
+use Rattle.cluster_model.proofs.Places.{get-changed, get-elsewhere, get-here, there}
 use Rattle.run_law.proofs.Starting.{kept-restart}
 use Rattle.run_law.proofs.Upholding.{upheld-none}
 use Rattle.commit_step_law.specs.Agents.{AreAgentsSynchronous, IsAgentSynchronous}

@@ -20,7 +20,7 @@ use Rattle.cluster_model.specs.State.{Cluster}
 use Rattle.cluster_model.specs.Ticking.{completion_events, expiries_of, expiry_of, leader_expiry, next_expiries, reset_events, reset_of, tick_events}
 use Rattle.leader_key.specs.Watchdog.{is_due_at}
 use Rattle.lease_law.specs.Leases.{LeaderKey}
-use Rattle.lease_law.specs.Premises.{AllAre}
+use Rattle.event_book.specs.Kinds.{AllAre}
 use Rattle.lease_law.specs.States.{kept_if, leader_kept}
 use Rattle.commit_law.specs.Actions.{Expire, Kill, Note}
 use Rattle.commit_law.specs.Books.{AreAllowed, Transition}
@@ -34,7 +34,7 @@ use Rattle.commit_log_law.proofs.Acting.{leads-to}
 use Rattle.commit_log_law.proofs.Beginning.{fits-agents, fits-aside, killed-shown}
 use Rattle.commit_log_law.proofs.Kept.{change-once}
 use Rattle.run_law.specs.Promise.{UpholdsAlways}
-use Rattle.run_law.proofs.Places.{length-changed}
+use Rattle.cluster_model.proofs.Places.{length-changed}
 use Rattle.run_law.proofs.Upholding.{Each}
 use Rattle.wal_model.specs.declared.entry.Entry.{Entry}
 use Rattle.lease_store.specs.Answers.{expired_holder, expired_keys}
@@ -45,7 +45,7 @@ use Rattle.cluster_model.specs.Beginnings.{completed_by, completion_kinds, compl
 use Rattle.cluster_model.specs.Losing.{loss_if}
 use Rattle.cluster_model.specs.Orders.{declared_member}
 use Rattle.commit_log_law.proofs.Completions.{complete-follow}
-use Rattle.run_law.proofs.Lists.{AllKinds, all-kinds, all-more, kinds-both}
+use Rattle.cluster_model.proofs.Lists.{AllKinds, all-kinds, all-more, kinds-both}
 use Rattle.run_law.proofs.Members.{declared-within, each-declared}
 use Rattle.run_law.proofs.Ticks.{keeps-tick}
 use Rattle.commit_step_law.specs.Bridged.{kept_commits}

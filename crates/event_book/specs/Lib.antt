@@ -7,6 +7,7 @@ pub mod Flight
 pub mod Frozen
 pub mod Functions
 pub mod Keys
+pub mod Kinds
 pub mod Links
 pub mod Listing
 pub mod Logs

@@ -1,1 +1,2 @@
 mod Missing
+pub mod Small

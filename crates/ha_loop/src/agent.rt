@@ -7,6 +7,7 @@ ghost use Rattle.agent_model.specs.declared.heard.Heard.TheVariants as heards;
 ghost use Rattle.agent_model.specs.Agents.{AgentFacts, RoleFacts, IsSound, IsWithin, Follower, word_of, fresh_knowledge, made, latest, most_messages};
 ghost use Rattle.ha_loop.specs.Roles.{role_of};
 ghost use Rattle.agent_commit_law.specs.Committing.{CommitsFrom};
+ghost use Rattle.agent_law.specs.Bounds.{IsSmall};
 ghost use Rattle.agent_law.specs.FreeKey.{AsksWhereFree, AsksWhereWon, BeginsWhereGranted};
 ghost use Rattle.agent_lease_law.specs.Lawful.{IsLawfulFrom};
 ghost use Rattle.agent_model.specs.Outputs.{most_outputs};
@@ -118,6 +119,8 @@ impl Agent {
         ensures free_key { AsksWhereFree now heard (prepared now heard (made self.role self.knows machine.old out.old.outputs)) (made result.role result.knows machine.new out.new.outputs) }
         ensures won_race { AsksWhereWon now heard (prepared now heard (made self.role self.knows machine.old out.old.outputs)) (made result.role result.knows machine.new out.new.outputs) }
         ensures granted_key { BeginsWhereGranted now heard (prepared now heard (made self.role self.knows machine.old out.old.outputs)) (made result.role result.knows machine.new out.new.outputs) }
+        // It brings at most 40 messages and 40 outputs, and asks the key store for leases that it can write.
+        ensures small { IsSmall (made self.role self.knows machine.old out.old.outputs) (made result.role result.knows machine.new out.new.outputs) }
         ensures numbers { result.knows.sequence ≤ self.knows.sequence + most_outputs }
         ensures room { out.old.spare ≤ out.new.spare + most_outputs }
     {

@@ -3,7 +3,8 @@ use Rattle.std.proofs.Common.{◌≡◌, ◌⊎◌, ℕ, ◌+◌, ◌≤◌, ◌
 use Rattle.lease_law.specs.Leases.{LeaderKey, FailsafeKey, Query, Renew, Release, Question, Grant, Requested, Taking}
 use Rattle.lease_law.specs.States.{FailsafeCheck, Agent, Machine, State, Acts}
 use Rattle.lease_law.specs.Inputs.{AgentInput, HeardGrant, HeardYes, IsDeadline, IsOnTime, Fed, FedKnown, AllYes, WatchdogMay, Kept, Removed, SetByGrant, SetByFailsafe, SetAlone, Undone, Owns, MayCarry, MayCarryIf, MayQuery, MayAsk, IsLawful, IsInTime}
-use Rattle.lease_law.proofs.Tools.{some-is, not-false, decide-eq}
+use Rattle.lease_law.proofs.Tools.{some-is, not-false}
+use Rattle.std.proofs.lemmas.Bool.{cases_eq}
 use Rattle.lease_law.specs.Carried.{Spans, IsGuarded, IsThere, ActsAlone, IsAtRest, HasTaken, IsPresent, IsSound}
 use Rattle.lease_law.proofs.Onward.{spans-sub, holds-grow}
 
@@ -40,7 +41,7 @@ newcomer s m heard inv fed time free n acts =
       | inl c ↦ let h = c.1 in sym h.holder ∙ ap (λ (x : LeaderKey). x.holder) (some-is h.found_key p.found_key (sym h.key_is ∙ p.key_is)) ∙ p.holder
       | inr c ↦ let h = c.1 in elim (h.owner p.found_key p.key_is) [
         | inl e ↦ sym e ∙ p.holder
-        | inr e ↦ elim (decide-eq m n) [
+        | inr e ↦ elim (cases_eq m n) [
           | inl same ↦ sym same
           | inr other ↦ absurd (omega (arith, h.spans.listed h.f h.is m (ap h.f.members (sym p.holder) ∙ e) other, free, g.later))
         ]

@@ -18,7 +18,8 @@ use Rattle.lease_law.specs.Leases.{Question, Grant, Answer, Flying, Requested, A
 use Rattle.lease_law.specs.States.{Declared}
 use Rattle.lease_law.specs.Inputs.{AgentInput, IsOnTime, IsInTime}
 use Rattle.lease_law.specs.Past.{Past, grant_of, answer_of, question_in_flight_of, answer_in_flight_of, peer_in_flight_of, flying_of, past_flight_by, moments_sent_after, taken_after, runs_after, past_after, past_over, first_past, past_of, VolatileState, state_of}
-use Rattle.lease_law.specs.Premises.{Moments, IsSentInTime, IsFeedInTime, IsKindInTime, AreInTime, IsTimely, KeepsClockAndRuns, KeepsMomentOf, AllAre, IsFedBy, IsFedOn, ShowsFeed}
+use Rattle.lease_law.specs.Premises.{Moments, IsSentInTime, IsFeedInTime, IsKindInTime, AreInTime, IsTimely, KeepsClockAndRuns, KeepsMomentOf, IsFedBy, IsFedOn, ShowsFeed}
+use Rattle.event_book.specs.Kinds.{AllAre}
 use Rattle.lease_law.proofs.Tools.{some-is, none-some, put-all, dropped, put-here, put-there}
 
 abbrev moments_of : Past → Moments

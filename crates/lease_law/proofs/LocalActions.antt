@@ -11,7 +11,7 @@ use Rattle.lease_law.specs.Leases.{Flying}
 use Rattle.lease_law.specs.States.{Declared, State, is_due, tick_machine}
 use Rattle.lease_law.specs.Actions.{Action, Tick, Deliver, Lose, Input, Start, Kill, Crash, Note, act}
 use Rattle.lease_law.specs.Past.{Past, past_after, past_over, first_past, past_of, VolatileState, machine_of, state_of}
-use Rattle.lease_law.specs.Premises.{AllAre}
+use Rattle.event_book.specs.Kinds.{AllAre}
 use Rattle.lease_law.specs.Books.{Transition, IsShown}
 use Rattle.lease_law.specs.Showing.{IsLocal, IsLocalAction}
 use Rattle.lease_law.proofs.Showing.{past-append}

@@ -1,5 +1,5 @@
 -- Small tools.
-use Rattle.std.proofs.Common.{◌≡◌, ◌⊎◌, ℕ, ◌≤◌, ◌<◌, ◌==◌, ◌&&◌, nat_le, Bool, true, false, cond, Option, Some, None, refl, ◌∙◌, sym, subst, arith, inl, inr}
+use Rattle.std.proofs.Common.{◌≡◌, ℕ, ◌≤◌, ◌<◌, ◌==◌, ◌&&◌, nat_le, Bool, true, false, cond, Option, Some, None, refl, ◌∙◌, sym, subst, arith}
 use Rattle.std.proofs.lemmas.Bool.Decides.{nat_tests}
 use Rattle.event_book.specs.Functions.{put_at}
 use Rattle.lease_law.specs.Leases.{Question, Answer, FailsafeRequest, Acknowledgement, Flying, Requested, Answered, FailsafeRequested, Acknowledged}
@@ -49,13 +49,6 @@ put-there f k x n other = put-all f k x (λ m z. (m ≡ k → ⊥) → z ≡ f m
 -- what is still there was there
 pub dropped : {A : Type 0} (f : ℕ → Option A) (k : ℕ) (m : ℕ) (x : A) → put_at f k None m ≡ Some x → f m ≡ Some x
 dropped f k = put-all f k None (λ m o. (x : _) → o ≡ Some x → f m ≡ Some x) (λ x e. absurd (none-some x e)) (λ m other x e. e)
-
-decide-at : (b : Bool) (m n : ℕ) → (m == n) ≡ b → (m ≡ n) ⊎ (m ≡ n → ⊥)
-decide-at true m n e = inl (eq-from m n e)
-decide-at false m n e = inr (ne-from m n e)
-
-pub decide-eq : (m n : ℕ) → (m ≡ n) ⊎ (m ≡ n → ⊥)
-decide-eq m n = decide-at (m == n) m n refl
 
 -- messages of one kind are none of another
 pub answered-requested : (a : Answer) (q : Question) → ◌≡◌ {A = Option Flying} (Some (Answered a)) (Some (Requested q)) → ⊥

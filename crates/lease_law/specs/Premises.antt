@@ -15,6 +15,7 @@ use Rattle.event_book.specs.declared.event.WatchdogEvent.TheVariants as watchdog
 use Rattle.event_book.specs.declared.reason.Basis.{Basis}
 use Rattle.event_book.specs.declared.reason.Basis.TheVariants as bases
 use Rattle.event_book.specs.Clock.{now_after}
+use Rattle.event_book.specs.Kinds.{AllAre}
 use Rattle.lease_law.specs.Leases.{Taking, IsTaken}
 use Rattle.lease_law.specs.States.{FailsafeCheck, Agent, State}
 use Rattle.lease_law.specs.Inputs.{AgentInput, IsOnTime}
@@ -106,11 +107,6 @@ KeepsClockAndRuns _ = Unit {0}
 abbrev pub KeepsMomentOf : ℕ → EventKind → Type 0
 KeepsMomentOf number (kinds.Message (messages.Sent other message)) = other ≡ number → ⊥
 KeepsMomentOf number kind = KeepsClockAndRuns kind
-
--- the same holds of each of these events
-abbrev pub AllAre : (EventKind → Type 0) → List Event → Type 0
-AllAre P [] = Unit {0}
-AllAre P (event ∷ events) = P event.kind × AllAre P events
 
 -- the watchdog of this member is armed or fed in this event by the grant that the answer of this number tells
 abbrev pub IsFedBy : ℕ → ℕ → EventKind → Type 0

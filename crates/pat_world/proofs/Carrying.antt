@@ -23,7 +23,7 @@ use Rattle.cluster_model.specs.Parts.{each, events_of}
 use Rattle.cluster_model.specs.State.{Cluster}
 use Rattle.pat_world.specs.Emits.{Emits}
 use Rattle.pat_world.specs.Room.{HasRoom, output_cost, outputs_cost}
-use Rattle.pat_world.specs.Short.{AsksShortly}
+use Rattle.agent_model.specs.Asked.{AsksShortly}
 use Rattle.pat_world.proofs.Rest.{Left, Left-end, Left-more, Left-room}
 use Rattle.pat_world.proofs.Rooms.{HasRoom-fewer}
 use Rattle.pat_world.proofs.Taking.{Emits-weaker}

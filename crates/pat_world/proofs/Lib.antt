@@ -1,4 +1,3 @@
-pub mod Acting
 pub mod Acknowledgements
 pub mod Calling
 pub mod Carrying

@@ -59,9 +59,9 @@ use Rattle.cluster_model.specs.Requests.{answering, config_text_of, told_kind}
 use Rattle.cluster_model.specs.Parts.{each, events_of, for_some}
 use Rattle.cluster_model.specs.State.{Cluster}
 use Rattle.wal_model.specs.Lacking.{lacks_in}
-use Rattle.lease_law.specs.Premises.{AllAre}
-use Rattle.run_law.proofs.InputEvents.{holds-then, holds-if, repaired-holds}
-use Rattle.run_law.proofs.Lists.{AllKinds, HoldsIf, all-both, all-kinds, one-kind}
+use Rattle.event_book.specs.Kinds.{AllAre}
+use Rattle.cluster_model.proofs.Founds.{holds-then, holds-if, repaired-holds}
+use Rattle.cluster_model.proofs.Lists.{AllKinds, HoldsIf, all-both, all-kinds, one-kind}
 
 -- ---- the messages in flight
 no-yes : false ≡ true → ⊥

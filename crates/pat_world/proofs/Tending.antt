@@ -21,8 +21,8 @@ use Rattle.event_book.specs.Links.{CutLinks, cuts_after, end_count, end_number, 
 use Rattle.cluster_model.specs.declared.delivery.Delivery.{Delivery}
 use Rattle.cluster_model.specs.declared.delivery.Delivery.TheVariants as deliveries
 use Rattle.cluster_model.specs.Deliveries.{delivery_of, delivery_to, delivery_to_agent, link_of_message}
-use Rattle.lease_law.proofs.Tools.{decide-eq}
-use Rattle.run_law.proofs.Places.{get-elsewhere}
+use Rattle.std.proofs.lemmas.Bool.{cases_eq}
+use Rattle.cluster_model.proofs.Places.{get-elsewhere}
 use Rattle.pat_world.specs.FlightIndex.{AreNumbered, AreTended, Concerns, ConcernsLink, ConcernsMachine, ConcernsReceiver, IndexFacts, IsHeldBack, IsLooser, IsLooserBut, Takes, is_among, is_kept, kept_on, may_move, message_way, way_of}
 
 no-yes : false ≡ true → ⊥
@@ -71,7 +71,7 @@ tended-sent index number old new states cuts there others tended n message is ou
 
 pub numbered-sent : (sent : ℕ) (old new : Flight) → ((n : ℕ) (message : InFlightFacts) → n ≢ sent + 1 → in_flight new n ≡ Some message → in_flight old n ≡ Some message)
     → AreNumbered sent old → AreNumbered (sent + 1) new
-numbered-sent sent old new others numbered n message is = elim (decide-eq n (sent + 1)) [
+numbered-sent sent old new others numbered n message is = elim (cases_eq n (sent + 1)) [
   | inl e ↦ omega (arith, e)
   | inr other ↦ let low = numbered n message (others n message other is) in omega (arith, low)
 ]
@@ -79,7 +79,7 @@ numbered-sent sent old new others numbered n message is = elim (decide-eq n (sen
 -- a message is kept for its receiver
 pub tended-kept : (old new : IndexFacts) (number : ℕ) (found : InFlightFacts) (flight : Flight) (states : List AgentProcess) (cuts : CutLinks) → in_flight flight number ≡ Some found → IsLooserBut number old new
     → is_kept new (message_way found.message) number ≡ true → delivery_of cuts states found.message ≡ deliveries.Suspended → AreTended old flight states cuts → AreTended new flight states cuts
-tended-kept old new number found flight states cuts there looser listed suspended tended n message is out = elim (decide-eq n number) [
+tended-kept old new number found flight states cuts there looser listed suspended tended n message is out = elim (cases_eq n number) [
   | inl e ↦
       let same : found ≡ message = same_Some found message (sym there ∙ ap (in_flight flight) (sym e) ∙ is) in
       subst (λ (m : InFlightFacts). IsHeldBack new states cuts n m.message) same
@@ -115,7 +115,7 @@ crossed a b f s first second third fourth other e = (omega (arith, other, e), om
 
 -- two messages that take one link have the same ends
 same-ends : (a b f s : ℕ) → a < 17 → b < 17 → f < 17 → s < 17 → min a b * 17 + max a b ≡ min f s * 17 + max f s → ((b ≡ f) × (a ≡ s)) ⊎ ((b ≡ s) × (a ≡ f))
-same-ends a b f s first second third fourth e = elim (decide-eq b f) [
+same-ends a b f s first second third fourth e = elim (cases_eq b f) [
   | inl same ↦ inl (same, second-same a b f s first second third fourth same e)
   | inr other ↦ inr (crossed a b f s first second third fourth other e)
 ]

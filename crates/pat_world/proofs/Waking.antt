@@ -24,8 +24,8 @@ use Rattle.cluster_model.specs.Parts.{each, event_of}
 use Rattle.cluster_model.specs.State.{Cluster}
 use Rattle.pat_world.specs.Emits.{Emits}
 use Rattle.pat_world.specs.Room.{call_cost, input_cost, outputs_cost}
-use Rattle.pat_world.specs.Short.{AsksShortly}
-use Rattle.pat_world.proofs.Acting.{step-small}
+use Rattle.agent_model.specs.Asked.{AsksShortly}
+use Rattle.ha_loop.proofs.Small.{small-step}
 use Rattle.pat_world.proofs.Taking.{Emits-then, found-took}
 
 -- what an input did is little, and asks shortly
@@ -40,7 +40,7 @@ outcome-few : (now : Ticks) (points : List HistoryPoint) (heard : Heard) (agent 
 outcome-few now points heard None machine = no-outputs
 outcome-few now points heard (Some agent) None = no-outputs
 outcome-few now points heard (Some agent) (Some machine) =
-    let small = step-small now points heard (made agent.role agent.knows machine []) in
+    let small = small-step now points heard (made agent.role agent.knows machine []) in
     record { few = small.few; short = small.short (All-nil AsksShortly) }
 
 pub input-few : (cluster : Cluster) (member : Member) (heard : Option Heard) → AreFew (outputs_of (outcome_of_heard cluster member heard))

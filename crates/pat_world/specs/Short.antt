@@ -8,25 +8,11 @@ use Rattle.event_book.specs.declared.message.Body.{Body}
 use Rattle.event_book.specs.declared.message.Body.TheVariants as bodies
 use Rattle.event_book.specs.Flight.{Flight, InFlightFacts}
 use Rattle.cluster_config.specs.Snapshots.{IsRead}
-use Rattle.agent_model.specs.declared.output.Output.{Output}
-use Rattle.agent_model.specs.declared.output.Output.TheVariants as outputs
 
 -- a request asks for leases that the key store can write
 abbrev pub IsShort : Body → Type 0
 IsShort (bodies.Request txn) = ttl_of txn ≤ 2 ^ 40
 IsShort _ = Unit {0}
-
--- what an agent asks: the key store for leases that it can write, and other members
-abbrev pub IsAsked : Body → Type 0
-IsAsked bodies.Read = Unit {0}
-IsAsked bodies.Ask = Unit {0}
-IsAsked (bodies.Request txn) = ttl_of txn ≤ 2 ^ 40
-IsAsked _ = ⊥
-
--- so does an output
-abbrev pub AsksShortly : Output → Type 0
-AsksShortly (outputs.Send to sequence body) = IsAsked body
-AsksShortly _ = Unit {0}
 
 -- the entries that an answer carries were read
 abbrev pub CarriesRead : Body → List (Key × KeyEntry) → Type 0

@@ -13,7 +13,7 @@ use Rattle.cluster_model.specs.State.{Cluster}
 use Rattle.lease_law.specs.Actions.{Action, Tick, Deliver, Lose, Input, Start, Kill, Crash, Note, act, IsLawfulAction}
 use Rattle.lease_law.specs.Claims.{BeginsBehind, MayBeginBehind, ShowsIt}
 use Rattle.lease_law.specs.Past.{Past, past_of, first_past, machine_of, state_of}
-use Rattle.lease_law.specs.Premises.{AllAre}
+use Rattle.event_book.specs.Kinds.{AllAre}
 use Rattle.lease_law.specs.Showing.{IsLocal, IsLocalAction}
 use Rattle.lease_law.specs.States.{Machine, State as Lease}
 use Rattle.lease_law.proofs.LocalActions.{local-shown}

@@ -20,7 +20,8 @@ use Rattle.cluster_script.specs.Script.{HeadText}
 use Rattle.cluster_model.specs.State.{Cluster}
 use Rattle.lease_law.specs.Claims.{BeginsBehind}
 use Rattle.lease_law.specs.Past.{Past, past_after, past_over, past_of, first_past}
-use Rattle.lease_law.specs.Premises.{AllAre, IsHandsOffKind}
+use Rattle.lease_law.specs.Premises.{IsHandsOffKind}
+use Rattle.event_book.specs.Kinds.{AllAre}
 use Rattle.lease_law.specs.Stores.{IsSpanned}
 use Rattle.lease_law.proofs.SameStore.{same-by}
 use Rattle.lease_law.proofs.Showing.{past-append}
@@ -33,7 +34,7 @@ use Rattle.run_law.specs.Bridged.{KnowsItself, KnowThemselves, IsMatched}
 use Rattle.run_law.specs.Declaring.{member_count}
 use Rattle.run_law.specs.Machines.{run_in}
 use Rattle.run_law.proofs.Machines.{machines-by, sized-by}
-use Rattle.run_law.proofs.Places.{get-changed, length-changed, there}
+use Rattle.cluster_model.proofs.Places.{get-changed, length-changed, there}
 use Rattle.run_law.proofs.Waiting.{aside-within, waiting-aside, waiting-started}
 use Rattle.agent_model.specs.Pausing.{is_paused}
 

@@ -32,7 +32,7 @@ use Rattle.run_law.proofs.Actions.{action-kept, local-kept}
 use Rattle.run_law.proofs.Asides.{asides-begin, matched-behind}
 use Rattle.run_law.proofs.Machines.{ended-run, seen-kept}
 use Rattle.run_law.proofs.SameMachine.{machine-same, machines-put}
-use Rattle.run_law.proofs.Places.{get-here, get-elsewhere, there}
+use Rattle.cluster_model.proofs.Places.{get-here, get-elsewhere, there}
 
 -- without its agent a member has none
 pub agent-without : (agents : List (Option AgentFacts)) (k : ℕ) → k < length agents → agent_now (option_map (λ (agent : Option AgentFacts). let none : Option AgentFacts = None in none) (slice_get agents k)) ≡ None

@@ -6,7 +6,7 @@ use Rattle.std.proofs.lemmas.Option.{slice_get_within}
 use Rattle.std.proofs.Common.{◌≡◌, ◌≢◌, ◌⊎◌, ◌++◌, ◌≤◌, ◌<◌, ℕ, Bool, true, false, List, [], ◌∷◌, Option, Some, None, All, Contains, length, slice_get, refl, sym, subst, ap, ◌∙◌, inl, inr}
 use Rattle.std.proofs.lemmas.List.Elements.{All-contains_itself}
 use Rattle.std.proofs.Math.Path.{fun_ext}
-use Rattle.std.proofs.lemmas.Bool.{false_from_ne_true}
+use Rattle.std.proofs.lemmas.Bool.{false_from_ne_true, cases_eq}
 use Rattle.pat_base.specs.Changes.{with_changed}
 use Rattle.pat_base.specs.declared.ticks.Ticks.{Ticks}
 use Rattle.pg_model.specs.Facts.{ServerFacts}
@@ -50,17 +50,18 @@ use Rattle.lease_law.specs.Books.{IsShown}
 use Rattle.lease_law.specs.Claims.{BeginsBehind, MayBeginBehind, ShowsIt, IsArmedIn}
 use Rattle.lease_law.specs.Inputs.{AgentInput, Fed, HeardGrant, IsOnTime, Kept, Removed, SetAlone, SetByFailsafe, SetByGrant, Undone, WatchdogMay}
 use Rattle.lease_law.specs.Past.{Past, VolatileState, first_past, past_after, past_of, past_over, state_of, machine_of as machine_told, taken_after}
-use Rattle.lease_law.specs.Premises.{AllAre, IsFedBy, IsTimely, KeepsMomentOf}
+use Rattle.lease_law.specs.Premises.{IsFedBy, IsTimely, KeepsMomentOf}
+use Rattle.event_book.specs.Kinds.{AllAre}
 use Rattle.lease_law.specs.Showing.{IsOwn, input_of}
 use Rattle.lease_law.specs.States.{Acts, Agent, Machine as MachineSeen, State}
 use Rattle.lease_law.proofs.Feeding.{input-in-time}
 use Rattle.lease_law.proofs.Showing.{input-shown-of, past-append}
-use Rattle.lease_law.proofs.Tools.{none-some, some-is, put-here, not-false, decide-eq, put-there}
+use Rattle.lease_law.proofs.Tools.{none-some, some-is, put-here, not-false, put-there}
 use Rattle.bridge_law.specs.Groups.{IsOfMembers as IsFromMembers, AreNumberedAbove}
 use Rattle.bridge_law.specs.Sending.{SendsOnly}
 use Rattle.bridge_law.proofs.Groups.{own-causal}
 use Rattle.bridge_law.proofs.Sends.{old-or-sent, heard-gone}
-use Rattle.run_law.proofs.Lists.{all-more}
+use Rattle.cluster_model.proofs.Lists.{all-more}
 use Rattle.run_law.specs.Bridged.{Bridged, IsMatched, KnowThemselves, KnowsItself}
 use Rattle.run_law.specs.Declaring.{declared_of, member_count, works_of}
 use Rattle.run_law.specs.InputEvents.{IsMessageOf, Asks, AsksPeer, AnswersPeer, IsOfInput}
@@ -77,7 +78,7 @@ use Rattle.run_law.proofs.InputOutputs.{each-begins, each-fed, each-resembles, e
 use Rattle.run_law.proofs.InputSeen.{IsFound, margin-of, seen-of}
 use Rattle.run_law.proofs.InputStays.{Stays, each-mine, item-here, stays-over}
 use Rattle.run_law.proofs.InputWaiting.{agents-after, knows-after, runs-after}
-use Rattle.run_law.proofs.Places.{get-elsewhere, length-changed}
+use Rattle.cluster_model.proofs.Places.{get-elsewhere, length-changed}
 use Rattle.run_law.proofs.Questions.{step-asks-anew}
 
 -- ---- the event with which it begins
@@ -415,7 +416,7 @@ module _ (head : HeadText) (book : List Event) (cluster : Cluster) (good : Bridg
             (ap agent_now (ap (λ (l : List (Option AgentFacts)). slice_get l n) (agents-are acts) ∙ get-elsewhere cluster.agents M n (agent_after (Some After)) other))
 
         by : (n : ℕ) → volatile_of Later n ≡ put_at (volatile_of cluster) M (volatile_of Later M) n
-        by n = elim (decide-eq n M) [
+        by n = elim (cases_eq n M) [
           | inl same ↦ ap (volatile_of Later) same ∙ sym (put-here (volatile_of cluster) M (volatile_of Later M)) ∙ ap (put_at (volatile_of cluster) M (volatile_of Later M)) (sym same)
           | inr other ↦ other-way n other ∙ sym (put-there (volatile_of cluster) M (volatile_of Later M) n other)
         ]

@@ -23,10 +23,12 @@ use Rattle.agent_lease_law.specs.Lawful.{query_in}
 use Rattle.cluster_model.specs.Messages.{agent_message}
 use Rattle.lease_law.specs.Leases.{Query, Read, Question, Flying, Requested, Taking}
 use Rattle.lease_law.specs.Past.{Past, first_past, flying_of, past_after, past_over, query_of, taken_after}
-use Rattle.lease_law.specs.Premises.{AllAre, IsHandsOffKind, KeepsMomentOf}
+use Rattle.lease_law.specs.Premises.{IsHandsOffKind, KeepsMomentOf}
+use Rattle.event_book.specs.Kinds.{AllAre}
 use Rattle.lease_law.specs.Showing.{IsOwn}
 use Rattle.lease_law.specs.Stores.{IsSpanned}
-use Rattle.lease_law.proofs.Tools.{some-is, decide-eq}
+use Rattle.lease_law.proofs.Tools.{some-is}
+use Rattle.std.proofs.lemmas.Bool.{cases_eq}
 use Rattle.bridge_law.specs.Groups.{IsMemberEnd, IsOfMembers as IsFromMembers, IsNumberedAbove}
 use Rattle.bridge_law.specs.Sending.{SendsOnly, flying_from}
 use Rattle.bridge_law.proofs.Flights.{asked-there, asked-new, flying-same}
@@ -184,7 +186,7 @@ reads-now p q ends.Store to run sequence body is same = absurd is
 asked-one : (P : Flying → Type 0) (past : Past) (kind : EventKind) → SendsOnly P past.clock kind → (i : ℕ) (q : Question) → (past_after past kind).asked i ≡ Some q → (past.asked i ≡ Some q) ⊎ P (Requested q)
 asked-one P past (kinds.Message (Sent number message)) is i q e =
     let one : Option Flying = flying_of past message.from message.to message.run message.sequence message.body in
-    elim (decide-eq i number) [
+    elim (cases_eq i number) [
       | inl here ↦ elim (asked-new past.asked number one q (ap (λ (n : ℕ). (past_after past (kinds.Message (Sent number message))).asked n) (sym here) ∙ e)) [
         | inl new ↦ inr (is.1 (Requested q) (reads-now (record first_past { clock = past.clock }) past message.from message.to message.run message.sequence message.body is.0 refl ∙ new))
         | inr old ↦ inl (ap past.asked here ∙ old)

@@ -55,8 +55,8 @@ use Rattle.cluster_model.specs.Orders.{declared_member, following_of, handing_ov
 use Rattle.cluster_model.specs.Parts.{events_of, for_some}
 use Rattle.cluster_model.specs.Requests.{told_kind}
 use Rattle.cluster_model.specs.State.{Cluster}
-use Rattle.run_law.proofs.InputEvents.{holds-mapped, repaired-holds, told-holds}
-use Rattle.run_law.proofs.Lists.{HoldsIf}
+use Rattle.cluster_model.proofs.Founds.{holds-mapped, repaired-holds, told-holds}
+use Rattle.cluster_model.proofs.Lists.{HoldsIf}
 use Rattle.run_law.proofs.Quiet.{live-kept}
 use Rattle.run_law.specs.Machines.{live_in, live_now}
 use Rattle.run_law.proofs.InputStays.{item-here}

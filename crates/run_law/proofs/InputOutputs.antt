@@ -45,10 +45,11 @@ use Rattle.cluster_model.specs.Orders.{server_at}
 use Rattle.cluster_model.specs.Parts.{each, events_of, for_some}
 use Rattle.cluster_model.specs.State.{Cluster}
 use Rattle.lease_law.specs.Claims.{BeginsBehind, IsArmedIn}
-use Rattle.lease_law.specs.Premises.{AllAre, KeepsMomentOf, IsFedBy}
+use Rattle.lease_law.specs.Premises.{KeepsMomentOf, IsFedBy}
+use Rattle.event_book.specs.Kinds.{AllAre}
 use Rattle.lease_law.proofs.Runs.{assoc, none-more}
 use Rattle.bridge_law.specs.Groups.{IsNumberedAbove, AreNumberedAbove}
-use Rattle.run_law.proofs.Lists.{all-both, all-front, all-back, all-kinds}
+use Rattle.cluster_model.proofs.Lists.{all-both, all-front, all-back, all-kinds}
 use Rattle.run_law.specs.InputEvents.{IsMessageOf, Asks, AsksPeer, AnswersPeer, IsOfInput, IsToBegin}
 use Rattle.run_law.specs.Machines.{live_in, live_now}
 use Rattle.run_law.proofs.InputEvents.{again-mine, output-mine}

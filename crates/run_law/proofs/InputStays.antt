@@ -28,11 +28,11 @@ use Rattle.cluster_model.specs.Cluster.{agent_facts_after, cluster_after, cluste
 use Rattle.cluster_model.specs.Messages.{output_events}
 use Rattle.cluster_model.specs.Parts.{each}
 use Rattle.cluster_model.specs.State.{Cluster}
-use Rattle.lease_law.specs.Premises.{AllAre}
-use Rattle.run_law.proofs.Lists.{all-both}
+use Rattle.event_book.specs.Kinds.{AllAre}
+use Rattle.cluster_model.proofs.Lists.{all-both}
 use Rattle.run_law.specs.InputEvents.{IsOfInput}
 use Rattle.run_law.proofs.InputEvents.{output-mine}
-use Rattle.run_law.proofs.Places.{get-here, get-elsewhere}
+use Rattle.cluster_model.proofs.Places.{get-here, get-elsewhere}
 
 -- what stays as it was beside the machine of the member of this number, but for messages
 pub record Stays (m : ℕ) (cluster later : Cluster) : Type 0 where

@@ -24,7 +24,7 @@ use Rattle.run_law.specs.Bridged.{KnowsItself, KnowThemselves}
 use Rattle.run_law.specs.Machines.{run_in}
 use Rattle.run_law.specs.Questions.{span_asked, SendsBetween, AsksFor, WaitsOn, Same, Nothing, New, AsksAnew}
 use Rattle.run_law.specs.Waiting.{IsAwaited, IsAgentSound, AreAgentsSound}
-use Rattle.run_law.proofs.Places.{get-changed}
+use Rattle.cluster_model.proofs.Places.{get-changed}
 use Rattle.agent_model.specs.Pausing.{is_paused}
 
 requested-is : (a b : Question) → ◌≡◌ {A = Flying} (Requested a) (Requested b) → a ≡ b

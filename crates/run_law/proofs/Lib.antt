@@ -1,5 +1,3 @@
-pub mod Places
-pub mod Lists
 pub mod Machines
 pub mod SameMachine
 pub mod Upholding

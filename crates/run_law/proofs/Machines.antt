@@ -28,7 +28,7 @@ use Rattle.event_book.proofs.Told.{count-of, writes-of, writes-same}
 use Rattle.lease_law.specs.Past.{Past, past_after, deadline_after, deadline_by, by_failsafe_after, by_failsafe_by, is_acknowledged, hold_after, hold_by, runs_after}
 use Rattle.lease_law.proofs.Tools.{put-all}
 use Rattle.run_law.specs.Machines.{deadline_now, deadline_in, hold_now, hold_in, run_now, run_in, IsSameEverywhere, IsSized, IsByGrant, IsWithinMembers}
-use Rattle.run_law.proofs.Places.{get-changed, length-changed, there}
+use Rattle.cluster_model.proofs.Places.{get-changed, length-changed, there}
 
 -- what is put at a place is what is seen of the changed item there
 module _ {A B : Type 0} (see : Option A → B) where

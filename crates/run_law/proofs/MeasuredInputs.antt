@@ -42,7 +42,7 @@ use Rattle.run_law.specs.Machines.{run_in, run_now}
 use Rattle.run_law.proofs.InputEvents.{output-mine}
 use Rattle.run_law.proofs.InputOutputs.{each-numbered, output-numbered, stays-output}
 use Rattle.run_law.proofs.InputStays.{each-mine}
-use Rattle.run_law.proofs.Lists.{all-more}
+use Rattle.cluster_model.proofs.Lists.{all-more}
 use Rattle.run_law.proofs.Measuring.{IsUnfed, Measures, measured-both, unfed-measured}
 use Rattle.run_law.proofs.Moments.{KnowsSending, moments_over}
 use Rattle.run_law.proofs.Unfed.{FeedsNone, actions-feed-none, wakes-feed-none}

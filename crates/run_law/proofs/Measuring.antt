@@ -13,7 +13,8 @@ use Rattle.cluster_model.specs.Limits.{most_in_flight}
 use Rattle.cluster_model.specs.Messages.{lost_at_once, send_events}
 use Rattle.cluster_model.specs.Parts.{each, events_of, events_then, for_some}
 use Rattle.cluster_model.specs.State.{Cluster}
-use Rattle.lease_law.specs.Premises.{AllAre, Moments, moments_after}
+use Rattle.lease_law.specs.Premises.{Moments, moments_after}
+use Rattle.event_book.specs.Kinds.{AllAre}
 use Rattle.bridge_law.specs.Groups.{AreNumberedAbove, IsNumberedAbove}
 use Rattle.summary.specs.Sights.{since_after}
 use Rattle.summary.specs.Telling.{AreMeasured, IsMeasured}

@@ -14,7 +14,7 @@ use Rattle.lease_law.proofs.Tools.{some-is}
 use Rattle.run_law.specs.Declaring.{declared_members, member_count}
 use Rattle.run_law.specs.Members.{IsDeclared, is_listed}
 use Rattle.run_law.proofs.Upholding.{Each}
-use Rattle.run_law.proofs.Places.{eq-self, there}
+use Rattle.cluster_model.proofs.Places.{eq-self, there}
 
 not-small : (n : ℕ) → nat_lt n 16 ≡ false → n < 16 → ⊥
 not-small n is small = grind (arith, nat_tests)

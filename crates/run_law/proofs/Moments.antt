@@ -10,7 +10,8 @@ use Rattle.event_book.specs.Functions.{put_at}
 use Rattle.cluster_model.specs.Cluster.{cluster_after, cluster_over}
 use Rattle.cluster_model.specs.State.{Cluster}
 use Rattle.lease_law.specs.Premises.{Moments, moments_after}
-use Rattle.lease_law.proofs.Tools.{decide-eq, dropped, put-all, put-here, put-there, some-is}
+use Rattle.lease_law.proofs.Tools.{dropped, put-all, put-here, put-there, some-is}
+use Rattle.std.proofs.lemmas.Bool.{cases_eq}
 use Rattle.bridge_law.specs.Flights.{Rises}
 use Rattle.bridge_law.specs.Groups.{AreNumberedAbove, IsNumberedAbove}
 use Rattle.bridge_law.proofs.Entries.{in-with, in-without, rises-with, rises-without}
@@ -42,7 +43,7 @@ sending-by moments facts (kinds.Message (Sent number message)) above old =
       order = rises-with 0 facts.flight number one (zero-least number) old.order;
       flown = λ i c e. put-all (in_flight facts.flight) number (Some one) (λ n o. (c : InFlightFacts) → o ≡ Some c → n ≤ number) (λ c is. self-le number) (λ n other c is. above-old n facts.sent number (old.flown n c is) above)
           i c (sym (in-with facts.flight number one i) ∙ e);
-      known = λ i c e. elim (decide-eq i number) [
+      known = λ i c e. elim (cases_eq i number) [
         | inl here ↦
             ap (put_at moments.sent number (Some moments.clock)) here ∙ put-here moments.sent number (Some moments.clock)
             ∙ same-moment moments.clock one c (some-is one c (sym (put-here (in_flight facts.flight) number (Some one)) ∙ ap (put_at (in_flight facts.flight) number (Some one)) (sym here) ∙ sym (in-with facts.flight number one i) ∙ e)) old.clock

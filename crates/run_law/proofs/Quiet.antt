@@ -19,7 +19,7 @@ use Rattle.cluster_model.specs.Parts.{event_of, events_of}
 use Rattle.cluster_model.specs.State.{Cluster}
 use Rattle.lease_law.specs.Actions.{Note}
 use Rattle.lease_law.specs.Showing.{IsLocal}
-use Rattle.run_law.proofs.Lists.{AllKinds}
+use Rattle.cluster_model.proofs.Lists.{AllKinds}
 use Rattle.run_law.specs.Asides.{IsAside, IsQuiet}
 use Rattle.run_law.specs.Bridged.{Bridged}
 use Rattle.run_law.specs.Kept.{IsKept}

@@ -28,7 +28,7 @@ use Rattle.cluster_model.specs.State.{Cluster}
 use Rattle.lease_law.specs.Actions.{Start}
 use Rattle.lease_law.specs.Claims.{MayBeginBehind}
 use Rattle.lease_law.specs.Past.{Past, first_past, past_after, past_of, state_of}
-use Rattle.lease_law.specs.Premises.{AllAre}
+use Rattle.event_book.specs.Kinds.{AllAre}
 use Rattle.lease_law.specs.Showing.{IsLocal}
 use Rattle.lease_law.specs.States.{State, deadline_if, fresh_agent, start_machine}
 use Rattle.run_law.specs.Asides.{IsAside}
@@ -44,7 +44,7 @@ use Rattle.run_law.proofs.Composing.{kept-for_some, kept-none, kept-then}
 use Rattle.run_law.proofs.Machines.{no-deadline}
 use Rattle.run_law.proofs.SameMachine.{machine-same, machines-put}
 use Rattle.run_law.proofs.Fresh.{fresh-seen}
-use Rattle.run_law.proofs.Places.{get-here, get-elsewhere, there}
+use Rattle.cluster_model.proofs.Places.{get-here, get-elsewhere, there}
 use Rattle.run_law.proofs.Quiet.{kept-quiet}
 
 -- what a start does to a deadline: an event that removes it, or none where it stays as it is

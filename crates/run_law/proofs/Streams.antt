@@ -21,7 +21,7 @@ use Rattle.cluster_model.specs.Next.{acknowledge_events, confirm_events, receive
 use Rattle.cluster_model.specs.Parts.{event_of, events_of}
 use Rattle.cluster_model.specs.State.{Cluster}
 use Rattle.cluster_model.specs.Streaming.{confirm_of, source_of}
-use Rattle.run_law.proofs.Lists.{AllKinds, kinds-both}
+use Rattle.cluster_model.proofs.Lists.{AllKinds, kinds-both}
 use Rattle.run_law.specs.Asides.{IsQuiet}
 use Rattle.run_law.specs.Bridged.{Bridged}
 use Rattle.run_law.specs.Kept.{IsKept, Keeps}

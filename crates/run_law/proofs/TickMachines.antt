@@ -28,7 +28,7 @@ use Rattle.cluster_model.specs.State.{Cluster}
 use Rattle.cluster_model.specs.Ticking.{completion_events, reset_events, reset_of}
 use Rattle.lease_law.specs.States.{Machine, is_due, tick_machine}
 use Rattle.lease_law.proofs.Tools.{eq-from, ne-from}
-use Rattle.run_law.proofs.Lists.{AllKinds}
+use Rattle.cluster_model.proofs.Lists.{AllKinds}
 use Rattle.run_law.specs.Asides.{IsQuiet}
 use Rattle.run_law.specs.Machines.{deadline_in, deadline_now, live_now, run_now}
 use Rattle.run_law.specs.Members.{is_listed}
@@ -37,7 +37,7 @@ use Rattle.run_law.proofs.Upholding.{Each, over-append}
 use Rattle.run_law.proofs.Ending.{agent-without, crashed-now}
 use Rattle.run_law.proofs.Machines.{ended-run, no-deadline, seen-kept}
 use Rattle.run_law.proofs.SameMachine.{machine-same}
-use Rattle.run_law.proofs.Places.{get-here, get-elsewhere, length-changed}
+use Rattle.cluster_model.proofs.Places.{get-here, get-elsewhere, length-changed}
 use Rattle.run_law.proofs.Quiet.{live-kept, quiet-machine}
 
 -- ---- the clock grows

@@ -33,11 +33,11 @@ use Rattle.std.specs.Prelude.{nat_le}
 use Rattle.lease_law.specs.Actions.{Tick}
 use Rattle.lease_law.specs.Claims.{MayBeginBehind}
 use Rattle.lease_law.specs.Past.{past_of, state_of}
-use Rattle.lease_law.specs.Premises.{AllAre}
+use Rattle.event_book.specs.Kinds.{AllAre}
 use Rattle.lease_law.specs.Showing.{IsLocal}
 use Rattle.lease_law.specs.States.{Machine, is_due, tick_machine}
 use Rattle.lease_law.proofs.LocalActions.{tick-shown}
-use Rattle.run_law.proofs.Lists.{AllKinds, all-both, kinds-both}
+use Rattle.cluster_model.proofs.Lists.{AllKinds, all-both, kinds-both}
 use Rattle.run_law.specs.Asides.{IsAside, IsAsideIn, IsQuiet}
 use Rattle.run_law.specs.Declaring.{declared_members, declared_of, member_count}
 use Rattle.run_law.specs.Kept.{Keeps}

@@ -33,7 +33,7 @@ use Rattle.run_law.specs.Machines.{IsWithinMembers, run_in}
 use Rattle.run_law.specs.Waiting.{AgentsAreSound, IsAgentSound}
 use Rattle.run_law.proofs.Fitting.{SendsAddressed, carried-by}
 use Rattle.run_law.proofs.Machines.{runs-of}
-use Rattle.run_law.proofs.Places.{get-changed}
+use Rattle.cluster_model.proofs.Places.{get-changed}
 
 -- ---- what such an event leaves
 aside-asked : (May : ℕ → Type 0) (past : Past) (kind : EventKind) → IsAsideIn May kind → (past_after past kind).asked ≡ past.asked

@@ -22,7 +22,8 @@ use Rattle.event_book.specs.Acknowledged.{acknowledged_of, acknowledged_in}
 use Rattle.event_book.specs.Functions.{put_at}
 use Rattle.event_book.specs.Logs.{Logs, log_received, logs_by, logs_after, logs_over}
 use Rattle.event_book.specs.Writers.{writes_by_server, writes_by_watchdog, writes_after, writes_over, AcceptsWrites}
-use Rattle.lease_law.proofs.Tools.{both, put-all, put-here, put-there, decide-eq}
+use Rattle.lease_law.proofs.Tools.{both, put-all, put-here, put-there}
+use Rattle.std.proofs.lemmas.Bool.{cases_eq}
 use Rattle.wal_model.specs.Lacking.{has_serial, lacks_in}
 use Rattle.summary.specs.Losses.{may_lose, may_lose_by_server, may_lose_by_log, WriterLacksOf}
 use Rattle.summary.specs.Seeing.{entries_found, entries_at, LacksOne, WriterLacks, WritersHold}
@@ -74,7 +75,7 @@ Grows change = (log : Option (List Entry)) (c : ℕ) → has_serial (entries_of 
 grown-at : (known : Logs) (k : ℕ) (change : Option (List Entry) → Option (List Entry)) (found : Option (Option (List Entry))) → slice_get known k ≡ found → Grows change → (n c : ℕ) → has_serial (entries_at known n) c ≡ true → has_serial (entries_at (changed_at known k change found) n) c ≡ true
 grown-at known k change None is grows n c has = has
 grown-at known k change (Some log) is grows n c has =
-    elim (decide-eq n k) as (λ w. has_serial (entries_at (slice_set known k (change log)) n) c ≡ true) [
+    elim (cases_eq n k) as (λ w. has_serial (entries_at (slice_set known k (change log)) n) c ≡ true) [
       | inl same ↦
           let was : has_serial (entries_found (Some log)) c ≡ true = subst (λ o. has_serial (entries_found o) c ≡ true) (ap (slice_get known) same ∙ is) has in
           subst (λ m. has_serial (entries_at (slice_set known k (change log)) m) c ≡ true) (sym same)
@@ -135,7 +136,7 @@ pub began-lacks : (known : Logs) (book : List Event) (event : Event) (server : S
 began-lacks known book event server timeline is hold = (
   λ some.
       let lacks : LacksOne known book some.0 = sym (lacks-began known book event server timeline some.0 is) ∙ some.2 in
-      elim (decide-eq some.0 server.id.number) [
+      elim (cases_eq some.0 server.id.number) [
         | inl same ↦ subst (LacksOne known book) same lacks
         | inr other ↦ absurd (lacks-some (entries_at (logs_over known book) some.0) (acknowledged_in book) lacks
             (hold some.0 (sym (put-there (writes_over (λ m. false) book) server.id.number true some.0 other) ∙ sym (began-writes book event server timeline some.0 is) ∙ some.1)))

@@ -9,7 +9,7 @@ ghost use Rattle.cluster_model.specs.State.{Cluster};
 ghost use Rattle.pat_world.specs.Comes.{MayCome};
 ghost use Rattle.pat_world.specs.Emits.{Emits};
 ghost use Rattle.pat_world.specs.Room.{HasRoom, feeding_cost, output_cost, outputs_cost, sending_cost};
-ghost use Rattle.pat_world.specs.Short.{AsksShortly, IsAsked};
+ghost use Rattle.agent_model.specs.Asked.{AsksShortly, IsAsked};
 
 use super::Stage;
 use crate::orders::{

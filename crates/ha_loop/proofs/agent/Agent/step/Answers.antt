@@ -3,6 +3,8 @@ use Rattle.agent_model.specs.Agents.{made}
 use Rattle.ha_loop.specs.Roles.{role_of}
 use Rattle.agent_law.specs.FreeKey.{AsksWhereFree, AsksWhereWon, BeginsWhereGranted}
 use Rattle.agent_model.specs.Table.{prepared, step}
+use Rattle.agent_law.specs.Bounds.{IsSmall}
+use Rattle.agent_law.proofs.Bounds.{step-small}
 use Rattle.agent_law.proofs.Beginning.{step-asks, step-begins, step-wins}
 use Rattle.agent_commit_law.proofs.CommitInputs.{input-commits-as}
 use Rattle.agent_lease_law.proofs.LawfulSteps.{input-lawful-as}
@@ -43,3 +45,9 @@ returns-clause-granted_key c =
     let o = made c.args.self.role c.args.self.knows c.args.machine.now c.args.out.now.outputs in
     subst (BeginsWhereGranted c.args.now c.args.heard (prepared c.args.now c.args.heard o)) (sym (let told : made (role_of c.hear-role.result) c.hear-role.new.knows c.hear-role.new.machine c.hear-role.new.out.outputs ≡ step c.args.now c.args.history.now.points c.args.heard o = search rules in told))
     (step-begins c.args.now c.args.history.now.points c.args.heard o)
+
+pub returns-clause-small : goal.returns-clause-small
+returns-clause-small c =
+    let o = made c.args.self.role c.args.self.knows c.args.machine.now c.args.out.now.outputs in
+    subst (IsSmall o) (sym (let told : made (role_of c.hear-role.result) c.hear-role.new.knows c.hear-role.new.machine c.hear-role.new.out.outputs ≡ step c.args.now c.args.history.now.points c.args.heard o = search rules in told))
+    (step-small c.args.now c.args.history.now.points c.args.heard o)

@@ -9,7 +9,7 @@ use Rattle.cluster_model.specs.Parts.{each}
 use Rattle.cluster_model.specs.State.{Cluster}
 use Rattle.pat_world.specs.Emits.{Emits}
 use Rattle.pat_world.specs.Room.{outputs_cost}
-use Rattle.pat_world.specs.Short.{AsksShortly}
+use Rattle.agent_model.specs.Asked.{AsksShortly}
 use Rattle.pat_world.proofs.Reaching.{reached-room, reached-took}
 use Rattle.pat_world.proofs.Waking.{input-few}
 use Rattle.pat_world.proofs.Worlds.{seen}

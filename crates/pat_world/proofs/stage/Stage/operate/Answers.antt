@@ -7,7 +7,7 @@ use Rattle.cluster_model.specs.Parts.{each}
 use Rattle.cluster_model.specs.State.{Cluster}
 use Rattle.pat_world.specs.Emits.{Emits}
 use Rattle.pat_world.specs.Room.{HasRoom, call_cost, outputs_cost}
-use Rattle.pat_world.specs.Short.{AsksShortly}
+use Rattle.agent_model.specs.Asked.{AsksShortly}
 use Rattle.pat_world.proofs.Waking.{operate-took, input-few}
 use Rattle.pat_world.proofs.Worlds.{seen}
 use Rattle.pat_world.proofs.stage.Stage.operate.Goals as goal

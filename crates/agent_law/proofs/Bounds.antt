@@ -35,10 +35,11 @@ use Rattle.agent_model.specs.Repairs.{repair_of}
 use Rattle.agent_model.specs.Snapshots.{follow_row, follows, got, informed, read_noted, led_by_another}
 use Rattle.agent_model.specs.Table.{granted_any, refused_any, step}
 use Rattle.agent_model.specs.Wake.{overdue, turned, woken}
+use Rattle.agent_law.specs.Bounds.{IsSmall}
 use Rattle.agent_law.proofs.Rows.{HandoverRows, ReplyRows, WritesSync, led_on, if-cases, begins-or-claims-by, passing-by, renewed-by, before-by, overdue-by, turn-by, wake-by, got-by, refused-by, granted-by, follow-by, repaired-by, free-by, judged-by, answered-by, given-up-by, looked-by, granted-any-by, refused-any-by, DutyRows, duties-of, rested_on, takes-in-pause-by}
 use Rattle.agent_model.specs.Answers.{is_other, most_answers, asking_one, asking_first}
 use Rattle.agent_model.specs.Peers.{keeping, answered}
-use Rattle.pat_world.specs.Short.{AsksShortly}
+use Rattle.agent_model.specs.Asked.{AsksShortly}
 use Rattle.agent_model.specs.Pausing.{may_start_behind, rest_told, resting}
 
 -- from this number of messages and these outputs on there are so many more at most, and each asks shortly if each did before
@@ -399,12 +400,6 @@ granted-any-row now sequence grant snapshot o =
 
 refused-any-row : (now : Ticks) (sequence : ℕ) (o : Outcome) → Row o (refused_any now sequence o)
 refused-any-row now sequence o = refused-any-by (Row o) now sequence o (reply-rows 9 o (omega arith)) (refused-row now sequence o)
-
--- an input brings at most so many messages and so many outputs, and asks shortly
-pub record IsSmall (o after : Outcome) : Type 0 where
-  pub sequence : after.knows.sequence ≤ o.knows.sequence + most_outputs
-  pub few : length after.outputs ≤ length o.outputs + most_outputs
-  pub short : All AsksShortly o.outputs → All AsksShortly after.outputs
 
 small : (o mid after : Outcome) → Row o mid → Brings 19 mid after → IsSmall o after
 small o mid after one two = record { sequence = omega (arith, one.numbers, two.numbers); few = omega (arith, one.few, two.few); short = λ all. two.short (one.short all) }

@@ -6,7 +6,7 @@ use Rattle.cluster_model.specs.Cluster.{cluster_after}
 use Rattle.cluster_model.specs.Commands.{kinds_of}
 use Rattle.cluster_model.specs.Parts.{events_of}
 use Rattle.cluster_model.specs.State.{Cluster}
-use Rattle.lease_law.specs.Premises.{AllAre}
+use Rattle.event_book.specs.Kinds.{AllAre}
 
 -- it holds of each kind
 abbrev pub AllKinds : (EventKind → Type 0) → List EventKind → Type 0

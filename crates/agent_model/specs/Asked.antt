@@ -1,0 +1,19 @@
+-- What agents ask: the key store for leases that it can write, and other members.
+use Rattle.std.specs.Prelude.{◌≤◌, ◌^◌}
+use Rattle.lease_store.specs.Writes.{ttl_of}
+use Rattle.event_book.specs.declared.message.Body.{Body}
+use Rattle.event_book.specs.declared.message.Body.TheVariants as bodies
+use Rattle.agent_model.specs.declared.output.Output.{Output}
+use Rattle.agent_model.specs.declared.output.Output.TheVariants as outputs
+
+-- what an agent asks: the key store for leases that it can write, and other members
+abbrev pub IsAsked : Body → Type 0
+IsAsked bodies.Read = Unit {0}
+IsAsked bodies.Ask = Unit {0}
+IsAsked (bodies.Request txn) = ttl_of txn ≤ 2 ^ 40
+IsAsked _ = ⊥
+
+-- so does an output
+abbrev pub AsksShortly : Output → Type 0
+AsksShortly (outputs.Send to sequence body) = IsAsked body
+AsksShortly _ = Unit {0}
