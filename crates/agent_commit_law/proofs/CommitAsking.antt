@@ -40,7 +40,7 @@ use Rattle.agent_model.specs.Table.{refused_any}
 use Rattle.agent_model.specs.Wake.{out_of_reach_as, unanswered, overdue_for, overdue, turned, woken, out_of_reach}
 use Rattle.agent_law.proofs.Granting.{both-true}
 use Rattle.agent_law.proofs.Living.{no-way}
-use Rattle.agent_law.proofs.Rows.{ReplyRows, if-cases, before-by, turn-by, wake-by, got-by, refused-by, follow-by, repaired-by, free-by, judged-by, handover-by, looked-by, given-up-by, operator-granted-by, refused-any-by, operated-by}
+use Rattle.agent_model.proofs.Rows.{ReplyRows, if-cases, before-by, turn-by, wake-by, got-by, refused-by, follow-by, repaired-by, free-by, judged-by, handover-by, looked-by, given-up-by, operator-granted-by, refused-any-by, operated-by}
 use Rattle.agent_model.specs.Pausing.{is_paused, may_start_behind}
 
 -- nothing is waited for

@@ -37,7 +37,7 @@ use Rattle.agent_commit_law.proofs.CommitTools.{IsWithin, HasReached, covers-req
 use Rattle.agent_law.proofs.Granting.{Told}
 use Rattle.agent_law.proofs.Knowing.{Onward}
 use Rattle.agent_law.proofs.Living.{no-way}
-use Rattle.agent_law.proofs.Rows.{led_on}
+use Rattle.agent_model.proofs.Rows.{led_on}
 
 -- what a granted request is heard on, with what stands after what comes before it
 pub record Ground (s : State) (m : ℕ) (o b : Outcome) : Type 0 where

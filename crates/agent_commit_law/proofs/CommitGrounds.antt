@@ -38,7 +38,7 @@ use Rattle.agent_model.specs.Before.{before, before_as, finds_live, has_ended}
 use Rattle.agent_commit_law.specs.Committing.{sync_seen, number_waited, IsConnected, IsEndOf, StandsToCommit, IsAwaitedWrite, HearsLease, HearsWrite}
 use Rattle.commit_law.specs.Keys.{IsStrict}
 use Rattle.agent_model.specs.Decisions.{asks_lease, asks_sync, is_lease_of, is_write_of, may_create}
-use Rattle.agent_law.specs.Fits.{Fits}
+use Rattle.agent_model.specs.Fits.{Fits}
 use Rattle.agent_law.specs.Powers.{IsAwaitedLease}
 use Rattle.agent_model.specs.Synchronous.{sync_read_by, sync_read_of_entry, sync_read_in, expected_of, is_named_if}
 use Rattle.agent_commit_law.proofs.CommitIdling.{TurnsOn, Idle, before-idle}
@@ -49,7 +49,7 @@ use Rattle.agent_law.proofs.Fitting.{before-fits}
 use Rattle.agent_law.proofs.Knowing.{Onward, before-onward}
 use Rattle.agent_law.proofs.Staying.{before-waits}
 use Rattle.agent_law.proofs.Living.{no-way}
-use Rattle.agent_law.proofs.Rows.{before-by, if-cases}
+use Rattle.agent_model.proofs.Rows.{before-by, if-cases}
 use Rattle.agent_model.specs.Acting.{disarming}
 
 -- what stands after what comes before an input

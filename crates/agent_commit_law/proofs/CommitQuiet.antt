@@ -29,7 +29,7 @@ use Rattle.agent_model.specs.Claiming.{passing}
 use Rattle.agent_commit_law.specs.Committing.{request_in, request_of_body, request_of, requests_of, IsOneAtMost, IsQuietTxn, IsQuietBody, IsCovered, StandsAlone, IsSynchronousTxn, IsSynchronousBody, IsSynchronousOutput, is_begin}
 use Rattle.agent_model.specs.HandingOver.{asking_whom}
 use Rattle.agent_model.specs.Outputs.{listed, has_one}
-use Rattle.agent_law.proofs.Rows.{if-cases, passing-by}
+use Rattle.agent_model.proofs.Rows.{if-cases, passing-by}
 
 -- an output that sends no other request, and by which no server comes to accept writes: one that starts again is live before it
 abbrev pub IsUnasking : Output → Type 0

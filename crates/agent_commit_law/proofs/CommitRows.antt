@@ -63,7 +63,7 @@ use Rattle.agent_law.proofs.Fitting.{ended-for}
 use Rattle.agent_law.proofs.Granting.{Told, one-before, one-last}
 use Rattle.agent_law.proofs.Knowing.{before-onward, granted-onward, onward-then}
 use Rattle.agent_law.proofs.Living.{no-way}
-use Rattle.agent_law.proofs.Rows.{FailoverRows, dropping, led_on}
+use Rattle.agent_model.proofs.Rows.{FailoverRows, dropping, led_on}
 use Rattle.agent_model.specs.Pausing.{is_paused}
 use Rattle.agent_law.proofs.Staying.{stays-unpaused}
 

@@ -37,7 +37,7 @@ use Rattle.agent_law.specs.Powers.{IsAwaitedLease}
 use Rattle.agent_model.specs.Synchronous.{waiting_for}
 use Rattle.agent_law.proofs.Granting.{Told, both-true}
 use Rattle.agent_law.proofs.Living.{no-way}
-use Rattle.agent_law.proofs.Rows.{FailoverRows, led_on, if-cases, duties-by}
+use Rattle.agent_model.proofs.Rows.{FailoverRows, led_on, if-cases, duties-by}
 use Rattle.agent_model.specs.Pausing.{is_paused, is_wanted_by}
 
 -- the standbys that a leader wants by a snapshot, and those that have confirmed the noted position

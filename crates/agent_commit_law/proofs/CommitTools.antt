@@ -23,7 +23,7 @@ use Rattle.commit_law.specs.Keys.{Need, Nobody, All, count, Overlaps, Narrows}
 use Rattle.commit_law.specs.Past.{need_in}
 use Rattle.commit_law.proofs.Counting.{none-of, count-empty}
 use Rattle.agent_model.specs.Synchronous.{is_strict, unnamed, waiting_for}
-use Rattle.agent_law.proofs.Rows.{if-cases}
+use Rattle.agent_model.proofs.Rows.{if-cases}
 
 -- one set is within another
 abbrev pub IsWithin : (ℕ → Bool) → (ℕ → Bool) → Type 0

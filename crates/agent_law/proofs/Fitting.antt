@@ -7,9 +7,9 @@ use Rattle.agent_model.specs.declared.why.Why.TheVariants.{HandOver, Lost}
 use Rattle.agent_model.specs.Agents.{RoleFacts, Follower, Holder, Ready, Leader, Ending, Stray, Outcome, is_ready}
 use Rattle.agent_model.specs.Decisions.{may_create}
 use Rattle.agent_model.specs.Before.{has_ended, before}
-use Rattle.agent_law.specs.Fits.{Fits}
+use Rattle.agent_model.specs.Fits.{Fits}
 use Rattle.agent_law.proofs.Living.{no-way}
-use Rattle.agent_law.proofs.Rows.{before-by}
+use Rattle.agent_model.proofs.Rows.{before-by}
 
 abbrev FitsIn : Outcome → Type 0
 FitsIn o = Fits o.role (live o.machine.server.state)

@@ -14,7 +14,7 @@ use Rattle.agent_model.specs.Acting.{armed, fed_until, arming, ending_server, re
 use Rattle.agent_model.specs.Agents.{Ending, Outcome, is_ready}
 use Rattle.agent_model.specs.Claiming.{begins_or_claims, passing, postpones}
 use Rattle.agent_model.specs.Decisions.{is_decision, is_lease_of, leader_renewed, takes_over, stray_renewed, can_begin, may_take, gives_back, arms, takes_key, granted, takes_key_in_pause}
-use Rattle.agent_law.specs.Fits.{Fits}
+use Rattle.agent_model.specs.Fits.{Fits}
 use Rattle.agent_model.specs.Outputs.{listed, is_feeding, has_one}
 use Rattle.agent_model.specs.Planning.{writing_sync, noting}
 use Rattle.agent_law.specs.Powers.{IsAwaitedLease, GrantMay, BringsNothing, Acts, lease_of}
@@ -36,7 +36,7 @@ use Rattle.pat_base.specs.MemberId.{member_of}
 use Rattle.pat_base.specs.declared.member_id.MemberId.{MemberId}
 use Rattle.event_book.specs.declared.message.Body.TheVariants as bodies
 use Rattle.agent_model.specs.declared.output.Target.TheVariants as targets
-use Rattle.agent_law.proofs.Rows.{dropping, granted-any-by, SyncRows, led_on, if-cases, granted-by, renewed-by, passing-by, begins-or-claims-by, DutyRows, duties-of, rested_on}
+use Rattle.agent_model.proofs.Rows.{dropping, granted-any-by, SyncRows, led_on, if-cases, granted-by, renewed-by, passing-by, begins-or-claims-by, DutyRows, duties-of, rested_on}
 use Rattle.agent_model.specs.Pausing.{is_paused, is_wanted, resting}
 
 pub take-free : (held can : Bool) → not held && can ≡ true → held ≡ false

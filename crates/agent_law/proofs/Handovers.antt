@@ -22,7 +22,7 @@ use Rattle.agent_law.specs.Handovers.{HandsOverTo, MayLeadNext}
 use Rattle.agent_model.specs.Outputs.{listed}
 use Rattle.agent_law.proofs.Granting.{both-true}
 use Rattle.agent_law.proofs.Living.{no-way}
-use Rattle.agent_law.proofs.Rows.{clearing-by, if-cases}
+use Rattle.agent_model.proofs.Rows.{clearing-by, if-cases}
 
 -- ---- of the members whose answers pass, the first is one of them
 record IsOneOf (passes : PeerAnswer → Bool) (answers : List PeerAnswer) (member : MemberId) : Type 0 where

@@ -14,7 +14,7 @@ use Rattle.pat_base.specs.declared.server_state.State.{State}
 use Rattle.agent_model.specs.declared.machine.Machine.{Machine}
 use Rattle.agent_model.specs.Acting.{touching, waiting_no_more}
 use Rattle.agent_model.specs.Claiming.{postpones}
-use Rattle.agent_law.specs.Fits.{Fits}
+use Rattle.agent_model.specs.Fits.{Fits}
 use Rattle.agent_law.proofs.Fitting.{before-fits, ready-ended}
 use Rattle.agent_model.specs.Agents.{RoleFacts, Follower, Ready, Outcome, is_ready}
 use Rattle.agent_model.specs.Before.{leader_finds_ended, has_ended, stray_finds_ended, before}
@@ -30,7 +30,7 @@ use Rattle.agent_model.specs.Table.{refused_any}
 use Rattle.lease_store.specs.declared.action.OperatorAction.{OperatorAction}
 use Rattle.agent_law.proofs.Bringing.{acting-brings, same-role, overdue-brings, turn-brings, got-brings, refused-brings, answer-brings}
 use Rattle.agent_law.proofs.Living.{no-way}
-use Rattle.agent_law.proofs.Rows.{HandoverRows, ReplyRows, ActRows, looked-by, given-up-by, refused-any-by, operated-by, before-by, overdue-by, turn-by, wake-by, got-by, refused-by, follow-by, free-by, repaired-by, judged-by, answered-by}
+use Rattle.agent_model.proofs.Rows.{HandoverRows, ReplyRows, ActRows, looked-by, given-up-by, refused-any-by, operated-by, before-by, overdue-by, turn-by, wake-by, got-by, refused-by, follow-by, free-by, repaired-by, judged-by, answered-by}
 use Rattle.agent_model.specs.Pausing.{may_start_behind}
 
 -- a watchdog stays, or loses its deadline where an agent in this role, over a server in this state, doesn't act

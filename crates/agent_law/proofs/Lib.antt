@@ -1,4 +1,3 @@
-pub mod Rows
 pub mod Living
 pub mod Fitting
 pub mod Bringing
@@ -13,4 +12,3 @@ pub mod Beginning
 pub mod Replying
 pub mod OperatorAnswers
 pub mod Handovers
-pub mod Bounds

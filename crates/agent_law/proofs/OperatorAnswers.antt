@@ -46,7 +46,7 @@ use Rattle.agent_model.specs.Wake.{woken}
 use Rattle.agent_law.proofs.Granting.{both-true}
 use Rattle.agent_law.proofs.Knowing.{before-onward, before-read}
 use Rattle.agent_law.proofs.Replying.{Quiet, as-said, told-more, told-same, before-quiet, roused-quiet, got-quiet, refused-quiet, granted-quiet, answered-quiet}
-use Rattle.agent_law.proofs.Rows.{if-cases, wake-by}
+use Rattle.agent_model.proofs.Rows.{if-cases, wake-by}
 
 -- no operator is told anything yet, and the same request waits as before
 abbrev Untold : Outcome → Outcome → Type 0

@@ -39,7 +39,7 @@ use Rattle.agent_law.specs.Replies.{RepliesTo}
 use Rattle.agent_model.specs.Snapshots.{follow_row, follows, read_noted, got, informed, led_by_another}
 use Rattle.agent_model.specs.Table.{step}
 use Rattle.agent_model.specs.Wake.{overdue, turned, woken}
-use Rattle.agent_law.proofs.Rows.{HandoverRows, ReplyRows, ActRows, looked-by, given-up-by, granted-any-by, refused-any-by, operated-by, led_on, if-cases, renewed-by, passing-by, begins-or-claims-by, before-by, overdue-by, turn-by, wake-by, got-by, refused-by, follow-by, repaired-by, free-by, granted-by, judged-by, answered-by, DutyRows, duties-of, rested_on, takes-in-pause-by}
+use Rattle.agent_model.proofs.Rows.{HandoverRows, ReplyRows, ActRows, looked-by, given-up-by, granted-any-by, refused-any-by, operated-by, led_on, if-cases, renewed-by, passing-by, begins-or-claims-by, before-by, overdue-by, turn-by, wake-by, got-by, refused-by, follow-by, repaired-by, free-by, granted-by, judged-by, answered-by, DutyRows, duties-of, rested_on, takes-in-pause-by}
 use Rattle.agent_model.specs.Pausing.{may_start_behind, rest_told, resting}
 
 -- an output that answers neither a member nor an operator

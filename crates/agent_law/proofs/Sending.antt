@@ -32,7 +32,7 @@ use Rattle.agent_model.specs.Agents.{Follower, Ready, Ending, Outcome}
 use Rattle.agent_model.specs.Before.{has_ended, before}
 use Rattle.agent_model.specs.Claiming.{begins, claims, begins_or_claims, passing, postpones}
 use Rattle.agent_model.specs.Decisions.{is_decision, is_lease_of, leader_renewed, takes_over, stray_renewed, may_take, gives_back, arms, takes_key, granted, refused}
-use Rattle.agent_law.specs.Fits.{Fits}
+use Rattle.agent_model.specs.Fits.{Fits}
 use Rattle.agent_model.specs.Outputs.{listed}
 use Rattle.agent_model.specs.Planning.{writing_sync, noting}
 use Rattle.agent_law.specs.Powers.{Acts, lease_of}
@@ -56,7 +56,7 @@ use Rattle.agent_law.proofs.Knowing.{IsAlone, before-onward, given-up-onward, ov
 use Rattle.agent_law.proofs.Fitting.{ended-for}
 use Rattle.agent_law.proofs.Leaving.{rests-by}
 use Rattle.agent_law.proofs.Living.{no-way, primary-live, restart-live, wipe-live}
-use Rattle.agent_law.proofs.Rows.{HandoverRows, ReplyRows, ActRows, IsOperatorTxn, dropping, looked-by, given-up-by, granted-any-by, refused-any-by, operated-by, WritesSync, led_on, if-cases, renewed-by, passing-by, begins-or-claims-by, before-by, overdue-by, turn-by, wake-by, got-by, refused-by, follow-by, repaired-by, free-by, granted-by, judged-by, answered-by, DutyRows, duties-of, rested_on, takes-in-pause-by}
+use Rattle.agent_model.proofs.Rows.{HandoverRows, ReplyRows, ActRows, IsOperatorTxn, dropping, looked-by, given-up-by, granted-any-by, refused-any-by, operated-by, WritesSync, led_on, if-cases, renewed-by, passing-by, begins-or-claims-by, before-by, overdue-by, turn-by, wake-by, got-by, refused-by, follow-by, repaired-by, free-by, granted-by, judged-by, answered-by, DutyRows, duties-of, rested_on, takes-in-pause-by}
 use Rattle.agent_model.specs.Pausing.{may_start_behind, rest_told, resting, running_without_key}
 
 -- an output that sends nothing, takes no hold, and by which no server comes to accept writes

@@ -1,5 +1,3 @@
-pub mod Bounds
-pub mod Fits
 pub mod FreeKey
 pub mod Handovers
 pub mod OperatorAnswers

@@ -23,8 +23,7 @@ ghost use Rattle.agent_model.specs.declared.output.Output.TheVariants as outputs
 ghost use Rattle.agent_model.specs.Agents.{RoleFacts, IsSoundAgent, Outcome, made};
 ghost use Rattle.agent_model.specs.Answers.{with_answer, all_answered};
 ghost use Rattle.agent_model.specs.Before.{before};
-ghost use Rattle.agent_law.specs.Bounds.{IsSmall};
-ghost use Rattle.agent_law.specs.Fits.{Fits};
+ghost use Rattle.agent_model.specs.Fits.{Fits};
 ghost use Rattle.agent_law.specs.FreeKey.{HearsFree, StaysOut, AsksForKey, AsksOthers, HearsLast, RunsLate, LosesRace, LosesAndTurns};
 ghost use Rattle.agent_model.specs.HandingOver.{handover_judged};
 ghost use Rattle.agent_law.specs.Handovers.{HandsOverTo};
@@ -137,9 +136,4 @@ pub fn a_free_key_finds_a_leader()
 pub fn agents_stay_sound()
     ensures ends { (now : Ticks) (points : List HistoryPoint) (heard : Heard) (o : Outcome) → EndsAlone o.role o.knows.waited → EndsAlone (step now points heard o).role (step now points heard o).knows.waited }
     ensures counted { (now : Ticks) (points : List HistoryPoint) (heard : Heard) (o : Outcome) → HasCounted o.knows → HasCounted (step now points heard o).knows }
-{}
-
-/// An input brings at most 40 messages and 40 outputs, and asks the key store for leases that it can write.
-pub fn inputs_are_small()
-    ensures { (now : Ticks) (points : List HistoryPoint) (heard : Heard) (o : Outcome) → IsSmall o (step now points heard o) }
 {}

@@ -41,7 +41,7 @@ use Rattle.agent_law.proofs.Granting.{Told}
 use Rattle.agent_law.proofs.Knowing.{IsAlone, alone-of, before-onward, given-up-onward}
 use Rattle.agent_law.proofs.Staying.{before-waits}
 use Rattle.agent_law.proofs.Living.{no-way}
-use Rattle.agent_law.proofs.Rows.{led_on, if-cases, renewed-by, begins-or-claims-by, overdue-by, turn-by, wake-by, got-by, refused-by, follow-by, repaired-by, free-by, granted-by, judged-by, answered-by, HandoverRows, ReplyRows, dropping, granted-any-by, refused-any-by, given-up-by, looked-by, operated-by, DutyRows, duties-of, rested_on, takes-in-pause-by}
+use Rattle.agent_model.proofs.Rows.{led_on, if-cases, renewed-by, begins-or-claims-by, overdue-by, turn-by, wake-by, got-by, refused-by, follow-by, repaired-by, free-by, granted-by, judged-by, answered-by, HandoverRows, ReplyRows, dropping, granted-any-by, refused-any-by, given-up-by, looked-by, operated-by, DutyRows, duties-of, rested_on, takes-in-pause-by}
 use Rattle.agent_law.proofs.Sending.{IsSilent, silently, MayPut, AllMay, Fronts, before-fronts, got-none, wake-may, got-may, refused-may, granted-may, overdue-none, answered-none, answered-may, asked-may, operated-may, given-up-fronts, looked-fronts, looked-later}
 use Rattle.agent_law.proofs.Sending.Fronts.{Silent, Released}
 use Rattle.agent_law.proofs.Fitting.{before-fits}

@@ -21,7 +21,7 @@ use Rattle.agent_model.specs.declared.output.Output.TheVariants as outputs
 use Rattle.agent_model.specs.declared.output.Target.TheVariants as targets
 use Rattle.agent_model.specs.declared.who.Who.{Who}
 use Rattle.agent_model.specs.Agents.{Outcome, is_ready}
-use Rattle.agent_law.specs.Fits.{Fits}
+use Rattle.agent_model.specs.Fits.{Fits}
 use Rattle.agent_lease_law.specs.Lawful.{StandsIn, query_in, IsSentBy, IsInputOf}
 use Rattle.agent_law.specs.Powers.{Acts, BringsNothing, LeavesMachine, leads, lease_of}
 use Rattle.agent_law.specs.Powers.DeadlineMay.{Kept as DeadlineKept, Removed as DeadlineRemoved, Undone as DeadlineUndone}

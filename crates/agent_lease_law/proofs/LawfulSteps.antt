@@ -34,7 +34,7 @@ use Rattle.agent_law.specs.Seen.{leader_seen_if, failsafe_seen_if}
 use Rattle.agent_model.specs.Peers.{asked, answered}
 use Rattle.agent_model.specs.Snapshots.{got}
 use Rattle.lease_store.specs.declared.action.OperatorAction.{OperatorAction}
-use Rattle.agent_law.specs.Fits.{Fits}
+use Rattle.agent_model.specs.Fits.{Fits}
 use Rattle.agent_model.specs.Operators.{given_up, looked, operated}
 use Rattle.agent_model.specs.Table.{step, granted_any, refused_any}
 use Rattle.agent_model.specs.Wake.{overdue, turned, woken}
@@ -47,7 +47,7 @@ use Rattle.agent_lease_law.proofs.LawfulGrants.{heard-leader, heard-failsafe, he
 use Rattle.agent_law.proofs.Leaving.{given-up-fits, told-fits, operated-leaves, leaves-then, before-leaves, wake-leaves, read-leaves, refusal-leaves, asked-leaves, answered-leaves}
 use Rattle.agent_law.proofs.Living.{no-way}
 use Rattle.agent_law.proofs.Staying.{before-waits, stays-unpaused}
-use Rattle.agent_law.proofs.Rows.{wake-by, looked-by}
+use Rattle.agent_model.proofs.Rows.{wake-by, looked-by}
 use Rattle.agent_lease_law.proofs.Behind.{BeginsOn, nobody-begins, grant-begins, begins-weaker}
 use Rattle.agent_lease_law.proofs.Behind.BeginsOn.{WasReady, OnLease}
 use Rattle.agent_law.proofs.Sending.{operated-may, IsSilent, AllMay, Decides, wake-may, got-may, refused-may, granted-may as granted-sends, asked-may, answered-may}

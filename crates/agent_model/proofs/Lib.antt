@@ -1,2 +1,4 @@
 pub mod Judging
 pub mod Waiting
+pub mod Rows
+pub mod Bounds

@@ -3,8 +3,10 @@ pub mod Agents
 pub mod Answers
 pub mod Asked
 pub mod Before
+pub mod Bounds
 pub mod Claiming
 pub mod Decisions
+pub mod Fits
 pub mod HandingOver
 pub mod Info
 pub mod Operators

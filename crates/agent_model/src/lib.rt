@@ -5,6 +5,7 @@
 mod answers;
 mod heard;
 mod knowledge;
+mod laws;
 mod machine;
 mod operating;
 mod output;
@@ -14,6 +15,7 @@ mod why;
 pub use answers::Answers;
 pub use heard::Heard;
 pub use knowledge::{Knowledge, Question, Settling, SyncRead, Waited};
+pub use laws::inputs_are_small;
 pub use machine::{Machine, Replication};
 pub use operating::{Operating, Operation, Told};
 pub use output::{Output, Repair, Target};

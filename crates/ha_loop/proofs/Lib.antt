@@ -1,2 +1,1 @@
 mod Missing
-pub mod Small

@@ -7,7 +7,7 @@ ghost use Rattle.agent_model.specs.declared.heard.Heard.TheVariants as heards;
 ghost use Rattle.agent_model.specs.Agents.{AgentFacts, RoleFacts, IsSound, IsWithin, Follower, word_of, fresh_knowledge, made, latest, most_messages};
 ghost use Rattle.ha_loop.specs.Roles.{role_of};
 ghost use Rattle.agent_commit_law.specs.Committing.{CommitsFrom};
-ghost use Rattle.agent_law.specs.Bounds.{IsSmall};
+ghost use Rattle.agent_model.specs.Bounds.{IsSmall};
 ghost use Rattle.agent_law.specs.FreeKey.{AsksWhereFree, AsksWhereWon, BeginsWhereGranted};
 ghost use Rattle.agent_lease_law.specs.Lawful.{IsLawfulFrom};
 ghost use Rattle.agent_model.specs.Outputs.{most_outputs};

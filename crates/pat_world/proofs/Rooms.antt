@@ -40,7 +40,7 @@ use Rattle.cluster_model.specs.Machines.{machine_of, points_of}
 use Rattle.cluster_model.specs.State.{Cluster}
 use Rattle.pat_world.specs.Comes.{Counts, CountsAgent, CountsMessage}
 use Rattle.pat_world.specs.Room.{HasNumbers, HasRoom}
-use Rattle.ha_loop.proofs.Small.{small-step}
+use Rattle.agent_model.proofs.Bounds.{step-small}
 use Rattle.pat_world.proofs.ServerRooms.{All-at, All-weaker, CountsCommit, HasTimeline, commits-more, servers-room}
 
 with_member_changed-all_at : (X : Type 0) (P Q : X → Type 0) (xs : List X) (n : ℕ) (change : X → X) (found : Option X) → slice_get xs n ≡ found → All P xs → ((x : X) → P x → Q x)
@@ -115,7 +115,7 @@ numbered-fewer events agents = All-weaker (Option AgentFacts) (HasNumbers (1 + e
 
 stepped : (now : Ticks) (points : List HistoryPoint) (heard : Heard) (events : ℕ) (agent : AgentFacts) (machine : Machine) → agent.knows.sequence + most_outputs * (1 + events) ≤ most_messages
     → (step now points heard (made agent.role agent.knows machine [])).knows.sequence + most_outputs * events ≤ most_messages
-stepped now points heard events agent machine room = let small = small-step now points heard (made agent.role agent.knows machine []) in omega (arith, room, small.sequence)
+stepped now points heard events agent machine room = let small = step-small now points heard (made agent.role agent.knows machine []) in omega (arith, room, small.sequence)
 
 heard-numbers : (now : Ticks) (points : List HistoryPoint) (heard : Heard) (events : ℕ) (agent : Option AgentFacts) (machine : Option Machine) → HasNumbers (1 + events) agent
     → (found : Option AgentFacts) → agent ≡ found → HasNumbers events (agent_after (outcome_at now points heard agent machine) found)

@@ -25,7 +25,7 @@ use Rattle.cluster_model.specs.State.{Cluster}
 use Rattle.pat_world.specs.Emits.{Emits}
 use Rattle.pat_world.specs.Room.{call_cost, input_cost, outputs_cost}
 use Rattle.agent_model.specs.Asked.{AsksShortly}
-use Rattle.ha_loop.proofs.Small.{small-step}
+use Rattle.agent_model.proofs.Bounds.{step-small}
 use Rattle.pat_world.proofs.Taking.{Emits-then, found-took}
 
 -- what an input did is little, and asks shortly
@@ -40,7 +40,7 @@ outcome-few : (now : Ticks) (points : List HistoryPoint) (heard : Heard) (agent 
 outcome-few now points heard None machine = no-outputs
 outcome-few now points heard (Some agent) None = no-outputs
 outcome-few now points heard (Some agent) (Some machine) =
-    let small = small-step now points heard (made agent.role agent.knows machine []) in
+    let small = step-small now points heard (made agent.role agent.knows machine []) in
     record { few = small.few; short = small.short (All-nil AsksShortly) }
 
 pub input-few : (cluster : Cluster) (member : Member) (heard : Option Heard) → AreFew (outputs_of (outcome_of_heard cluster member heard))

@@ -3,8 +3,8 @@ use Rattle.agent_model.specs.Agents.{made}
 use Rattle.ha_loop.specs.Roles.{role_of}
 use Rattle.agent_law.specs.FreeKey.{AsksWhereFree, AsksWhereWon, BeginsWhereGranted}
 use Rattle.agent_model.specs.Table.{prepared, step}
-use Rattle.agent_law.specs.Bounds.{IsSmall}
-use Rattle.agent_law.proofs.Bounds.{step-small}
+use Rattle.agent_model.specs.Bounds.{IsSmall}
+use Rattle.agent_model.proofs.Bounds.{step-small}
 use Rattle.agent_law.proofs.Beginning.{step-asks, step-begins, step-wins}
 use Rattle.agent_commit_law.proofs.CommitInputs.{input-commits-as}
 use Rattle.agent_lease_law.proofs.LawfulSteps.{input-lawful-as}

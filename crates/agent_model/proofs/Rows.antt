@@ -40,7 +40,7 @@ use Rattle.agent_model.specs.Pausing.{is_paused, ends_forks, is_wanted, resting,
 use Rattle.agent_model.specs.Decisions.{takes_over, may_take, gives_back, takes_key_in_pause, granted_in_pause, uses_lease, asks_renewal, lease_used, may_create, leader_renewed, is_start_too_long, stray_renewed, takes_key, lease_granted, belongs, accepted_grant, is_lease_of, granted_write, granted_for, granted, is_decision, is_sync_decision, awaits_decision, is_write_of, sync_granted, accepted_sync, follower_for, renewal_refused, refused_as, refused_for, refused}
 use Rattle.agent_model.specs.Claiming.{begins, claims, begins_or_claims, passing, told_passing, postpones, claim_fails_as, claim_fails, may_begin_on_claim}
 use Rattle.agent_model.specs.Planning.{leader_view, writing_sync, switching_off, noting, planned_as, planned_on, planned, settled}
-use Rattle.agent_law.specs.Fits.{Fits}
+use Rattle.agent_model.specs.Fits.{Fits}
 use Rattle.agent_model.specs.Outputs.{listed}
 use Rattle.agent_model.specs.HandingOver.{is_done, leader_revision, clearing_under, clearing, successor_by, hands_over, hands_over_to, handover_judged, judged_if_leading, whom_answered, checking, checks, checks_unless_paused, failover_duty, duty_on, duties, check_answered}
 use Rattle.agent_model.specs.Operators.{ok, telling, answering, answering_if, operating, config_revision, restarting, wiping, operated, result_as, looked_by, uses_read, looked, operator_until, late_answer, given_up_by, given_up, learned, granted_as, operates, grants_operator, operator_granted, refusal_of, operator_refused}

@@ -35,8 +35,8 @@ use Rattle.agent_model.specs.Repairs.{repair_of}
 use Rattle.agent_model.specs.Snapshots.{follow_row, follows, got, informed, read_noted, led_by_another}
 use Rattle.agent_model.specs.Table.{granted_any, refused_any, step}
 use Rattle.agent_model.specs.Wake.{overdue, turned, woken}
-use Rattle.agent_law.specs.Bounds.{IsSmall}
-use Rattle.agent_law.proofs.Rows.{HandoverRows, ReplyRows, WritesSync, led_on, if-cases, begins-or-claims-by, passing-by, renewed-by, before-by, overdue-by, turn-by, wake-by, got-by, refused-by, granted-by, follow-by, repaired-by, free-by, judged-by, answered-by, given-up-by, looked-by, granted-any-by, refused-any-by, DutyRows, duties-of, rested_on, takes-in-pause-by}
+use Rattle.agent_model.specs.Bounds.{IsSmall}
+use Rattle.agent_model.proofs.Rows.{HandoverRows, ReplyRows, WritesSync, led_on, if-cases, begins-or-claims-by, passing-by, renewed-by, before-by, overdue-by, turn-by, wake-by, got-by, refused-by, granted-by, follow-by, repaired-by, free-by, judged-by, answered-by, given-up-by, looked-by, granted-any-by, refused-any-by, DutyRows, duties-of, rested_on, takes-in-pause-by}
 use Rattle.agent_model.specs.Answers.{is_other, most_answers, asking_one, asking_first}
 use Rattle.agent_model.specs.Peers.{keeping, answered}
 use Rattle.agent_model.specs.Asked.{AsksShortly}

@@ -1,5 +1,0 @@
-use Rattle.agent_law.proofs.Bounds.{step-small}
-use Rattle.agent_law.proofs.laws.inputs_are_small.Goals as goal
-
-pub returns : goal.returns
-returns c now points heard o = step-small now points heard o
