@@ -12,16 +12,16 @@ use Rattle.cluster_model.specs.Parts.{event_of, events_then}
 use Rattle.cluster_model.specs.Starting.{cluster_of}
 use Rattle.cluster_model.specs.State.{Cluster}
 use Rattle.pat_world.specs.Book.{StandsFor, left_by}
-use Rattle.pat_world.specs.Emits.{Emits}
-use Rattle.pat_world.specs.Idle.{BringsTicks, IsIdleBefore, IsIdleIn, NothingEnds, NothingIsDue}
+use Rattle.world_model.specs.Emits.{Emits}
+use Rattle.world_model.specs.Idle.{BringsTicks, IsIdleBefore, IsIdleIn, NothingEnds, NothingIsDue}
 use Rattle.pat_world.specs.OneWriter.{KeepsOneWriter}
-use Rattle.pat_world.specs.Room.{HasRoom, HasRoomFor, step_cost}
+use Rattle.world_model.specs.Room.{HasRoom, HasRoomFor, step_cost}
 use Rattle.run_law.proofs.EveryRun.{runs-one}
-use Rattle.pat_world.proofs.Idling.{at_moment, idle-after, idle-at, idle-ends, idle-ticks, next-idle, ticked-idle}
-use Rattle.pat_world.proofs.Rooms.{HasRoom-cluster_after, HasRoom-fewer}
+use Rattle.world_model.proofs.Idling.{at_moment, idle-after, idle-at, idle-ends, idle-ticks, next-idle, ticked-idle}
+use Rattle.world_model.proofs.Rooms.{HasRoom-cluster_after, HasRoom-fewer}
 use Rattle.pat_world.proofs.Standing.{is-stands}
-use Rattle.pat_world.proofs.Stillness.{tick-alone}
-use Rattle.pat_world.proofs.Taking.{Emits-weaker, cluster_over-append}
+use Rattle.world_model.proofs.Stillness.{tick-alone}
+use Rattle.world_model.proofs.Taking.{Emits-weaker, cluster_over-append}
 
 -- each step brings its tick and nothing else
 pub brings-ticks : (step : Step) (cluster : Cluster) (later count : ℕ) → cluster.facts.clock + count ≤ later → (0 < count → IsIdleIn step later cluster) → BringsTicks cluster step count

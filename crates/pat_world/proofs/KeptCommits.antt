@@ -10,7 +10,7 @@ use Rattle.cluster_model.specs.Starting.{cluster_of}
 use Rattle.cluster_model.specs.State.{Cluster}
 use Rattle.commit_run_law.specs.Runs.{KeepsCommitsIn, KeepsOrderIn}
 use Rattle.commit_run_law.proofs.EveryRun.{runs-in-order, runs-keep}
-use Rattle.pat_world.specs.Emits.{Emits}
+use Rattle.world_model.specs.Emits.{Emits}
 use Rattle.pat_world.specs.KeptCommits.{KeepsCommits}
 use Rattle.pat_world.proofs.IdleTicks.{run_events-both}
 use Rattle.pat_world.proofs.OneWriter.{run_events-last}

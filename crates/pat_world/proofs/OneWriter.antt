@@ -7,9 +7,9 @@ use Rattle.cluster_model.specs.Next.{next_events, run_events}
 use Rattle.cluster_model.specs.Starting.{cluster_of}
 use Rattle.cluster_model.specs.State.{Cluster}
 use Rattle.run_law.proofs.EveryRun.{runs-one}
-use Rattle.pat_world.specs.Emits.{Emits}
+use Rattle.world_model.specs.Emits.{Emits}
 use Rattle.pat_world.specs.OneWriter.{KeepsOneWriter}
-use Rattle.pat_world.proofs.Taking.{cluster_over-append}
+use Rattle.world_model.proofs.Taking.{cluster_over-append}
 
 -- the events of steps and of one more
 pub run_events-last : (start : Cluster) (steps : List Step) (step : Step) → run_events start (steps ++ step ∷ []) ≡ run_events start steps ++ next_events (cluster_over start (run_events start steps)) step

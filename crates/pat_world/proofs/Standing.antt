@@ -12,8 +12,8 @@ use Rattle.pat_world.specs.Book.{StandsFor, left_by, next_of}
 use Rattle.cluster_model.specs.Cluster.{cluster_after, cluster_over}
 use Rattle.cluster_model.specs.State.{Cluster}
 use Rattle.cluster_model.specs.Next.{next_events}
-use Rattle.pat_world.specs.Emits.{Emits}
-use Rattle.pat_world.proofs.Taking.{cluster_over-append}
+use Rattle.world_model.specs.Emits.{Emits}
+use Rattle.world_model.proofs.Taking.{cluster_over-append}
 
 -- what a book leaves is what it leaves of the facts, and where the agents stand
 book-left : (cluster : Cluster) (events : List Event) → (cluster_over cluster events).facts ≡ facts_over cluster.facts events

@@ -1,14 +1,3 @@
-pub mod Apart
 pub mod Book
-pub mod Calls
-pub mod Comes
-pub mod Emits
-pub mod Idle
 pub mod KeptCommits
-pub mod FlightIndex
-pub mod Launches
 pub mod OneWriter
-pub mod Promoting
-pub mod Reached
-pub mod Room
-pub mod Short

@@ -11,13 +11,13 @@ ghost use Rattle.cluster_model.specs.Starting.{cluster_of};
 ghost use Rattle.cluster_model.specs.State.{Cluster};
 ghost use Rattle.cluster_model.specs.Steps.{IsStep};
 ghost use Rattle.pat_world.specs.Book.{StandsFor, left_by, next_of};
-ghost use Rattle.pat_world.specs.Idle.{BringsTicks, IsIdleBefore, IsIdleIn, NothingEnds, NothingIsDue};
+ghost use Rattle.world_model.specs.Idle.{BringsTicks, IsIdleBefore, IsIdleIn, NothingEnds, NothingIsDue};
 ghost use Rattle.pat_world.specs.KeptCommits.{KeepsCommits};
 ghost use Rattle.pat_world.specs.OneWriter.{KeepsOneWriter};
-ghost use Rattle.pat_world.specs.Emits.{Emits};
-ghost use Rattle.pat_world.specs.Room.{HasRoomFor, step_cost};
+ghost use Rattle.world_model.specs.Emits.{Emits};
+ghost use Rattle.world_model.specs.Room.{HasRoomFor, step_cost};
 
-use crate::stage::{Stage, note};
+use world_stage::stage::{Stage, note};
 use cluster_config::AgentView;
 use cluster_script::{Head, Step};
 use event_book::{Event, EventKind};
@@ -42,7 +42,7 @@ pub struct World {
 impl Model for World {
     ghost use Rattle.cluster_model.specs.State.{Cluster};
     ghost use Rattle.cluster_script.specs.declared.line.Step.TheVariants as steps;
-    ghost use Rattle.pat_world.specs.Idle.{IsIdleBefore};
+    ghost use Rattle.world_model.specs.Idle.{IsIdleBefore};
 
     ghost Value = { Cluster };
 

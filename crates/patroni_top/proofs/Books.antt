@@ -13,7 +13,7 @@ use Rattle.commit_run_law.specs.Runs.{first_logs}
 use Rattle.commit_run_law.proofs.Losses.{told-back}
 use Rattle.commit_run_law.proofs.LossRuns.{runs-tell}
 use Rattle.pat_world.proofs.OneWriter.{run_events-last}
-use Rattle.pat_world.proofs.Taking.{cluster_over-append}
+use Rattle.world_model.proofs.Taking.{cluster_over-append}
 use Rattle.patroni_top.specs.Run.{events_by_step}
 
 -- the events of all steps are the book

@@ -17,8 +17,8 @@ use Rattle.cluster_model.specs.State.{Cluster}
 use Rattle.cluster_model.specs.Steps.{IsStep}
 use Rattle.summary.specs.Passing.{IsTickAlone}
 use Rattle.summary.specs.Sights.{noted_steps}
-use Rattle.pat_world.specs.Idle.{BringsTicks, IsTick}
-use Rattle.pat_world.specs.Room.{HasRoomFor}
+use Rattle.world_model.specs.Idle.{BringsTicks, IsTick}
+use Rattle.world_model.specs.Room.{HasRoomFor}
 use Rattle.patroni_top.specs.declared.playing.Player.{Player}
 use Rattle.patroni_top.specs.declared.print_error.PrintError.TheVariants.{Write}
 use Rattle.patroni_top.specs.Playing.{Idles, Plays}

@@ -16,11 +16,11 @@ use Rattle.cluster_model.specs.Cluster.{cluster_over}
 use Rattle.cluster_model.specs.Next.{next_events, run_events}
 use Rattle.cluster_model.specs.State.{Cluster}
 use Rattle.summary.specs.Sights.{SummaryFacts, noted_step}
-use Rattle.pat_world.specs.Room.{HasRoomFor, step_cost}
-use Rattle.pat_world.specs.Emits.{Emits}
-use Rattle.pat_world.proofs.Rooms.{HasRoom-fewer}
-use Rattle.pat_world.proofs.Starting.{drop-get}
-use Rattle.pat_world.proofs.Taking.{members-stay, cluster_over-append}
+use Rattle.world_model.specs.Room.{HasRoomFor, step_cost}
+use Rattle.world_model.specs.Emits.{Emits}
+use Rattle.world_model.proofs.Rooms.{HasRoom-fewer}
+use Rattle.world_model.proofs.Starting.{drop-get}
+use Rattle.world_model.proofs.Taking.{members-stay, cluster_over-append}
 use Rattle.patroni_top.specs.declared.playing.Player.{Player}
 use Rattle.patroni_top.specs.declared.print_error.PrintError.{PrintError}
 use Rattle.patroni_top.specs.declared.print_error.PrintError.TheVariants.{Memory, Write}

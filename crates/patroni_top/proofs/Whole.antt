@@ -11,9 +11,9 @@ use Rattle.cluster_model.specs.Starting.{cluster_of}
 use Rattle.cluster_model.specs.State.{Cluster}
 use Rattle.summary.specs.Sights.{SummaryFacts}
 use Rattle.summary.specs.SummaryText.{closing_text}
-use Rattle.pat_world.specs.Room.{HasRoomFor, step_cost}
-use Rattle.pat_world.proofs.Rooms.{HasRoom-fewer}
-use Rattle.pat_world.proofs.Starting.{ample, start-room}
+use Rattle.world_model.specs.Room.{HasRoomFor, step_cost}
+use Rattle.world_model.proofs.Rooms.{HasRoom-fewer}
+use Rattle.world_model.proofs.Starting.{ample, start-room}
 use Rattle.patroni_top.specs.Run.{KeepsLimits, noted_from, output_of, printed_from}
 use Rattle.patroni_top.specs.Watches.{first_summary}
 

@@ -5,8 +5,8 @@ use Rattle.pat_base.specs.Prints.{Prints}
 use Rattle.cluster_script.specs.declared.line.Step.{Step}
 use Rattle.cluster_model.specs.Cluster.{cluster_over}
 use Rattle.cluster_model.specs.Next.{run_events}
-use Rattle.pat_world.specs.Idle.{BringsTicks}
-use Rattle.pat_world.specs.Room.{HasRoomFor}
+use Rattle.world_model.specs.Idle.{BringsTicks}
+use Rattle.world_model.specs.Room.{HasRoomFor}
 use Rattle.patroni_top.specs.declared.playing.Player.{Player}
 use Rattle.patroni_top.specs.declared.print_error.PrintError.{PrintError}
 use Rattle.patroni_top.specs.declared.print_error.PrintError.TheVariants.{Write}

@@ -8,7 +8,7 @@ use Rattle.cluster_model.specs.Next.{run_events}
 use Rattle.cluster_model.specs.Starting.{cluster_of}
 use Rattle.cluster_model.specs.State.{Cluster}
 use Rattle.cluster_model.specs.Steps.{names_in}
-use Rattle.pat_world.proofs.Declaring.{names-start}
+use Rattle.world_model.proofs.Declaring.{names-start}
 use Rattle.pat_world.proofs.Standing.{is-stands}
 use Rattle.patroni_top.specs.declared.print_error.PrintError.TheVariants.{Memory, Write}
 use Rattle.patroni_top.specs.Run.{run_of}

@@ -2,8 +2,8 @@ use Rattle.std.proofs.Common.{◌≡◌, ◌+◌, replicate, arith, ap, sym, sub
 use Rattle.cluster_script.specs.declared.line.Step.TheVariants as steps
 use Rattle.cluster_model.specs.Acknowledging.{AreAcknowledged}
 use Rattle.cluster_model.specs.State.{Cluster}
-use Rattle.pat_world.specs.Room.{HasRoomFor}
-use Rattle.pat_world.proofs.Idling.{at_moment, idle-commits}
+use Rattle.world_model.specs.Room.{HasRoomFor}
+use Rattle.world_model.proofs.Idling.{at_moment, idle-commits}
 use Rattle.pat_world.proofs.IdleTicks.{brings-ticks, idle-passed, passed, room-passed, steps-keep, steps-stand}
 use Rattle.pat_world.proofs.KeptCommits.{steps-keep-commits}
 use Rattle.pat_world.proofs.world.World.idle_for.Goals as goal

@@ -1,5 +1,5 @@
 use Rattle.std.proofs.Common.{ℕ, ◌≡◌, ◌<◌, ◌+◌, arith, subst}
-use Rattle.pat_world.specs.Idle.{IsIdleIn}
+use Rattle.world_model.specs.Idle.{IsIdleIn}
 use Rattle.pat_world.proofs.world.World.play.Goals as goal
 
 pub tick-requires-clause-idle : goal.tick-requires-clause-idle

@@ -1,5 +1,5 @@
 use Rattle.std.proofs.lemmas.Result.{on_ok_weaker}
-use Rattle.pat_world.specs.Room.{step_cost}
+use Rattle.world_model.specs.Room.{step_cost}
 use Rattle.pat_world.proofs.KeptCommits.{step-keeps-commits}
 use Rattle.pat_world.proofs.OneWriter.{step-keeps}
 use Rattle.pat_world.proofs.Standing.{step-stands}

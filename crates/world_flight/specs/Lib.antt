@@ -1,0 +1,2 @@
+pub mod FlightIndex
+pub mod Launches

@@ -1,0 +1,11 @@
+pub mod ServerRooms
+pub mod Rooms
+pub mod Taking
+pub mod Silence
+pub mod Starting
+pub mod Rest
+pub mod Serving
+pub mod Deciding
+pub mod Idling
+pub mod Stillness
+pub mod Declaring

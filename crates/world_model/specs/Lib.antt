@@ -1,0 +1,8 @@
+pub mod Apart
+pub mod Comes
+pub mod Emits
+pub mod Idle
+pub mod Promoting
+pub mod Reached
+pub mod Room
+pub mod Short

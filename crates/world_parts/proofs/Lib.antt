@@ -1,0 +1,3 @@
+pub mod ServerCommanding
+pub mod Lacking
+pub mod Calling

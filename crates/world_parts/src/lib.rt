@@ -1,0 +1,20 @@
+//! What the world is made of, field by field: what a happening changes of each, and what commands and agents bring of each.
+#![tactic(auto)]
+
+pub mod changes;
+pub mod deliveries;
+pub mod from_head;
+pub mod links;
+pub mod losing;
+pub mod machines;
+pub mod members;
+pub mod naming;
+pub mod orders;
+pub mod places;
+pub mod processes;
+pub mod replication;
+pub mod requests;
+pub mod server_changes;
+pub mod server_commands;
+pub mod streaming;
+pub mod watchdogs;

@@ -1,0 +1,252 @@
+//! What orders of agents come to.
+ghost use Rattle.std.specs.Prelude.{ℕ, ◌≡◌, ◌<◌, ◌+◌, ◌^◌, IfSome, IfOk, Some, None, option_and_then, option_map, slice_get};
+ghost use Rattle.event_book.specs.Members.{server_of};
+ghost use Rattle.cluster_model.specs.Messages.{receiver_of};
+ghost use Rattle.cluster_model.specs.Orders.{arming, barring, declared_member, declared_name, feeding, following_of, handing_over, hold_taken, is_same_required, not_racing, require_of, stop_kind, stop_of, told_of, upstream_of, wipe_of};
+ghost use Rattle.cluster_model.specs.State.{Cluster};
+ghost use Rattle.world_model.specs.Comes.{MayCome};
+
+use crate::naming::required_names;
+use agent_model::{Output, Target};
+use cluster_model::HeardMessage;
+use event_book::{
+    AgentEvent, Basis, EventKind, LinkEnd, LogEvent, Member, Note, ReplicationEvent, ServerEvent,
+    ServerOf, WatchdogEvent,
+};
+use lease_store::Bar;
+use pat_base::{MemberId, Name, Required, State, Ticks};
+use pg_model::Servers;
+use std::alloc::{AllocError, Global};
+
+/// The declared member of this number, if there is a number.
+pub fn declared_member(members: &[Member], id: Option<MemberId>) -> Option<Member>
+    ensures { result ≡ declared_member members.now id }
+{
+    member_at(members, id?)
+}
+
+/// Whom an agent writes to, if that is declared.
+pub fn receiver_of(members: &[Member], target: Target) -> Option<LinkEnd>
+    ensures { result ≡ receiver_of members.now target }
+{
+    match target {
+        Target::Store => Some(LinkEnd::Store),
+        Target::Member(id) => Some(LinkEnd::Member(member_at(members, id)?)),
+    }
+}
+
+/// The declared member of this number.
+pub fn member_at(members: &[Member], id: MemberId) -> Option<Member>
+    ensures { result ≡ slice_get members.now id.number }
+{
+    let member = members.get(id.number as usize)?;
+    Some(*member)
+}
+
+/// A server follows this leader's: what happens where there is such a member.
+pub fn following_of(member: Member, leader: Option<Member>) -> Option<EventKind>
+    ensures kind { result ≡ following_of member leader }
+    ensures comes { (cluster : Cluster) → IfSome result (MayCome cluster) }
+{
+    let leader = leader?;
+    Some(EventKind::Server(ServerEvent::Follows {
+        server: ServerOf::of(member),
+        upstream: ServerOf::of(leader),
+    }))
+}
+
+/// The same, where the server is a replica.
+pub fn upstream_of(servers: &Servers, member: Member, leader: Option<Member>) -> Option<EventKind>
+    ensures kind { result ≡ option_and_then (upstream_of member leader) (slice_get servers.now member.id.number) }
+    ensures comes { (cluster : Cluster) → IfSome result (MayCome cluster) }
+{
+    let server = servers.get(member.id.number as usize)?;
+    match server.state() {
+        State::Replica => following_of(member, leader),
+        _ => None,
+    }
+}
+
+/// A shutdown by the agent: what happens where the server runs or starts.
+pub fn stop_of(servers: &Servers, member: Member) -> Option<EventKind>
+    ensures kind { result ≡ option_and_then (stop_of member) (slice_get servers.now member.id.number) }
+    ensures comes { (cluster : Cluster) → cluster.facts.servers ≡ servers.now → IfSome result (MayCome cluster) }
+{
+    let server = servers.get(member.id.number as usize)?;
+    match server.state() {
+        State::Starting { .. } | State::Replica | State::Primary => Some(stop_kind(
+            member,
+            server.state(),
+            server.stop_delay(),
+        )),
+        _ => None,
+    }
+}
+
+fn stop_kind(member: Member, state: State, delay: Ticks) -> EventKind
+    ensures { result ≡ stop_kind member state delay }
+{
+    let server = ServerOf::of(member);
+    match state {
+        State::Primary if delay.0 == 0 => EventKind::Server(ServerEvent::Ended { server }),
+        _ => EventKind::Server(ServerEvent::Stops { server }),
+    }
+}
+
+/// The server of a member is wiped: what happens where it doesn't accept writes, won't when its start is complete, and doesn't wait
+/// for a copy already.
+pub fn wipe_of(servers: &Servers, member: Member) -> Option<EventKind>
+    ensures kind { result ≡ option_and_then (wipe_of member) (slice_get servers.now member.id.number) }
+    ensures comes { (cluster : Cluster) → cluster.facts.servers ≡ servers.now → IfSome result (MayCome cluster) }
+{
+    let server = servers.get(member.id.number as usize)?;
+    if server.state() == State::Creating || server.live() {
+        None
+    } else {
+        Some(EventKind::Log(LogEvent::Wiped {
+            server: ServerOf::of(member),
+        }))
+    }
+}
+
+/// A change of those whom commits wait for: what happens where that is one. It fails only for want of memory.
+pub fn require_of(
+    alloc: Global,
+    members: &[Member],
+    servers: &Servers,
+    member: Member,
+    required: Required,
+) -> Result<Option<EventKind>, AllocError>
+    ensures kind { IfOk result (λ kind. kind ≡ option_and_then (require_of members.now member required) (slice_get servers.now member.id.number)) }
+    ensures comes { IfOk result (λ kind. (cluster : Cluster) → IfSome kind (MayCome cluster)) }
+{
+    let Some(server) = servers.get(member.id.number as usize) else {
+        return Ok(None);
+    };
+    if is_same_required(server.required(), required) {
+        return Ok(None);
+    }
+    Ok(Some(EventKind::Replication(ReplicationEvent::RequiredSet {
+        server: ServerOf::of(member),
+        required,
+        names: required_names(alloc, members, required)?,
+    })))
+}
+
+/// Whether commits wait for the same members.
+fn is_same_required(first: Required, second: Required) -> bool
+    ensures { result ≡ is_same_required first second }
+{
+    match (first, second) {
+        (Required::Nobody, Required::Nobody) => true,
+        (Required::AnyOne, Required::AnyOne) => true,
+        (Required::All(first), Required::All(second)) => first.bits == second.bits,
+        _ => false,
+    }
+}
+
+/// A promise not to take the leader key before a moment, on the failsafe request of another member: what happens where there
+/// is that one.
+pub fn hold_of_request(
+    member: Member,
+    until: Ticks,
+    run: u64,
+    sequence: u64,
+    from: Option<Member>,
+) -> Option<EventKind>
+    ensures kind { result ≡ option_map (hold_taken member until run sequence) from }
+    ensures comes { (cluster : Cluster) → IfSome result (MayCome cluster) }
+{
+    let from = from?;
+    Some(EventKind::Watchdog(WatchdogEvent::HoldTaken {
+        member,
+        until,
+        from,
+        run,
+        sequence,
+    }))
+}
+
+/// A member hands over to this one: what happens where there is that one.
+pub fn handing_over(member: Member, candidate: Option<Member>) -> Option<EventKind>
+    ensures kind { result ≡ option_map (handing_over member) candidate }
+    ensures comes { (cluster : Cluster) → IfSome result (MayCome cluster) }
+{
+    let candidate = candidate?;
+    Some(EventKind::Note(Note::HandsOver { member, candidate }))
+}
+
+/// The first deadline of a watchdog, on the message that was heard.
+pub fn arming(member: Member, until: Ticks, heard: HeardMessage) -> EventKind
+    ensures kind { result ≡ arming member until heard }
+    ensures comes { (cluster : Cluster) → MayCome cluster result }
+{
+    EventKind::Watchdog(WatchdogEvent::Armed {
+        member,
+        until,
+        answer: heard.number,
+    })
+}
+
+/// A new deadline of one, on the message that was heard.
+pub fn feeding(member: Member, until: Ticks, heard: HeardMessage) -> EventKind
+    ensures kind { result ≡ feeding member until heard }
+    ensures comes { (cluster : Cluster) → MayCome cluster result }
+{
+    EventKind::Watchdog(WatchdogEvent::Fed {
+        member,
+        until,
+        basis: Basis::Grant {
+            answer: heard.number,
+        },
+    })
+}
+
+/// What an agent tells of its watchdog, but for its feeds, and of its promotion, and that it leads past the sync key.
+pub fn told_of(member: Member, output: &Output) -> Option<EventKind>
+    ensures kind { result ≡ told_of member output.now }
+    ensures comes { (cluster : Cluster) → IfSome result (MayCome cluster) }
+{
+    match output {
+        Output::Disarmed => Some(EventKind::Watchdog(WatchdogEvent::Disarmed { member })),
+        Output::CannotArm => Some(EventKind::Note(Note::CannotArm { member })),
+        Output::DisablesWatchdog => Some(EventKind::Note(Note::DisablesWatchdog { member })),
+        Output::RunsWithoutKey => Some(EventKind::Note(Note::RunsWithoutKey { member })),
+        Output::PostponesPromotion => Some(EventKind::Note(Note::PostponesPromotion { member })),
+        Output::Passes => Some(EventKind::Agent(AgentEvent::Passed { agent: member })),
+        _ => None,
+    }
+}
+
+/// A member that doesn't race for the free leader key, with the name of the member that bars it, if one does.
+pub fn not_racing(members: &[Member], member: Member, bar: Bar) -> EventKind
+    ensures kind { result ≡ not_racing members.now member bar }
+    ensures comes { (cluster : Cluster) → MayCome cluster result }
+{
+    EventKind::Note(Note::DoesNotRace {
+        member,
+        bar,
+        by: declared_name(members, barring(bar)),
+    })
+}
+
+/// The name of the declared member of this number, if there is a number.
+fn declared_name(members: &[Member], id: Option<MemberId>) -> Option<Name>
+    ensures { result ≡ declared_name members.now id }
+{
+    let member = declared_member(members, id)?;
+    Some(member.name)
+}
+
+/// The member that bars another one from racing, if one does.
+fn barring(bar: Bar) -> Option<MemberId>
+    ensures { result ≡ barring bar }
+{
+    match bar {
+        Bar::Candidate(member)
+        | Bar::OtherWrites(member)
+        | Bar::Ahead(member)
+        | Bar::Priority(member) => Some(member),
+        _ => None,
+    }
+}

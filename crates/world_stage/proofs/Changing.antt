@@ -1,0 +1,24 @@
+-- What commands change of agents.
+use Rattle.std.proofs.Common.{◌≡◌, ℕ, ◌≤◌, List, Option, arith, sym, subst}
+use Rattle.event_book.specs.declared.event.Event.{Event}
+use Rattle.event_book.specs.declared.event.EventKind.{EventKind}
+use Rattle.cluster_script.specs.declared.line.Command.{Command}
+use Rattle.cluster_model.specs.State.{Cluster}
+use Rattle.cluster_model.specs.Commands.{kinds_of}
+use Rattle.cluster_model.specs.Next.{command_events, command_kind}
+use Rattle.cluster_model.specs.Parts.{events_of}
+use Rattle.world_model.specs.Room.{command_cost}
+use Rattle.world_model.specs.Emits.{Emits}
+use Rattle.world_model.proofs.Taking.{Emits-weaker}
+
+-- what a command comes to, of the command as it was read
+pub commanded : (cluster after : Cluster) (had has : List Event) (read command : Command) (cost : ℕ) → read ≡ command → Emits cluster after had has (command_events cluster command) cost → cost ≤ command_cost → Emits cluster after had has (command_events cluster read) command_cost
+commanded cluster after had has read command cost is took enough =
+    subst (λ (d : Command). Emits cluster after had has (command_events cluster d) command_cost) (sym is) (Emits-weaker cluster after had has (command_events cluster command) cost command_cost took enough)
+
+-- what a command comes to that brings one event at most
+pub command_kind-took : (cluster after : Cluster) (had has : List Event) (command : Command) (found : Option EventKind) → command_events cluster command ≡ events_of cluster (kinds_of (command_kind cluster command)) → found ≡ command_kind cluster command
+    → Emits cluster after had has (events_of cluster (kinds_of found)) 1 → Emits cluster after had has (command_events cluster command) command_cost
+command_kind-took cluster after had has command found is kind took =
+    subst (λ (es : List Event). Emits cluster after had has es command_cost) (sym is)
+    (subst (λ (o : Option EventKind). Emits cluster after had has (events_of cluster (kinds_of o)) command_cost) kind (Emits-weaker cluster after had has (events_of cluster (kinds_of found)) 1 command_cost took (omega arith)))

@@ -1,0 +1,45 @@
+-- What happens keeps what a world keeps.
+use Rattle.std.proofs.Common.{◌≡◌, ℕ, List, [], ◌∷◌, ◌++◌, refl, ◌∙◌, ap}
+use Rattle.pat_base.specs.declared.ticks.Ticks.{Ticks}
+use Rattle.event_book.specs.declared.event.Event.{Event}
+use Rattle.event_book.specs.declared.event.EventKind.{EventKind}
+use Rattle.event_book.specs.declared.event.EventKind.TheVariants as kinds
+use Rattle.event_book.specs.declared.event.AgentEvent.{AgentEvent}
+use Rattle.event_book.specs.declared.event.AgentEvent.TheVariants as agents
+use Rattle.event_book.specs.declared.event.MessageEvent.{MessageEvent}
+use Rattle.event_book.specs.declared.event.MessageEvent.TheVariants as messages
+use Rattle.event_book.specs.Flight.{sent_after}
+use Rattle.cluster_model.specs.Cluster.{agent_facts_after, agent_facts_by, agent_facts_by_message, agent_facts_moved, cluster_after}
+use Rattle.cluster_model.specs.State.{Cluster}
+use Rattle.world_model.specs.Apart.{agents_apart}
+use Rattle.world_model.specs.Comes.{Counts, IsBare}
+use Rattle.cluster_model.specs.Parts.{event_of}
+use Rattle.world_model.specs.Emits.{Emits}
+use Rattle.world_model.proofs.Deciding.{stamped-is}
+use Rattle.world_model.proofs.Taking.{Emits-one}
+
+-- what sends no message leaves the number of the last one
+pub sent-same : (last : ℕ) (kind : EventKind) → IsBare kind → sent_after last kind ≡ last
+sent-same last (kinds.Message (messages.Sent number message)) bare = absurd bare
+sent-same last _ bare = refl
+
+-- one thing happened, and was written down
+pub Emits-told : (before after : Cluster) (tick : Ticks) (kind : EventKind) (had has : List Event) → Counts before kind → after ≡ cluster_after before kind → tick.0 ≡ after.facts.clock → has ≡ had ++ record { tick = tick; kind = kind } ∷ []
+    → Emits before after had has (event_of before kind) 1
+Emits-told before after tick kind had has counts state at told =
+    Emits-one before after had has kind counts state (told ∙ ap (λ es. had ++ es) (stamped-is before tick kind (at ∙ ap (λ (c : Cluster). c.facts.clock) state)))
+
+-- what becomes of agents where nothing is brought that they act on
+agents-apart-by : (cluster : Cluster) (happening : AgentEvent) → IsBare (kinds.Agent happening) → agent_facts_by cluster happening ≡ agent_facts_moved cluster.scope cluster.options cluster.facts.members cluster.facts.clock cluster.agents happening
+agents-apart-by cluster (agents.Woken member) bare = absurd bare
+agents-apart-by cluster (agents.Operated member action) bare = absurd bare
+agents-apart-by cluster _ bare = refl
+
+agents-apart-message : (cluster : Cluster) (happening : MessageEvent) → IsBare (kinds.Message happening) → agent_facts_by_message cluster happening ≡ cluster.agents
+agents-apart-message cluster (messages.Delivered number) bare = absurd bare
+agents-apart-message cluster _ bare = refl
+
+pub agents-apart : (cluster : Cluster) (kind : EventKind) → IsBare kind → agent_facts_after cluster kind ≡ agents_apart cluster.scope cluster.options cluster.facts.members cluster.facts.clock cluster.agents kind
+agents-apart cluster (kinds.Agent happening) bare = agents-apart-by cluster happening bare
+agents-apart cluster (kinds.Message happening) bare = agents-apart-message cluster happening bare
+agents-apart cluster _ bare = refl

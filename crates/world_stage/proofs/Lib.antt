@@ -1,0 +1,17 @@
+pub mod Hearing
+pub mod Sending
+pub mod Streams
+pub mod Repairing
+pub mod Restarting
+pub mod Comings
+pub mod Acknowledgements
+pub mod Losses
+pub mod Worlds
+pub mod Promoting
+pub mod Reaching
+pub mod Waking
+pub mod Carrying
+pub mod Changing
+pub mod Expiring
+pub mod Numbering
+pub mod Passing

@@ -1,0 +1,19 @@
+use Rattle.std.proofs.Common.{◌≤◌, arith, ap, length}
+use Rattle.cluster_model.specs.State.{Cluster}
+use Rattle.world_stage.proofs.Acknowledgements.{acknowledged-all}
+use Rattle.world_model.proofs.Rest.{EachLeft-end, EachLeft-members, EachLeft-more, EachLeft-place}
+use Rattle.world_model.proofs.Taking.{Emits-weaker}
+use Rattle.world_stage.proofs.stage.Stage.acknowledge_all.Goals as goal
+
+pub member-requires : goal.member-requires
+member-requires c = omega (arith, c.loop-place-test.true, c.len-place-end.ensures, ap (λ (b : Cluster). length b.facts.members) c.self.view_is, ap length (EachLeft-members _ _ _ _ _ _ _ _ _ c.loop-place.invariant))
+
+pub loop-place-preserved : goal.loop-place-preserved
+loop-place-preserved c =
+    EachLeft-more _ _ _ _ _ _ _ _ _ _ c.loop-place.place _ c.loop-place.invariant (EachLeft-place _ _ _ _ _ _ _ _ c.loop-place.invariant c.member.ensures) c.in_ok-acknowledge.ensures
+
+pub returns : goal.returns
+returns c =
+    let over : length c.args.self.now.facts.members ≤ c.loop-place.place = omega (arith, c.loop-place-test.false, c.len-place-end.ensures, ap (λ (b : Cluster). length b.facts.members) c.self.view_is) in
+    let took = EachLeft-end _ _ _ _ _ _ _ _ c.loop-place.place c.loop-place.invariant over in
+    record { emits = Emits-weaker _ _ _ _ _ _ 0 took (omega arith); done = acknowledged-all c.args.self.now c.loop-place.self c.args.events.now.items c.loop-place.events.items _ took }
