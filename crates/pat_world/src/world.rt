@@ -17,13 +17,14 @@ ghost use Rattle.pat_world.specs.OneWriter.{KeepsOneWriter};
 ghost use Rattle.world_model.specs.Emits.{Emits};
 ghost use Rattle.world_model.specs.Room.{HasRoomFor, step_cost};
 
-use world_stage::stage::{Stage, note};
 use cluster_config::AgentView;
 use cluster_script::{Head, Step};
 use event_book::{Event, EventKind};
 use pat_base::{MemberId, Ticks};
 use std::alloc::{AllocError, Global};
 use std::marker::Model;
+use world_play::{due_from, ends_from, take_step};
+use world_stage::{Stage, write_down};
 
 /// A cluster at a moment, which takes the steps of a script. It can't be dropped, since an agent can't: `World::close` ends
 /// one.
@@ -153,7 +154,7 @@ impl World {
         ensures acknowledged { OnOk result (AreAcknowledged self.new.facts.members self.new.facts.servers) }
     {
         self.stage.pass(1);
-        note(events, self.stage.clock(), EventKind::Tick)
+        write_down(events, self.stage.clock(), EventKind::Tick)
     }
 
     /// Any step. Behind one that brought nothing but the tick of the default schedule it is found up to when that stays so, and behind
@@ -167,7 +168,7 @@ impl World {
     {
         self.idle_before = 0;
         self.ticks_idle_before = 0;
-        self.stage.play(step, events)?;
+        take_step(&mut self.stage, step, events)?;
         self.idle_before = idle_before(&self.stage, step, events.len());
         self.ticks_idle_before = ticks_idle_before(&self.stage, step);
         Ok(())
@@ -213,7 +214,7 @@ fn idle_before(stage: &Stage, step: &Step, events: usize) -> u64
         return 0;
     }
     match step {
-        Step::Scheduled => stage.due_from().0,
+        Step::Scheduled => due_from(stage).0,
         _ => 0,
     }
 }
@@ -224,7 +225,7 @@ fn ticks_idle_before(stage: &Stage, step: &Step) -> u64
     ensures { (now : ℕ) → now < result → NothingEnds now stage.now }
 {
     match step {
-        Step::Tick => stage.ends_from().0,
+        Step::Tick => ends_from(stage).0,
         _ => 0,
     }
 }

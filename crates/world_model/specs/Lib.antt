@@ -3,6 +3,5 @@ pub mod Comes
 pub mod Emits
 pub mod Idle
 pub mod Promoting
-pub mod Reached
 pub mod Room
 pub mod Short

@@ -9,9 +9,3 @@ pub mod Losses
 pub mod Worlds
 pub mod Promoting
 pub mod Reaching
-pub mod Waking
-pub mod Carrying
-pub mod Changing
-pub mod Expiring
-pub mod Numbering
-pub mod Passing

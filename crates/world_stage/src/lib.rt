@@ -1,4 +1,8 @@
-//! The stage of a world: what a cluster has at a moment, and how the steps of a script change it.
+//! The stage of a world: what a cluster has at a moment, and the one place where an event changes it and is written down.
 #![tactic(auto)]
 
-pub mod stage;
+mod arrival;
+mod stage;
+
+pub use arrival::Arrival;
+pub use stage::{Stage, write_down};

@@ -1,40 +1,27 @@
-//! The stage of a world: what a cluster has at a moment, and how the steps of a script change it.
-ghost use Rattle.std.specs.Prelude.{ℕ, List, ◌≡◌, ◌<◌, ◌≤◌, ◌+◌, ◌*◌, ◌^◌, ◌++◌, ◌∷◌, ◌↔◌, [], length, OnOk, OnErr, IfOk, IfSome, IsSome, option_and_then, slice_get, Some};
-ghost use Rattle.pat_base.specs.MemberId.{member_of};
-ghost use Rattle.cluster_script.specs.Script.{IsCommand, IsLink, IsMember};
+//! The stage of a world: what a cluster has at a moment.
+ghost use Rattle.std.specs.Prelude.{◌≡◌, ◌<◌, ◌≤◌, ◌+◌, ◌^◌, ◌++◌, ◌∷◌, [], length, OnOk, IfOk, slice_get, Some};
+ghost use Rattle.cluster_script.specs.Script.{IsLink, IsMember};
 ghost use Rattle.event_book.specs.declared.event.Event.{Event};
-ghost use Rattle.cluster_model.specs.Acknowledging.{AreAcknowledged};
 ghost use Rattle.cluster_model.specs.Commands.{link_of};
-ghost use Rattle.cluster_model.specs.Limits.{most_rounds};
-ghost use Rattle.cluster_model.specs.Next.{round_events, rounds_events, declared, command_events, command_kind, scheduled_events, step_events, next_events};
+ghost use Rattle.cluster_model.specs.Next.{declared};
 ghost use Rattle.cluster_model.specs.Starting.{cluster_of};
 ghost use Rattle.cluster_model.specs.State.{Cluster};
-ghost use Rattle.cluster_model.specs.Steps.{IsStep, names_in};
-ghost use Rattle.world_model.specs.Comes.{MayCome};
-ghost use Rattle.world_model.specs.Emits.{Emits};
-ghost use Rattle.world_model.specs.Room.{HasRoom, HasRoomFor, command_cost, round_cost, rounds_cost, schedule_cost, step_cost};
+ghost use Rattle.cluster_model.specs.Steps.{names_in};
 
 mod acknowledging;
 mod agents;
-mod calls;
 mod happening;
-mod idling;
+mod logs;
 mod messages;
-mod orders;
-mod repairing;
-mod servers;
-mod streaming;
-mod ticking;
+mod restarts;
 
 use world_flight::flight::Flight;
 use world_flight::flight_index::FlightIndex;
 use world_parts::from_head::{hosts_of, members_of, options_of, processes_of};
-use world_parts::links::{CutLinks, cut_of, join_of, link_of};
+use world_parts::links::{CutLinks, link_of};
 use world_parts::members;
 use world_parts::places::{close_all, first_agents};
-use world_parts::processes::{suspend_of, kill_of, resume_of};
-use world_parts::server_commands::{commit_of, crash_of, freezing_of, slow_of};
-use cluster_script::{Command, End, Head, MemberOptions, Step};
+use cluster_script::{End, Head, MemberOptions};
 use event_book::{AgentProcess, Event, EventKind, Link, Member};
 use ha_loop::{Agent, Outputs};
 use lease_store::Store;
@@ -43,11 +30,9 @@ use pg_model::Servers;
 use std::alloc::{AllocError, Global};
 use std::marker::Model;
 
-/// The most rounds of one tick.
-const MOST_ROUNDS: usize = 40;
-
 /// A cluster at a moment: the clock, the key store, the declared members with their agents, machines and servers, the links that
-/// are cut, the messages in flight, and the commits. It can't be dropped, since an agent can't: `Stage::close` ends one. `World` plays on it.
+/// are cut, the messages in flight, and the commits. It can't be dropped, since an agent can't: `Stage::close` ends one. Each of its
+/// methods that changes it writes down the event that does so.
 pub struct Stage {
     alloc: Global,
     scope: Name,
@@ -192,125 +177,28 @@ impl Stage {
         self.clock
     }
 
-    /// One step of a script with these members: what happens in it, and then the acknowledgements. On Err, want of memory, the stage
-    /// isn't to be used any more.
-    pub fn play(&mut self, step: &Step, events: &mut Vec<Event>) -> Result<(), AllocError>
-        requires room { HasRoomFor self.old 1 }
-        requires declared { IsStep self.old.facts.members step.now }
-        ensures emits { OnOk result (Emits self.old self.new events.old.items events.new.items (next_events self.old step.now) step_cost) }
-        ensures acknowledged { OnOk result (AreAcknowledged self.new.facts.members self.new.facts.servers) }
-    {
-        self.perform(step, events)?;
-        self.acknowledge_all(events)
+    /// Where what takes memory takes it.
+    pub fn alloc(&self) -> Global {
+        self.alloc
     }
 
-    /// What happens in a step.
-    fn perform(&mut self, step: &Step, events: &mut Vec<Event>) -> Result<(), AllocError>
-        requires room { HasRoomFor self.old 1 }
-        requires declared { IsStep self.old.facts.members step.now }
-        ensures { OnOk result (Emits self.old self.new events.old.items events.new.items (step_events self.old step.now) step_cost) }
+    /// The key store.
+    pub fn store(&self) -> &Store
+        ensures { result.now ≡ self.now.facts.keys }
     {
-        match step {
-            Step::Scheduled => {
-                self.tick(events)?;
-                self.scheduled(events)
-            }
-            Step::Tick => self.tick(events),
-            Step::Command(command) => self.command(command, events),
-        }
+        &self.store
     }
 
-    /// A tick of the default schedule: replicas receive, and then agents are woken and messages come.
-    fn scheduled(&mut self, events: &mut Vec<Event>) -> Result<(), AllocError>
-        requires { HasRoom self.old schedule_cost }
-        ensures { OnOk result (Emits self.old self.new events.old.items events.new.items (scheduled_events self.old) schedule_cost) }
+    /// The declared members, in the order of the script: at most 16.
+    pub fn members(&self) -> &[Member]
+        ensures members { result.now ≡ self.now.facts.members }
+        ensures few { length result.now ≤ most_members }
     {
-        self.all_receive(events)?;
-        self.rounds(events)
-    }
-
-    /// What a command comes to.
-    fn command(&mut self, command: &Command, events: &mut Vec<Event>) -> Result<(), AllocError>
-        requires room { HasRoom self.old command_cost }
-        requires declared { IsCommand (names_in self.old.facts.members) command.now }
-        ensures { OnOk result (Emits self.old self.new events.old.items events.new.items (command_events self.old command.now) command_cost) }
-    {
-        match command {
-            Command::Turn(id) => self.turn(self.declared(*id), events),
-            Command::Deliver(number) => self.deliver(*number, events),
-            Command::Lose(number) => self.lose(*number, events),
-            Command::StartAgent(id) => self.start_agent(self.declared(*id), events),
-            Command::Promote(id) => self.promote(self.declared(*id), events),
-            Command::Stream(id, most) => self.receive(self.declared(*id), *most, events),
-            Command::Rest(id, call, body) => {
-                self.call(self.declared(*id), *call, body.as_slice(), events)
-            }
-            _ => self.happen_if(self.command_kind(command), events),
-        }
-    }
-
-    /// What a command comes to that brings one event at most.
-    fn command_kind(&self, command: &Command) -> Option<EventKind>
-        requires room { HasRoom self.now 1 }
-        requires declared { IsCommand (names_in self.now.facts.members) command.now }
-        ensures kind { result ≡ command_kind self.now command.now }
-        ensures comes { IfSome result (MayCome self.now) }
-    {
-        match command {
-            Command::Suspend(id) => {
-                let member = self.declared(*id);
-                suspend_of(member, self.process(member)?)
-            }
-            Command::Resume(id) => {
-                let member = self.declared(*id);
-                resume_of(member, self.process(member)?)
-            }
-            Command::Kill(id) => {
-                let member = self.declared(*id);
-                kill_of(member, self.process(member)?)
-            }
-            Command::Crash(id) => crash_of(&self.servers, self.declared(*id)),
-            Command::Commit(id, size) => {
-                let member = self.declared(*id);
-                Some(commit_of(&self.servers, member, self.commits + 1, size.bytes))
-            }
-            Command::Freeze(id) => freezing_of(&self.frozen, self.declared(*id), true),
-            Command::Thaw(id) => freezing_of(&self.frozen, self.declared(*id), false),
-            Command::Slow(id, slowed, delay) => {
-                slow_of(&self.servers, self.declared(*id), *slowed, *delay)
-            }
-            Command::Cut(first, second) => cut_of(&self.cuts, self.link(*first, *second)),
-            Command::Join(first, second) => join_of(&self.cuts, self.link(*first, *second)),
-            _ => None,
-        }
-    }
-
-    /// The rounds of a tick. A round in which nothing happens is the last.
-    fn rounds(&mut self, events: &mut Vec<Event>) -> Result<(), AllocError>
-        requires { HasRoom self.old rounds_cost }
-        ensures { OnOk result (Emits self.old self.new events.old.items events.new.items (rounds_events self.old most_rounds) rounds_cost) }
-    {
-        for done in 0..MOST_ROUNDS {
-            let before = events.len();
-            self.round(events)?;
-            if events.len() == before {
-                return Ok(());
-            }
-        }
-        Ok(())
-    }
-
-    /// A round: each due agent is woken, and then each message that is in flight at that point moves.
-    fn round(&mut self, events: &mut Vec<Event>) -> Result<(), AllocError>
-        requires { HasRoom self.old round_cost }
-        ensures { OnOk result (Emits self.old self.new events.old.items events.new.items (round_events self.old) round_cost) }
-    {
-        self.wakes(events)?;
-        self.pass_messages(events)
+        self.members.as_slice()
     }
 
     /// The member at a place.
-    fn member(&self, place: usize) -> Member
+    pub fn member(&self, place: usize) -> Member
         requires { place < length self.now.facts.members }
         ensures { slice_get self.now.facts.members place ≡ Some result }
     {
@@ -318,7 +206,7 @@ impl Stage {
     }
 
     /// The declared member of this number.
-    fn declared(&self, id: MemberId) -> Member
+    pub fn declared(&self, id: MemberId) -> Member
         requires { IsMember (names_in self.now.facts.members) id }
         ensures { declared self.now id ≡ Some result }
     {
@@ -326,16 +214,73 @@ impl Stage {
     }
 
     /// The link between two ends that a script names.
-    fn link(&self, first: End, second: End) -> Link
+    pub fn link(&self, first: End, second: End) -> Link
         requires { IsLink (names_in self.now.facts.members) first second }
         ensures { link_of self.now.facts.members first second ≡ Some result }
     {
         link_of(&self.members, first, second)
     }
+
+    /// Which links are cut.
+    pub fn cuts(&self) -> &CutLinks
+        ensures { result.now ≡ self.now.facts.cuts }
+    {
+        &self.cuts
+    }
+
+    /// The servers, each at the place of its member.
+    pub fn servers(&self) -> &Servers
+        ensures { result.now ≡ self.now.facts.servers }
+    {
+        &self.servers
+    }
+
+    /// Which servers are frozen, each at the place of its member.
+    pub fn frozen(&self) -> &[bool]
+        ensures { result.now ≡ self.now.facts.frozen }
+    {
+        self.frozen.as_slice()
+    }
+
+    /// When each watchdog resets its machine, if it is armed.
+    pub fn deadlines(&self) -> &[Option<Ticks>]
+        ensures { result.now ≡ self.now.facts.deadlines }
+    {
+        self.deadlines.as_slice()
+    }
+
+    /// The number of the last commit.
+    pub fn commits(&self) -> u64
+        ensures { result ≡ self.now.facts.commits }
+    {
+        self.commits
+    }
+
+    /// The commits whose clients were told that they are stored, in order.
+    pub fn acknowledged(&self) -> &[u64]
+        ensures { result.now ≡ self.now.facts.acknowledged }
+    {
+        self.acknowledged.as_slice()
+    }
+
+    /// The number of the message that was sent last.
+    pub fn sent(&self) -> u64
+        ensures { result ≡ self.now.facts.sent }
+    {
+        self.sent
+    }
+
+    /// So many ticks pass in which nothing else happens. They aren't written down.
+    pub fn pass(&mut self, ticks: u64)
+        requires { self.old.facts.clock + ticks < 2 ^ 64 }
+        ensures { self.new ≡ record self.old { facts = record self.old.facts { clock = self.old.facts.clock + ticks } } }
+    {
+        self.clock = Ticks(self.clock.0 + ticks);
+    }
 }
 
 /// Writes an event down.
-pub fn note(events: &mut Vec<Event>, tick: Ticks, kind: EventKind) -> Result<(), AllocError>
+pub fn write_down(events: &mut Vec<Event>, tick: Ticks, kind: EventKind) -> Result<(), AllocError>
     ensures { OnOk result (events.new.items ≡ events.old.items ++ record { tick = tick; kind = kind } ∷ []) }
 {
     events.push(Event { tick, kind })?;

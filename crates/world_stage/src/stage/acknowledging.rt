@@ -1,5 +1,5 @@
 //! Commits whose clients are told that they are stored, and servers that lack one.
-ghost use Rattle.std.specs.Prelude.{ℕ, ◌≡◌, ◌+◌, ◌++◌, OnOk, IfSome, length, slice_get};
+ghost use Rattle.std.specs.Prelude.{◌≡◌, ◌+◌, ◌++◌, OnOk, slice_get};
 ghost use Rattle.event_book.specs.declared.event.Event.{Event};
 ghost use Rattle.cluster_model.specs.Acknowledging.{AreAcknowledged};
 ghost use Rattle.cluster_model.specs.Losing.{loss_of, losses_of};
@@ -7,7 +7,7 @@ ghost use Rattle.cluster_model.specs.Next.{acknowledge_events};
 ghost use Rattle.cluster_model.specs.Parts.{each, events_at};
 ghost use Rattle.world_model.specs.Emits.{Emits};
 
-use super::{Stage, note};
+use super::{Stage, write_down};
 use world_parts::losing::loss_at;
 use event_book::{Event, EventKind, Member, ReplicationEvent, ServerOf};
 use std::alloc::AllocError;
@@ -32,7 +32,7 @@ impl Stage {
         let place = member.id.number as usize;
         while let Some(commit) = self.servers.next_acknowledged(place) {
             self.acknowledged.push(commit)?;
-            note(
+            write_down(
                 events,
                 self.clock,
                 EventKind::Replication(ReplicationEvent::Acknowledged { server, commit }),
@@ -63,7 +63,7 @@ impl Stage {
     {
         match loss_at(&self.servers, member, commit) {
             None => Ok(()),
-            Some(loss) => note(events, self.clock, loss),
+            Some(loss) => write_down(events, self.clock, loss),
         }
     }
 }

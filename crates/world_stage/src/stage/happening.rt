@@ -1,5 +1,5 @@
 //! What happens changes the stage in one place, and is written down there.
-ghost use Rattle.std.specs.Prelude.{◌≡◌, ◌+◌, ◌∷◌, [], OnOk, IfSome};
+ghost use Rattle.std.specs.Prelude.{◌≡◌, ◌∷◌, OnOk, IfSome};
 ghost use Rattle.world_model.specs.Comes.{MayCome};
 ghost use Rattle.cluster_model.specs.Cluster.{cluster_after};
 ghost use Rattle.cluster_model.specs.Commands.{kinds_of};
@@ -7,12 +7,8 @@ ghost use Rattle.cluster_model.specs.Parts.{events_of, event_of};
 ghost use Rattle.world_model.specs.Room.{HasRoom};
 ghost use Rattle.world_model.specs.Emits.{Emits};
 
-use super::{Stage, note};
-use world_parts::changes::{
-    change_acknowledged, change_agents, change_deadlines, change_frozen,
-    change_holds, change_keys, change_links, change_processes, commits_after, now_after,
-    sent_after,
-};
+use super::{Stage, write_down};
+use world_parts::changes::{change_acknowledged, change_agents, change_deadlines, change_frozen, change_holds, change_keys, change_links, change_processes, commits_after, now_after, sent_after};
 use world_parts::server_changes::change_servers;
 use event_book::{Event, EventKind};
 use world_flight::flight::change_flight;
@@ -26,7 +22,7 @@ impl Stage {
         ensures { OnOk result (Emits self.old self.new events.old.items events.new.items (event_of self.old kind) 1) }
     {
         self.change(&kind)?;
-        note(events, self.clock, kind)
+        write_down(events, self.clock, kind)
     }
 
     /// What a happening changes.

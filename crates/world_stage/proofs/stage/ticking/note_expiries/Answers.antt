@@ -1,4 +1,4 @@
-use Rattle.world_stage.proofs.Expiring.{expiries-more}
+use Rattle.world_play.proofs.Expiring.{expiries-more}
 use Rattle.world_stage.proofs.stage.ticking.note_expiries.Goals as goal
 
 pub loop-key-preserved : goal.loop-key-preserved

@@ -1,0 +1,6 @@
+pub mod Waking
+pub mod Carrying
+pub mod Changing
+pub mod Expiring
+pub mod Numbering
+pub mod Passing

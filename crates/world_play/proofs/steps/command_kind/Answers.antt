@@ -1,0 +1,15 @@
+use Rattle.std.proofs.Common.{◌∙◌, ◌+◌, ap, sym, subst}
+use Rattle.event_book.specs.declared.event.EventKind.{EventKind}
+use Rattle.pg_model.specs.Servers.{entry_for}
+use Rattle.cluster_model.specs.State.{Cluster}
+use Rattle.world_model.specs.Comes.{MayCome}
+use Rattle.cluster_model.specs.ServerCommands.{commit_of}
+use Rattle.world_parts.proofs.ServerCommanding.{commit-comes}
+use Rattle.world_play.proofs.steps.command_kind.Goals as goal
+
+pub returns-in-Commit-clause-comes : goal.returns-in-Commit-clause-comes
+returns-in-Commit-clause-comes c =
+    let member = c.declared-member-in-Commit.result in
+    let bytes = c.in-Commit.size.bytes in
+    let is = c.commit_of.ensures ∙ ap (λ (b : Cluster). commit_of member (entry_for b.facts.servers member.id.number (b.facts.commits + 1) bytes)) c.self.view_is in
+    subst (λ (k : EventKind). MayCome c.args.stage.now k) (sym is) (commit-comes c.args.stage.now member bytes)

@@ -1,0 +1,27 @@
+use Rattle.std.proofs.Common.{◌≤◌, ◌*◌, arith, ap, length}
+use Rattle.cluster_model.specs.State.{Cluster}
+use Rattle.cluster_model.specs.Limits.{most_members}
+use Rattle.world_model.specs.Room.{resets_cost}
+use Rattle.world_model.proofs.Rest.{EachLeft-end, EachLeft-members, EachLeft-more, EachLeft-place, EachLeft-room}
+use Rattle.world_model.proofs.Rooms.{HasRoom-fewer}
+use Rattle.world_model.proofs.Taking.{Emits-weaker}
+use Rattle.world_play.proofs.ticks.resets.Goals as goal
+
+pub member-requires : goal.member-requires
+member-requires c = omega (arith, c.loop-place-test.true, c.len-place-end.ensures, ap (λ (b : Cluster). length b.facts.members) c.self.view_is, ap length (EachLeft-members _ _ _ _ _ _ _ _ _ c.loop-place.invariant))
+
+pub reset-requires : goal.reset-requires
+reset-requires c =
+    let few : length c.args.stage.now.facts.members ≤ most_members = omega (arith, c.self.invariant.0, ap (λ (b : Cluster). length b.facts.members) c.self.view_is) in
+    EachLeft-room _ _ 1 _ _ _ _ _ c.loop-place.place _ c.loop-place.invariant (EachLeft-place _ _ _ _ _ _ _ _ c.loop-place.invariant c.member.ensures)
+    (HasRoom-fewer _ resets_cost (1 * length c.args.stage.now.facts.members) (omega (arith, few)) c.requires)
+
+pub loop-place-preserved : goal.loop-place-preserved
+loop-place-preserved c =
+    EachLeft-more _ _ _ _ _ _ _ _ _ _ c.loop-place.place _ c.loop-place.invariant (EachLeft-place _ _ _ _ _ _ _ _ c.loop-place.invariant c.member.ensures) c.in_ok-reset.ensures
+
+pub returns : goal.returns
+returns c =
+    let few : length c.args.stage.now.facts.members ≤ most_members = omega (arith, c.self.invariant.0, ap (λ (b : Cluster). length b.facts.members) c.self.view_is) in
+    let over : length c.args.stage.now.facts.members ≤ c.loop-place.place = omega (arith, c.loop-place-test.false, c.len-place-end.ensures, ap (λ (b : Cluster). length b.facts.members) c.self.view_is) in
+    Emits-weaker _ _ _ _ _ _ resets_cost (EachLeft-end _ _ _ _ _ _ _ _ c.loop-place.place c.loop-place.invariant over) (omega (arith, few))

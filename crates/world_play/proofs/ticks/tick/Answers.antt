@@ -1,0 +1,38 @@
+use Rattle.std.proofs.Common.{◌∙◌, ◌+◌, ◌++◌, arith, ap, sym, subst}
+use Rattle.std.proofs.lemmas.Result.{on_ok_weaker}
+use Rattle.lease_store.specs.Answers.{expired_keys}
+use Rattle.event_book.specs.declared.event.EventKind.TheVariants as kinds
+use Rattle.cluster_model.specs.Orders.{declared_member}
+use Rattle.cluster_model.specs.Parts.{event_of, events_at}
+use Rattle.cluster_model.specs.State.{Cluster}
+use Rattle.cluster_model.specs.Ticking.{expiries_of, tick_events}
+use Rattle.world_model.specs.Emits.{Emits}
+use Rattle.world_model.specs.Room.{completions_cost, resets_cost, tick_cost}
+use Rattle.world_play.proofs.Expiring.{tick-took}
+use Rattle.world_model.proofs.Rooms.{HasRoom-fewer}
+use Rattle.world_stage.proofs.Worlds.{seen}
+use Rattle.world_play.proofs.ticks.tick.Goals as goal
+
+pub happen-requires-clause-room : goal.happen-requires-clause-room
+happen-requires-clause-room c = HasRoom-fewer c.args.stage.now tick_cost 1 (omega arith) c.requires
+
+pub resets-requires : goal.resets-requires
+resets-requires c = c.in_ok-happen.ensures.room resets_cost (HasRoom-fewer c.args.stage.now tick_cost (1 + resets_cost) (omega arith) c.requires)
+
+pub completions-requires : goal.completions-requires
+completions-requires c = c.in_ok-resets.ensures.room completions_cost (c.in_ok-happen.ensures.room (resets_cost + completions_cost) c.requires)
+
+pub returns : goal.returns
+returns c =
+    let before = seen c.self.inside in
+    let now = before.facts.clock + 1 in
+    let holder = c.declared_member-holder.ensures ∙ ap (λ m. declared_member m c.expired_holder-holder.result) c.deref.ensures.value ∙ ap (declared_member before.facts.members) c.expired_holder-holder.ensures in
+    let all = c.deref-2.ensures.value ∙ c.in_ok-expired.ensures in
+    let told = c.in_ok-note_expiries.ensures ∙ ap (λ ks. c.resets.new.events.items ++ events_at c.self-2.inside.clock (expiries_of c.declared_member-holder.result ks)) all
+    ∙ ap (λ h. c.resets.new.events.items ++ events_at c.self-2.inside.clock (expiries_of h (expired_keys before.facts.keys now))) holder in
+    on_ok_weaker c.completions.result
+    (λ took. subst (λ (b : Cluster). Emits b c.completions.new.stage c.args.events.now.items c.completions.new.events.items (tick_events b) tick_cost) c.self.view_is
+    (tick-took before c.happen.new.self c.resets.new.stage c.completions.new.stage c.args.events.now.items c.happen.new.events.items c.resets.new.events.items c.note_expiries.new.events.items c.completions.new.events.items c.self-2.inside.clock
+    (subst (λ (b : Cluster). Emits b c.happen.new.self c.args.events.now.items c.happen.new.events.items (event_of b kinds.Tick) 1) (sym c.self.view_is) c.in_ok-happen.ensures)
+    c.in_ok-resets.ensures (ap (λ (b : Cluster). b.facts.clock) c.self-2.view_is) told took))
+    c.completions.ensures

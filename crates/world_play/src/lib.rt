@@ -1,0 +1,16 @@
+//! What happens on the stage of a world in a step of a script: its parts, one after another, each by the events of the model.
+#![tactic(auto)]
+
+mod calls;
+mod carrying;
+mod idling;
+mod messages;
+mod receiving;
+mod repairing;
+mod servers;
+mod steps;
+mod ticks;
+mod wakes;
+
+pub use idling::{due_from, ends_from};
+pub use steps::take_step;

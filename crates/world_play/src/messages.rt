@@ -1,0 +1,121 @@
+//! Messages in flight: which move in a round, and what scripts do with one.
+ghost use Rattle.std.specs.Prelude.{◌<◌, ◌+◌, ◌*◌, OnOk, IfSome, None};
+ghost use Rattle.std.specs.Map.{keys_of};
+ghost use Rattle.event_book.specs.Flight.{in_flight};
+ghost use Rattle.cluster_model.specs.Limits.{most_in_flight};
+ghost use Rattle.cluster_model.specs.Messages.{arrival_events, deliver_events, lose_events, message_events};
+ghost use Rattle.cluster_model.specs.Parts.{event_of, each, for_some};
+ghost use Rattle.world_model.specs.Room.{HasRoom, message_cost};
+ghost use Rattle.world_model.specs.Emits.{Emits};
+
+use crate::carrying::carry_out;
+use cluster_model::Delivery;
+use event_book::{Event, EventKind, MessageEvent, Note};
+use std::alloc::AllocError;
+use world_stage::{Arrival, Stage, write_down};
+
+/// The messages that are in flight move, one after another. Those that are kept aren't looked at.
+pub fn pass_messages(stage: &mut Stage, events: &mut Vec<Event>) -> Result<(), AllocError>
+    requires { HasRoom stage.old (message_cost * most_in_flight) }
+    ensures { OnOk result (Emits stage.old stage.new events.old.items events.new.items (each message_events stage.old (keys_of stage.old.facts.flight)) (message_cost * most_in_flight)) }
+{
+    if !stage.has_messages() {
+        return Ok(());
+    }
+    // what is sent meanwhile has a greater number
+    let last = stage.sent();
+    let mut from = 0;
+    while let Some(number) = stage.next_to_move(from, last) {
+        pass_message(stage, number, events)?;
+        from = number + 1;
+    }
+    Ok(())
+}
+
+/// A message comes to its receiver, is lost, or is kept for a receiver that is suspended.
+fn pass_message(stage: &mut Stage, number: u64, events: &mut Vec<Event>) -> Result<(), AllocError>
+    requires { IfSome (in_flight stage.old.facts.flight number) (λ m. HasRoom stage.old message_cost) }
+    ensures { OnOk result (Emits stage.old stage.new events.old.items events.new.items (message_events stage.old number) message_cost) }
+{
+    match stage.delivery(number) {
+        None => {
+            stage.forget(number);
+            Ok(())
+        }
+        Some(Delivery::Suspended) => stage.keep(number),
+        Some(Delivery::Open) => arrive(stage, number, events),
+        Some(Delivery::Cut | Delivery::Gone) => drop_message(stage, number, events),
+    }
+}
+
+/// A script delivers a message, where it is in flight and nothing stands in its way.
+pub fn deliver(stage: &mut Stage, number: u64, events: &mut Vec<Event>) -> Result<(), AllocError>
+    requires { HasRoom stage.old message_cost }
+    ensures { OnOk result (Emits stage.old stage.new events.old.items events.new.items (deliver_events stage.old number (in_flight stage.old.facts.flight number)) message_cost) }
+{
+    match stage.delivery(number) {
+        None => write_down(
+            events,
+            stage.clock(),
+            EventKind::Note(Note::NoMessage { number }),
+        ),
+        Some(Delivery::Open) => arrive(stage, number, events),
+        Some(Delivery::Gone) => drop_message(stage, number, events),
+        Some(Delivery::Cut | Delivery::Suspended) => leave(stage, number, events),
+    }
+}
+
+/// A message that can't come to its receiver now stays in flight, and that is noted.
+fn leave(stage: &mut Stage, number: u64, events: &mut Vec<Event>) -> Result<(), AllocError>
+    requires { HasRoom stage.old 1 }
+    ensures { OnOk result (Emits stage.old stage.new events.old.items events.new.items (event_of stage.old (EventKind.Note (Note.Undeliverable number))) 1) }
+{
+    stage.happen(EventKind::Note(Note::Undeliverable { number }), events)
+}
+
+/// A script loses a message, where it is in flight.
+pub fn lose(stage: &mut Stage, number: u64, events: &mut Vec<Event>) -> Result<(), AllocError>
+    requires { HasRoom stage.old 1 }
+    ensures { OnOk result (Emits stage.old stage.new events.old.items events.new.items (lose_events stage.old number (in_flight stage.old.facts.flight number)) 1) }
+{
+    match stage.delivery(number) {
+        None => write_down(
+            events,
+            stage.clock(),
+            EventKind::Note(Note::NoMessage { number }),
+        ),
+        Some(_) => drop_message(stage, number, events),
+    }
+}
+
+/// A message in flight is lost.
+fn drop_message(stage: &mut Stage, number: u64, events: &mut Vec<Event>) -> Result<(), AllocError>
+    requires { HasRoom stage.old 1 }
+    ensures { OnOk result (Emits stage.old stage.new events.old.items events.new.items (event_of stage.old (EventKind.Message (MessageEvent.Lost number))) 1) }
+{
+    stage.happen(EventKind::Message(MessageEvent::Lost { number }), events)
+}
+
+/// A message in flight comes to its receiver, which acts on it.
+fn arrive(stage: &mut Stage, number: u64, events: &mut Vec<Event>) -> Result<(), AllocError>
+    requires { HasRoom stage.old message_cost }
+    ensures { OnOk result (Emits stage.old stage.new events.old.items events.new.items (for_some (in_flight stage.old.facts.flight number) (arrival_events stage.old number)) message_cost) }
+{
+    let mut outputs = stage.take_outputs()?;
+    match stage.land(number, &mut outputs, events)? {
+        None => {
+            stage.give_back(outputs);
+            Ok(())
+        }
+        Some(Arrival::AtStore(message)) => {
+            stage.answer(number, message.get(), events)?;
+            stage.give_back(outputs);
+            Ok(())
+        }
+        Some(Arrival::AtAgent(member, heard)) => {
+            carry_out(stage, member, heard, &mut outputs, events)?;
+            stage.give_back(outputs);
+            Ok(())
+        }
+    }
+}

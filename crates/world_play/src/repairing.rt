@@ -1,0 +1,47 @@
+//! The log of a server is repaired by that of its leader's.
+ghost use Rattle.std.specs.Prelude.{OnOk, option_and_then, if◌then◌else◌, Some};
+ghost use Rattle.cluster_model.specs.Commands.{kinds_of};
+ghost use Rattle.cluster_model.specs.Orders.{repair_by, repair_over};
+ghost use Rattle.cluster_model.specs.Parts.{events_of};
+ghost use Rattle.world_model.specs.Emits.{Emits};
+ghost use Rattle.world_model.specs.Room.{HasRoom};
+
+use agent_model::Repair;
+use event_book::{Event, Member};
+use std::alloc::AllocError;
+use world_parts::streaming::link_of_members;
+use world_stage::Stage;
+
+/// The log of a member's server is repaired by that of this leader's, if there is such a member: where that accepts writes, the
+/// link between the two is joined, and the server may be rewound, or waits for a copy.
+pub fn repair(stage: &mut Stage, member: Member,
+    repair: Repair,
+    leader: Option<Member>,
+    events: &mut Vec<Event>,
+) -> Result<(), AllocError>
+    requires { HasRoom stage.old 1 }
+    ensures { OnOk result (Emits stage.old stage.new events.old.items events.new.items (events_of stage.old (kinds_of (option_and_then (repair_over stage.old.facts.cuts stage.old.facts.servers member repair) leader))) 1) }
+{
+    let Some(leader) = leader else {
+        return Ok(());
+    };
+    if stage.cuts().is_cut(link_of_members(member, leader)) {
+        return Ok(());
+    }
+    repair_by(stage, member, repair, leader, events)
+}
+
+/// The same, over a joined link.
+fn repair_by(stage: &mut Stage, member: Member,
+    repair: Repair,
+    leader: Member,
+    events: &mut Vec<Event>,
+) -> Result<(), AllocError>
+    requires { HasRoom stage.old 1 }
+    ensures { OnOk result (Emits stage.old stage.new events.old.items events.new.items (events_of stage.old (kinds_of (repair_by stage.old.facts.servers member repair leader))) 1) }
+{
+    match repair {
+        Repair::Rewind => stage.rewind(member, leader, events),
+        Repair::Clone => stage.copy(member, leader, events),
+    }
+}

@@ -1,0 +1,161 @@
+//! The steps of a script: ticks, and what commands come to.
+ghost use Rattle.std.specs.Prelude.{◌≡◌, ◌<◌, ◌+◌, ◌*◌, OnOk, IfSome, Some};
+ghost use Rattle.cluster_script.specs.Script.{IsCommand};
+ghost use Rattle.event_book.specs.declared.event.Event.{Event};
+ghost use Rattle.cluster_model.specs.Acknowledging.{AreAcknowledged};
+ghost use Rattle.cluster_model.specs.Limits.{most_rounds};
+ghost use Rattle.cluster_model.specs.Next.{round_events, rounds_events, declared, command_events, command_kind, scheduled_events, step_events, next_events};
+ghost use Rattle.cluster_model.specs.Steps.{IsStep, names_in};
+ghost use Rattle.world_model.specs.Comes.{MayCome};
+ghost use Rattle.world_model.specs.Emits.{Emits};
+ghost use Rattle.world_model.specs.Room.{HasRoom, HasRoomFor, command_cost, round_cost, rounds_cost, schedule_cost, step_cost};
+
+use crate::calls::make_call;
+use crate::messages::{deliver, lose, pass_messages};
+use crate::receiving::{all_receive, receive};
+use crate::servers::promote;
+use crate::ticks::tick;
+use crate::wakes::{start_agent, turn, wakes};
+use cluster_script::{Command, Step};
+use event_book::{Event, EventKind};
+use std::alloc::AllocError;
+use world_parts::links::{cut_of, join_of};
+use world_parts::processes::{kill_of, resume_of, suspend_of};
+use world_parts::server_commands::{commit_of, crash_of, freezing_of, slow_of};
+use world_stage::Stage;
+
+/// The most rounds of one tick.
+const MOST_ROUNDS: usize = 40;
+
+/// One step of a script with these members: what happens in it, and then the acknowledgements. On Err, want of memory, the stage
+/// isn't to be used any more.
+pub fn take_step(stage: &mut Stage, step: &Step, events: &mut Vec<Event>) -> Result<(), AllocError>
+    requires room { HasRoomFor stage.old 1 }
+    requires declared { IsStep stage.old.facts.members step.now }
+    ensures emits { OnOk result (Emits stage.old stage.new events.old.items events.new.items (next_events stage.old step.now) step_cost) }
+    ensures acknowledged { OnOk result (AreAcknowledged stage.new.facts.members stage.new.facts.servers) }
+{
+    perform(stage, step, events)?;
+    stage.acknowledge_all(events)
+}
+
+/// What happens in a step.
+fn perform(stage: &mut Stage, step: &Step, events: &mut Vec<Event>) -> Result<(), AllocError>
+    requires room { HasRoomFor stage.old 1 }
+    requires declared { IsStep stage.old.facts.members step.now }
+    ensures { OnOk result (Emits stage.old stage.new events.old.items events.new.items (step_events stage.old step.now) step_cost) }
+{
+    match step {
+        Step::Scheduled => {
+            tick(stage, events)?;
+            scheduled(stage, events)
+        }
+        Step::Tick => tick(stage, events),
+        Step::Command(command) => take_command(stage, command, events),
+    }
+}
+
+/// A tick of the default schedule: replicas receive, and then agents are woken and messages come.
+fn scheduled(stage: &mut Stage, events: &mut Vec<Event>) -> Result<(), AllocError>
+    requires { HasRoom stage.old schedule_cost }
+    ensures { OnOk result (Emits stage.old stage.new events.old.items events.new.items (scheduled_events stage.old) schedule_cost) }
+{
+    all_receive(stage, events)?;
+    rounds(stage, events)
+}
+
+/// What a command comes to.
+fn take_command(stage: &mut Stage, command: &Command, events: &mut Vec<Event>) -> Result<(), AllocError>
+    requires room { HasRoom stage.old command_cost }
+    requires declared { IsCommand (names_in stage.old.facts.members) command.now }
+    ensures { OnOk result (Emits stage.old stage.new events.old.items events.new.items (command_events stage.old command.now) command_cost) }
+{
+    match command {
+        Command::Turn(id) => {
+            let member = stage.declared(*id);
+            turn(stage, member, events)
+        }
+        Command::Deliver(number) => deliver(stage, *number, events),
+        Command::Lose(number) => lose(stage, *number, events),
+        Command::StartAgent(id) => {
+            let member = stage.declared(*id);
+            start_agent(stage, member, events)
+        }
+        Command::Promote(id) => {
+            let member = stage.declared(*id);
+            promote(stage, member, events)
+        }
+        Command::Stream(id, most) => {
+            let member = stage.declared(*id);
+            receive(stage, member, *most, events)
+        }
+        Command::Rest(id, call, body) => {
+            let member = stage.declared(*id);
+            make_call(stage, member, *call, body.as_slice(), events)
+        }
+        _ => {
+            let kind = command_kind(stage, command);
+            stage.happen_if(kind, events)
+        }
+    }
+}
+
+/// What a command comes to that brings one event at most.
+fn command_kind(stage: &Stage, command: &Command) -> Option<EventKind>
+    requires room { HasRoom stage.now 1 }
+    requires declared { IsCommand (names_in stage.now.facts.members) command.now }
+    ensures kind { result ≡ command_kind stage.now command.now }
+    ensures comes { IfSome result (MayCome stage.now) }
+{
+    match command {
+        Command::Suspend(id) => {
+            let member = stage.declared(*id);
+            suspend_of(member, stage.process(member)?)
+        }
+        Command::Resume(id) => {
+            let member = stage.declared(*id);
+            resume_of(member, stage.process(member)?)
+        }
+        Command::Kill(id) => {
+            let member = stage.declared(*id);
+            kill_of(member, stage.process(member)?)
+        }
+        Command::Crash(id) => crash_of(stage.servers(), stage.declared(*id)),
+        Command::Commit(id, size) => {
+            let member = stage.declared(*id);
+            Some(commit_of(stage.servers(), member, stage.commits() + 1, size.bytes))
+        }
+        Command::Freeze(id) => freezing_of(stage.frozen(), stage.declared(*id), true),
+        Command::Thaw(id) => freezing_of(stage.frozen(), stage.declared(*id), false),
+        Command::Slow(id, slowed, delay) => {
+            slow_of(stage.servers(), stage.declared(*id), *slowed, *delay)
+        }
+        Command::Cut(first, second) => cut_of(stage.cuts(), stage.link(*first, *second)),
+        Command::Join(first, second) => join_of(stage.cuts(), stage.link(*first, *second)),
+        _ => None,
+    }
+}
+
+/// The rounds of a tick. A round in which nothing happens is the last.
+fn rounds(stage: &mut Stage, events: &mut Vec<Event>) -> Result<(), AllocError>
+    requires { HasRoom stage.old rounds_cost }
+    ensures { OnOk result (Emits stage.old stage.new events.old.items events.new.items (rounds_events stage.old most_rounds) rounds_cost) }
+{
+    for done in 0..MOST_ROUNDS {
+        let before = events.len();
+        round(stage, events)?;
+        if events.len() == before {
+            return Ok(());
+        }
+    }
+    Ok(())
+}
+
+/// A round: each due agent is woken, and then each message that is in flight at that point moves.
+fn round(stage: &mut Stage, events: &mut Vec<Event>) -> Result<(), AllocError>
+    requires { HasRoom stage.old round_cost }
+    ensures { OnOk result (Emits stage.old stage.new events.old.items events.new.items (round_events stage.old) round_cost) }
+{
+    wakes(stage, events)?;
+    pass_messages(stage, events)
+}

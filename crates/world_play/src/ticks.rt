@@ -1,0 +1,116 @@
+//! Ticks: what they bring beside the clock.
+ghost use Rattle.std.specs.Prelude.{◌≡◌, ◌+◌, ◌*◌, ◌++◌, OnOk};
+ghost use Rattle.cluster_model.specs.Parts.{each, events_at};
+ghost use Rattle.cluster_model.specs.Ticking.{completion_events, expiry_of, expiries_of, reset_events, tick_events};
+ghost use Rattle.world_model.specs.Emits.{Emits};
+ghost use Rattle.world_model.specs.Room.{HasRoom, beginning_cost, completions_cost, resets_cost, tick_cost};
+
+use crate::servers::begin_on;
+use cluster_model::Completion;
+use event_book::{Event, EventKind, Member, ServerEvent, ServerOf, StoreEvent};
+use lease_store::Key;
+use pat_base::Ticks;
+use std::alloc::AllocError;
+use world_parts::orders::declared_member;
+use world_parts::server_commands::completion_of;
+use world_parts::watchdogs::reset_of;
+use world_stage::{Stage, write_down};
+
+/// The clock grows by one, starts and stops of servers that don't write are complete, and the keys that have expired are
+/// dropped. The machines whose watchdogs are due are reset, what expired is told, and starts and stops of
+/// primaries are complete.
+pub fn tick(stage: &mut Stage, events: &mut Vec<Event>) -> Result<(), AllocError>
+    requires { HasRoom stage.old tick_cost }
+    ensures { OnOk result (Emits stage.old stage.new events.old.items events.new.items (tick_events stage.old) tick_cost) }
+{
+    let now = Ticks(stage.clock().0 + 1);
+    let expired = stage.store().expired(now)?;
+    let holder = stage.store().expired_holder(now);
+    let holder = declared_member(stage.members(), holder);
+    stage.happen(EventKind::Tick, events)?;
+    resets(stage, events)?;
+    tell_expiries(events, stage.clock(), holder, &expired)?;
+    completions(stage, events)
+}
+
+/// The machines whose watchdogs are due are reset, in script order.
+fn resets(stage: &mut Stage, events: &mut Vec<Event>) -> Result<(), AllocError>
+    requires { HasRoom stage.old resets_cost }
+    ensures { OnOk result (Emits stage.old stage.new events.old.items events.new.items (each reset_events stage.old stage.old.facts.members) resets_cost) }
+{
+    for place in 0..stage.members().len() {
+        let member = stage.member(place);
+        reset(stage, member, events)?;
+    }
+    Ok(())
+}
+
+/// The machine of a member is reset, where its watchdog is due.
+fn reset(stage: &mut Stage, member: Member, events: &mut Vec<Event>) -> Result<(), AllocError>
+    requires { HasRoom stage.old 1 }
+    ensures { OnOk result (Emits stage.old stage.new events.old.items events.new.items (reset_events stage.old member) 1) }
+{
+    let reset = reset_of(stage.deadlines(), stage.clock(), member);
+    stage.happen_if(reset, events)
+}
+
+/// The starts and stops of primaries whose moment has come are complete, in script order.
+fn completions(stage: &mut Stage, events: &mut Vec<Event>) -> Result<(), AllocError>
+    requires { HasRoom stage.old completions_cost }
+    ensures { OnOk result (Emits stage.old stage.new events.old.items events.new.items (each completion_events stage.old stage.old.facts.members) completions_cost) }
+{
+    for place in 0..stage.members().len() {
+        let member = stage.member(place);
+        complete(stage, member, events)?;
+    }
+    Ok(())
+}
+
+/// The start or the stop of the server of a member as a primary is complete, where its moment has come.
+fn complete(stage: &mut Stage, member: Member, events: &mut Vec<Event>) -> Result<(), AllocError>
+    requires { HasRoom stage.old beginning_cost }
+    ensures { OnOk result (Emits stage.old stage.new events.old.items events.new.items (completion_events stage.old member) beginning_cost) }
+{
+    match completion_of(stage.servers(), stage.clock(), member) {
+        None => Ok(()),
+        Some(Completion::Begins { timeline }) => begin_on(stage, member, timeline, events),
+        Some(Completion::Ends) => {
+            let server = ServerOf::of(member);
+            stage.happen(EventKind::Server(ServerEvent::Ended { server }), events)
+        }
+    }
+}
+
+/// Writes down which keys expired, and who the holder of the leader key was if that is one of them.
+fn tell_expiries(
+    events: &mut Vec<Event>,
+    tick: Ticks,
+    holder: Option<Member>,
+    keys: &[Key],
+) -> Result<(), AllocError>
+    ensures { OnOk result (events.new.items ≡ events.old.items ++ events_at tick (expiries_of holder keys.now)) }
+{
+    for key in keys {
+        tell_expiry(events, tick, holder, *key)?;
+    }
+    Ok(())
+}
+
+fn tell_expiry(
+    events: &mut Vec<Event>,
+    tick: Ticks,
+    holder: Option<Member>,
+    key: Key,
+) -> Result<(), AllocError>
+    ensures { OnOk result (events.new.items ≡ events.old.items ++ events_at tick (expiry_of holder key)) }
+{
+    match (key, holder) {
+        (Key::Leader, None) => Ok(()),
+        (Key::Leader, Some(holder)) => write_down(
+            events,
+            tick,
+            EventKind::Store(StoreEvent::LeaderExpired { holder }),
+        ),
+        (key, _) => write_down(events, tick, EventKind::Store(StoreEvent::Expired { key })),
+    }
+}

@@ -1,4 +1,0 @@
-use Rattle.world_stage.proofs.stage.Stage.feed.Goals as goal
-
-pub happen_then-requires-clause-second : goal.happen_then-requires-clause-second
-happen_then-requires-clause-second c = c.requires.comes _
