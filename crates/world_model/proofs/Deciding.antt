@@ -25,7 +25,7 @@ use Rattle.cluster_model.specs.Inputs.{outcome_of_heard}
 use Rattle.cluster_model.specs.State.{Cluster}
 use Rattle.cluster_model.specs.Messages.{heard_message, input_events, send_events, answer_message, answer_events, decision_events, published_names, arrival_events, arrival_events_at}
 use Rattle.cluster_model.specs.Parts.{event_of, for_some}
-use Rattle.world_model.specs.Room.{decision_cost, message_cost, outputs_cost, sending_cost}
+use Rattle.world_model.specs.Room.{decision_cost, message_cost, outputs_cost, sending_cost, event_cost}
 use Rattle.agent_model.specs.Agents.{AgentFacts}
 use Rattle.world_model.specs.Emits.{Emits}
 use Rattle.world_model.specs.Comes.{Counts}
@@ -36,11 +36,11 @@ stamped-is cluster tick kind at = ap (λ (n : ℕ). let event : Event = record {
 
 -- one thing happens and is written down, and then what comes after it
 pub Emits-after : (first second third : Cluster) (had mid has : List Event) (tick : Ticks) (kind : EventKind) (more : Cluster → List Event) (cost whole : ℕ) → Counts first kind
-    → tick.0 ≡ (cluster_after first kind).facts.clock → second ≡ cluster_after first kind → mid ≡ had ++ record { tick = tick; kind = kind } ∷ [] → Emits second third mid has (more second) cost → 1 + cost ≤ whole
+    → tick.0 ≡ (cluster_after first kind).facts.clock → second ≡ cluster_after first kind → mid ≡ had ++ record { tick = tick; kind = kind } ∷ [] → Emits second third mid has (more second) cost → event_cost kind + cost ≤ whole
     → Emits first third had has (event_of first kind ++ more (cluster_after first kind)) whole
 Emits-after first second third had mid has tick kind more cost whole counts at state mid_is rest enough =
     let one = Emits-one first second had mid kind counts state (mid_is ∙ ap (λ es. had ++ es) (stamped-is first tick kind at)) in
-    Emits-then first second third had mid has (event_of first kind) more 1 cost whole one rest enough
+    Emits-then first second third had mid has (event_of first kind) more (event_cost kind) cost whole one rest enough
 
 decision_events-is : (cluster after : Cluster) (number : ℕ) (by : Member) (message : Message) (txn : Txn) (decision : Decision) (had has : List Event)
     → message.from ≡ link_ends.Member by → decision_on cluster.facts.keys cluster.facts.clock txn ≡ decision

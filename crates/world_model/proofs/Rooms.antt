@@ -39,7 +39,7 @@ use Rattle.cluster_model.specs.Inputs.{agent_at, moment_of, outcome_at, outcome_
 use Rattle.cluster_model.specs.Machines.{machine_of, points_of}
 use Rattle.cluster_model.specs.State.{Cluster}
 use Rattle.world_model.specs.Comes.{Counts, CountsAgent, CountsMessage}
-use Rattle.world_model.specs.Room.{HasNumbers, HasRoom}
+use Rattle.world_model.specs.Room.{HasNumbers, HasRoom, agent_event_cost, event_cost, hearing_cost, message_event_cost}
 use Rattle.agent_model.proofs.Bounds.{step-small}
 use Rattle.world_model.proofs.ServerRooms.{All-at, All-weaker, CountsCommit, HasTimeline, commits-more, servers-room}
 
@@ -110,112 +110,88 @@ pub numbers-fewer : (more fewer : ℕ) → fewer ≤ more → (agent : Option Ag
 numbers-fewer more fewer h None has = tt
 numbers-fewer more fewer h (Some agent) has = omega (arith, h, has)
 
-numbered-fewer : (events : ℕ) (agents : List (Option AgentFacts)) → Numbered (1 + events) agents → Numbered events agents
-numbered-fewer events agents = All-weaker (Option AgentFacts) (HasNumbers (1 + events)) (HasNumbers events) agents (numbers-fewer (1 + events) events (omega arith))
+numbered-fewer : (cost events : ℕ) (agents : List (Option AgentFacts)) → Numbered (cost + events) agents → Numbered events agents
+numbered-fewer cost events agents = All-weaker (Option AgentFacts) (HasNumbers (cost + events)) (HasNumbers events) agents (numbers-fewer (cost + events) events (omega arith))
 
-stepped : (now : Ticks) (points : List HistoryPoint) (heard : Heard) (events : ℕ) (agent : AgentFacts) (machine : Machine) → agent.knows.sequence + most_outputs * (1 + events) ≤ most_messages
-    → (step now points heard (made agent.role agent.knows machine [])).knows.sequence + most_outputs * events ≤ most_messages
+stepped : (now : Ticks) (points : List HistoryPoint) (heard : Heard) (events : ℕ) (agent : AgentFacts) (machine : Machine) → agent.knows.sequence + (hearing_cost + events) ≤ most_messages
+    → (step now points heard (made agent.role agent.knows machine [])).knows.sequence + events ≤ most_messages
 stepped now points heard events agent machine room = let small = step-small now points heard (made agent.role agent.knows machine []) in omega (arith, room, small.sequence)
 
-heard-numbers : (now : Ticks) (points : List HistoryPoint) (heard : Heard) (events : ℕ) (agent : Option AgentFacts) (machine : Option Machine) → HasNumbers (1 + events) agent
+heard-numbers : (now : Ticks) (points : List HistoryPoint) (heard : Heard) (events : ℕ) (agent : Option AgentFacts) (machine : Option Machine) → HasNumbers (hearing_cost + events) agent
     → (found : Option AgentFacts) → agent ≡ found → HasNumbers events (agent_after (outcome_at now points heard agent machine) found)
 heard-numbers now points heard events None machine has found is = subst (HasNumbers events) is tt
-heard-numbers now points heard events (Some agent) None has found is = subst (HasNumbers events) is (numbers-fewer (1 + events) events (omega arith) (Some agent) has)
+heard-numbers now points heard events (Some agent) None has found is = subst (HasNumbers events) is (numbers-fewer (hearing_cost + events) events (omega arith) (Some agent) has)
 heard-numbers now points heard events (Some agent) (Some machine) has found is = stepped now points heard events agent machine has
 
 agent-here : (agents : List (Option AgentFacts)) (place : ℕ) (found : Option AgentFacts) → slice_get agents place ≡ Some found → agent_at agents place ≡ found
 agent-here agents place found is = ap (λ (o : Option (Option AgentFacts)). option_and_then (λ (agent : Option AgentFacts). agent) o) is
 
-input-numbers : (cluster : Cluster) (member : Member) (heard : Heard) (events : ℕ) → Numbered (1 + events) cluster.agents → Numbered events (agent_facts_with cluster.agents member (outcome_of cluster member heard))
+input-numbers : (cluster : Cluster) (member : Member) (heard : Heard) (events : ℕ) → Numbered (hearing_cost + events) cluster.agents → Numbered events (agent_facts_with cluster.agents member (outcome_of cluster member heard))
 input-numbers cluster member heard events all =
-    with_member_changed-all (Option AgentFacts) (HasNumbers (1 + events)) (HasNumbers events) cluster.agents member (agent_after (outcome_of cluster member heard)) all (numbers-fewer (1 + events) events (omega arith))
+    with_member_changed-all (Option AgentFacts) (HasNumbers (hearing_cost + events)) (HasNumbers events) cluster.agents member (agent_after (outcome_of cluster member heard)) all (numbers-fewer (hearing_cost + events) events (omega arith))
     (λ found is has. let same = agent-here cluster.agents member.id.number found is in
-    heard-numbers (moment_of cluster) (points_of cluster member) heard events (agent_at cluster.agents member.id.number) (machine_of cluster member) (subst (HasNumbers (1 + events)) (sym same) has) found same)
+    heard-numbers (moment_of cluster) (points_of cluster member) heard events (agent_at cluster.agents member.id.number) (machine_of cluster member) (subst (HasNumbers (hearing_cost + events)) (sym same) has) found same)
 
--- an input of an agent takes the numbers of one
-pub input-numbers-if : (cluster : Cluster) (member : Member) (heard : Option Heard) (events : ℕ) → Numbered (1 + events) cluster.agents → Numbered events (agent_facts_with cluster.agents member (outcome_of_heard cluster member heard))
+-- an input of an agent takes as many numbers as it may bring messages
+pub input-numbers-if : (cluster : Cluster) (member : Member) (heard : Option Heard) (events : ℕ) → Numbered (hearing_cost + events) cluster.agents → Numbered events (agent_facts_with cluster.agents member (outcome_of_heard cluster member heard))
 input-numbers-if cluster member None events all =
-    with_member_changed-all (Option AgentFacts) (HasNumbers (1 + events)) (HasNumbers events) cluster.agents member (agent_after None) all (numbers-fewer (1 + events) events (omega arith))
-    (λ found is has. numbers-fewer (1 + events) events (omega arith) found has)
+    with_member_changed-all (Option AgentFacts) (HasNumbers (hearing_cost + events)) (HasNumbers events) cluster.agents member (agent_after None) all (numbers-fewer (hearing_cost + events) events (omega arith))
+    (λ found is has. numbers-fewer (hearing_cost + events) events (omega arith) found has)
 input-numbers-if cluster member (Some heard) events all = input-numbers cluster member heard events all
 
-moved-numbers : (scope : Name) (options : List MemberOptions) (members : List Member) (now events : ℕ) (known : List (Option AgentFacts)) (happening : AgentEvent) → most_outputs * (1 + events) ≤ most_messages → Numbered (1 + events) known → Numbered events (agent_facts_moved scope options members now known happening)
+moved-numbers : (scope : Name) (options : List MemberOptions) (members : List Member) (now events : ℕ) (known : List (Option AgentFacts)) (happening : AgentEvent) → 1 + events ≤ most_messages → Numbered (1 + events) known → Numbered events (agent_facts_moved scope options members now known happening)
 moved-numbers scope options members now events known (agents.Killed member) enough all =
     with_member_changed-all (Option AgentFacts) (HasNumbers (1 + events)) (HasNumbers events) known member _ all (numbers-fewer (1 + events) events (omega arith)) (λ found is has. tt)
 moved-numbers scope options members now events known (agents.Started member run) enough all =
     with_member_changed-all (Option AgentFacts) (HasNumbers (1 + events)) (HasNumbers events) known member _ all (numbers-fewer (1 + events) events (omega arith)) (λ found is has. omega (arith, enough))
-moved-numbers scope options members now events known _ enough all = numbered-fewer events known all
+moved-numbers scope options members now events known _ enough all = numbered-fewer 1 events known all
 
-agent-numbers : (cluster : Cluster) (events : ℕ) (happening : AgentEvent) → most_outputs * (1 + events) ≤ most_messages → Numbered (1 + events) cluster.agents → Numbered events (agent_facts_by cluster happening)
+agent-numbers : (cluster : Cluster) (events : ℕ) (happening : AgentEvent) → agent_event_cost happening + events ≤ most_messages → Numbered (agent_event_cost happening + events) cluster.agents → Numbered events (agent_facts_by cluster happening)
 agent-numbers cluster events (agents.Woken member) enough all = input-numbers cluster member Wake events all
 agent-numbers cluster events (agents.Operated member action) enough all = input-numbers cluster member (Operated action) events all
 agent-numbers cluster events happening enough all = moved-numbers cluster.scope cluster.options cluster.facts.members cluster.facts.clock events cluster.agents happening enough all
 
-reached-numbers_at : (cluster : Cluster) (events : ℕ) (message : InFlightFacts) (to : LinkEnd) → Numbered (1 + events) cluster.agents → Numbered events (agent_facts_reached_at cluster message to)
-reached-numbers_at cluster events message link_ends.Store all = numbered-fewer events cluster.agents all
+reached-numbers_at : (cluster : Cluster) (events : ℕ) (message : InFlightFacts) (to : LinkEnd) → Numbered (hearing_cost + events) cluster.agents → Numbered events (agent_facts_reached_at cluster message to)
+reached-numbers_at cluster events message link_ends.Store all = numbered-fewer hearing_cost events cluster.agents all
 reached-numbers_at cluster events message (link_ends.Member member) all = input-numbers-if cluster member (heard_from cluster message) events all
 
-reached-numbers : (cluster : Cluster) (events : ℕ) (found : Option InFlightFacts) → Numbered (1 + events) cluster.agents → Numbered events (agent_facts_reached cluster found)
-reached-numbers cluster events None all = numbered-fewer events cluster.agents all
+reached-numbers : (cluster : Cluster) (events : ℕ) (found : Option InFlightFacts) → Numbered (hearing_cost + events) cluster.agents → Numbered events (agent_facts_reached cluster found)
+reached-numbers cluster events None all = numbered-fewer hearing_cost events cluster.agents all
 reached-numbers cluster events (Some message) all = reached-numbers_at cluster events message message.message.to all
 
-message-numbers : (cluster : Cluster) (events : ℕ) (happening : MessageEvent) → Numbered (1 + events) cluster.agents → Numbered events (agent_facts_by_message cluster happening)
+message-numbers : (cluster : Cluster) (events : ℕ) (happening : MessageEvent) → Numbered (message_event_cost happening + events) cluster.agents → Numbered events (agent_facts_by_message cluster happening)
 message-numbers cluster events (messages.Delivered number) all = reached-numbers cluster events (in_flight cluster.facts.flight number) all
-message-numbers cluster events _ all = numbered-fewer events cluster.agents all
+message-numbers cluster events _ all = numbered-fewer 1 events cluster.agents all
 
 watched-numbers : (events : ℕ) (agents : List (Option AgentFacts)) (happening : WatchdogEvent) → Numbered (1 + events) agents → Numbered events (agent_facts_by_watchdog agents happening)
 watched-numbers events agents (watchdogs.Reset member) all =
     with_member_changed-all (Option AgentFacts) (HasNumbers (1 + events)) (HasNumbers events) agents member _ all (numbers-fewer (1 + events) events (omega arith)) (λ found is has. tt)
-watched-numbers events agents _ all = numbered-fewer events agents all
+watched-numbers events agents _ all = numbered-fewer 1 events agents all
 
-agents-numbers : (cluster : Cluster) (events : ℕ) (kind : EventKind) → most_outputs * (1 + events) ≤ most_messages → Numbered (1 + events) cluster.agents → Numbered events (agent_facts_after cluster kind)
+agents-numbers : (cluster : Cluster) (events : ℕ) (kind : EventKind) → event_cost kind + events ≤ most_messages → Numbered (event_cost kind + events) cluster.agents → Numbered events (agent_facts_after cluster kind)
 agents-numbers cluster events (kinds.Message happening) enough all = message-numbers cluster events happening all
 agents-numbers cluster events (kinds.Watchdog happening) enough all = watched-numbers events cluster.agents happening all
 agents-numbers cluster events (kinds.Agent happening) enough all = agent-numbers cluster events happening enough all
-agents-numbers cluster events _ enough all = numbered-fewer events cluster.agents all
+agents-numbers cluster events _ enough all = numbered-fewer 1 events cluster.agents all
+
+agent-event-some : (happening : AgentEvent) → 1 ≤ agent_event_cost happening
+agent-event-some (agents.Woken member) = omega arith
+agent-event-some (agents.Operated member action) = omega arith
+agent-event-some _ = omega arith
+
+message-event-some : (happening : MessageEvent) → 1 ≤ message_event_cost happening
+message-event-some (messages.Delivered number) = omega arith
+message-event-some _ = omega arith
+
+-- each event may count something up
+event-some : (kind : EventKind) → 1 ≤ event_cost kind
+event-some (kinds.Agent happening) = agent-event-some happening
+event-some (kinds.Message happening) = message-event-some happening
+event-some _ = omega arith
 
 commit-counts : (cluster : Cluster) (kind : EventKind) → Counts cluster kind → CountsCommit cluster.facts.commits kind
 commit-counts cluster (kinds.Log happening) counts = counts
 commit-counts cluster _ counts = tt
-
--- one more event takes the room of one
-pub HasRoom-cluster_after : (cluster : Cluster) (kind : EventKind) (events : ℕ) → Counts cluster kind → HasRoom cluster (1 + events) → HasRoom (cluster_after cluster kind) events
-HasRoom-cluster_after cluster kind events counts room = record {
-  clock = omega (arith, room.clock, (now-more cluster.facts.clock kind).0);
-  revision = omega (arith, room.revision, revision-more (now_after cluster.facts.clock kind) cluster.facts.keys kind);
-  sent = omega (arith, room.sent, sent-more cluster kind counts);
-  runs = runs-room cluster events kind counts room.runs;
-  numbers = omega (arith, room.numbers);
-  agents = agents-numbers cluster events kind room.numbers room.agents;
-  timelines = servers-room (now_after cluster.facts.clock kind) events cluster.facts.servers kind room.timelines;
-  commits = omega (arith, room.commits, commits-more cluster.facts.commits kind (commit-counts cluster kind counts));
-}
-
--- an input of an agent takes the room of one event
-pub HasRoom-heard : (cluster : Cluster) (member : Member) (heard : Option Heard) (events : ℕ) → HasRoom cluster (1 + events) → HasRoom (record cluster { agents = agent_facts_with cluster.agents member (outcome_of_heard cluster member heard) }) events
-HasRoom-heard cluster member heard events room = record {
-  clock = omega (arith, room.clock);
-  revision = omega (arith, room.revision);
-  sent = omega (arith, room.sent);
-  runs = All-weaker AgentProcess (HasRun (1 + events)) (HasRun events) cluster.facts.processes (run-fewer events) room.runs;
-  numbers = omega (arith, room.numbers);
-  agents = input-numbers-if cluster member heard events room.agents;
-  timelines = All-weaker ServerFacts (HasTimeline (1 + events)) (HasTimeline events) cluster.facts.servers (λ s has. omega (arith, has)) room.timelines;
-  commits = omega (arith, room.commits);
-}
-
--- so it is whatever is in flight
-pub HasRoom-landed : (cluster : Cluster) (flight : Flight) (events : ℕ) → HasRoom cluster events → HasRoom (record cluster { facts = record cluster.facts { flight = flight } }) events
-HasRoom-landed cluster flight events room = record {
-  clock = room.clock;
-  revision = room.revision;
-  sent = room.sent;
-  runs = room.runs;
-  numbers = room.numbers;
-  agents = room.agents;
-  timelines = room.timelines;
-  commits = room.commits;
-}
 
 -- fewer events have room too
 pub HasRoom-fewer : (cluster : Cluster) (more fewer : ℕ) → fewer ≤ more → HasRoom cluster more → HasRoom cluster fewer
@@ -228,4 +204,32 @@ HasRoom-fewer cluster more fewer h room = record {
   agents = All-weaker (Option AgentFacts) (HasNumbers more) (HasNumbers fewer) cluster.agents (numbers-fewer more fewer h) room.agents;
   timelines = All-weaker ServerFacts (HasTimeline more) (HasTimeline fewer) cluster.facts.servers (λ s has. omega (arith, has, h)) room.timelines;
   commits = omega (arith, room.commits);
+}
+
+-- one more event takes its room
+pub HasRoom-cluster_after : (cluster : Cluster) (kind : EventKind) (events : ℕ) → Counts cluster kind → HasRoom cluster (event_cost kind + events) → HasRoom (cluster_after cluster kind) events
+HasRoom-cluster_after cluster kind events counts whole =
+    let room = HasRoom-fewer cluster (event_cost kind + events) (1 + events) (omega (arith, event-some kind)) whole in
+    record {
+      clock = omega (arith, room.clock, (now-more cluster.facts.clock kind).0);
+      revision = omega (arith, room.revision, revision-more (now_after cluster.facts.clock kind) cluster.facts.keys kind);
+      sent = omega (arith, room.sent, sent-more cluster kind counts);
+      runs = runs-room cluster events kind counts room.runs;
+      numbers = omega (arith, room.numbers);
+      agents = agents-numbers cluster events kind whole.numbers whole.agents;
+      timelines = servers-room (now_after cluster.facts.clock kind) events cluster.facts.servers kind room.timelines;
+      commits = omega (arith, room.commits, commits-more cluster.facts.commits kind (commit-counts cluster kind counts));
+    }
+
+-- so it is whatever is in flight
+pub HasRoom-landed : (cluster : Cluster) (flight : Flight) (events : ℕ) → HasRoom cluster events → HasRoom (record cluster { facts = record cluster.facts { flight = flight } }) events
+HasRoom-landed cluster flight events room = record {
+  clock = room.clock;
+  revision = room.revision;
+  sent = room.sent;
+  runs = room.runs;
+  numbers = room.numbers;
+  agents = room.agents;
+  timelines = room.timelines;
+  commits = room.commits;
 }

@@ -1,5 +1,5 @@
 -- What happens at servers, one event at a time.
-use Rattle.std.proofs.Common.{◌≡◌, ℕ, Bool, List, [], ◌∷◌, ◌++◌, refl, ◌∙◌, ap, sym}
+use Rattle.std.proofs.Common.{◌≡◌, ◌≤◌, ℕ, Bool, arith, List, [], ◌∷◌, ◌++◌, refl, ◌∙◌, ap, sym}
 use Rattle.pat_base.specs.declared.ticks.Ticks.{Ticks}
 use Rattle.pg_model.specs.Facts.{ServerFacts}
 use Rattle.event_book.specs.declared.event.Event.{Event}
@@ -14,7 +14,8 @@ use Rattle.cluster_model.specs.Parts.{event_of}
 use Rattle.world_model.specs.Emits.{Emits}
 use Rattle.world_model.proofs.Deciding.{stamped-is}
 use Rattle.world_model.specs.Comes.{Counts}
-use Rattle.world_model.proofs.Taking.{Emits-one}
+use Rattle.world_model.specs.Room.{event_cost}
+use Rattle.world_model.proofs.Taking.{Emits-one, Emits-weaker}
 
 -- a cluster with other servers, other frozen ones, another last commit and other acknowledged ones
 abbrev pub serving : Cluster → List ServerFacts → List Bool → ℕ → List ℕ → Cluster
@@ -39,9 +40,19 @@ serving-cluster_after cluster (kinds.Replication happening) is = refl
 serving-cluster_after cluster (kinds.Note note) is = refl
 serving-cluster_after cluster _ is = absurd is
 
+-- it counts one number up by one at most
+serving-cost : (kind : EventKind) → IsServing kind → event_cost kind ≤ 1
+serving-cost (kinds.Server happening) is = omega arith
+serving-cost (kinds.Log happening) is = omega arith
+serving-cost (kinds.Replication happening) is = omega arith
+serving-cost (kinds.Note note) is = omega arith
+serving-cost _ is = absurd is
+
 -- one thing happened at servers
 pub serving-took : (cluster after : Cluster) (kind : EventKind) (tick : Ticks) (had has : List Event) → IsServing kind → Counts cluster kind → after ≡ served cluster kind → tick.0 ≡ cluster.facts.clock
     → has ≡ had ++ record { tick = tick; kind = kind } ∷ [] → Emits cluster after had has (event_of cluster kind) 1
 serving-took cluster after kind tick had has is counts state at has_is =
-    Emits-one cluster after had has kind counts (state ∙ sym (serving-cluster_after cluster kind is))
-    (has_is ∙ ap (λ es. had ++ es) (stamped-is cluster tick kind (at ∙ ap (λ (c : Cluster). c.facts.clock) (sym (serving-cluster_after cluster kind is)))))
+    Emits-weaker cluster after had has (event_of cluster kind) (event_cost kind) 1
+    (Emits-one cluster after had has kind counts (state ∙ sym (serving-cluster_after cluster kind is))
+    (has_is ∙ ap (λ es. had ++ es) (stamped-is cluster tick kind (at ∙ ap (λ (c : Cluster). c.facts.clock) (sym (serving-cluster_after cluster kind is))))))
+    (serving-cost kind is)

@@ -1,5 +1,5 @@
 -- The world before the first step.
-use Rattle.std.proofs.Common.{◌≡◌, ℕ, ◌+◌, ◌-◌, ◌≤◌, ◌<◌, List, [], ◌∷◌, ◌++◌, length, drop, get_or, Option, Some, None, arith, append_assoc, append-nil, refl, ◌∙◌, ap, sym, zero, suc, All, ◌^◌, map, replicate}
+use Rattle.std.proofs.Common.{◌≡◌, ℕ, ◌+◌, ◌*◌, ◌-◌, ◌≤◌, ◌<◌, List, [], ◌∷◌, ◌++◌, length, drop, get_or, Option, Some, None, arith, append_assoc, append-nil, refl, ◌∙◌, ap, sym, zero, suc, All, ◌^◌, map, replicate}
 use Rattle.std.specs.Prelude.{slice_get}
 use Rattle.std.proofs.lemmas.List.{drop_all, drop_more}
 use Rattle.std.proofs.lemmas.List.Elements.{All-nil, All-cons}
@@ -15,7 +15,8 @@ use Rattle.event_book.specs.declared.agent_process.AgentProcess.{AgentProcess}
 use Rattle.event_book.specs.Processes.{first_processes, running_in}
 use Rattle.event_book.specs.Members.{members_from, put_first}
 use Rattle.cluster_model.specs.Starting.{cluster_of, first_agent}
-use Rattle.world_model.specs.Room.{HasNumbers, HasRoom}
+use Rattle.world_model.specs.Room.{HasNumbers, HasRoom, HasRoomFor, most_steps, step_cost}
+use Rattle.world_model.proofs.Rooms.{HasRoom-fewer}
 use Rattle.world_model.proofs.ServerRooms.{HasTimeline}
 
 -- the list from a place on, where something is at that place
@@ -67,9 +68,9 @@ rest-more X all done longer place x so is more =
 pub rest-end : (X : Type 0) (all done : List X) (place : ℕ) → done ++ drop place all ≡ all → length all ≤ place → done ≡ all
 rest-end X all done place so h = sym (append-nil done) ∙ ap (λ xs. done ++ xs) (sym (drop_all place all h)) ∙ so
 
--- so many events have room before the first one
+-- so much has room before the first event
 abbrev pub ample : ℕ
-ample = 2 ^ 54
+ample = 2 ^ 59
 
 first-run : (count : ℕ) → All (λ (state : AgentProcess). state.run + ample < 2 ^ 60) (first_processes count)
 first-run zero = All-nil (λ (state : AgentProcess). state.run + ample < 2 ^ 60)
@@ -95,6 +96,10 @@ start-room head = record {
   timelines = first-timeline head.base (length (names_of head));
   commits = omega arith;
 }
+
+-- that is the room of 2^30 steps
+pub steps-room : (head : HeadText) → HasRoomFor (cluster_of head) most_steps
+steps-room head = record { room = HasRoom-fewer (cluster_of head) ample (step_cost * most_steps) (omega arith) (start-room head) }
 
 put-short : (id : Option MemberId) (name : Name) (members : List Member) → length (put_first id name members) ≤ suc (length members)
 put-short None name members = omega arith

@@ -7,6 +7,7 @@ use Rattle.cluster_model.specs.State.{Cluster}
 use Rattle.cluster_model.specs.Parts.{events_of, events_then, for_some, event_of}
 use Rattle.world_model.specs.Emits.{Emits}
 use Rattle.world_model.specs.Comes.{Counts}
+use Rattle.world_model.specs.Room.{event_cost}
 use Rattle.world_model.proofs.Rooms.{HasRoom-cluster_after, HasRoom-fewer}
 
 pub cluster_over-append : (cluster : Cluster) (xs ys : List Event) → cluster_over cluster (xs ++ ys) ≡ cluster_over (cluster_over cluster xs) ys
@@ -30,7 +31,7 @@ Emits-nothing cluster had cost = record {
 }
 
 -- one thing happened
-pub Emits-one : (before after : Cluster) (had has : List Event) (kind : EventKind) → Counts before kind → after ≡ cluster_after before kind → has ≡ had ++ event_of before kind → Emits before after had has (event_of before kind) 1
+pub Emits-one : (before after : Cluster) (had has : List Event) (kind : EventKind) → Counts before kind → after ≡ cluster_after before kind → has ≡ had ++ event_of before kind → Emits before after had has (event_of before kind) (event_cost kind)
 Emits-one before after had has kind counts state event = record {
   state = state;
   event = event;

@@ -1,25 +1,52 @@
--- How far a cluster may go, and how many events its parts bring at most.
+-- How far a cluster may go, and how often the parts of a step count any one counter up at most: at most once an event, but for the inputs of agents.
 use Rattle.std.specs.Prelude.{ℕ, ◌+◌, ◌*◌, ◌^◌, ◌<◌, ◌≤◌, All, Option, IfSome}
+use Rattle.event_book.specs.declared.event.AgentEvent.{AgentEvent}
+use Rattle.event_book.specs.declared.event.AgentEvent.TheVariants as agents
+use Rattle.event_book.specs.declared.event.EventKind.{EventKind}
+use Rattle.event_book.specs.declared.event.EventKind.TheVariants as kinds
+use Rattle.event_book.specs.declared.event.MessageEvent.{MessageEvent}
+use Rattle.event_book.specs.declared.event.MessageEvent.TheVariants as messages
 use Rattle.agent_model.specs.Agents.{AgentFacts, most_messages}
 use Rattle.agent_model.specs.Outputs.{most_outputs}
 use Rattle.cluster_model.specs.Limits.{most_in_flight, most_members, most_rounds}
 use Rattle.cluster_model.specs.State.{Cluster}
 
--- an agent that runs has numbers for the messages of so many more inputs
+-- an agent that runs has so many more numbers for messages
 abbrev pub HasNumbers : ℕ → Option AgentFacts → Type 0
-HasNumbers inputs agent = IfSome agent (λ a. a.knows.sequence + most_outputs * inputs ≤ most_messages)
+HasNumbers numbers agent = IfSome agent (λ a. a.knows.sequence + numbers ≤ most_messages)
 
--- so many more events can't bring a counter to its end: each counts one up by one at most, or is an input of an agent
-pub record HasRoom (cluster : Cluster) (events : ℕ) : Type 0 where
-  pub clock : cluster.facts.clock + events < 2 ^ 60
-  pub revision : cluster.facts.keys.revision + events < 2 ^ 60
-  pub sent : cluster.facts.sent + events < 2 ^ 60
-  pub runs : All (λ state. state.run + events < 2 ^ 60) cluster.facts.processes
+-- no counter comes to its end by being counted up so often
+pub record HasRoom (cluster : Cluster) (cost : ℕ) : Type 0 where
+  pub clock : cluster.facts.clock + cost < 2 ^ 60
+  pub revision : cluster.facts.keys.revision + cost < 2 ^ 60
+  pub sent : cluster.facts.sent + cost < 2 ^ 60
+  pub runs : All (λ state. state.run + cost < 2 ^ 60) cluster.facts.processes
   -- an agent that starts has numbers too
-  pub numbers : most_outputs * events ≤ most_messages
-  pub agents : All (HasNumbers events) cluster.agents
-  pub timelines : All (λ s. s.timeline + events < 2 ^ 60) cluster.facts.servers
-  pub commits : cluster.facts.commits + events < 2 ^ 60
+  pub numbers : cost ≤ most_messages
+  pub agents : All (HasNumbers cost) cluster.agents
+  pub timelines : All (λ s. s.timeline + cost < 2 ^ 60) cluster.facts.servers
+  pub commits : cluster.facts.commits + cost < 2 ^ 60
+
+-- an agent that hears something may number as many messages as an input brings outputs
+abbrev pub hearing_cost : ℕ
+hearing_cost = most_outputs
+
+-- how often any one counter is counted up at most by what happens to an agent
+abbrev pub agent_event_cost : AgentEvent → ℕ
+agent_event_cost (agents.Woken member) = hearing_cost
+agent_event_cost (agents.Operated member action) = hearing_cost
+agent_event_cost _ = 1
+
+-- by what happens to a message
+abbrev pub message_event_cost : MessageEvent → ℕ
+message_event_cost (messages.Delivered number) = hearing_cost
+message_event_cost _ = 1
+
+-- by an event: once, unless it is an input of an agent
+abbrev pub event_cost : EventKind → ℕ
+event_cost (kinds.Agent happening) = agent_event_cost happening
+event_cost (kinds.Message happening) = message_event_cost happening
+event_cost _ = 1
 
 -- a message that is sent may be lost at once
 abbrev pub sending_cost : ℕ
@@ -55,7 +82,7 @@ outputs_cost = output_cost * most_outputs
 
 -- an agent is woken, and acts
 abbrev pub input_cost : ℕ
-input_cost = 1 + outputs_cost
+input_cost = hearing_cost + outputs_cost
 
 -- the key store decides, and answers
 abbrev pub decision_cost : ℕ
@@ -63,7 +90,7 @@ decision_cost = 1 + sending_cost
 
 -- a message comes, and an agent acts on it; what the key store does is less
 abbrev pub message_cost : ℕ
-message_cost = 1 + outputs_cost
+message_cost = hearing_cost + outputs_cost
 
 -- a replica receives, and confirms
 abbrev pub streaming_cost : ℕ
@@ -79,7 +106,7 @@ agent_start_cost = 1 + 1
 
 -- a request comes to an agent, and it acts; what it answers of itself is less
 abbrev pub call_cost : ℕ
-call_cost = 1 + outputs_cost
+call_cost = hearing_cost + outputs_cost
 
 -- no command brings more than a turn, a request or a message that is delivered
 abbrev pub command_cost : ℕ
@@ -124,3 +151,7 @@ step_cost = tick_cost + schedule_cost
 -- so many more steps can't bring a counter to its end
 pub record HasRoomFor (cluster : Cluster) (steps : ℕ) : Type 0 where
   pub room : HasRoom cluster (step_cost * steps)
+
+-- a world takes so many steps at most
+abbrev pub most_steps : ℕ
+most_steps = 2 ^ 30

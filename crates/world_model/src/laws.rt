@@ -11,7 +11,7 @@ ghost use Rattle.cluster_model.specs.State.{Cluster};
 ghost use Rattle.world_model.specs.Comes.{Counts};
 ghost use Rattle.world_model.specs.Emits.{Emits};
 ghost use Rattle.world_model.specs.Idle.{IsIdleIn};
-ghost use Rattle.world_model.specs.Room.{HasRoom};
+ghost use Rattle.world_model.specs.Room.{HasRoom, event_cost};
 
 /// A part of a step, and then what comes after it, are a part whose cost is that of both.
 pub fn parts_follow_one_another()
@@ -19,9 +19,9 @@ pub fn parts_follow_one_another()
         → Emits first second had has events cost → Emits second third has all (more second) next → Emits first third had all (events_then first events more) (cost + next) }
 {}
 
-/// What counts one number up by one at most leaves room for all but one event fewer.
+/// What counts its number up by one at most leaves room for what it costs less.
 pub fn what_comes_fits_the_room()
-    ensures { (cluster : Cluster) (kind : EventKind) (events : ℕ) → Counts cluster kind → HasRoom cluster (1 + events) → HasRoom (cluster_after cluster kind) events }
+    ensures { (cluster : Cluster) (kind : EventKind) (cost : ℕ) → Counts cluster kind → HasRoom cluster (event_cost kind + cost) → HasRoom (cluster_after cluster kind) cost }
 {}
 
 /// Where steps of a kind bring nothing but their ticks up to a moment, the next one does, if its tick isn't past that.

@@ -62,7 +62,7 @@ pub fn agent_at(agents: &[Option<Agent>], place: usize) -> Option<&Agent>
 }
 
 /// The agent at a place, if there is one, acts on what it hears, with this machine and at a server with this history.
-pub fn hear(
+pub fn step_agent(
     agents: &mut Vec<Option<Agent>>,
     place: usize,
     now: Ticks,
@@ -73,19 +73,19 @@ pub fn hear(
 )
     requires moment { now.0 ≤ latest }
     requires server { IsWithin machine.old.server }
-    requires numbers { All (HasNumbers 1) agents.old.items }
+    requires numbers { All (HasNumbers most_outputs) agents.old.items }
     requires room { most_outputs ≤ outputs.old.spare }
     requires none { outputs.old.outputs ≡ [] }
     ensures agents { agents.new.items ≡ with_changed agents.old.items place (agent_after (outcome_at now history.now.points heard (agent_at agents.old.items place) (Some machine.old))) }
     ensures outputs { outputs.new.outputs ≡ outputs_of (outcome_at now history.now.points heard (agent_at agents.old.items place) (Some machine.old)) }
 {
     if place < agents.len() {
-        hear_slot(&mut agents[place], now, heard, history, machine, outputs);
+        step_slot(&mut agents[place], now, heard, history, machine, outputs);
     }
 }
 
 /// An agent, if there is one, acts on what it hears.
-fn hear_slot(
+fn step_slot(
     slot: &mut Option<Agent>,
     now: Ticks,
     heard: Heard,
@@ -95,7 +95,7 @@ fn hear_slot(
 )
     requires moment { now.0 ≤ latest }
     requires server { IsWithin machine.old.server }
-    requires numbers { HasNumbers 1 slot.old }
+    requires numbers { HasNumbers most_outputs slot.old }
     requires room { most_outputs ≤ outputs.old.spare }
     requires none { outputs.old.outputs ≡ [] }
     ensures slot { slot.new ≡ agent_after (outcome_at now history.now.points heard slot.old (Some machine.old)) slot.old }

@@ -4,7 +4,7 @@ ghost use Rattle.pat_base.specs.ServerState.{writes};
 ghost use Rattle.cluster_model.specs.Machines.{connected_end, connected_ends, is_connected, is_source, nothing_confirmed, replication_of};
 
 use crate::links::CutLinks;
-use crate::streaming::source_of;
+use crate::sources::source_of;
 use agent_model::Replication;
 use event_book::Member;
 use pat_base::{Lsn, MemberId};

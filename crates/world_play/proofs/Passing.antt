@@ -20,12 +20,11 @@ use Rattle.cluster_model.specs.Messages.{message_events, message_events_by}
 use Rattle.cluster_model.specs.Parts.{each, for_some}
 use Rattle.cluster_model.specs.State.{Cluster}
 use Rattle.world_model.specs.Emits.{Emits}
-use Rattle.world_flight.specs.FlightIndex.{AreNumbered, AreTended, IndexFacts, may_move}
+use Rattle.world_flight.specs.FlightIndex.{AreNumbered}
 use Rattle.world_model.specs.Room.{HasRoom, message_cost}
 use Rattle.world_play.proofs.Numbering.{absent-more, absent-over, lesser-apart, message-above, sent-over}
 use Rattle.world_model.proofs.Rest.{Left, Left-end, Left-more}
 use Rattle.world_model.proofs.Rooms.{HasRoom-fewer}
-use Rattle.world_model.proofs.Silence.{kept-still}
 
 -- the numbers of the messages in flight from this one on
 abbrev pub numbers_from : ℕ → Flight → List ℕ
@@ -281,7 +280,3 @@ pub passing-end : (start cluster : Cluster) (had has : List Event) (from last : 
 passing-end start cluster had has from last p sorted numbered still =
     let past = passing-skip start cluster had has from (last + 1) last p sorted p.within (omega arith) (λ k low high. still k low (omega (arith, high))) in
     Left-end _ _ _ _ _ _ _ _ past.left (ap (each message_events cluster) (none-past last start.facts.flight numbered))
-
--- ---- what may not move stays where it is
-pub held-still : (cluster : Cluster) (index : IndexFacts) (number : ℕ) → AreTended index cluster.facts.flight cluster.facts.processes cluster.facts.cuts → may_move index number ≡ false → message_events cluster number ≡ []
-held-still cluster index number tended out = kept-still cluster number (λ message is. (tended number message is out).suspended)

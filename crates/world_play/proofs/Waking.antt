@@ -23,7 +23,7 @@ use Rattle.cluster_model.specs.Messages.{input_events, no_message, operate_event
 use Rattle.cluster_model.specs.Parts.{each, event_of}
 use Rattle.cluster_model.specs.State.{Cluster}
 use Rattle.world_model.specs.Emits.{Emits}
-use Rattle.world_model.specs.Room.{call_cost, input_cost, outputs_cost}
+use Rattle.world_model.specs.Room.{call_cost, hearing_cost, input_cost, outputs_cost}
 use Rattle.agent_model.specs.Asked.{AsksShortly}
 use Rattle.agent_model.proofs.Bounds.{step-small}
 use Rattle.world_model.proofs.Taking.{Emits-then, found-took}
@@ -48,22 +48,22 @@ input-few cluster member None = no-outputs
 input-few cluster member (Some heard) = outcome-few (moment_of cluster) (points_of cluster member) heard (agent_at cluster.agents member.id.number) (machine_of cluster member)
 
 -- an agent acts on an input that no message brings
-own-input-took : (cluster acting after : Cluster) (member : Member) (input : AgentEvent) (heard : Heard) (cost : ℕ) (outputs : List Output) (had mid has : List Event) → 1 + outputs_cost ≤ cost
-    → Emits cluster acting had mid (event_of cluster (kinds.Agent input)) 1 → outputs ≡ outputs_of (outcome_of cluster member heard)
+own-input-took : (cluster acting after : Cluster) (member : Member) (input : AgentEvent) (heard : Heard) (cost : ℕ) (outputs : List Output) (had mid has : List Event) → hearing_cost + outputs_cost ≤ cost
+    → Emits cluster acting had mid (event_of cluster (kinds.Agent input)) hearing_cost → outputs ≡ outputs_of (outcome_of cluster member heard)
     → Emits acting after mid has (each (output_events member no_message) acting outputs) outputs_cost → Emits cluster after had has (own_input_events cluster member input heard) cost
 own-input-took cluster acting after member input heard cost outputs had mid has fits one is rest =
-    Emits-then cluster acting after had mid has (event_of cluster (kinds.Agent input)) (λ later. input_events later member no_message (outcome_of cluster member heard)) 1 outputs_cost cost one
+    Emits-then cluster acting after had mid has (event_of cluster (kinds.Agent input)) (λ later. input_events later member no_message (outcome_of cluster member heard)) hearing_cost outputs_cost cost one
     (subst (λ (os : List Output). Emits acting after mid has (each (output_events member no_message) acting os) outputs_cost) is rest) fits
 
 -- an agent is woken, and acts
 pub awaken-took : (cluster rousing after : Cluster) (member : Member) (outputs : List Output) (had mid has : List Event)
-    → Emits cluster rousing had mid (event_of cluster (kinds.Agent (Woken member))) 1 → outputs ≡ outputs_of (outcome_of cluster member Wake)
+    → Emits cluster rousing had mid (event_of cluster (kinds.Agent (Woken member))) hearing_cost → outputs ≡ outputs_of (outcome_of cluster member Wake)
     → Emits rousing after mid has (each (output_events member no_message) rousing outputs) outputs_cost → Emits cluster after had has (wake_events_of cluster member) input_cost
 awaken-took cluster rousing after member outputs had mid has one is rest = own-input-took cluster rousing after member (Woken member) Wake input_cost outputs had mid has (omega arith) one is rest
 
 -- an agent does what an operator asks
 pub operate-took : (cluster obeying after : Cluster) (member : Member) (action : OperatorAction) (outputs : List Output) (had mid has : List Event)
-    → Emits cluster obeying had mid (event_of cluster (kinds.Agent (Operated member action))) 1 → outputs ≡ outputs_of (outcome_of cluster member (HearsOperator action))
+    → Emits cluster obeying had mid (event_of cluster (kinds.Agent (Operated member action))) hearing_cost → outputs ≡ outputs_of (outcome_of cluster member (HearsOperator action))
     → Emits obeying after mid has (each (output_events member no_message) obeying outputs) outputs_cost → Emits cluster after had has (operate_events cluster member action) call_cost
 operate-took cluster obeying after member action outputs had mid has one is rest = own-input-took cluster obeying after member (Operated member action) (HearsOperator action) call_cost outputs had mid has (omega arith) one is rest
 

@@ -19,7 +19,7 @@ use event_book::{Body, Event, EventKind, LinkEnd, Member, Message, WatchdogEvent
 use ha_loop::Outputs;
 use pat_base::PeerAnswer;
 use std::alloc::AllocError;
-use world_parts::orders::{arming, declared_member, feeding, handing_over, hold_of_request, member_at, not_racing, receiver_of, require_of, stop_of, told_of, upstream_of, wipe_of};
+use world_parts::order_kinds::{arming, declared_member, feeding, handing_over, hold_of_request, member_at, not_racing, receiver_of, require_of, stop_of, told_of, upstream_of, wipe_of};
 use world_parts::requests::told_kind;
 use world_stage::Stage;
 

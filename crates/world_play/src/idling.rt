@@ -35,7 +35,7 @@ fn wakes_from(stage: &Stage, most: Ticks) -> Ticks
     ensures asleep { (now : ℕ) → now < result.0 → All (SleepsAt now stage.now) stage.now.facts.members }
 {
     let mut first = most;
-    for place in 0..stage.members().len() {
+    for place in 0..stage.member_count() {
         first = wake_from(stage, stage.member(place), first);
     }
     first

@@ -8,7 +8,7 @@ ghost use Rattle.world_model.specs.Emits.{Emits};
 use event_book::{Event, Member};
 use std::alloc::AllocError;
 use world_parts::machines::item_at;
-use world_parts::streaming::source_of;
+use world_parts::sources::source_of;
 use world_stage::Stage;
 
 /// The servers receive all that they lack, in script order, but for those that are frozen.
@@ -16,7 +16,7 @@ pub fn all_receive(stage: &mut Stage, events: &mut Vec<Event>) -> Result<(), All
     requires { HasRoom stage.old receiving_cost }
     ensures { OnOk result (Emits stage.old stage.new events.old.items events.new.items (each receive_events_of stage.old stage.old.facts.members) receiving_cost) }
 {
-    for place in 0..stage.members().len() {
+    for place in 0..stage.member_count() {
         let member = stage.member(place);
         receive_all(stage, member, events)?;
     }

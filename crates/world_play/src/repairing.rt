@@ -9,7 +9,7 @@ ghost use Rattle.world_model.specs.Room.{HasRoom};
 use agent_model::Repair;
 use event_book::{Event, Member};
 use std::alloc::AllocError;
-use world_parts::streaming::link_of_members;
+use world_parts::sources::link_of_members;
 use world_stage::Stage;
 
 /// The log of a member's server is repaired by that of this leader's, if there is such a member: where that accepts writes, the

@@ -15,7 +15,7 @@ use event_book::{Event, EventKind, Member, Note, Reason, ServerEvent, ServerOf};
 use pat_base::State;
 use std::alloc::AllocError;
 use world_parts::losing::loss_of_any;
-use world_parts::orders::{following_of, stop_of};
+use world_parts::order_kinds::{following_of, stop_of};
 use world_parts::server_changes::is_down;
 use world_parts::server_commands::{beginning_of, promoted_timeline, restart_of};
 use world_stage::Stage;

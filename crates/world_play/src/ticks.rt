@@ -11,7 +11,7 @@ use event_book::{Event, EventKind, Member, ServerEvent, ServerOf, StoreEvent};
 use lease_store::Key;
 use pat_base::Ticks;
 use std::alloc::AllocError;
-use world_parts::orders::declared_member;
+use world_parts::order_kinds::declared_member;
 use world_parts::server_commands::completion_of;
 use world_parts::watchdogs::reset_of;
 use world_stage::{Stage, write_down};
@@ -38,7 +38,7 @@ fn resets(stage: &mut Stage, events: &mut Vec<Event>) -> Result<(), AllocError>
     requires { HasRoom stage.old resets_cost }
     ensures { OnOk result (Emits stage.old stage.new events.old.items events.new.items (each reset_events stage.old stage.old.facts.members) resets_cost) }
 {
-    for place in 0..stage.members().len() {
+    for place in 0..stage.member_count() {
         let member = stage.member(place);
         reset(stage, member, events)?;
     }
@@ -59,7 +59,7 @@ fn completions(stage: &mut Stage, events: &mut Vec<Event>) -> Result<(), AllocEr
     requires { HasRoom stage.old completions_cost }
     ensures { OnOk result (Emits stage.old stage.new events.old.items events.new.items (each completion_events stage.old stage.old.facts.members) completions_cost) }
 {
-    for place in 0..stage.members().len() {
+    for place in 0..stage.member_count() {
         let member = stage.member(place);
         complete(stage, member, events)?;
     }

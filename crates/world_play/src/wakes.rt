@@ -28,7 +28,7 @@ pub fn wakes(stage: &mut Stage, events: &mut Vec<Event>) -> Result<(), AllocErro
     requires { HasRoom stage.old wakes_cost }
     ensures { OnOk result (Emits stage.old stage.new events.old.items events.new.items (each wake_events stage.old stage.old.facts.members) wakes_cost) }
 {
-    for place in 0..stage.members().len() {
+    for place in 0..stage.member_count() {
         let member = stage.member(place);
         wake(stage, member, events)?;
     }

@@ -1,5 +1,5 @@
 -- What happens keeps what a world keeps.
-use Rattle.std.proofs.Common.{◌≡◌, ℕ, List, [], ◌∷◌, ◌++◌, refl, ◌∙◌, ap}
+use Rattle.std.proofs.Common.{◌≡◌, ◌≤◌, arith, ℕ, List, [], ◌∷◌, ◌++◌, refl, ◌∙◌, ap}
 use Rattle.pat_base.specs.declared.ticks.Ticks.{Ticks}
 use Rattle.event_book.specs.declared.event.Event.{Event}
 use Rattle.event_book.specs.declared.event.EventKind.{EventKind}
@@ -15,8 +15,9 @@ use Rattle.world_model.specs.Apart.{agents_apart}
 use Rattle.world_model.specs.Comes.{Counts, IsBare}
 use Rattle.cluster_model.specs.Parts.{event_of}
 use Rattle.world_model.specs.Emits.{Emits}
+use Rattle.world_model.specs.Room.{agent_event_cost, event_cost, message_event_cost}
 use Rattle.world_model.proofs.Deciding.{stamped-is}
-use Rattle.world_model.proofs.Taking.{Emits-one}
+use Rattle.world_model.proofs.Taking.{Emits-one, Emits-weaker}
 
 -- what sends no message leaves the number of the last one
 pub sent-same : (last : ℕ) (kind : EventKind) → IsBare kind → sent_after last kind ≡ last
@@ -25,9 +26,29 @@ sent-same last _ bare = refl
 
 -- one thing happened, and was written down
 pub Emits-told : (before after : Cluster) (tick : Ticks) (kind : EventKind) (had has : List Event) → Counts before kind → after ≡ cluster_after before kind → tick.0 ≡ after.facts.clock → has ≡ had ++ record { tick = tick; kind = kind } ∷ []
-    → Emits before after had has (event_of before kind) 1
+    → Emits before after had has (event_of before kind) (event_cost kind)
 Emits-told before after tick kind had has counts state at told =
     Emits-one before after had has kind counts state (told ∙ ap (λ es. had ++ es) (stamped-is before tick kind (at ∙ ap (λ (c : Cluster). c.facts.clock) state)))
+
+bare-agent : (happening : AgentEvent) → IsBare (kinds.Agent happening) → agent_event_cost happening ≤ 1
+bare-agent (agents.Woken member) bare = absurd bare
+bare-agent (agents.Operated member action) bare = absurd bare
+bare-agent _ bare = omega arith
+
+bare-message : (happening : MessageEvent) → IsBare (kinds.Message happening) → message_event_cost happening ≤ 1
+bare-message (messages.Delivered number) bare = absurd bare
+bare-message _ bare = omega arith
+
+-- what brings nothing but itself is no input of an agent
+bare-cost : (kind : EventKind) → IsBare kind → event_cost kind ≤ 1
+bare-cost (kinds.Agent happening) bare = bare-agent happening bare
+bare-cost (kinds.Message happening) bare = bare-message happening bare
+bare-cost _ bare = omega arith
+
+pub Emits-bare : (before after : Cluster) (tick : Ticks) (kind : EventKind) (had has : List Event) → IsBare kind → Counts before kind → after ≡ cluster_after before kind → tick.0 ≡ after.facts.clock → has ≡ had ++ record { tick = tick; kind = kind } ∷ []
+    → Emits before after had has (event_of before kind) 1
+Emits-bare before after tick kind had has bare counts state at told =
+    Emits-weaker before after had has (event_of before kind) (event_cost kind) 1 (Emits-told before after tick kind had has counts state at told) (bare-cost kind bare)
 
 -- what becomes of agents where nothing is brought that they act on
 agents-apart-by : (cluster : Cluster) (happening : AgentEvent) → IsBare (kinds.Agent happening) → agent_facts_by cluster happening ≡ agent_facts_moved cluster.scope cluster.options cluster.facts.members cluster.facts.clock cluster.agents happening

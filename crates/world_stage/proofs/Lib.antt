@@ -8,4 +8,5 @@ pub mod Acknowledgements
 pub mod Losses
 pub mod Worlds
 pub mod Promoting
-pub mod Reaching
+pub mod Still
+pub mod Landing

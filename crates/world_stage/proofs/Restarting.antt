@@ -1,5 +1,5 @@
 -- Servers that start again in their role.
-use Rattle.std.proofs.Common.{◌≡◌, ℕ, ◌==◌, not, Bool, true, false, List, [], ◌∷◌, ◌++◌, Option, Some, None, arith, set-set, refl, ◌∙◌, ap, sym, subst}
+use Rattle.std.proofs.Common.{◌≤◌, ◌≡◌, ℕ, ◌==◌, not, Bool, true, false, List, [], ◌∷◌, ◌++◌, Option, Some, None, arith, set-set, refl, ◌∙◌, ap, sym, subst}
 use Rattle.std.specs.Prelude.{if◌then◌else◌, option_and_then, option_map, slice_get, slice_set}
 use Rattle.std.proofs.lemmas.Option.{same_Some, slice_get_within}
 use Rattle.pat_base.specs.declared.server_state.State.{State}
@@ -24,12 +24,12 @@ use Rattle.cluster_model.specs.Cluster.{cluster_after}
 use Rattle.cluster_model.specs.Commands.{kinds_of}
 use Rattle.cluster_model.specs.Inputs.{moment_of}
 use Rattle.cluster_model.specs.Messages.{server_restart_events}
-use Rattle.cluster_model.specs.Parts.{events_of, for_some}
+use Rattle.cluster_model.specs.Parts.{event_of, events_of, for_some}
 use Rattle.cluster_model.specs.State.{Cluster}
 use Rattle.world_model.specs.Comes.{Counts}
 use Rattle.world_model.specs.Emits.{Emits}
 use Rattle.world_model.specs.Promoting.{loss_of_any}
-use Rattle.world_model.specs.Room.{HasRoom, beginning_cost, server_restart_cost}
+use Rattle.world_model.specs.Room.{HasRoom, beginning_cost, server_restart_cost, event_cost}
 use Rattle.world_stage.proofs.Comings.{Emits-told}
 use Rattle.world_stage.proofs.Promoting.{as-took}
 use Rattle.world_stage.proofs.Streams.{with_servers}
@@ -109,16 +109,16 @@ abbrev NotesBoth : ServerOf → (ServerOf → EventKind) → Ticks → List Even
 NotesBoth server next tick had one two = (one ≡ had ++ record { tick = tick; kind = kinds.Server (servers.Ended server) } ∷ []) × (two ≡ one ++ record { tick = tick; kind = next server } ∷ [])
 
 -- both are what happened
-both-took : (cluster : Cluster) (member : Member) (server : ServerOf) (next : ServerOf → EventKind) (tick : Ticks) (had one two : List Event) → server ≡ server_of member → tick.0 ≡ cluster.facts.clock → Counts (cluster_after cluster (kinds.Server (servers.Ended server))) (next server)
+both-took : (cluster : Cluster) (member : Member) (server : ServerOf) (next : ServerOf → EventKind) (tick : Ticks) (had one two : List Event) → server ≡ server_of member → tick.0 ≡ cluster.facts.clock → Counts (cluster_after cluster (kinds.Server (servers.Ended server))) (next server) → event_cost (next server) ≤ 1
     → restarted_at cluster member ≡ cluster_after (cluster_after cluster (kinds.Server (servers.Ended (server_of member)))) (next (server_of member)) → NotesBoth server next tick had one two
     → Emits cluster (restarted_at cluster member) had two (events_of cluster (kinds.Server (servers.Ended server) ∷ next server ∷ [])) beginning_cost
-both-took cluster member server next tick had one two server_is at counts leaves notes =
+both-took cluster member server next tick had one two server_is at counts few leaves notes =
     let kind : EventKind = kinds.Server (servers.Ended server) in
     let down : Cluster = cluster_after cluster kind in
     let up : restarted_at cluster member ≡ cluster_after down (next server) =
     subst (λ (x : ServerOf). restarted_at cluster member ≡ cluster_after (cluster_after cluster (kinds.Server (servers.Ended x))) (next x)) (sym server_is) leaves in
     Emits-more cluster down (restarted_at cluster member) had one two kind (next server ∷ []) 1 beginning_cost (Emits-told cluster down tick kind had one tt refl at notes.0)
-    (Emits-told down (restarted_at cluster member) tick (next server) one two counts up at notes.1) (omega arith)
+    (Emits-weaker down (restarted_at cluster member) one two (event_of down (next server)) (event_cost (next server)) 1 (Emits-told down (restarted_at cluster member) tick (next server) one two counts up at notes.1) few) (omega arith)
 
 abbrev beginning : ℕ → ServerOf → EventKind
 beginning timeline server = kinds.Server (servers.Began server timeline)
@@ -132,7 +132,7 @@ begun-took : (cluster : Cluster) (member : Member) (timeline : ℕ) (server : Se
 begun-took cluster member timeline server tick had one two a server_is at notes =
     let now : Ticks = moment_of cluster in
     let s : ServerFacts = a.server in
-    both-took cluster member server (beginning timeline) tick had one two server_is at tt
+    both-took cluster member server (beginning timeline) tick had one two server_is at tt (omega arith)
     (ap (with_servers cluster) (changed-twice cluster.facts.servers member.id.number stopped (λ s. begun_in s.state s) (restarted now) s a.there (begins-again now s a.primary (at-once (s.start_delay.0 == 0) s.timeline timeline a.again)))) notes
 
 -- there is room for the note of its loss then
@@ -161,7 +161,7 @@ starts-took cluster member server tick had one two a server_is at notes =
     let now : ℕ = cluster.facts.clock in
     let s : ServerFacts = a.server in
     let kind : EventKind = kinds.Server (servers.Ended server) in
-    let both = both-took cluster member server starting tick had one two server_is at tt
+    let both = both-took cluster member server starting tick had one two server_is at tt (omega arith)
     (ap (with_servers cluster) (changed-twice cluster.facts.servers member.id.number stopped (starts_as_primary now) (restarted (moment_of cluster)) s a.there (starts-again now s a.primary (with-start (s.start_delay.0 == 0) s.timeline a.again)))) notes in
     as-took cluster (restarted_at cluster member) had two (events_of cluster (kind ∷ starting server ∷ [])) (server_restart_events cluster member) server_restart_cost
     (primary-restarts cluster member beginnings.WithItsStart a ∙ ap (λ (x : ServerOf). events_of cluster (kinds.Server (servers.Ended x) ∷ starting x ∷ [])) (sym server_is))

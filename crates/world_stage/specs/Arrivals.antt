@@ -14,6 +14,7 @@ use Rattle.cluster_model.specs.Messages.{heard_message}
 use Rattle.cluster_model.specs.Parts.{event_of}
 use Rattle.cluster_model.specs.State.{Cluster}
 use Rattle.world_model.specs.Emits.{Emits}
+use Rattle.world_model.specs.Room.{hearing_cost}
 use Rattle.world_model.specs.Short.{IsSent}
 use Rattle.world_stage.specs.declared.arrival.Arrival.{Arrival}
 use Rattle.world_stage.specs.declared.arrival.Arrival.TheVariants as arrivals
@@ -32,7 +33,7 @@ pub record Reaches (before after : Cluster) (outputs : List Output) (number : â„
 
 -- a message in flight came to its receiver, and that was written down
 pub record Comes (before after : Cluster) (had has : List Event) (outputs : List Output) (number : â„•) (message : InFlightFacts) (arrival : Arrival) : Type 0 where
-  pub emits : Emits before after had has (event_of before (kinds.Message (Delivered number))) 1
+  pub emits : Emits before after had has (event_of before (kinds.Message (Delivered number))) hearing_cost
   pub arrives : ArrivesAt before number message message.message.to outputs arrival
   pub sent : IsSent message
 

@@ -4,6 +4,7 @@ use event_book::{Member, Message};
 use pat_base::Shared;
 
 /// Where a message came that was in flight.
+#[derive(Drop)]
 pub enum Arrival {
     /// To the key store, which is to answer it.
     AtStore(Shared<Message>),

@@ -3,6 +3,7 @@ ghost use Rattle.std.specs.Prelude.{◌≡◌, ◌<◌, ◌≤◌, ◌+◌, ◌^
 ghost use Rattle.cluster_script.specs.Script.{IsLink, IsMember};
 ghost use Rattle.event_book.specs.declared.event.Event.{Event};
 ghost use Rattle.cluster_model.specs.Commands.{link_of};
+ghost use Rattle.cluster_model.specs.Limits.{most_members};
 ghost use Rattle.cluster_model.specs.Next.{declared};
 ghost use Rattle.cluster_model.specs.Starting.{cluster_of};
 ghost use Rattle.cluster_model.specs.State.{Cluster};
@@ -189,12 +190,19 @@ impl Stage {
         &self.store
     }
 
-    /// The declared members, in the order of the script: at most 16.
+    /// The declared members, in the order of the script.
     pub fn members(&self) -> &[Member]
-        ensures members { result.now ≡ self.now.facts.members }
-        ensures few { length result.now ≤ most_members }
+        ensures { result.now ≡ self.now.facts.members }
     {
         self.members.as_slice()
+    }
+
+    /// How many members there are: at most 16.
+    pub fn member_count(&self) -> usize
+        ensures count { result ≡ length self.now.facts.members }
+        ensures few { result ≤ most_members }
+    {
+        self.members.len()
     }
 
     /// The member at a place.

@@ -12,7 +12,7 @@ ghost use Rattle.cluster_model.specs.Parts.{event_of};
 ghost use Rattle.cluster_model.specs.Inputs.{agent_at};
 ghost use Rattle.world_model.specs.Idle.{HasWorkFrom, work_moment};
 ghost use Rattle.world_model.specs.Emits.{Emits};
-ghost use Rattle.world_model.specs.Room.{HasRoom};
+ghost use Rattle.world_model.specs.Room.{HasRoom, hearing_cost};
 ghost use Rattle.world_model.specs.Short.{IsSent};
 
 use super::{Stage, write_down};
@@ -21,7 +21,7 @@ use world_parts::machines::{item_at, machine_from};
 use world_parts::places;
 use world_parts::requests::copy_of;
 use world_parts::replication::replication_of;
-use world_parts::streaming::source_of;
+use world_parts::sources::source_of;
 use agent_model::{Heard, Machine};
 use cluster_config::{AgentView, Snapshot};
 use event_book::{AgentEvent, AgentProcess, Body, Event, EventKind, LinkEnd, Member, Message};
@@ -61,10 +61,10 @@ impl Stage {
         outputs: &mut Outputs,
         events: &mut Vec<Event>,
     ) -> Result<(), AllocError>
-        requires room { HasRoom self.old 1 }
+        requires room { HasRoom self.old hearing_cost }
         requires spare { most_outputs ≤ outputs.old.spare }
         requires none { outputs.old.outputs ≡ [] }
-        ensures emits { OnOk result (Emits self.old self.new events.old.items events.new.items (event_of self.old (EventKind.Agent (AgentEvent.Woken agent))) 1) }
+        ensures emits { OnOk result (Emits self.old self.new events.old.items events.new.items (event_of self.old (EventKind.Agent (AgentEvent.Woken agent))) hearing_cost) }
         ensures outputs { outputs.new.outputs ≡ outputs_of (outcome_of self.old agent heards.Wake) }
     {
         self.hear(agent, Heard::Wake, outputs);
@@ -83,10 +83,10 @@ impl Stage {
         outputs: &mut Outputs,
         events: &mut Vec<Event>,
     ) -> Result<(), AllocError>
-        requires room { HasRoom self.old 1 }
+        requires room { HasRoom self.old hearing_cost }
         requires spare { most_outputs ≤ outputs.old.spare }
         requires none { outputs.old.outputs ≡ [] }
-        ensures emits { OnOk result (Emits self.old self.new events.old.items events.new.items (event_of self.old (EventKind.Agent (AgentEvent.Operated agent action))) 1) }
+        ensures emits { OnOk result (Emits self.old self.new events.old.items events.new.items (event_of self.old (EventKind.Agent (AgentEvent.Operated agent action))) hearing_cost) }
         ensures outputs { OnOk result (outputs.new.outputs ≡ outputs_of (outcome_of self.old agent (heards.Operated action))) }
     {
         let told = copy_of(&action)?;
@@ -102,8 +102,8 @@ impl Stage {
     }
 
     /// The agent of a member acts on what a message says, if it says anything to agents.
-    fn hear_if(&mut self, member: Member, heard: Option<Heard>, outputs: &mut Outputs)
-        requires room { HasRoom self.old 1 }
+    pub(crate) fn hear_if(&mut self, member: Member, heard: Option<Heard>, outputs: &mut Outputs)
+        requires room { HasRoom self.old hearing_cost }
         requires spare { most_outputs ≤ outputs.old.spare }
         requires none { outputs.old.outputs ≡ [] }
         ensures world { self.new ≡ record self.old { agents = agent_facts_with self.old.agents member (outcome_of_heard self.old member heard) } }
@@ -116,8 +116,8 @@ impl Stage {
     }
 
     /// The agent of a member acts on what it hears, if there is one: what it does is put into the list.
-    fn hear(&mut self, member: Member, heard: Heard, outputs: &mut Outputs)
-        requires room { HasRoom self.old 1 }
+    pub(crate) fn hear(&mut self, member: Member, heard: Heard, outputs: &mut Outputs)
+        requires room { HasRoom self.old hearing_cost }
         requires spare { most_outputs ≤ outputs.old.spare }
         requires none { outputs.old.outputs ≡ [] }
         ensures world { self.new ≡ record self.old { agents = agent_facts_with self.old.agents member (outcome_of self.old member heard) } }
@@ -130,7 +130,7 @@ impl Stage {
         let Some(server) = self.servers.get(place) else {
             return;
         };
-        places::hear(
+        places::step_agent(
             &mut self.agents,
             place,
             self.clock,
@@ -142,7 +142,7 @@ impl Stage {
     }
 
     /// What a message says to an agent. It fails only for want of memory.
-    fn heard_from(&self, carried: InFlight) -> Result<Option<Heard>, AllocError>
+    pub(crate) fn heard_from(&self, carried: InFlight) -> Result<Option<Heard>, AllocError>
         requires { IsSent carried }
         ensures { IfOk result (λ heard. heard ≡ heard_from self.now carried) }
     {

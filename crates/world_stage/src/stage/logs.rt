@@ -11,7 +11,7 @@ ghost use Rattle.world_model.specs.Room.{HasRoom, streaming_cost};
 ghost use Rattle.world_model.specs.Emits.{Emits};
 
 use super::{Stage, write_down};
-use world_parts::streaming::unconfirmed_end;
+use world_parts::sources::unconfirmed_end;
 use event_book::{Event, EventKind, LogEvent, Member, ReplicationEvent, ServerEvent, ServerOf};
 use pg_model::Streamed;
 use std::alloc::AllocError;

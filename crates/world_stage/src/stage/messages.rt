@@ -14,7 +14,7 @@ ghost use Rattle.cluster_model.specs.Hearing.{heard_from};
 ghost use Rattle.cluster_model.specs.Limits.{most_in_flight};
 ghost use Rattle.cluster_model.specs.Messages.{lost_at_once, send_events, answer_message, answer_events, decision_events, message_events};
 ghost use Rattle.cluster_model.specs.Parts.{events_at};
-ghost use Rattle.world_model.specs.Room.{HasRoom, decision_cost, sending_cost};
+ghost use Rattle.world_model.specs.Room.{HasRoom, decision_cost, hearing_cost, sending_cost};
 ghost use Rattle.world_model.specs.Short.{CarriesRead, IsSent, IsShort};
 ghost use Rattle.world_model.specs.Emits.{Emits};
 ghost use Rattle.cluster_model.specs.Deliveries.{delivery_of};
@@ -95,7 +95,7 @@ impl Stage {
         outputs: &mut Outputs,
         events: &mut Vec<Event>,
     ) -> Result<Option<Arrival>, AllocError>
-        requires room { HasRoom self.old 1 }
+        requires room { HasRoom self.old hearing_cost }
         requires spare { most_outputs ≤ outputs.old.spare }
         requires none { outputs.old.outputs ≡ [] }
         ensures landed { IfOk result (λ arrival. Landed self.old self.new events.old.items events.new.items outputs.new.outputs number (in_flight self.old.facts.flight number) arrival) }
@@ -120,7 +120,7 @@ impl Stage {
         carried: InFlight,
         outputs: &mut Outputs,
     ) -> Result<Arrival, AllocError>
-        requires room { HasRoom self.old 1 }
+        requires room { HasRoom self.old hearing_cost }
         requires spare { most_outputs ≤ outputs.old.spare }
         requires none { outputs.old.outputs ≡ [] }
         requires sent { IsSent carried }

@@ -16,7 +16,7 @@ returns-in_ok-kind-in_default c =
 pub returns-in-Repair : goal.returns-in-Repair
 returns-in-Repair c =
     let place = c.in-Repair.leader.number in
-    let there = c.member_at-leader.ensures ∙ ap (λ (l : List Member). slice_get l place) (c.deref-in-Repair.ensures.value ∙ ap (λ (b : Cluster). b.facts.members) c.self-in-Repair.view_is) in
+    let there = c.member_at-leader.ensures ∙ ap (λ (l : List Member). slice_get l place) c.members-in-Repair.ensures in
     on_ok_weaker c.repair.result
     (λ took. repair-took c.args.stage.now c.repair.new.stage c.args.events.now.items c.repair.new.events.items c.args.member c.args.heard c.in-Repair.leader c.in-Repair.repair c.args.output c.member_at-leader.result c.in-Repair.is there took)
     c.repair.ensures

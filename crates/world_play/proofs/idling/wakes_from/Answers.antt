@@ -13,5 +13,4 @@ loop-place-preserved c = (
 
 pub returns-clause-asleep : goal.returns-clause-asleep
 returns-clause-asleep c =
-    let seen = ap (λ (b : Cluster). length b.facts.members) c.self.view_is in
-    so-all (λ (now : ℕ) (member : Member). SleepsAt now c.args.stage.now member) c.loop-place.first.0 c.args.stage.now.facts.members c.loop-place.place c.loop-place.invariant.1 (omega (arith, seen))
+    so-all (λ (now : ℕ) (member : Member). SleepsAt now c.args.stage.now member) c.loop-place.first.0 c.args.stage.now.facts.members c.loop-place.place c.loop-place.invariant.1 (omega (arith, c.loop-place-test.false, c.member_count-place-end.ensures.count))

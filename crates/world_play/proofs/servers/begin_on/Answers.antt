@@ -4,6 +4,7 @@ use Rattle.std.proofs.lemmas.Result.{on_ok_weaker}
 use Rattle.event_book.specs.declared.event.EventKind.TheVariants as kinds
 use Rattle.event_book.specs.declared.event.ServerEvent.TheVariants as servers
 use Rattle.event_book.specs.declared.member.ServerOf.{ServerOf}
+use Rattle.pg_model.specs.Facts.{ServerFacts}
 use Rattle.cluster_model.specs.State.{Cluster}
 use Rattle.world_model.specs.Comes.{MayCome}
 use Rattle.world_model.specs.Promoting.{loss_of_any}
@@ -17,8 +18,8 @@ happen_then-requires-clause-first c =
 pub returns : goal.returns
 returns c =
     let place = c.args.member.id.number in
-    let told = c.in_ok-loss.ensures.kind ∙ ap (λ (cs : List ℕ). option_and_then (loss_of_any cs c.args.member) (slice_get c.self.inside.servers place)) c.deref.ensures.value
-    ∙ ap (λ (b : Cluster). option_and_then (loss_of_any b.facts.acknowledged c.args.member) (slice_get b.facts.servers place)) c.self.view_is in
+    let told = c.in_ok-loss.ensures.kind ∙ ap (λ (cs : List ℕ). option_and_then (loss_of_any cs c.args.member) (slice_get c.servers.result.now place)) c.acknowledged.ensures
+    ∙ ap (λ (known : List ServerFacts). option_and_then (loss_of_any c.args.stage.now.facts.acknowledged c.args.member) (slice_get known place)) c.servers.ensures in
     on_ok_weaker c.happen_then.result
     (λ took. began-took c.args.stage.now c.happen_then.new.self c.args.member c.args.timeline c.of-server.result c.in_ok-loss.loss c.args.events.now.items c.happen_then.new.events.items c.of-server.ensures told took)
     c.happen_then.ensures

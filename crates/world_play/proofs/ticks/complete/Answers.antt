@@ -8,33 +8,34 @@ use Rattle.cluster_model.specs.Beginnings.{completion_of}
 use Rattle.cluster_model.specs.State.{Cluster}
 use Rattle.world_model.specs.Room.{beginning_cost}
 use Rattle.world_stage.proofs.Promoting.{as-took, completed-comes, completes-begin, completes-end, ended-comes, none-completes, nothing-took, server-took}
+use Rattle.world_play.proofs.Completing.{completion-read}
 use Rattle.world_play.proofs.ticks.complete.Goals as goal
 
 pub begin_on-requires-clause-comes : goal.begin_on-requires-clause-comes
 begin_on-requires-clause-comes c =
-    let is = ap (λ (b : Cluster). option_and_then (completion_of b.facts.clock) (slice_get b.facts.servers c.args.member.id.number)) (sym c.self.view_is) ∙ sym c.completion_of.ensures ∙ c.in-Some-Begins.is ∙ ap Some c.in-Some-Begins.field-0-is in
+    let is = completion-read c.args.stage.now c.args.member c.clock.result c.servers.result.now c.completion_of.result c.clock.ensures c.servers.ensures c.completion_of.ensures ∙ c.in-Some-Begins.is ∙ ap Some c.in-Some-Begins.field-0-is in
     completed-comes c.args.stage.now c.args.member c.in-Some-Begins.timeline c.requires is
 
 pub happen-requires-clause-comes : goal.happen-requires-clause-comes
 happen-requires-clause-comes c =
-    let is = ap (λ (b : Cluster). option_and_then (completion_of b.facts.clock) (slice_get b.facts.servers c.args.member.id.number)) (sym c.self.view_is) ∙ sym c.completion_of.ensures ∙ c.in-Some-Ends.is ∙ ap Some c.in-Some-Ends.field-0-is in
+    let is = completion-read c.args.stage.now c.args.member c.clock.result c.servers.result.now c.completion_of.result c.clock.ensures c.servers.ensures c.completion_of.ensures ∙ c.in-Some-Ends.is ∙ ap Some c.in-Some-Ends.field-0-is in
     ended-comes c.args.stage.now c.args.member c.of-server.result c.of-server.ensures is
 
 pub returns-in-None : goal.returns-in-None
 returns-in-None c =
-    let is = ap (λ (b : Cluster). option_and_then (completion_of b.facts.clock) (slice_get b.facts.servers c.args.member.id.number)) (sym c.self.view_is) ∙ sym c.completion_of.ensures ∙ c.in-None.is in
+    let is = completion-read c.args.stage.now c.args.member c.clock.result c.servers.result.now c.completion_of.result c.clock.ensures c.servers.ensures c.completion_of.ensures ∙ c.in-None.is in
     nothing-took c.args.stage.now c.args.events.now.items _ beginning_cost (none-completes c.args.stage.now c.args.member _ is)
 
 pub returns-in-Some-Begins : goal.returns-in-Some-Begins
 returns-in-Some-Begins c =
-    let is = ap (λ (b : Cluster). option_and_then (completion_of b.facts.clock) (slice_get b.facts.servers c.args.member.id.number)) (sym c.self.view_is) ∙ sym c.completion_of.ensures ∙ c.in-Some-Begins.is ∙ ap Some c.in-Some-Begins.field-0-is in
+    let is = completion-read c.args.stage.now c.args.member c.clock.result c.servers.result.now c.completion_of.result c.clock.ensures c.servers.ensures c.completion_of.ensures ∙ c.in-Some-Begins.is ∙ ap Some c.in-Some-Begins.field-0-is in
     on_ok_weaker c.begin_on.result
     (λ took. as-took c.args.stage.now c.begin_on.new.stage c.args.events.now.items c.begin_on.new.events.items _ _ beginning_cost (completes-begin c.args.stage.now c.args.member _ c.in-Some-Begins.timeline is) took)
     c.begin_on.ensures
 
 pub returns-in-Some-Ends : goal.returns-in-Some-Ends
 returns-in-Some-Ends c =
-    let is = ap (λ (b : Cluster). option_and_then (completion_of b.facts.clock) (slice_get b.facts.servers c.args.member.id.number)) (sym c.self.view_is) ∙ sym c.completion_of.ensures ∙ c.in-Some-Ends.is ∙ ap Some c.in-Some-Ends.field-0-is in
+    let is = completion-read c.args.stage.now c.args.member c.clock.result c.servers.result.now c.completion_of.result c.clock.ensures c.servers.ensures c.completion_of.ensures ∙ c.in-Some-Ends.is ∙ ap Some c.in-Some-Ends.field-0-is in
     on_ok_weaker c.happen.result
     (λ took. server-took c.args.stage.now c.happen.new.self c.args.events.now.items c.happen.new.events.items _ c.args.member c.of-server.result (λ (x : ServerOf). kinds.Server (servers.Ended x)) c.of-server.ensures
     (completes-end c.args.stage.now c.args.member _ is) took)

@@ -8,11 +8,11 @@ use Rattle.world_model.proofs.Taking.{Emits-weaker}
 use Rattle.world_play.proofs.ticks.completions.Goals as goal
 
 pub member-requires : goal.member-requires
-member-requires c = omega (arith, c.loop-place-test.true, c.len-place-end.ensures, ap (λ (b : Cluster). length b.facts.members) c.self.view_is, ap length (EachLeft-members _ _ _ _ _ _ _ _ _ c.loop-place.invariant))
+member-requires c = omega (arith, c.loop-place-test.true, c.member_count-place-end.ensures.count, ap length (EachLeft-members _ _ _ _ _ _ _ _ _ c.loop-place.invariant))
 
 pub complete-requires : goal.complete-requires
 complete-requires c =
-    let few : length c.args.stage.now.facts.members ≤ most_members = omega (arith, c.self.invariant.0, ap (λ (b : Cluster). length b.facts.members) c.self.view_is) in
+    let few : length c.args.stage.now.facts.members ≤ most_members = omega (arith, c.member_count-place-end.ensures.few, c.member_count-place-end.ensures.count) in
     EachLeft-room _ _ beginning_cost _ _ _ _ _ c.loop-place.place _ c.loop-place.invariant (EachLeft-place _ _ _ _ _ _ _ _ c.loop-place.invariant c.member.ensures)
     (HasRoom-fewer _ completions_cost (beginning_cost * length c.args.stage.now.facts.members) (omega (arith, few)) c.requires)
 
@@ -22,6 +22,6 @@ loop-place-preserved c =
 
 pub returns : goal.returns
 returns c =
-    let few : length c.args.stage.now.facts.members ≤ most_members = omega (arith, c.self.invariant.0, ap (λ (b : Cluster). length b.facts.members) c.self.view_is) in
-    let over : length c.args.stage.now.facts.members ≤ c.loop-place.place = omega (arith, c.loop-place-test.false, c.len-place-end.ensures, ap (λ (b : Cluster). length b.facts.members) c.self.view_is) in
+    let few : length c.args.stage.now.facts.members ≤ most_members = omega (arith, c.member_count-place-end.ensures.few, c.member_count-place-end.ensures.count) in
+    let over : length c.args.stage.now.facts.members ≤ c.loop-place.place = omega (arith, c.loop-place-test.false, c.member_count-place-end.ensures.count) in
     Emits-weaker _ _ _ _ _ _ completions_cost (EachLeft-end _ _ _ _ _ _ _ _ c.loop-place.place c.loop-place.invariant over) (omega (arith, few))

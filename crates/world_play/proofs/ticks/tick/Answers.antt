@@ -24,15 +24,13 @@ completions-requires c = c.in_ok-resets.ensures.room completions_cost (c.in_ok-h
 
 pub returns : goal.returns
 returns c =
-    let before = seen c.self.inside in
+    let before = c.args.stage.now in
     let now = before.facts.clock + 1 in
-    let holder = c.declared_member-holder.ensures ∙ ap (λ m. declared_member m c.expired_holder-holder.result) c.deref.ensures.value ∙ ap (declared_member before.facts.members) c.expired_holder-holder.ensures in
-    let all = c.deref-2.ensures.value ∙ c.in_ok-expired.ensures in
-    let told = c.in_ok-note_expiries.ensures ∙ ap (λ ks. c.resets.new.events.items ++ events_at c.self-2.inside.clock (expiries_of c.declared_member-holder.result ks)) all
-    ∙ ap (λ h. c.resets.new.events.items ++ events_at c.self-2.inside.clock (expiries_of h (expired_keys before.facts.keys now))) holder in
+    let holder : c.declared_member-holder.result ≡ declared_member before.facts.members (expired_holder before.facts.keys now) = search rules in
+    let all : c.deref.result.now ≡ expired_keys before.facts.keys now = search rules in
+    let told = c.in_ok-tell_expiries.ensures ∙ ap (λ ks. c.resets.new.events.items ++ events_at c.clock-2.result (expiries_of c.declared_member-holder.result ks)) all
+    ∙ ap (λ h. c.resets.new.events.items ++ events_at c.clock-2.result (expiries_of h (expired_keys before.facts.keys now))) holder in
     on_ok_weaker c.completions.result
-    (λ took. subst (λ (b : Cluster). Emits b c.completions.new.stage c.args.events.now.items c.completions.new.events.items (tick_events b) tick_cost) c.self.view_is
-    (tick-took before c.happen.new.self c.resets.new.stage c.completions.new.stage c.args.events.now.items c.happen.new.events.items c.resets.new.events.items c.note_expiries.new.events.items c.completions.new.events.items c.self-2.inside.clock
-    (subst (λ (b : Cluster). Emits b c.happen.new.self c.args.events.now.items c.happen.new.events.items (event_of b kinds.Tick) 1) (sym c.self.view_is) c.in_ok-happen.ensures)
-    c.in_ok-resets.ensures (ap (λ (b : Cluster). b.facts.clock) c.self-2.view_is) told took))
+    (λ took. tick-took before c.happen.new.self c.resets.new.stage c.completions.new.stage c.args.events.now.items c.happen.new.events.items c.resets.new.events.items c.tell_expiries.new.events.items c.completions.new.events.items c.clock-2.result
+    c.in_ok-happen.ensures c.in_ok-resets.ensures c.clock-2.ensures told took)
     c.completions.ensures

@@ -10,8 +10,8 @@ use Rattle.world_stage.proofs.stage.Stage.confirm.Goals as goal
 pub returns : goal.returns
 returns c =
     let before = seen c.self.inside in
-    on_ok_weaker c.note.result
-    (λ has. subst (λ (b : Cluster). Emits b (with_servers before c.confirm.new.self) c.args.events.now.items c.note.new.events.items (confirm_events b c.args.member c.args.from) 1) c.self.view_is
-    (confirm-took before c.args.member c.args.from c.in-Some.end c.of.result c.confirm.new.self c.self.inside.clock c.args.events.now.items c.note.new.events.items
+    on_ok_weaker c.write_down.result
+    (λ has. subst (λ (b : Cluster). Emits b (with_servers before c.confirm.new.self) c.args.events.now.items c.write_down.new.events.items (confirm_events b c.args.member c.args.from) 1) c.self.view_is
+    (confirm-took before c.args.member c.args.from c.in-Some.end c.of.result c.confirm.new.self c.self.inside.clock c.args.events.now.items c.write_down.new.events.items
     (sym c.unconfirmed_end.ensures ∙ c.in-Some.is) c.of.ensures c.confirm.ensures refl has))
-    c.note.ensures
+    c.write_down.ensures

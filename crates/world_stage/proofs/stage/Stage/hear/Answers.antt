@@ -5,7 +5,7 @@ use Rattle.cluster_model.specs.Cluster.{agent_facts_with}
 use Rattle.cluster_model.specs.Inputs.{outcome_of, outputs_of}
 use Rattle.cluster_model.specs.Machines.{machine_of, points_from, points_of}
 use Rattle.cluster_model.specs.State.{Cluster}
-use Rattle.world_model.specs.Room.{HasRoom}
+use Rattle.world_model.specs.Room.{HasRoom, hearing_cost}
 use Rattle.world_stage.proofs.Hearing.{heard-outputs, heard-state, unheard-by}
 use Rattle.world_stage.proofs.Worlds.{seen}
 use Rattle.world_stage.proofs.stage.Stage.hear.Goals as goal
@@ -13,9 +13,9 @@ use Rattle.world_stage.proofs.stage.Stage.hear.Goals as goal
 pub returns-in_default-clause-world : goal.returns-in_default-clause-world
 returns-in_default-clause-world c = unheard-by c.args.self.now c.args.member c.args.heard (sym c.machine.ensures.machine ∙ c.in_default.is)
 
-pub hear-requires-clause-numbers : goal.hear-requires-clause-numbers
-hear-requires-clause-numbers c =
-    let room : HasRoom (seen c.self.inside) 1 = subst (λ (b : Cluster). HasRoom b 1) (sym c.self.view_is) c.requires.room in
+pub step_agent-requires-clause-numbers : goal.step_agent-requires-clause-numbers
+step_agent-requires-clause-numbers c =
+    let room : HasRoom (seen c.self.inside) hearing_cost = subst (λ (b : Cluster). HasRoom b hearing_cost) (sym c.self.view_is) c.requires.room in
     room.agents
 
 pub returns-clause-world : goal.returns-clause-world
@@ -26,8 +26,8 @@ returns-clause-world c =
     let there : machine_of before member ≡ Some machine = subst (λ (b : Cluster). machine_of b member ≡ Some machine) (sym c.self.view_is) (sym c.machine.ensures.machine ∙ c.in-Some.is) in
     let server : Some (without_spare c.in-Some-get.server.now) ≡ slice_get before.facts.servers member.id.number = search rules in
     let told : c.history.result.now.points ≡ points_of before member = c.history.ensures.points ∙ ap points_from server in
-    subst (λ (b : Cluster). ◌≡◌ {A = Cluster} (record before { agents = c.hear.new.agents.items }) (record b { agents = agent_facts_with b.agents member (outcome_of b member c.args.heard) })) c.self.view_is
-    (heard-state before member c.args.heard c.history.result.now.points machine c.hear.new.agents.items told there c.hear.ensures.agents)
+    subst (λ (b : Cluster). ◌≡◌ {A = Cluster} (record before { agents = c.step_agent.new.agents.items }) (record b { agents = agent_facts_with b.agents member (outcome_of b member c.args.heard) })) c.self.view_is
+    (heard-state before member c.args.heard c.history.result.now.points machine c.step_agent.new.agents.items told there c.step_agent.ensures.agents)
 
 pub returns-clause-outputs : goal.returns-clause-outputs
 returns-clause-outputs c =
@@ -37,5 +37,5 @@ returns-clause-outputs c =
     let there : machine_of before member ≡ Some machine = subst (λ (b : Cluster). machine_of b member ≡ Some machine) (sym c.self.view_is) (sym c.machine.ensures.machine ∙ c.in-Some.is) in
     let server : Some (without_spare c.in-Some-get.server.now) ≡ slice_get before.facts.servers member.id.number = search rules in
     let told : c.history.result.now.points ≡ points_of before member = c.history.ensures.points ∙ ap points_from server in
-    subst (λ (b : Cluster). c.hear.new.outputs.outputs ≡ outputs_of (outcome_of b member c.args.heard)) c.self.view_is
-    (heard-outputs before member c.args.heard c.history.result.now.points machine c.hear.new.outputs.outputs told there c.hear.ensures.outputs)
+    subst (λ (b : Cluster). c.step_agent.new.outputs.outputs ≡ outputs_of (outcome_of b member c.args.heard)) c.self.view_is
+    (heard-outputs before member c.args.heard c.history.result.now.points machine c.step_agent.new.outputs.outputs told there c.step_agent.ensures.outputs)

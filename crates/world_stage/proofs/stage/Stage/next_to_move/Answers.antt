@@ -2,7 +2,7 @@ use Rattle.std.proofs.Common.{◌≡◌, ◌<◌, ℕ, [], Option, arith, sym, s
 use Rattle.std.specs.Prelude.{IfSome}
 use Rattle.cluster_model.specs.Messages.{message_events}
 use Rattle.cluster_model.specs.State.{Cluster}
-use Rattle.world_play.proofs.Passing.{held-still}
+use Rattle.world_stage.proofs.Still.{held-still}
 use Rattle.world_stage.proofs.Worlds.{seen}
 use Rattle.world_stage.proofs.stage.Stage.next_to_move.Goals as goal
 

@@ -41,19 +41,19 @@ pub returns-in-Some-Diverged : goal.returns-in-Some-Diverged
 returns-in-Some-Diverged c =
     let before = seen c.self.inside in
     let news = sym c.in_ok-stream.ensures.news ∙ c.in-Some-Diverged.is ∙ ap Some c.in-Some-Diverged.field-0-is in
-    on_ok_weaker c.note.result
-    (λ has. subst (λ (b : Cluster). Emits b (with_servers before c.stream.new.self) c.args.events.now.items c.note.new.events.items (receive_events b c.args.member c.args.from (news_at b.facts.servers c.args.member.id.number c.args.from.id.number c.args.most)) 2) c.self.view_is
-    (diverged-took before c.args.member c.args.from c.args.most c.in-Some-Diverged.at c.of.result c.of-in-Some-Diverged.result c.stream.new.self c.self.inside.clock c.args.events.now.items c.note.new.events.items
+    on_ok_weaker c.write_down.result
+    (λ has. subst (λ (b : Cluster). Emits b (with_servers before c.stream.new.self) c.args.events.now.items c.write_down.new.events.items (receive_events b c.args.member c.args.from (news_at b.facts.servers c.args.member.id.number c.args.from.id.number c.args.most)) 2) c.self.view_is
+    (diverged-took before c.args.member c.args.from c.args.most c.in-Some-Diverged.at c.of.result c.of-in-Some-Diverged.result c.stream.new.self c.self.inside.clock c.args.events.now.items c.write_down.new.events.items
     news c.in_ok-stream.ensures.ok c.of.ensures c.of-in-Some-Diverged.ensures refl has))
-    c.note.ensures
+    c.write_down.ensures
 
-pub returns-in_ok-note-in-Some-Received : goal.returns-in_ok-note-in-Some-Received
-returns-in_ok-note-in-Some-Received c =
+pub returns-in_ok-write_down-in-Some-Received : goal.returns-in_ok-write_down-in-Some-Received
+returns-in_ok-write_down-in-Some-Received c =
     let before = seen c.self.inside in
     let news = sym c.in_ok-stream.ensures.news ∙ c.in-Some-Received.is ∙ ap Some c.in-Some-Received.field-0-is in
     on_ok_weaker c.confirm-in-Some-Received.result
     (λ took. subst (λ (b : Cluster). Emits b c.confirm-in-Some-Received.new.self c.args.events.now.items c.confirm-in-Some-Received.new.events.items (receive_events b c.args.member c.args.from (news_at b.facts.servers c.args.member.id.number c.args.from.id.number c.args.most)) 2) c.self.view_is
     (received-took before c.confirm-in-Some-Received.new.self c.args.member c.args.from c.args.most c.in-Some-Received.count c.of-in-Some-Received.result c.of-in-Some-Received-2.result c.stream.new.self c.self.inside.clock
-    c.args.events.now.items c.note-in-Some-Received.new.events.items c.confirm-in-Some-Received.new.events.items
-    news c.in_ok-stream.ensures.ok c.of-in-Some-Received.ensures c.of-in-Some-Received-2.ensures refl c.in_ok-note-in-Some-Received.ensures took))
+    c.args.events.now.items c.write_down-in-Some-Received.new.events.items c.confirm-in-Some-Received.new.events.items
+    news c.in_ok-stream.ensures.ok c.of-in-Some-Received.ensures c.of-in-Some-Received-2.ensures refl c.in_ok-write_down-in-Some-Received.ensures took))
     c.confirm-in-Some-Received.ensures

@@ -20,8 +20,8 @@ returns-in_default c =
 pub returns : goal.returns
 returns c =
     let before = seen c.self.inside in
-    on_ok_weaker c.note.result
-    (λ has. subst (λ (b : Cluster). Emits b (with_servers before c.rewind.new.self) c.args.events.now.items c.note.new.events.items (events_of b (kinds_of (option_map (rewinding c.args.member c.args.leader) (rewind_at b.facts.servers c.args.member.id.number c.args.leader.id.number)))) 1) c.self.view_is
-    (rewound-took before c.args.member c.args.leader c.in-Some.rewind c.of.result c.of-2.result c.rewind.new.self c.self.inside.clock c.args.events.now.items c.note.new.events.items
+    on_ok_weaker c.write_down.result
+    (λ has. subst (λ (b : Cluster). Emits b (with_servers before c.rewind.new.self) c.args.events.now.items c.write_down.new.events.items (events_of b (kinds_of (option_map (rewinding c.args.member c.args.leader) (rewind_at b.facts.servers c.args.member.id.number c.args.leader.id.number)))) 1) c.self.view_is
+    (rewound-took before c.args.member c.args.leader c.in-Some.rewind c.of.result c.of-2.result c.rewind.new.self c.self.inside.clock c.args.events.now.items c.write_down.new.events.items
     (sym c.in_ok-rewind.ensures.rewind ∙ c.in-Some.is) c.in_ok-rewind.ensures.ok c.of.ensures c.of-2.ensures refl has))
-    c.note.ensures
+    c.write_down.ensures

@@ -35,8 +35,8 @@ invariant_of-self-in_err-lost c =
       c.self.invariant.4,
     )
 
-pub invariant_of-self-in_err-note : goal.invariant_of-self-in_err-note
-invariant_of-self-in_err-note c =
+pub invariant_of-self-in_err-write_down : goal.invariant_of-self-in_err-write_down
+invariant_of-self-in_err-write_down c =
     let w = c.self.inside in (
       c.self.invariant.0,
       numbered-sent w.sent w.flight c.launch.new.self c.launch.ensures.others c.self.invariant.1,
@@ -65,11 +65,11 @@ returns c =
     let told = c.in_ok-snapshot_for.ensures.entries ∙ ap (λ (m : Message). snapshot_for m.body (present_pairs known.facts.clock known.facts.keys.pairs)) (c.get.ensures ∙ shared) ∙ ap (λ (f : Cluster). snapshot_for message.body (present_pairs f.facts.clock f.facts.keys.pairs)) (sym c.self.view_is) in
     let loaded = loaded-is before message c.in_ok-try_clone.field-0 c.self.inside.clock c.in_ok-snapshot_for.field-0.items c.args.grant (c.in_ok-try_clone.ensures ∙ shared) refl told grant in
     let number = before.facts.sent + 1 in
-    let mid = c.in_ok-note.ensures ∙ ap (λ (m : Message). let event : Event = record { tick = c.self.inside.clock; kind = kinds.Message (Sent number m) } in c.args.events.now.items ++ event ∷ []) shared in
+    let mid = c.in_ok-write_down.ensures ∙ ap (λ (m : Message). let event : Event = record { tick = c.self.inside.clock; kind = kinds.Message (Sent number m) } in c.args.events.now.items ++ event ∷ []) shared in
     let after = with_flight before c.launch.new.self (before.facts.sent + 1) in
-    on_ok_weaker c.note_lost.result
-    (λ has. subst (λ (b : Cluster). Emits b after c.args.events.now.items c.note_lost.new.events.items (send_events b message) 2) c.self.view_is
-    (send-took before after message c.self.inside.clock c.launch.new.self c.in_ok-lost.lost c.args.events.now.items c.note.new.events.items c.note_lost.new.events.items refl
+    on_ok_weaker c.tell_lost.result
+    (λ has. subst (λ (b : Cluster). Emits b after c.args.events.now.items c.tell_lost.new.events.items (send_events b message) 2) c.self.view_is
+    (send-took before after message c.self.inside.clock c.launch.new.self c.in_ok-lost.lost c.args.events.now.items c.write_down.new.events.items c.tell_lost.new.events.items refl
     (c.in_ok-lost.ensures.flight ∙ ap (λ m. launched_into before.facts.flight (before.facts.sent + 1) m) loaded)
     c.in_ok-lost.ensures.lost refl mid has))
-    c.note_lost.ensures
+    c.tell_lost.ensures

@@ -1,5 +1,0 @@
-use Rattle.world_play.proofs.Expiring.{expiries-more}
-use Rattle.world_stage.proofs.stage.ticking.note_expiries.Goals as goal
-
-pub loop-key-preserved : goal.loop-key-preserved
-loop-key-preserved c = expiries-more _ _ _ _ _ _ _ _ c.loop-key-test.true c.key-item.is c.loop-key.invariant c.in_ok-note_expiry.ensures
