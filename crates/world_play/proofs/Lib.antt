@@ -1,5 +1,5 @@
 pub mod Waking
-pub mod Carrying
+pub mod Carried
 pub mod Changing
 pub mod Expiring
 pub mod Numbering

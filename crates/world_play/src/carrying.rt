@@ -11,7 +11,7 @@ ghost use Rattle.world_model.specs.Emits.{Emits};
 ghost use Rattle.world_model.specs.Room.{HasRoom, feeding_cost, output_cost, outputs_cost, sending_cost};
 ghost use Rattle.agent_model.specs.Asked.{AsksShortly, IsAsked};
 
-use crate::repairing::repair;
+use crate::repairing::repair_log;
 use crate::servers::{begin, restart_server, start_replica, stop};
 use agent_model::{Output, Target};
 use cluster_model::HeardMessage;
@@ -80,7 +80,7 @@ fn carry(stage: &mut Stage, member: Member,
         Output::Restart { .. } => restart_server(stage, member, events),
         Output::Repair { leader, repair } => {
             let leader = member_at(stage.members(), leader);
-            repair(stage, member, repair, leader, events)
+            repair_log(stage, member, repair, leader, events)
         }
         _ => {
             let kind = order_kind(stage, member, heard, &output)?;

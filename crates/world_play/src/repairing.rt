@@ -14,7 +14,7 @@ use world_stage::Stage;
 
 /// The log of a member's server is repaired by that of this leader's, if there is such a member: where that accepts writes, the
 /// link between the two is joined, and the server may be rewound, or waits for a copy.
-pub fn repair(stage: &mut Stage, member: Member,
+pub fn repair_log(stage: &mut Stage, member: Member,
     repair: Repair,
     leader: Option<Member>,
     events: &mut Vec<Event>,

@@ -2,7 +2,7 @@ use Rattle.std.proofs.Common.{◌∙◌, ap, arith, List, rules, slice_get}
 use Rattle.std.proofs.lemmas.Result.{on_ok_weaker}
 use Rattle.event_book.specs.declared.member.Member.{Member}
 use Rattle.cluster_model.specs.State.{Cluster}
-use Rattle.world_play.proofs.Carrying.{carried, order-same, order-took, repair-took}
+use Rattle.world_play.proofs.Carried.{carried, order-same, order-took, repair-took}
 use Rattle.world_play.proofs.carrying.carry.Goals as goal
 
 pub returns-in_ok-kind-in_default : goal.returns-in_ok-kind-in_default
@@ -17,9 +17,9 @@ pub returns-in-Repair : goal.returns-in-Repair
 returns-in-Repair c =
     let place = c.in-Repair.leader.number in
     let there = c.member_at-leader.ensures ∙ ap (λ (l : List Member). slice_get l place) c.members-in-Repair.ensures in
-    on_ok_weaker c.repair.result
-    (λ took. repair-took c.args.stage.now c.repair.new.stage c.args.events.now.items c.repair.new.events.items c.args.member c.args.heard c.in-Repair.leader c.in-Repair.repair c.args.output c.member_at-leader.result c.in-Repair.is there took)
-    c.repair.ensures
+    on_ok_weaker c.repair_log.result
+    (λ took. repair-took c.args.stage.now c.repair_log.new.stage c.args.events.now.items c.repair_log.new.events.items c.args.member c.args.heard c.in-Repair.leader c.in-Repair.repair c.args.output c.member_at-leader.result c.in-Repair.is there took)
+    c.repair_log.ensures
 
 pub returns-in-Send : goal.returns-in-Send
 returns-in-Send c = on_ok_weaker c.write.result (λ took. carried _ _ _ _ _ c.args.member c.args.heard c.args.output _ took (search rules) (omega arith)) c.write.ensures
