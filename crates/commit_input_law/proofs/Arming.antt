@@ -18,11 +18,11 @@ use Rattle.commit_law.specs.Inputs.{ArmsAlone}
 use Rattle.commit_law.specs.Past.{leader_revision}
 use Rattle.commit_law.specs.States.{State}
 use Rattle.commit_law.proofs.FromLease.{grant-alone, grant-present}
-use Rattle.run_law.specs.Declaring.{declared_of, works_of}
-use Rattle.run_law.specs.Kept.{MeetsPremises}
-use Rattle.run_law.specs.Volatile as run_volatile
-use Rattle.run_law.proofs.InputKept.{ArmsInTime, arms-in-time}
-use Rattle.run_law.proofs.InputSeen.{found-of}
+use Rattle.run_step_law.specs.Declaring.{declared_of, works_of}
+use Rattle.run_step_law.specs.Kept.{MeetsPremises}
+use Rattle.run_step_law.specs.Volatile as run_volatile
+use Rattle.run_input_law.proofs.InputKept.{ArmsInTime, arms-in-time}
+use Rattle.run_input_law.proofs.InputSeen.{found-of}
 use Rattle.commit_step_law.specs.Bridged.{CommitsBridged}
 use Rattle.commit_step_law.specs.Reading.{state_of_run}
 use Rattle.commit_step_law.proofs.Given.{leaders, ready-by}

@@ -51,15 +51,15 @@ use Rattle.bridge_law.specs.Groups.{AreNumberedAbove, IsNumberedAbove}
 use Rattle.bridge_law.proofs.Flights.{asked-new, asked-there, none-requested, requested-is}
 use Rattle.commit_law.specs.Flights.{SyncRequest}
 use Rattle.commit_law.specs.Past.{Past, Query, SyncQuery, claim_request, past_after, past_over, publish_request, query_sent}
-use Rattle.run_law.specs.Declaring.{member_count}
-use Rattle.run_law.specs.InputEvents.{IsMessageOf, Asks, AsksPeer, AnswersPeer, IsOfInput}
-use Rattle.run_law.specs.Questions.{AsksAnew, AsksFor, IsPutBy, IsPutByBody, SendsBetween, WaitsOn, Same, Nothing, New}
-use Rattle.run_law.specs.Waiting.{IsAgentSound}
-use Rattle.run_law.proofs.InputKept.{agents-are, anew, mine, numbers, small}
-use Rattle.run_law.proofs.InputKinds.{IsOpening}
-use Rattle.run_law.proofs.InputSeen.{IsFound}
-use Rattle.run_law.proofs.InputStays.{clock-one}
-use Rattle.run_law.proofs.InputWaiting.{IsNew, new-number, the-after}
+use Rattle.run_step_law.specs.Declaring.{member_count}
+use Rattle.run_input_law.specs.InputEvents.{IsMessageOf, Asks, AsksPeer, AnswersPeer, IsOfInput}
+use Rattle.run_input_law.specs.Questions.{AsksAnew, AsksFor, IsPutBy, IsPutByBody, SendsBetween, WaitsOn, Same, Nothing, New}
+use Rattle.run_step_law.specs.Waiting.{IsAgentSound}
+use Rattle.run_input_law.proofs.InputKept.{agents-are, anew, mine, numbers, small}
+use Rattle.run_input_law.proofs.InputKinds.{IsOpening}
+use Rattle.run_input_law.proofs.InputSeen.{IsFound}
+use Rattle.run_input_law.proofs.InputStays.{clock-one}
+use Rattle.run_input_law.proofs.InputWaiting.{IsNew, new-number, the-after}
 use Rattle.cluster_model.proofs.Places.{get-changed}
 use Rattle.commit_step_law.specs.Agents.{AreAgentsSynchronous, IsAgentSynchronous, IsWriteAsked, IsWriteOf}
 use Rattle.commit_step_law.specs.Bridged.{CommitsBridged}

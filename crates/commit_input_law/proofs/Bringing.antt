@@ -24,19 +24,21 @@ use Rattle.commit_law.proofs.Fronts.{past-append}
 use Rattle.commit_log_law.specs.Acting.{Fits}
 use Rattle.commit_log_law.specs.Matching.{live_in}
 use Rattle.commit_log_law.specs.Sound.{WaitsForMembers}
-use Rattle.run_law.specs.Declaring.{member_count}
-use Rattle.run_law.proofs.InputMachines.{Seen as MachineSeen}
-use Rattle.run_law.proofs.InputSeen.{found-of}
-use Rattle.run_law.proofs.Upholding.{over-append}
+use Rattle.run_step_law.specs.Declaring.{member_count}
+use Rattle.run_input_law.proofs.InputMachines.{Seen as MachineSeen}
+use Rattle.run_input_law.proofs.InputSeen.{found-of}
+use Rattle.run_step_law.proofs.Upholding.{over-append}
 use Rattle.sync_order_law.proofs.Asides.{once-behind, once-none}
 use Rattle.commit_step_law.specs.Bridged.{CommitsBridged}
 use Rattle.commit_step_law.specs.Reading.{past_of, setup_of, state_of_run, volatile_of}
-use Rattle.commit_input_law.proofs.Alone.{AnswersNone, alone-moves}
+use Rattle.commit_output_law.proofs.Alone.{alone-moves}
+use Rattle.commit_output_law.specs.Answering.{AnswersNone}
 use Rattle.commit_input_law.proofs.Connected.{grown-waits}
-use Rattle.commit_input_law.proofs.Covering.{IsCarried, carried, leave-both, own-both}
+use Rattle.commit_output_law.proofs.Covering.{IsCarried, carried, leave-both, own-both}
 use Rattle.commit_input_law.proofs.Inputs.{front-aside, Acting, After, Before, Events, First, Open, Page, PageOf, Part, SendsInside, Theirs, carried-out, front-acted, front-fits, front-flight, front-leaves, front-live, front-lives, front-needs, front-own, front-servers, given-unless, grows-by, lawful-as, page-moves, table}
-use Rattle.commit_step_law.proofs.Moving.{Moves, moves-then}
-use Rattle.commit_input_law.proofs.Page.{BeginsNone, PassesNone, RequiresNone, Sets, alone-begins, alone-passes, alone-requires, carried-begins, covered-passes, none-begins, none-passes, required-set, sets}
+use Rattle.commit_step_law.proofs.Moving.{moves-then}
+use Rattle.commit_step_law.specs.Moving.{Moves}
+use Rattle.commit_output_law.proofs.Page.{BeginsNone, PassesNone, RequiresNone, Sets, alone-begins, alone-passes, alone-requires, carried-begins, covered-passes, none-begins, none-passes, required-set, sets}
 
 -- what comes of some, and then of others
 pub each-both : {X : Type 0} (part : Cluster → X → List Event) (cluster : Cluster) (xs ys : List X) → each part cluster (xs ++ ys) ≡ each part cluster xs ++ each part (cluster_over cluster (each part cluster xs)) ys

@@ -32,16 +32,18 @@ use Rattle.lease_law.proofs.Tools.{none-some, some-is}
 use Rattle.commit_law.specs.Actions.{Input, IsNumbered, act}
 use Rattle.commit_law.specs.Past.{Past, Setup, log_found, past_over, state_of}
 use Rattle.commit_law.specs.States.{State}
-use Rattle.run_law.specs.Declaring.{member_count}
+use Rattle.run_step_law.specs.Declaring.{member_count}
 use Rattle.commit_step_law.specs.Bridged.{CommitsBridged}
 use Rattle.commit_step_law.specs.Reading.{past_of, setup_of, state_of_run, volatile_of}
 use Rattle.commit_input_law.proofs.Bringing.{Lawful, all-front, each-last, front-page, given-none}
-use Rattle.commit_input_law.proofs.Covering.{IsCarried, Told, carried}
+use Rattle.commit_output_law.proofs.Covering.{IsCarried, Told, carried}
 use Rattle.commit_input_law.proofs.Inputs.{Acting, After, Before, Events, First, Open, Page, PageOf, Part, Theirs, front-told, page-moves, page-shown, stands, states-behind, table}
-use Rattle.commit_step_law.proofs.Moving.{Moves, moves-then}
+use Rattle.commit_step_law.proofs.Moving.{moves-then}
+use Rattle.commit_step_law.specs.Moving.{Moves}
 use Rattle.commit_step_law.proofs.Numbers.{numbered-by}
-use Rattle.commit_input_law.proofs.Page.{BeginsNone, PassesNone, RequiresNone, carried-begins, carried-requires, covered-passes, none-begins}
-use Rattle.commit_input_law.proofs.Sending.{LogEndsAt, answer-moves}
+use Rattle.commit_output_law.proofs.Page.{BeginsNone, PassesNone, RequiresNone, carried-begins, carried-requires, covered-passes, none-begins}
+use Rattle.commit_output_law.proofs.Sending.{answer-moves}
+use Rattle.commit_output_law.specs.Answering.{LogEndsAt}
 
 if-some : (test : Bool) (found : Option Lsn) (end : Lsn) → (if test then found else None) ≡ Some end → found ≡ Some end
 if-some true found end is = is

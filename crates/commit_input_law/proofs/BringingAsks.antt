@@ -51,9 +51,9 @@ use Rattle.commit_law.proofs.Fronts.{past-append}
 use Rattle.commit_log_law.specs.Acting.{Fits}
 use Rattle.commit_log_law.specs.Matching.{live_in}
 use Rattle.commit_log_law.proofs.Beginning.{fits-aside}
-use Rattle.run_law.specs.Bridged.{KnowsItself}
-use Rattle.run_law.specs.Declaring.{member_count}
-use Rattle.run_law.proofs.Upholding.{over-append}
+use Rattle.run_step_law.specs.Bridged.{KnowsItself}
+use Rattle.run_step_law.specs.Declaring.{member_count}
+use Rattle.run_step_law.proofs.Upholding.{over-append}
 use Rattle.sync_order_law.specs.Changes.{AllLeaveOrder}
 use Rattle.sync_order_law.specs.Order.{Awaits}
 use Rattle.sync_order_law.specs.Requests.{PublishesInOrder}
@@ -67,11 +67,12 @@ use Rattle.commit_step_law.specs.Bridged.{CommitsBridged}
 use Rattle.commit_step_law.specs.Reading.{past_of, setup_of, state_of_run, volatile_of}
 use Rattle.commit_input_law.proofs.Bringing.{Lawful, all-front, carried-unasking, each-last}
 use Rattle.commit_input_law.proofs.Connected.{connected-member}
-use Rattle.commit_input_law.proofs.Covering.{IsCarried, NoneAbove, Told, leave-both, none-later, own-both, put-none}
+use Rattle.commit_output_law.proofs.Covering.{IsCarried, NoneAbove, Told, leave-both, none-later, own-both, put-none}
 use Rattle.commit_input_law.proofs.Inputs.{Acting, After, Events, First, Open, Page, PageOf, Part, Theirs, first-none, front-acted, front-aside, front-fits, front-flight, front-leaves, front-live, front-lives, front-needs, front-ordered, front-own, front-processes, front-told, fronts, page-moves, stays-on, table}
-use Rattle.commit_step_law.proofs.Moving.{Moves, moves-then}
-use Rattle.commit_input_law.proofs.Page.{BeginsNone, RequiresNone, carried-begins, carried-requires, none-begins}
-use Rattle.commit_input_law.proofs.Sending.{lost-moves}
+use Rattle.commit_step_law.proofs.Moving.{moves-then}
+use Rattle.commit_step_law.specs.Moving.{Moves}
+use Rattle.commit_output_law.proofs.Page.{BeginsNone, RequiresNone, carried-begins, carried-requires, none-begins}
+use Rattle.commit_output_law.proofs.Sending.{lost-moves}
 
 -- ---- what the law knows of a question
 query-flying : (query : Query) → query_in_flight_of query ≡ option_map Requested (request_in query)

@@ -32,18 +32,18 @@ use Rattle.commit_law.specs.Past.{Past, Setup, VolatileState, past_over}
 use Rattle.commit_law.proofs.Fronts.{past-append}
 use Rattle.commit_log_law.specs.Acting.{Fits}
 use Rattle.commit_log_law.specs.Matching.{IsLiveAhead, live_in, live_now}
-use Rattle.run_law.specs.Declaring.{member_count}
-use Rattle.run_law.specs.Machines.{live_now as live_told}
-use Rattle.run_law.proofs.InputKept.{resembles-later}
-use Rattle.run_law.proofs.InputSeen.{found-of}
-use Rattle.run_law.proofs.Upholding.{over-append}
+use Rattle.run_step_law.specs.Declaring.{member_count}
+use Rattle.run_step_law.specs.Machines.{live_now as live_told}
+use Rattle.run_input_law.proofs.InputKept.{resembles-later}
+use Rattle.run_input_law.proofs.InputSeen.{found-of}
+use Rattle.run_step_law.proofs.Upholding.{over-append}
 use Rattle.commit_step_law.specs.Bridged.{CommitsBridged}
 use Rattle.commit_step_law.specs.Reading.{past_of, setup_of, volatile_of}
-use Rattle.commit_input_law.proofs.Beginning.{begin-moves}
+use Rattle.commit_output_law.proofs.Beginning.{begin-moves}
 use Rattle.commit_input_law.proofs.Bringing.{Lawful, Up, given-none, now-set, of_table, required-page, requires-whole, server-found}
 use Rattle.commit_input_law.proofs.Inputs.{Acting, After, Ahead, Before, Events, PageOf, Part, SendsInside, Theirs, agents-ahead, carried-out, change-none, page-shown, stays-on}
-use Rattle.commit_step_law.proofs.Moving.{Moves, MovesFrom}
-use Rattle.commit_input_law.proofs.Page.{PassesNone, RequiresNone, covered-passes, none-passes}
+use Rattle.commit_step_law.specs.Moving.{Moves, MovesFrom}
+use Rattle.commit_output_law.proofs.Page.{PassesNone, RequiresNone, covered-passes, none-passes}
 use Rattle.pg_model.specs.Running.{moment_after}
 
 -- ---- the server of the machine, by the outputs

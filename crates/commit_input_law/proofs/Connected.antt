@@ -22,8 +22,8 @@ use Rattle.lease_law.proofs.Tools.{none-some}
 use Rattle.commit_law.specs.Past.{need_in, need_of}
 use Rattle.commit_log_law.specs.Sound.{WaitsForMembers}
 use Rattle.commit_log_law.proofs.Acting.{required-at}
-use Rattle.run_law.specs.Declaring.{member_count}
-use Rattle.run_law.proofs.Members.{counted}
+use Rattle.run_step_law.specs.Declaring.{member_count}
+use Rattle.run_step_law.proofs.Members.{counted}
 use Rattle.commit_step_law.specs.Bridged.{CommitsBridged}
 use Rattle.commit_step_law.specs.Reading.{past_of, state_of_run}
 use Rattle.commit_step_law.proofs.Standing.{at-number, made-of, none-confirmed}

@@ -39,17 +39,17 @@ use Rattle.commit_law.specs.Inputs.{AgentInput}
 use Rattle.commit_law.specs.Past.{VolatileState}
 use Rattle.commit_law.specs.Showing.{IsIdle}
 use Rattle.commit_law.proofs.Showing.{idle-shown}
-use Rattle.run_law.specs.Declaring.{declared_of, member_count, works_of}
-use Rattle.run_law.specs.Kept.{IsKept}
-use Rattle.run_law.specs.Parts.{InputsUphold}
-use Rattle.run_law.specs.Promise.{Upholds}
-use Rattle.run_law.specs.Volatile as run_volatile
-use Rattle.run_law.specs.Waiting.{IsAnswer}
-use Rattle.run_law.proofs.EveryInput.{acted, agent-here, kept-hearing, kept-operated, kept-wake, sender, same-run, the-outcome, unchanged}
-use Rattle.run_law.proofs.InputHears.{hears-by, peers-hear}
-use Rattle.run_law.proofs.InputKinds.{IsOpening}
-use Rattle.run_law.proofs.InputSeen.{IsFound, found-of}
-use Rattle.run_law.proofs.Members.{numbered}
+use Rattle.run_step_law.specs.Declaring.{declared_of, member_count, works_of}
+use Rattle.run_step_law.specs.Kept.{IsKept}
+use Rattle.run_step_law.specs.Parts.{InputsUphold}
+use Rattle.run_step_law.specs.Promise.{Upholds}
+use Rattle.run_step_law.specs.Volatile as run_volatile
+use Rattle.run_step_law.specs.Waiting.{IsAnswer}
+use Rattle.run_input_law.proofs.EveryInput.{acted, agent-here, kept-hearing, kept-operated, kept-wake, sender, same-run, the-outcome, unchanged}
+use Rattle.run_input_law.proofs.InputHears.{hears-by, peers-hear}
+use Rattle.run_input_law.proofs.InputKinds.{IsOpening}
+use Rattle.run_input_law.proofs.InputSeen.{IsFound, found-of}
+use Rattle.run_step_law.proofs.Members.{numbered}
 use Rattle.commit_log_law.specs.Matching.{live_in}
 use Rattle.commit_step_law.specs.Agents.{AreAgentsSynchronous, IsAskNumbered}
 use Rattle.commit_step_law.specs.Bridged.{CommitsBridged, kept_commits}

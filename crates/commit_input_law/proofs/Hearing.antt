@@ -51,9 +51,9 @@ use Rattle.commit_law.specs.States.{State}
 use Rattle.commit_bridge_law.specs.Flights.{Answers, IsNamed, past_at_sending}
 use Rattle.commit_bridge_law.specs.Keys.{sync_key_of, sync_value}
 use Rattle.commit_bridge_law.proofs.Hearing.{heard-lease, heard-snapshot, heard-write}
-use Rattle.run_law.specs.Declaring.{member_count}
-use Rattle.run_law.specs.Waiting.{IsAddressed, IsAnswer, IsPeerBody}
-use Rattle.run_law.proofs.InputHears.{message-is, unpaused-told}
+use Rattle.run_step_law.specs.Declaring.{member_count}
+use Rattle.run_step_law.specs.Waiting.{IsAddressed, IsAnswer, IsPeerBody}
+use Rattle.run_input_law.proofs.InputHears.{message-is, unpaused-told}
 use Rattle.commit_step_law.specs.Agents.{}
 use Rattle.sync_order_law.specs.Order.{NamesMembers}
 use Rattle.commit_step_law.specs.Bridged.{CommitsBridged}

@@ -5,11 +5,8 @@ use Rattle.pat_base.specs.Changes.{with_changed}
 use Rattle.pat_base.specs.declared.ticks.Ticks.{Ticks}
 use Rattle.pat_base.specs.ServerState.{live}
 use Rattle.pg_model.specs.Facts.{ServerFacts}
-use Rattle.event_book.specs.declared.event.AgentEvent.TheVariants as agents
 use Rattle.event_book.specs.declared.event.Event.{Event}
 use Rattle.event_book.specs.declared.event.EventKind.{EventKind}
-use Rattle.event_book.specs.declared.event.EventKind.TheVariants as kinds
-use Rattle.event_book.specs.declared.event.MessageEvent.TheVariants.{Delivered}
 use Rattle.event_book.specs.declared.member.Member.{Member}
 use Rattle.event_book.specs.Functions.{put_at}
 use Rattle.cluster_script.specs.Script.{HeadText}
@@ -33,7 +30,7 @@ use Rattle.cluster_model.specs.Cluster.{agent_after, agent_facts_after, cluster_
 use Rattle.cluster_model.specs.Inputs.{moment_of}
 use Rattle.cluster_model.specs.Machines.{machine_of, points_of}
 use Rattle.cluster_model.specs.Messages.{output_events}
-use Rattle.cluster_model.specs.Parts.{each, event_of}
+use Rattle.cluster_model.specs.Parts.{each}
 use Rattle.cluster_model.specs.State.{Cluster}
 use Rattle.lease_law.specs.Past as lease_past
 use Rattle.lease_law.proofs.Tools.{none-some, put-all}
@@ -48,18 +45,19 @@ use Rattle.commit_law.specs.States.{Agent, State}
 use Rattle.commit_law.proofs.Showing.{input-shown}
 use Rattle.commit_log_law.specs.Acting.{Fits}
 use Rattle.commit_log_law.specs.Matching.{live_in}
-use Rattle.run_law.specs.Declaring.{declared_of, member_count, works_of}
-use Rattle.run_law.specs.Volatile as run_volatile
-use Rattle.run_law.proofs.InputKinds.{IsOpening}
+use Rattle.run_step_law.specs.Declaring.{declared_of, member_count, works_of}
+use Rattle.run_step_law.specs.Volatile as run_volatile
+use Rattle.run_input_law.proofs.InputKinds.{IsOpening}
 use Rattle.cluster_model.proofs.Places.{get-elsewhere, get-here}
 use Rattle.commit_step_law.specs.Bridged.{CommitsBridged}
-use Rattle.sync_order_law.specs.Changes.{AllLeaveOrder, ChangeOrderOnce, LeavesOrder}
-use Rattle.commit_step_law.specs.Ordered.{AllInOrder, HappensInOrder}
+use Rattle.sync_order_law.specs.Changes.{AllLeaveOrder, ChangeOrderOnce}
+use Rattle.commit_step_law.specs.Ordered.{AllInOrder}
 use Rattle.commit_step_law.specs.Reading.{agent_now, past_of, setup_of, state_of_run, volatile_of}
 use Rattle.commit_step_law.proofs.Agents.{volatile-put}
-use Rattle.commit_input_law.proofs.Covering.{Covers, Held, NoneAbove, Told, each-covers, told_of, IsCarried}
-use Rattle.commit_step_law.proofs.Moving.{Moves}
-use Rattle.commit_input_law.proofs.Page.{Opens, RequiresNone, fits-told, none-above, opened-none, opens, required-stays}
+use Rattle.commit_output_law.proofs.Covering.{Covers, Held, NoneAbove, Told, each-covers, told_of, IsCarried}
+use Rattle.commit_step_law.specs.Moving.{Moves}
+use Rattle.commit_output_law.proofs.Page.{RequiresNone, fits-told, none-above, required-stays}
+use Rattle.commit_input_law.proofs.Opening.{Opens, opened-none, opening-aside, opening-ordered, opening-own, opens}
 use Rattle.commit_step_law.proofs.Standing.{agent-stands}
 
 -- ---- what the timed lease gives is asked only by who sends a claim
@@ -95,25 +93,6 @@ grows-by now heard o s m input was (ChangingRequired changes) as-it = as-it
 grows-by now heard o s m input was (Publishing publishes) as-it = same-grows o (s.members m).required input.required publishes.keeps.required
 grows-by now heard o s m input was (Promoting promotes) as-it = nobody-grows o (s.members m).required input.required promotes.required
 grows-by now heard o s m input was (SettlingRequired settles) as-it = as-it
-
--- ---- the event with which it begins is its own
-opening-own : (m : ℕ) (heard : Option ℕ) (cluster : Cluster) (kind : EventKind) → IsOpening heard kind → AreOwn m (event_of cluster kind) × AllLeaveCommits (event_of cluster kind)
-opening-own m heard cluster (kinds.Agent (agents.Woken by)) is = ((tt, tt), (tt, tt))
-opening-own m heard cluster (kinds.Agent (agents.Operated by action)) is = ((tt, tt), (tt, tt))
-opening-own m heard cluster (kinds.Message (Delivered number)) is = ((tt, tt), (tt, tt))
-opening-own m heard cluster _ is = absurd is
-
-opening-aside : (heard : Option ℕ) (cluster : Cluster) (kind : EventKind) → IsOpening heard kind → LeavesOrder kind
-opening-aside heard cluster (kinds.Agent (agents.Woken by)) is = tt
-opening-aside heard cluster (kinds.Agent (agents.Operated by action)) is = tt
-opening-aside heard cluster (kinds.Message (Delivered number)) is = tt
-opening-aside heard cluster _ is = absurd is
-
-pub opening-ordered : (past : Past) (cluster : Cluster) (heard : Option ℕ) (kind : EventKind) → IsOpening heard kind → HappensInOrder past cluster kind
-opening-ordered past cluster heard (kinds.Agent (agents.Woken by)) is = tt
-opening-ordered past cluster heard (kinds.Agent (agents.Operated by action)) is = tt
-opening-ordered past cluster heard (kinds.Message (Delivered number)) is = tt
-opening-ordered past cluster heard _ is = absurd is
 
 input-is : (heard : Option ℕ) (agent : Agent) (live : Bool) (required required' : Need) (sends : Option Sending) (was was' : Bool) → required ≡ required' → was ≡ was'
     → ◌≡◌ {A = AgentInput} (record { heard = heard; agent = agent; live = live; required = required; sends = sends; holder_was_live = was }) (record { heard = heard; agent = agent; live = live; required = required'; sends = sends; holder_was_live = was' })

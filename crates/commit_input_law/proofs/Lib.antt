@@ -1,14 +1,8 @@
 pub mod Hearing
 pub mod Asking
-pub mod Covering
 pub mod Quietly
-pub mod Sending
-pub mod Stopping
-pub mod Beginning
-pub mod Restarting
-pub mod Alone
-pub mod Page
 pub mod Connected
+pub mod Opening
 pub mod Inputs
 pub mod Bringing
 pub mod BringingBegins

@@ -14,9 +14,9 @@ use Rattle.cluster_model.specs.Cluster.{cluster_after}
 use Rattle.cluster_model.specs.State.{Cluster}
 use Rattle.event_book.specs.Kinds.{AllAre}
 use Rattle.commit_law.specs.Past.{Past, past_after}
-use Rattle.run_law.specs.InputEvents.{AnswersPeer, Asks, AsksPeer, IsMessageOf, IsOfInput}
+use Rattle.run_input_law.specs.InputEvents.{AnswersPeer, Asks, AsksPeer, IsMessageOf, IsOfInput}
 use Rattle.commit_step_law.specs.Ordered.{AllInOrder, AsksInOrder, HappensInOrder}
-use Rattle.commit_input_law.proofs.Covering.{quiet-ordered}
+use Rattle.commit_output_law.proofs.Covering.{quiet-ordered}
 
 -- an output that asks for no write of the sync key
 abbrev pub AsksQuietly : Output → Type 0

@@ -51,22 +51,23 @@ use Rattle.commit_law.proofs.Fronts.{aside-front, keeps-aside}
 use Rattle.commit_bridge_law.specs.Flights.{AreCausal}
 use Rattle.commit_bridge_law.proofs.Groups.{own-causal}
 use Rattle.commit_log_law.proofs.Kept.{keeps-now}
-use Rattle.run_law.specs.Bridged.{KnowsItself}
-use Rattle.run_law.specs.Declaring.{member_count}
-use Rattle.run_law.specs.InputEvents.{AnswersPeer, Asks, AsksPeer, IsMessageOf, IsOfInput}
-use Rattle.run_law.specs.Kept.{IsKept}
-use Rattle.run_law.specs.Machines.{run_now}
-use Rattle.run_law.specs.Promise.{Upholds}
-use Rattle.run_law.specs.Questions.{IsQuestion, SendsBetween}
-use Rattle.run_law.proofs.InputKept.{agents-are, mine, numbers}
-use Rattle.run_law.proofs.InputKinds.{IsOpening, mine-from, opening-from}
-use Rattle.run_law.proofs.InputSeen.{found-of}
+use Rattle.run_step_law.specs.Bridged.{KnowsItself}
+use Rattle.run_step_law.specs.Declaring.{member_count}
+use Rattle.run_input_law.specs.InputEvents.{AnswersPeer, Asks, AsksPeer, IsMessageOf, IsOfInput}
+use Rattle.run_step_law.specs.Kept.{IsKept}
+use Rattle.run_step_law.specs.Machines.{run_now}
+use Rattle.run_step_law.specs.Promise.{Upholds}
+use Rattle.run_input_law.specs.Questions.{SendsBetween}
+use Rattle.run_step_law.specs.Waiting.{IsQuestion}
+use Rattle.run_input_law.proofs.InputKept.{agents-are, mine, numbers}
+use Rattle.run_input_law.proofs.InputKinds.{IsOpening, mine-from, opening-from}
+use Rattle.run_input_law.proofs.InputSeen.{found-of}
 use Rattle.cluster_model.proofs.Lists.{all-more}
 use Rattle.cluster_model.proofs.Places.{get-here}
 use Rattle.commit_step_law.specs.Agents.{IsAskNumbered}
 use Rattle.commit_step_law.specs.Bridged.{CommitsBridged, MeetsMode, kept_commits}
 use Rattle.commit_step_law.specs.Reading.{agent_now, past_of, setup_of, state_of_run, volatile_of}
-use Rattle.commit_input_law.proofs.Alone.{AnswersNone}
+use Rattle.commit_output_law.specs.Answering.{AnswersNone}
 use Rattle.commit_input_law.proofs.Arming.{arms-alone}
 use Rattle.commit_input_law.proofs.Asking.{agents-behind}
 use Rattle.commit_input_law.proofs.Bringing.{Lawful, alone-unasking, apart-moves, requires-moves}
@@ -74,8 +75,10 @@ use Rattle.commit_input_law.proofs.BringingAnswers.{answers-moves, unasking-all}
 use Rattle.commit_input_law.proofs.BringingAsks.{Sends, asks-aside, asks-leave, asks-moves, asks-ordered, page, inside-ordered}
 use Rattle.commit_input_law.proofs.BringingBegins.{begins-moves}
 use Rattle.commit_input_law.proofs.Connected.{connected-member}
-use Rattle.commit_input_law.proofs.Inputs.{Acting, After, Before, Events, First, Part, Theirs, opening-ordered, stays-on}
-use Rattle.commit_step_law.proofs.Moving.{Moves, upheld-moves}
+use Rattle.commit_input_law.proofs.Inputs.{Acting, After, Before, Events, First, Part, Theirs, stays-on}
+use Rattle.commit_input_law.proofs.Opening.{opening-ordered}
+use Rattle.commit_step_law.proofs.Moving.{upheld-moves}
+use Rattle.commit_step_law.specs.Moving.{Moves}
 use Rattle.commit_step_law.proofs.Over.{AskAsOn, AsksAsOn}
 use Rattle.commit_step_law.proofs.Starting.{runs-now}
 use Rattle.commit_step_law.proofs.Transitions.{order-behind, past-more, state_behind, mode-back}
@@ -85,8 +88,8 @@ use Rattle.sync_order_law.specs.Changes.{AllLeaveOrder}
 use Rattle.sync_order_law.specs.Order.{IsInOrder, NamesMembers}
 use Rattle.sync_order_law.proofs.Inside.{Seen, all-aside, aside-front as order-aside-front, order-as, seen_of}
 use Rattle.commit_input_law.proofs.Quietly.{AsksQuietly, covered-quietly, quietly-ordered, unasking-quietly}
-use Rattle.commit_input_law.proofs.Covering.{IsCarried, carried}
-use Rattle.commit_input_law.proofs.Page.{PassesNone, covered-passes, none-passes}
+use Rattle.commit_output_law.proofs.Covering.{IsCarried, carried}
+use Rattle.commit_output_law.proofs.Page.{PassesNone, covered-passes, none-passes}
 use Rattle.summary.specs.Claims.{KeepMode}
 
 -- ---- events of which none changes what commits being kept speaks of, nor the order

@@ -1,6 +1,6 @@
 //! The law of inputs of agents in synchronous mode.
 ghost use Rattle.cluster_script.specs.Script.{HeadText, IsHead};
-ghost use Rattle.run_law.specs.Parts.{InputsUphold};
+ghost use Rattle.run_step_law.specs.Parts.{InputsUphold};
 ghost use Rattle.commit_step_law.specs.Bridged.{kept_commits};
 
 /// While synchronous mode is on and the premises of one writer are met, each input of an agent upholds kept commits, at each moment inside

@@ -8,8 +8,8 @@ use Rattle.cluster_model.specs.Next.{run_events}
 use Rattle.cluster_model.specs.Starting.{cluster_of}
 use Rattle.commit_law.specs.Books.{HasCommit, KeepsNow}
 use Rattle.commit_law.specs.Past.{log_found}
-use Rattle.run_law.specs.Parts.{PartsUphold}
-use Rattle.run_law.proofs.Walking.{upholds-run}
+use Rattle.run_step_law.specs.Parts.{PartsUphold}
+use Rattle.run_step_law.proofs.Walking.{upholds-run}
 use Rattle.wal_model.specs.Lacking.{has_serial}
 use Rattle.summary.specs.Seeing.{WritersHold, entries_found}
 use Rattle.wal_model.proofs.Serials.{looked-up}
@@ -19,7 +19,8 @@ use Rattle.commit_run_law.specs.Runs.{InSynchronousMode, KeepsCommitsIn, KeepsOr
 use Rattle.commit_step_law.proofs.Arrivals.{upheld-arrival}
 use Rattle.commit_step_law.proofs.Commands.{upheld-command, upheld-restarts, upholds-loss, upholds-promote}
 use Rattle.commit_input_law.proofs.EveryInput.{inputs-uphold}
-use Rattle.commit_step_law.proofs.First.{commits-first, few-names}
+use Rattle.commit_step_law.proofs.First.{commits-first}
+use Rattle.run_step_law.proofs.Members.{few-names}
 use Rattle.commit_run_law.proofs.Holding.{held-by-book}
 use Rattle.commit_step_law.proofs.Servers.{upholds-acknowledge, upholds-note, upholds-receive}
 use Rattle.commit_step_law.proofs.Ticks.{upholds-tick}

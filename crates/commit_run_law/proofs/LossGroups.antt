@@ -34,13 +34,13 @@ use Rattle.commit_log_law.specs.Happening.{MayHappen, Takes}
 use Rattle.commit_log_law.specs.Matching.{IsSameServers}
 use Rattle.commit_log_law.proofs.Keeping.{not-live-quiet}
 use Rattle.commit_log_law.proofs.Places.{changed-there}
-use Rattle.run_law.specs.Asides.{IsQuiet}
-use Rattle.run_law.specs.Declaring.{declared_members, member_count}
-use Rattle.run_law.specs.Promise.{Upholds, UpholdsAlways}
+use Rattle.run_step_law.specs.Asides.{IsQuiet}
+use Rattle.run_step_law.specs.Declaring.{declared_members, member_count}
+use Rattle.run_step_law.specs.Promise.{Upholds, UpholdsAlways}
 use Rattle.cluster_model.proofs.Lists.{all-kinds}
-use Rattle.run_law.proofs.Members.{counted, numbered}
+use Rattle.run_step_law.proofs.Members.{counted, numbered}
 use Rattle.cluster_model.proofs.Places.{there}
-use Rattle.run_law.proofs.Streams.{acknowledge-quiet}
+use Rattle.run_step_law.proofs.Streams.{acknowledge-quiet}
 use Rattle.wal_model.specs.Lacking.{has_serial, lacks_in}
 use Rattle.summary.specs.Losses.{WriterLacksOf}
 use Rattle.summary.specs.Seeing.{WriterLacks, WritersHold, entries_at, entries_found}

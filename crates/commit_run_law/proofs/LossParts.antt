@@ -51,10 +51,10 @@ use Rattle.cluster_model.specs.State.{Cluster}
 use Rattle.cluster_model.specs.Streaming.{confirm_of, source_of, unconfirmed_end}
 use Rattle.cluster_model.specs.Ticking.{completion_events, next_expiries, reset_events, reset_of, tick_events}
 use Rattle.event_book.specs.Kinds.{AllAre}
-use Rattle.run_law.specs.Promise.{Upholds, UpholdsAlways}
+use Rattle.run_step_law.specs.Promise.{Upholds, UpholdsAlways}
 use Rattle.cluster_model.proofs.Founds.{holds-if, holds-then}
 use Rattle.cluster_model.proofs.Lists.{HoldsIf, all-kinds, all-more, one-kind}
-use Rattle.run_law.proofs.Upholding.{upheld-for_some, upheld-none, upheld-then, upholds-all}
+use Rattle.run_step_law.proofs.Upholding.{upheld-for_some, upheld-none, upheld-then, upholds-all}
 use Rattle.commit_run_law.proofs.Losses.{LosesNone, TellsSoFar, composable, losses_told, upheld-loseless}
 use Rattle.commit_run_law.proofs.LossGroups.{upheld-begun}
 use Rattle.commit_step_law.proofs.Ticks.{IsExpiry, next-expiries}

@@ -45,17 +45,17 @@ use Rattle.event_book.specs.Kinds.{AllAre}
 use Rattle.commit_log_law.specs.Happening.{MayFollow}
 use Rattle.commit_log_law.proofs.Matching.{same-first}
 use Rattle.commit_log_law.proofs.Repairing.{repair-follow}
-use Rattle.run_law.specs.Parts.{PartsUphold}
-use Rattle.run_law.specs.Promise.{Upholds, UpholdsAlways}
+use Rattle.run_step_law.specs.Parts.{PartsUphold}
+use Rattle.run_step_law.specs.Promise.{Upholds, UpholdsAlways}
 use Rattle.lease_law.proofs.Tools.{both}
 use Rattle.cluster_model.proofs.Founds.{holds-if, holds-then, repaired-holds, told-holds}
-use Rattle.run_law.proofs.InputStays.{item-here}
+use Rattle.run_input_law.proofs.InputStays.{item-here}
 use Rattle.cluster_model.proofs.Lists.{HoldsIf}
-use Rattle.run_law.proofs.Upholding.{upheld-for_some, upheld-none, upheld-then, upholds-all}
-use Rattle.run_law.proofs.Walking.{upholds-run}
+use Rattle.run_step_law.proofs.Upholding.{upheld-for_some, upheld-none, upheld-then, upholds-all}
+use Rattle.run_step_law.proofs.Walking.{upholds-run}
 use Rattle.summary.specs.Telling.{TellLosses}
 use Rattle.commit_run_law.specs.Runs.{first_logs}
-use Rattle.commit_step_law.proofs.First.{few-names}
+use Rattle.run_step_law.proofs.Members.{few-names}
 use Rattle.commit_run_law.proofs.Losses.{LosesNone, TellsSoFar, composable, losses_told, upheld-loseless}
 use Rattle.commit_run_law.proofs.LossGroups.{IsRepair, upheld-acknowledge, upheld-begun, upheld-repair}
 use Rattle.commit_run_law.proofs.LossParts.{holds-cond, holds-mapped, kind-cond, none-if, sends-none, upheld-arrival, upholds-command, upholds-promote, upholds-receive, upholds-restart, upholds-tick}

@@ -19,8 +19,8 @@ use Rattle.lease_law.proofs.Tools.{both}
 use Rattle.commit_law.specs.Past.{Past, past_after, past_over}
 use Rattle.commit_log_law.specs.Matching.{IsSameServers}
 use Rattle.commit_log_law.proofs.Matching.{same-by}
-use Rattle.run_law.specs.Declaring.{declared_members, member_count}
-use Rattle.run_law.specs.Promise.{IsComposable, Promise, Upholds}
+use Rattle.run_step_law.specs.Declaring.{declared_members, member_count}
+use Rattle.run_step_law.specs.Promise.{IsComposable, Promise, Upholds}
 use Rattle.summary.specs.Losses.{may_lose}
 use Rattle.summary.specs.Moments.{AreAllFronts}
 use Rattle.summary.specs.Seeing.{WriterLacks, WritersHold}

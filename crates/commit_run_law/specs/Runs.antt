@@ -4,7 +4,7 @@ use Rattle.cluster_script.specs.Script.{HeadText, names_of}
 use Rattle.event_book.specs.declared.event.Event.{Event}
 use Rattle.event_book.specs.Facts.{start_of}
 use Rattle.event_book.specs.Logs.{Logs, logs_in}
-use Rattle.run_law.specs.Kept.{MeetsPremises}
+use Rattle.run_step_law.specs.Kept.{MeetsPremises}
 use Rattle.summary.specs.Claims.{KeepMode}
 use Rattle.summary.specs.Seeing.{WritersHold}
 use Rattle.commit_step_law.specs.Ordered.{KeepsOrder}

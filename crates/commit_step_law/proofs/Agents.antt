@@ -21,13 +21,14 @@ use Rattle.commit_law.proofs.Showing.{killed-shown}
 use Rattle.commit_log_law.specs.Acting.{Fits}
 use Rattle.commit_log_law.proofs.Beginning.{fits-agents, fits-aside}
 use Rattle.commit_log_law.proofs.Kept.{change-once}
-use Rattle.run_law.specs.Declaring.{member_count}
-use Rattle.run_law.specs.Promise.{Upholds}
-use Rattle.run_law.proofs.Ending.{kept-kill}
+use Rattle.run_step_law.specs.Declaring.{member_count}
+use Rattle.run_step_law.specs.Promise.{Upholds}
+use Rattle.run_step_law.proofs.Ending.{kept-kill}
 use Rattle.cluster_model.proofs.Places.{get-changed, get-elsewhere, get-here, there}
 use Rattle.commit_step_law.specs.Bridged.{CommitsBridged, kept_commits}
 use Rattle.commit_step_law.specs.Reading.{agent_now, past_of, setup_of, volatile_of}
-use Rattle.commit_step_law.proofs.Moving.{Moves, OnlyLeave, agents-leave, upheld-moves}
+use Rattle.commit_step_law.proofs.Moving.{OnlyLeave, agents-leave, upheld-moves}
+use Rattle.commit_step_law.specs.Moving.{Moves}
 use Rattle.commit_step_law.proofs.Still.{volatile-same}
 
 -- another agent of one member, and each server live as before

@@ -43,18 +43,18 @@ use Rattle.commit_bridge_law.proofs.Groups.{granted-causal, read-causal, refused
 use Rattle.commit_log_law.specs.Acting.{Fits, IsAside}
 use Rattle.commit_log_law.specs.Matching.{live_in}
 use Rattle.commit_log_law.proofs.Beginning.{fits-aside}
-use Rattle.run_law.specs.Declaring.{member_count}
-use Rattle.run_law.specs.Kept.{IsKept}
-use Rattle.run_law.specs.Promise.{Upholds}
-use Rattle.run_law.specs.Waiting.{IsAddressed}
-use Rattle.run_law.proofs.StoreArrivals.{kept-store-arrival}
+use Rattle.run_step_law.specs.Declaring.{member_count}
+use Rattle.run_step_law.specs.Kept.{IsKept}
+use Rattle.run_step_law.specs.Promise.{Upholds}
+use Rattle.run_step_law.specs.Waiting.{IsAddressed}
+use Rattle.run_step_law.proofs.StoreArrivals.{kept-store-arrival}
 use Rattle.commit_step_law.specs.Bridged.{CommitsBridged, kept_commits}
 use Rattle.commit_step_law.specs.Reading.{agent_now, past_of, setup_of, state_of_run, volatile_of}
 use Rattle.commit_step_law.proofs.Commands.{goes-loss}
 use Rattle.commit_step_law.proofs.Given.{numbered-request, snapshot-allowed}
 use Rattle.commit_step_law.proofs.Going.{Goes, GoesFrom, goes-after, goes-none, upheld-gone}
 use Rattle.commit_step_law.proofs.Over.{AskAsOn}
-use Rattle.commit_step_law.proofs.Transitions.{volatile_last}
+use Rattle.commit_step_law.specs.Moving.{volatile_last}
 use Rattle.commit_step_law.specs.Ordered.{AllInOrder, HappensInOrder}
 use Rattle.event_book.specs.declared.event.StoreEvent.TheVariants as stores
 use Rattle.commit_bridge_law.proofs.Flights.{request-flying}

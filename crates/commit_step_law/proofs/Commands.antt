@@ -33,14 +33,14 @@ use Rattle.commit_log_law.proofs.Beginning.{fits-aside}
 use Rattle.commit_log_law.proofs.Commits.{commit-may}
 use Rattle.commit_log_law.proofs.Completions.{freezing-may, slow-may}
 use Rattle.commit_log_law.proofs.Kept.{change-once}
-use Rattle.run_law.specs.Declaring.{member_count}
-use Rattle.run_law.specs.Promise.{Upholds, UpholdsAlways}
-use Rattle.run_law.proofs.Commands.{IsQuietCommand, command-quiet}
-use Rattle.run_law.proofs.Ending.{kept-loss}
+use Rattle.run_step_law.specs.Declaring.{member_count}
+use Rattle.run_step_law.specs.Promise.{Upholds, UpholdsAlways}
+use Rattle.run_step_law.proofs.Commands.{IsQuietCommand, command-quiet}
+use Rattle.run_step_law.proofs.Ending.{kept-loss}
 use Rattle.cluster_model.proofs.Lists.{HoldsIf}
-use Rattle.run_law.proofs.Members.{declared-now, declared-within}
-use Rattle.run_law.proofs.Promoting.{hands-off-back}
-use Rattle.run_law.proofs.Upholding.{upheld-for_some, upheld-none}
+use Rattle.run_step_law.proofs.Members.{declared-now, declared-within}
+use Rattle.run_step_law.proofs.Promoting.{hands-off-back}
+use Rattle.run_step_law.proofs.Upholding.{upheld-for_some, upheld-none}
 use Rattle.commit_step_law.specs.Bridged.{CommitsBridged, KeepsInOrder, MeetsMode, kept_commits}
 use Rattle.commit_step_law.specs.Reading.{setup_of, volatile_of}
 use Rattle.commit_step_law.proofs.Agents.{upheld-kill}

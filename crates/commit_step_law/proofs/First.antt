@@ -1,6 +1,5 @@
 -- Before the first event, what both laws carry holds of a cluster whose head has synchronous mode on.
-use Rattle.std.proofs.Common.{ℕ, ◌≡◌, ◌≤◌, ◌+◌, true, false, List, [], length, slice_get, Option, Some, None, option_map, refl, ◌∙◌, ap, sym, subst}
-use Rattle.std.proofs.Math.ListN.{length-map}
+use Rattle.std.proofs.Common.{ℕ, ◌≡◌, ◌+◌, true, false, List, [], slice_get, Option, Some, None, option_map, refl, ◌∙◌, ap, sym, subst}
 use Rattle.std.proofs.Math.Path.{fun_ext}
 use Rattle.std.proofs.lemmas.Option.{slice_get-map}
 use Rattle.pat_base.specs.declared.name.Name.{Name}
@@ -24,8 +23,9 @@ use Rattle.commit_law.proofs.Fronts.{inv-first}
 use Rattle.commit_bridge_law.proofs.Groups.{book-first}
 use Rattle.commit_log_law.specs.Acting.{Fits}
 use Rattle.commit_log_law.proofs.First.{bytes-first, fits-first}
-use Rattle.run_law.specs.Declaring.{declared_members}
-use Rattle.run_law.proofs.First.{bridged-first}
+use Rattle.run_step_law.specs.Declaring.{declared_members}
+use Rattle.run_step_law.proofs.First.{bridged-first}
+use Rattle.run_step_law.proofs.Members.{few-names}
 use Rattle.commit_step_law.specs.Agents.{IsAgentSynchronous}
 use Rattle.commit_step_law.specs.Bridged.{CommitsBridged}
 use Rattle.commit_step_law.specs.Reading.{agent_now, past_of, setup_of, volatile_of}
@@ -52,9 +52,6 @@ waits-nothing named head m (Some member) agent is =
       on = fresh-asks (who_of head.cluster (options_of head) (declared_members head) member) (record { 0 = member.id.number + 1 }) 1;
       writes = λ waited waits. absurd (none-some waited waits);
     })
-
-pub few-names : (head : HeadText) → IsHead head → length (names_of head) ≤ 16
-few-names head is = rw (length-map head.members _) is.few
 
 pub commits-first : (head : HeadText) → IsHead head → head.config.config.synchronous_mode ≡ true → head.config.config.pause ≡ false → CommitsBridged head [] (cluster_of head)
 commits-first head is on unpaused =

@@ -19,8 +19,8 @@ use Rattle.commit_law.specs.Actions.{IsAllowed, IsNumbered, SendSnapshot}
 use Rattle.commit_law.specs.Past.{is_keyless, is_leaderless, leader_revision}
 use Rattle.commit_law.specs.States.{Agent, is_ready}
 use Rattle.commit_law.proofs.FromLease.{grant-absent, grant-free, same-failsafe, same-leader}
-use Rattle.run_law.specs.Declaring.{declared_of, member_count}
-use Rattle.run_law.specs.Volatile as run_volatile
+use Rattle.run_step_law.specs.Declaring.{declared_of, member_count}
+use Rattle.run_step_law.specs.Volatile as run_volatile
 use Rattle.cluster_model.proofs.Places.{there}
 use Rattle.commit_step_law.specs.Bridged.{CommitsBridged}
 use Rattle.commit_step_law.specs.Reading.{agent_now, past_of, state_of_run}

@@ -13,13 +13,14 @@ use Rattle.commit_law.specs.States.{State}
 use Rattle.commit_bridge_law.specs.Flights.{AreCausal}
 use Rattle.commit_log_law.specs.Acting.{Fits}
 use Rattle.commit_log_law.specs.Happening.{MayFollow}
-use Rattle.run_law.specs.Declaring.{member_count}
-use Rattle.run_law.specs.Kept.{IsKept}
-use Rattle.run_law.specs.Promise.{Upholds}
-use Rattle.run_law.proofs.Upholding.{over-append}
+use Rattle.run_step_law.specs.Declaring.{member_count}
+use Rattle.run_step_law.specs.Kept.{IsKept}
+use Rattle.run_step_law.specs.Promise.{Upholds}
+use Rattle.run_step_law.proofs.Upholding.{over-append}
 use Rattle.commit_step_law.specs.Bridged.{CommitsBridged, kept_commits}
 use Rattle.commit_step_law.specs.Reading.{past_of, setup_of, volatile_of}
-use Rattle.commit_step_law.proofs.Moving.{Moves, OnlyLeave, agents-leave, leave-then, moves-none, moves-then, upheld-moves}
+use Rattle.commit_step_law.proofs.Moving.{OnlyLeave, agents-leave, leave-then, moves-none, moves-then, upheld-moves}
+use Rattle.commit_step_law.specs.Moving.{Moves}
 use Rattle.commit_step_law.proofs.Ordering.{order-then}
 use Rattle.commit_step_law.proofs.Over.{AskAsOn}
 use Rattle.commit_step_law.proofs.Servers.{LeaveAgents, leave-follow, moves-follow}

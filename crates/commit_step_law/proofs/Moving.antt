@@ -25,10 +25,10 @@ use Rattle.commit_log_law.specs.Sound.{AreServersSound}
 use Rattle.commit_log_law.proofs.Keeping.{sound-by}
 use Rattle.commit_log_law.proofs.Kept.{change-once}
 use Rattle.commit_log_law.proofs.Matching.{same-by}
-use Rattle.run_law.specs.Declaring.{member_count}
-use Rattle.run_law.specs.Kept.{IsKept}
-use Rattle.run_law.specs.Promise.{Upholds}
-use Rattle.run_law.proofs.Upholding.{over-append}
+use Rattle.run_step_law.specs.Declaring.{member_count}
+use Rattle.run_step_law.specs.Kept.{IsKept}
+use Rattle.run_step_law.specs.Promise.{Upholds}
+use Rattle.run_step_law.proofs.Upholding.{over-append}
 use Rattle.commit_step_law.specs.Agents.{AreAgentsSynchronous}
 use Rattle.commit_step_law.specs.Bridged.{CommitsBridged, FitsBy, kept_commits}
 use Rattle.commit_step_law.specs.Reading.{past_of, setup_of, state_of_run, volatile_of}
@@ -36,21 +36,8 @@ use Rattle.commit_step_law.proofs.Numbers.{StayNumbered, ask-numbered, numbered-
 use Rattle.commit_step_law.proofs.Over.{AskAsOn, StoreFits, store-over, strict-front}
 use Rattle.commit_step_law.specs.Ordered.{AllInOrder}
 use Rattle.sync_order_law.specs.Changes.{EachChangesOnce}
-use Rattle.commit_step_law.proofs.Transitions.{FitsBehind, past-more, state_behind, upheld-by, volatile_last}
-
--- these events are allowed actions, one after another, which they show, from these volatile states on; and servers, and what no event says of
--- members, fit behind them
-pub record MovesFrom (setup : Setup) (past : Past) (states : ℕ → VolatileState) (cluster : Cluster) (events : List Event) : Type 0 where
-  pub transitions : List Transition
-  pub whole : book_of transitions ≡ events
-  pub allowed : AreAllowed setup past states transitions
-  pub once : EachChangesOnce transitions
-  pub last : volatile_last states transitions ≡ volatile_of (cluster_over cluster events)
-  pub fits : Fits (past_over past events) (cluster_over cluster events).facts (volatile_of (cluster_over cluster events))
-
--- the same from where servers and agents stand
-abbrev pub Moves : Setup → Past → Cluster → List Event → Type 0
-Moves setup past cluster events = MovesFrom setup past (volatile_of cluster) cluster events
+use Rattle.commit_step_law.proofs.Transitions.{FitsBehind, past-more, state_behind, upheld-by}
+use Rattle.commit_step_law.specs.Moving.{volatile_last, MovesFrom, Moves}
 
 book-both : (first second : List Transition) → book_of (first ++ second) ≡ book_of first ++ book_of second
 book-both [] second = refl

@@ -14,7 +14,7 @@ use Rattle.commit_law.specs.Past.{Past, Setup, VolatileState, past_over, state_o
 use Rattle.commit_law.specs.States.{Agent, Machine, State}
 use Rattle.commit_law.proofs.Fronts.{past-append}
 use Rattle.commit_step_law.specs.Agents.{IsAskNumbered}
-use Rattle.commit_step_law.proofs.Transitions.{volatile_last}
+use Rattle.commit_step_law.specs.Moving.{volatile_last}
 
 -- whatever is numbered by the first machine is so by the second
 abbrev StaysNumbered : Machine → Machine → Type 0

@@ -31,19 +31,20 @@ use Rattle.commit_log_law.specs.Happening.{AreInPlace, MayFollow, MayHappen}
 use Rattle.commit_log_law.proofs.Acknowledging.{acknowledge-follow}
 use Rattle.commit_log_law.proofs.First.{in-place}
 use Rattle.commit_log_law.proofs.Streaming.{receive-at-most}
-use Rattle.run_law.specs.Asides.{IsQuiet}
-use Rattle.run_law.specs.Declaring.{member_count}
-use Rattle.run_law.specs.Kept.{IsKept}
-use Rattle.run_law.specs.Promise.{Upholds, UpholdsAlways}
+use Rattle.run_step_law.specs.Asides.{IsQuiet}
+use Rattle.run_step_law.specs.Declaring.{member_count}
+use Rattle.run_step_law.specs.Kept.{IsKept}
+use Rattle.run_step_law.specs.Promise.{Upholds, UpholdsAlways}
 use Rattle.cluster_model.proofs.Lists.{AllKinds, HoldsIf, all-kinds, all-more}
-use Rattle.run_law.proofs.Ending.{kept-crash}
-use Rattle.run_law.proofs.Quiet.{kept-quiet}
-use Rattle.run_law.proofs.Streams.{IsQuietIf, acknowledge-quiet, confirm-quiet, keeps-acknowledge, keeps-receive-at-most}
-use Rattle.run_law.proofs.Upholding.{upheld-none}
+use Rattle.run_step_law.proofs.Ending.{kept-crash}
+use Rattle.run_step_law.proofs.Quiet.{kept-quiet}
+use Rattle.run_step_law.proofs.Streams.{IsQuietIf, acknowledge-quiet, confirm-quiet, keeps-acknowledge, keeps-receive-at-most}
+use Rattle.run_step_law.proofs.Upholding.{upheld-none}
 use Rattle.commit_step_law.specs.Bridged.{CommitsBridged, kept_commits}
 use Rattle.commit_step_law.specs.Ordered.{AllInOrder}
 use Rattle.commit_step_law.specs.Reading.{past_of, setup_of, volatile_of}
-use Rattle.commit_step_law.proofs.Moving.{Moves, OnlyLeave, agents-leave, leave-then, moves-none, moves-then, upheld-moves}
+use Rattle.commit_step_law.proofs.Moving.{OnlyLeave, agents-leave, leave-then, moves-none, moves-then, upheld-moves}
+use Rattle.commit_step_law.specs.Moving.{Moves}
 use Rattle.commit_step_law.proofs.Over.{AskAsOn}
 use Rattle.commit_step_law.proofs.Still.{IsStill, leaves-still, moves-still}
 use Rattle.commit_step_law.proofs.Transitions.{composable, state_behind}

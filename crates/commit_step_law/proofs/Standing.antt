@@ -28,7 +28,7 @@ use Rattle.commit_law.specs.States.{HasLog}
 use Rattle.commit_log_law.specs.Matching.{live_now}
 use Rattle.commit_log_law.specs.Sound.{IsServerSound}
 use Rattle.commit_log_law.proofs.Acting.{confirmed-at, log-at, required-at, writes-at}
-use Rattle.run_law.specs.Declaring.{member_count}
+use Rattle.run_step_law.specs.Declaring.{member_count}
 use Rattle.commit_step_law.specs.Bridged.{CommitsBridged}
 use Rattle.commit_step_law.specs.Reading.{agent_now, past_of, state_of_run}
 

@@ -33,19 +33,20 @@ use Rattle.commit_log_law.specs.Acting.{Fits}
 use Rattle.commit_log_law.specs.Happening.{MayFollow, MayHappen}
 use Rattle.commit_log_law.proofs.Beginning.{fits-agents, fits-aside}
 use Rattle.commit_log_law.proofs.Kept.{change-once}
-use Rattle.run_law.specs.Declaring.{member_count}
-use Rattle.run_law.specs.Kept.{IsKept}
-use Rattle.run_law.specs.Machines.{run_in, run_now}
-use Rattle.run_law.specs.Promise.{Upholds}
+use Rattle.run_step_law.specs.Declaring.{member_count}
+use Rattle.run_step_law.specs.Kept.{IsKept}
+use Rattle.run_step_law.specs.Machines.{run_in, run_now}
+use Rattle.run_step_law.specs.Promise.{Upholds}
 use Rattle.cluster_model.proofs.Lists.{HoldsIf}
 use Rattle.cluster_model.proofs.Places.{get-changed, get-elsewhere, get-here, there}
-use Rattle.run_law.proofs.Starting.{kept-restart}
-use Rattle.run_law.proofs.Upholding.{upheld-none}
+use Rattle.run_step_law.proofs.Starting.{kept-restart}
+use Rattle.run_step_law.proofs.Upholding.{upheld-none}
 use Rattle.commit_step_law.specs.Agents.{AreAgentsSynchronous, IsAgentSynchronous}
 use Rattle.commit_step_law.specs.Bridged.{CommitsBridged, kept_commits}
 use Rattle.commit_step_law.specs.Reading.{agent_now, past_of, setup_of, volatile_of}
 use Rattle.commit_step_law.proofs.Agents.{volatile-put}
-use Rattle.commit_step_law.proofs.Moving.{Moves, agents-leave, moves-then, upheld-moves}
+use Rattle.commit_step_law.proofs.Moving.{agents-leave, moves-then, upheld-moves}
+use Rattle.commit_step_law.specs.Moving.{Moves}
 use Rattle.commit_step_law.proofs.Still.{IsStill}
 use Rattle.commit_step_law.proofs.Servers.{leave-follow, moves-follow, upheld-still}
 use Rattle.commit_step_law.proofs.Transitions.{composable, state_behind}

@@ -24,7 +24,8 @@ use Rattle.commit_log_law.proofs.Acting.{leads-to}
 use Rattle.commit_log_law.proofs.Kept.{change-once}
 use Rattle.commit_step_law.specs.Ordered.{AllInOrder}
 use Rattle.commit_step_law.specs.Reading.{agent_now, volatile_of}
-use Rattle.commit_step_law.proofs.Moving.{Moves, OnlyLeave}
+use Rattle.commit_step_law.proofs.Moving.{OnlyLeave}
+use Rattle.commit_step_law.specs.Moving.{Moves}
 use Rattle.commit_step_law.proofs.Over.{AskAsOn}
 
 -- an event at which no agent starts, ends or acts

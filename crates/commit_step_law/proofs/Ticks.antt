@@ -33,9 +33,9 @@ use Rattle.commit_log_law.specs.Matching.{volatile_after}
 use Rattle.commit_log_law.proofs.Acting.{leads-to}
 use Rattle.commit_log_law.proofs.Beginning.{fits-agents, fits-aside, killed-shown}
 use Rattle.commit_log_law.proofs.Kept.{change-once}
-use Rattle.run_law.specs.Promise.{UpholdsAlways}
+use Rattle.run_step_law.specs.Promise.{UpholdsAlways}
 use Rattle.cluster_model.proofs.Places.{length-changed}
-use Rattle.run_law.proofs.Upholding.{Each}
+use Rattle.run_step_law.proofs.Upholding.{Each}
 use Rattle.wal_model.specs.declared.entry.Entry.{Entry}
 use Rattle.lease_store.specs.Answers.{expired_holder, expired_keys}
 use Rattle.event_book.specs.declared.event.StoreEvent.TheVariants as stores
@@ -46,13 +46,13 @@ use Rattle.cluster_model.specs.Losing.{loss_if}
 use Rattle.cluster_model.specs.Orders.{declared_member}
 use Rattle.commit_log_law.proofs.Completions.{complete-follow}
 use Rattle.cluster_model.proofs.Lists.{AllKinds, all-kinds, all-more, kinds-both}
-use Rattle.run_law.proofs.Members.{declared-within, each-declared}
-use Rattle.run_law.proofs.Ticks.{keeps-tick}
+use Rattle.run_step_law.proofs.Members.{declared-within, each-declared}
+use Rattle.run_step_law.proofs.Ticks.{keeps-tick}
 use Rattle.commit_step_law.specs.Bridged.{kept_commits}
 use Rattle.commit_step_law.specs.Reading.{setup_of, volatile_of}
 use Rattle.commit_step_law.proofs.Agents.{gone-leave, volatile-gone}
 use Rattle.commit_step_law.proofs.Going.{GoesFrom, goes-follow, goes-none, goes-then, upheld-goes}
-use Rattle.commit_step_law.proofs.Moving.{Moves}
+use Rattle.commit_step_law.specs.Moving.{Moves}
 use Rattle.sync_order_law.specs.Changes.{ChangeOrderOnce}
 use Rattle.commit_step_law.proofs.Still.{IsStill, agent-stays, volatile-same}
 

@@ -11,10 +11,10 @@ use Rattle.commit_law.specs.States.{State}
 use Rattle.commit_log_law.proofs.Kept.{keeps-now}
 use Rattle.commit_law.proofs.Fronts.{kept-after, kept-inside, past-append}
 use Rattle.lease_law.proofs.Runs.{cuts, no-cons}
-use Rattle.run_law.specs.Bridged.{Bridged}
-use Rattle.run_law.specs.Kept.{IsKept}
-use Rattle.run_law.specs.Promise.{IsComposable, Upholds}
-use Rattle.run_law.proofs.Composing.{premises-front}
+use Rattle.run_step_law.specs.Bridged.{Bridged}
+use Rattle.run_step_law.specs.Kept.{IsKept}
+use Rattle.run_step_law.specs.Promise.{IsComposable, Upholds}
+use Rattle.run_step_law.proofs.Composing.{premises-front}
 use Rattle.summary.specs.Claims.{KeepMode}
 use Rattle.commit_step_law.specs.Agents.{AsksAreNumbered}
 use Rattle.commit_step_law.specs.Bridged.{CommitsBridged, FitsCommits, KeepsInOrder, kept_commits}
@@ -25,13 +25,9 @@ use Rattle.sync_order_law.specs.Changes.{EachChangesOnce}
 use Rattle.sync_order_law.specs.Order.{IsInOrder, NamesMembers}
 use Rattle.sync_order_law.proofs.Inside.{order-inside, order-now}
 use Rattle.cluster_model.specs.Starting.{cluster_of}
-use Rattle.run_law.specs.Declaring.{member_count}
-use Rattle.run_law.proofs.Upholding.{over-append}
-
--- what no event says of members after these actions
-abbrev pub volatile_last : (ℕ → VolatileState) → List Transition → ℕ → VolatileState
-volatile_last volatile_states [] = volatile_states
-volatile_last volatile_states (transition ∷ transitions) = volatile_last transition.volatile_states transitions
+use Rattle.run_step_law.specs.Declaring.{member_count}
+use Rattle.run_step_law.proofs.Upholding.{over-append}
+use Rattle.commit_step_law.specs.Moving.{volatile_last}
 
 sound-last : (setup : Setup) (past : Past) (volatile_states : ℕ → VolatileState) (transitions : List Transition) → AreAllowed setup past volatile_states transitions → IsSound (state_of setup past volatile_states)
     → IsSound (state_of setup (past_over past (book_of transitions)) (volatile_last volatile_states transitions))

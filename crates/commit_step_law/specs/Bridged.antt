@@ -11,10 +11,10 @@ use Rattle.commit_law.specs.Carried.{IsSound}
 use Rattle.commit_law.specs.Past.{Past}
 use Rattle.commit_bridge_law.specs.Flights.{IsSameBook}
 use Rattle.commit_log_law.specs.Acting.{Fits}
-use Rattle.run_law.specs.Bridged.{Bridged}
-use Rattle.run_law.specs.Declaring.{member_count}
-use Rattle.run_law.specs.Kept.{MeetsPremises}
-use Rattle.run_law.specs.Promise.{Promise}
+use Rattle.run_step_law.specs.Bridged.{Bridged}
+use Rattle.run_step_law.specs.Declaring.{member_count}
+use Rattle.run_step_law.specs.Kept.{MeetsPremises}
+use Rattle.run_step_law.specs.Promise.{Promise}
 use Rattle.summary.specs.Claims.{KeepMode}
 use Rattle.commit_step_law.specs.Agents.{AreAgentsSynchronous, AreSynchronous, AsksAreNumbered, TellsMembers}
 use Rattle.sync_order_law.specs.Order.{NamesMembers}

@@ -3,3 +3,4 @@ pub mod Modes
 pub mod Agents
 pub mod Ordered
 pub mod Bridged
+pub mod Moving

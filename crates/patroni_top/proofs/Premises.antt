@@ -15,8 +15,8 @@ use Rattle.event_book.specs.declared.event.Event.{Event}
 use Rattle.cluster_model.specs.Starting.{cluster_of}
 use Rattle.lease_law.specs.Premises.{IsHandsOff, IsTimely, first_moments}
 use Rattle.summary.specs.Claims.{ArePremisesMet, IsSummaryOf, margin_of, works_of as is_watched}
-use Rattle.run_law.specs.Declaring.{declared_of, margin_said, works_of, works_said}
-use Rattle.run_law.specs.Kept.{MeetsPremises}
+use Rattle.run_step_law.specs.Declaring.{declared_of, margin_said, works_of, works_said}
+use Rattle.run_step_law.specs.Kept.{MeetsPremises}
 use Rattle.summary.specs.Sights.{first_since}
 use Rattle.summary.specs.Telling.{AreMeasured}
 use Rattle.summary.proofs.Guarding.{commits-guarded}

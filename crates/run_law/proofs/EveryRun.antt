@@ -1,20 +1,17 @@
 -- At most one server accepts writes, at every moment of every run up to which the premises are met.
-use Rattle.std.proofs.Common.{ℕ, Bool, Option, subst, ◌≡◌, ◌≤◌, ◌++◌, List, [], length}
-use Rattle.std.proofs.Math.ListN.{length-map}
+use Rattle.std.proofs.Common.{ℕ, Bool, Option, subst, ◌≡◌, ◌++◌, List, []}
 use Rattle.std.proofs.Math.Path.{fun_ext}
 use Rattle.cluster_script.specs.declared.line.Step.{Step}
 use Rattle.event_book.specs.declared.event.Event.{Event}
 use Rattle.event_book.specs.Writers.{HasOneWriter}
-use Rattle.cluster_script.specs.Script.{HeadText, IsHead, names_of}
+use Rattle.cluster_script.specs.Script.{HeadText, IsHead}
 use Rattle.cluster_model.specs.Next.{run_events}
 use Rattle.cluster_model.specs.Starting.{cluster_of}
 use Rattle.lease_law.specs.Premises.{IsTimely, IsHandsOff}
-use Rattle.run_law.specs.Declaring.{declared_of, works_of}
-use Rattle.run_law.proofs.First.{bridged-first}
+use Rattle.run_step_law.specs.Declaring.{declared_of, works_of}
+use Rattle.run_step_law.proofs.First.{bridged-first}
+use Rattle.run_step_law.proofs.Members.{few-names}
 use Rattle.run_law.proofs.Steps.{keeps-run}
-
-few-names : (head : HeadText) → IsHead head → length (names_of head) ≤ 16
-few-names head is = rw (length-map head.members _) is.few
 
 pub runs-one : (head : HeadText) → IsHead head → (steps : List Step) (front rest : List Event) → front ++ rest ≡ run_events (cluster_of head) steps
     → IsTimely (declared_of head).margin front → IsHandsOff head.config (works_of head) front → HasOneWriter front

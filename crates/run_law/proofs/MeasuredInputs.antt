@@ -37,11 +37,11 @@ use Rattle.lease_law.specs.Premises.{Moments, moments_after}
 use Rattle.lease_law.proofs.Tools.{put-there}
 use Rattle.bridge_law.specs.Groups.{AreNumberedAbove, IsNumberedAbove}
 use Rattle.summary.specs.Telling.{AreMeasured}
-use Rattle.run_law.specs.InputEvents.{IsOfInput}
-use Rattle.run_law.specs.Machines.{run_in, run_now}
-use Rattle.run_law.proofs.InputEvents.{output-mine}
-use Rattle.run_law.proofs.InputOutputs.{each-numbered, output-numbered, stays-output}
-use Rattle.run_law.proofs.InputStays.{each-mine}
+use Rattle.run_input_law.specs.InputEvents.{IsOfInput}
+use Rattle.run_step_law.specs.Machines.{run_in, run_now}
+use Rattle.run_input_law.proofs.InputEvents.{output-mine}
+use Rattle.run_input_law.proofs.InputOutputs.{each-numbered, output-numbered, stays-output}
+use Rattle.run_input_law.proofs.InputStays.{each-mine}
 use Rattle.cluster_model.proofs.Lists.{all-more}
 use Rattle.run_law.proofs.Measuring.{IsUnfed, Measures, measured-both, unfed-measured}
 use Rattle.run_law.proofs.Moments.{KnowsSending, moments_over}

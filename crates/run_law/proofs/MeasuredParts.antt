@@ -41,14 +41,14 @@ use Rattle.cluster_model.specs.Streaming.{confirm_of, source_of, unconfirmed_end
 use Rattle.cluster_model.specs.Ticking.{tick_events}
 use Rattle.lease_law.specs.Premises.{Moments}
 use Rattle.event_book.specs.Kinds.{AllAre}
-use Rattle.run_law.specs.Asides.{IsAsideIn, IsQuiet}
-use Rattle.run_law.proofs.Commands.{command-quiet}
+use Rattle.run_step_law.specs.Asides.{IsAsideIn, IsQuiet}
+use Rattle.run_step_law.proofs.Commands.{command-quiet}
 use Rattle.cluster_model.proofs.Founds.{holds-if, holds-then}
 use Rattle.cluster_model.proofs.Lists.{AllKinds, HoldsIf, all-kinds, one-kind}
 use Rattle.run_law.proofs.Measuring.{IsPlain, Measures, Tells, tells-none, tells-send, told-for_some, told-if, told-plain, told-then}
 use Rattle.run_law.proofs.Moments.{KnowsSending}
-use Rattle.run_law.proofs.Streams.{IsQuietIf, acknowledge-quiet, confirm-quiet}
-use Rattle.run_law.proofs.Ticks.{IsBeside, Rest, rest-beside}
+use Rattle.run_step_law.proofs.Streams.{IsQuietIf, acknowledge-quiet, confirm-quiet}
+use Rattle.run_step_law.proofs.Ticks.{IsBeside, Rest, rest-beside}
 
 -- ---- what feeds and sends nothing
 aside-plain : (May : ℕ → Type 0) (kind : EventKind) → IsAsideIn May kind → IsPlain kind

@@ -4,17 +4,17 @@ use Rattle.cluster_script.specs.declared.line.Step.{Step}
 use Rattle.cluster_script.specs.Script.{HeadText, names_of}
 use Rattle.cluster_model.specs.Next.{run_events}
 use Rattle.event_book.specs.declared.event.EventKind.TheVariants as kinds
-use Rattle.run_law.specs.Kept.{Keeps, one_writer}
-use Rattle.run_law.specs.Parts.{PartsUphold}
-use Rattle.run_law.proofs.Commands.{kept-command-kind, kept-promote, kept-restarts}
-use Rattle.run_law.proofs.Composing.{composable}
-use Rattle.run_law.proofs.Ending.{kept-loss}
-use Rattle.run_law.proofs.EveryInput.{inputs-keep}
-use Rattle.run_law.proofs.Quiet.{kept-quiet}
-use Rattle.run_law.proofs.StoreArrivals.{kept-store-arrival}
-use Rattle.run_law.proofs.Streams.{keeps-acknowledge, keeps-receive-at-most}
-use Rattle.run_law.proofs.Ticks.{keeps-tick}
-use Rattle.run_law.proofs.Walking.{upholds-run}
+use Rattle.run_step_law.specs.Kept.{Keeps, one_writer}
+use Rattle.run_step_law.specs.Parts.{PartsUphold}
+use Rattle.run_step_law.proofs.Commands.{kept-command-kind, kept-promote, kept-restarts}
+use Rattle.run_step_law.proofs.Composing.{composable}
+use Rattle.run_step_law.proofs.Ending.{kept-loss}
+use Rattle.run_input_law.proofs.EveryInput.{inputs-keep}
+use Rattle.run_step_law.proofs.Quiet.{kept-quiet}
+use Rattle.run_step_law.proofs.StoreArrivals.{kept-store-arrival}
+use Rattle.run_step_law.proofs.Streams.{keeps-acknowledge, keeps-receive-at-most}
+use Rattle.run_step_law.proofs.Ticks.{keeps-tick}
+use Rattle.run_step_law.proofs.Walking.{upholds-run}
 
 parts : (head : HeadText) → length (names_of head) ≤ 16 → PartsUphold head (one_writer head)
 parts head few = record {

@@ -9,7 +9,7 @@ ghost use Rattle.cluster_model.specs.Starting.{cluster_of};
 ghost use Rattle.lease_law.specs.Premises.{IsTimely, IsHandsOff, first_moments};
 ghost use Rattle.summary.specs.Sights.{first_since};
 ghost use Rattle.summary.specs.Telling.{AreMeasured};
-ghost use Rattle.run_law.specs.Declaring.{declared_of, works_of};
+ghost use Rattle.run_step_law.specs.Declaring.{declared_of, works_of};
 
 /// At most one server accepts writes, in every run of every script, at each moment up to which feeds keep the margin, each watchdog is on
 /// and works, and nobody pauses or promotes by hand: also inside a step, whatever it asks for.

@@ -1,4 +1,4 @@
-use Rattle.commit_step_law.proofs.First.{few-names}
+use Rattle.run_step_law.proofs.Members.{few-names}
 use Rattle.commit_input_law.proofs.EveryInput.{inputs-uphold}
 use Rattle.commit_input_law.proofs.laws.inputs_uphold_commits.Goals as goal
 

@@ -1,6 +1,6 @@
 use Rattle.commit_step_law.proofs.Arrivals.{upheld-arrival}
 use Rattle.commit_step_law.proofs.Commands.{upheld-command, upheld-restarts, upholds-loss, upholds-promote}
-use Rattle.commit_step_law.proofs.First.{few-names}
+use Rattle.run_step_law.proofs.Members.{few-names}
 use Rattle.commit_step_law.proofs.Servers.{upholds-acknowledge, upholds-note, upholds-receive}
 use Rattle.commit_step_law.proofs.Ticks.{upholds-tick}
 use Rattle.commit_step_law.proofs.laws.parts_uphold_commits.Goals as goal

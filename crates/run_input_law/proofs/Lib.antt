@@ -1,0 +1,11 @@
+pub mod InputEvents
+pub mod InputKinds
+pub mod InputMachines
+pub mod InputOutputs
+pub mod InputStays
+pub mod InputWaiting
+pub mod Questions
+pub mod InputSeen
+pub mod InputHears
+pub mod InputKept
+pub mod EveryInput

@@ -1,0 +1,10 @@
+//! The law of inputs of agents.
+ghost use Rattle.cluster_script.specs.Script.{HeadText};
+ghost use Rattle.run_step_law.specs.Kept.{one_writer};
+ghost use Rattle.run_step_law.specs.Parts.{InputsUphold};
+
+/// While the premises are met, each input of an agent upholds that at most one server accepts writes, at each moment inside it too: the wake
+/// of one, what an operator has one do, and a message that comes to one.
+pub fn inputs_uphold_one_writer()
+    ensures { (head : HeadText) → InputsUphold head (one_writer head) }
+{}

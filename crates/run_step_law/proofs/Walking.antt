@@ -1,0 +1,158 @@
+-- Each step of a script upholds a promise, where its parts do.
+use Rattle.std.proofs.Common.{ℕ, ◌≡◌, ◌≤◌, List, [], ◌∷◌, length, slice_get, Option, Some, None, Result, Ok, Err, true, zero, suc, refl, sym, subst}
+use Rattle.lease_store.specs.declared.action.OperatorRequest.{OperatorRequest}
+use Rattle.operator_keys.specs.declared.refusal.Refused.{Refused}
+use Rattle.operator_keys.specs.AnswerTexts.{answer_text}
+use Rattle.std.specs.Map.{keys_of}
+use Rattle.event_book.specs.declared.agent_process.AgentProcess.{AgentProcess}
+use Rattle.event_book.specs.declared.event.Event.{Event}
+use Rattle.event_book.specs.declared.event.EventKind.TheVariants as kinds
+use Rattle.event_book.specs.declared.event.Note.TheVariants as notes
+use Rattle.event_book.specs.declared.link.LinkEnd.{LinkEnd}
+use Rattle.event_book.specs.declared.link.LinkEnd.TheVariants as ends
+use Rattle.event_book.specs.declared.member.Member.{Member}
+use Rattle.event_book.specs.Flight.{InFlightFacts, in_flight}
+use Rattle.cluster_script.specs.declared.line.Command.{Command}
+use Rattle.cluster_script.specs.declared.line.Command.TheVariants as commands
+use Rattle.cluster_script.specs.declared.line.Step.{Step}
+use Rattle.cluster_script.specs.declared.rest.RestCall.{RestCall}
+use Rattle.agent_model.specs.Agents.{Outcome}
+use Rattle.cluster_script.specs.declared.line.Step.TheVariants as steps
+use Rattle.cluster_model.specs.declared.delivery.Delivery.{Delivery}
+use Rattle.cluster_model.specs.declared.delivery.Delivery.TheVariants as deliveries
+use Rattle.cluster_model.specs.Deliveries.{delivery_of}
+use Rattle.cluster_script.specs.Script.{HeadText, names_of}
+use Rattle.cluster_model.specs.Inputs.{has_work, is_to_wake, may_act, moment_of, standing_of}
+use Rattle.cluster_model.specs.Limits.{most_rounds}
+use Rattle.cluster_model.specs.Messages.{arrival_events_at, call_events, call_events_if, call_events_of, decided_events, deliver_events, deliver_events_by, lose_events, message_events, message_events_by, turn_events, turn_events_if, wake_events, wake_events_if, wake_events_of}
+use Rattle.cluster_model.specs.Next.{acknowledge_events, all_entries, command_events, declared, next_events, promote_events, receive_events_at_most, receive_events_of, round_events, rounds_events, run_events, scheduled_events, step_events}
+use Rattle.cluster_model.specs.Parts.{each, event_of, for_some, is_empty}
+use Rattle.cluster_model.specs.Requests.{action_of, decision_on_call}
+use Rattle.cluster_model.specs.State.{Cluster}
+use Rattle.cluster_model.specs.Ticking.{tick_events}
+use Rattle.lease_law.proofs.Tools.{and-first}
+use Rattle.run_step_law.specs.Declaring.{declared_members}
+use Rattle.run_step_law.specs.Members.{IsDeclared}
+use Rattle.run_step_law.specs.Parts.{PartsUphold}
+use Rattle.run_step_law.specs.Promise.{IsComposable, Promise, Upholds, UpholdsAlways}
+use Rattle.run_step_law.proofs.Members.{declared-now, each-declared}
+use Rattle.run_step_law.proofs.Upholding.{upheld-for_some, upheld-if, upheld-none, upholds-all, upholds-each, upholds-then}
+
+module _ (head : HeadText) (few : length (names_of head) ≤ 16) (promise : Promise) (composable : IsComposable promise) (parts : PartsUphold head promise) where
+  upheld-wake : (member : Member) → IsDeclared head member → UpholdsAlways promise (λ cluster. wake_events cluster member)
+  upheld-wake member is book cluster good =
+      upheld-for_some promise composable book cluster (slice_get cluster.facts.processes member.id.number) (wake_events_if cluster member) good
+      (λ process found. upheld-if promise composable book cluster (is_to_wake (moment_of cluster) process (standing_of cluster member)) (wake_events_of cluster member) []
+      (λ wakes. parts.inputs.wakes book cluster member process good is found (and-first (may_act process) (has_work (moment_of cluster) (standing_of cluster member)) wakes)) (λ rests. upheld-none promise composable book cluster good))
+
+  upheld-turn : (member : Member) → IsDeclared head member → UpholdsAlways promise (λ cluster. turn_events cluster member)
+  upheld-turn member is book cluster good =
+      upheld-for_some promise composable book cluster (slice_get cluster.facts.processes member.id.number) (turn_events_if cluster member) good
+      (λ process found. upheld-if promise composable book cluster (may_act process) (wake_events_of cluster member) []
+      (λ acts. parts.inputs.wakes book cluster member process good is found acts) (λ rests. upheld-none promise composable book cluster good))
+
+  -- a call to the agent of a member, which may be refused
+  upheld-decided : (member : Member) (process : AgentProcess) (o : Outcome) (decision : Result OperatorRequest Refused) → IsDeclared head member → (book : List Event) (cluster : Cluster) → promise.between book cluster
+      → slice_get cluster.facts.processes member.id.number ≡ Some process → may_act process ≡ true → Upholds promise book cluster (decided_events cluster member o decision)
+  upheld-decided member process o (Ok asked) is book cluster good found acts = parts.inputs.operates book cluster member process (action_of o asked) good is found acts
+  upheld-decided member process o (Err refused) is book cluster good found acts = parts.notes (notes.Answered member refused.status (answer_text refused.text)) book cluster good
+
+  upheld-call : (call : RestCall) (body : List ℕ) (member : Member) → IsDeclared head member → UpholdsAlways promise (λ cluster. call_events cluster call body member)
+  upheld-call call body member is book cluster good =
+      upheld-for_some promise composable book cluster (slice_get cluster.facts.processes member.id.number) (call_events_if cluster call body member) good
+      (λ process found. upheld-if promise composable book cluster (may_act process) (for_some (standing_of cluster member) (call_events_of cluster call body member)) (event_of cluster (kinds.Note (notes.NoAnswer member)))
+      (λ acts. upheld-for_some promise composable book cluster (standing_of cluster member) (call_events_of cluster call body member) good
+      (λ o stands. upheld-decided member process o (decision_on_call (moment_of cluster) o call body) is book cluster good found acts))
+      (λ rests. parts.notes (notes.NoAnswer member) book cluster good))
+
+  -- a message comes to its receiver
+  arrival-by : (book : List Event) (cluster : Cluster) (number : ℕ) (message : InFlightFacts) (to : LinkEnd) → promise.between book cluster → in_flight cluster.facts.flight number ≡ Some message
+      → message.message.to ≡ to → delivery_of cluster.facts.cuts cluster.facts.processes message.message ≡ deliveries.Open → Upholds promise book cluster (arrival_events_at cluster number message to)
+  arrival-by book cluster number message ends.Store good found to is = parts.arrivals book cluster number message good found to
+  arrival-by book cluster number message (ends.Member member) good found to is = parts.inputs.hears book cluster number message member good found to is
+
+  message-by : (book : List Event) (cluster : Cluster) (number : ℕ) (message : InFlightFacts) (delivery : Delivery) → promise.between book cluster → in_flight cluster.facts.flight number ≡ Some message
+      → delivery_of cluster.facts.cuts cluster.facts.processes message.message ≡ delivery → Upholds promise book cluster (message_events_by cluster number message delivery)
+  message-by book cluster number message deliveries.Open good found is = arrival-by book cluster number message message.message.to good found refl is
+  message-by book cluster number message deliveries.Cut good found is = parts.losses number book cluster good
+  message-by book cluster number message deliveries.Suspended good found is = upheld-none promise composable book cluster good
+  message-by book cluster number message deliveries.Gone good found is = parts.losses number book cluster good
+
+  upheld-message : (number : ℕ) → UpholdsAlways promise (λ cluster. message_events cluster number)
+  upheld-message number book cluster good =
+      upheld-for_some promise composable book cluster (in_flight cluster.facts.flight number) _ good
+      (λ message found. message-by book cluster number message (delivery_of cluster.facts.cuts cluster.facts.processes message.message) good found refl)
+
+  deliver-by : (book : List Event) (cluster : Cluster) (number : ℕ) (message : InFlightFacts) (delivery : Delivery) → promise.between book cluster → in_flight cluster.facts.flight number ≡ Some message
+      → delivery_of cluster.facts.cuts cluster.facts.processes message.message ≡ delivery → Upholds promise book cluster (deliver_events_by cluster number message delivery)
+  deliver-by book cluster number message deliveries.Open good found is = arrival-by book cluster number message message.message.to good found refl is
+  deliver-by book cluster number message deliveries.Cut good found is = parts.notes (notes.Undeliverable number) book cluster good
+  deliver-by book cluster number message deliveries.Suspended good found is = parts.notes (notes.Undeliverable number) book cluster good
+  deliver-by book cluster number message deliveries.Gone good found is = parts.losses number book cluster good
+
+  upheld-deliver : (book : List Event) (cluster : Cluster) (number : ℕ) (message : Option InFlightFacts) → promise.between book cluster → in_flight cluster.facts.flight number ≡ message
+      → Upholds promise book cluster (deliver_events cluster number message)
+  upheld-deliver book cluster number None good is = parts.notes (notes.NoMessage number) book cluster good
+  upheld-deliver book cluster number (Some message) good is = deliver-by book cluster number message (delivery_of cluster.facts.cuts cluster.facts.processes message.message) good is refl
+
+  upheld-lose : (number : ℕ) (message : Option InFlightFacts) → UpholdsAlways promise (λ cluster. lose_events cluster number message)
+  upheld-lose number None book cluster good = parts.notes (notes.NoMessage number) book cluster good
+  upheld-lose number (Some message) book cluster good = parts.losses number book cluster good
+
+  -- a part for each declared member
+  upheld-members : (part : Cluster → Member → List Event) → ((m : Member) → IsDeclared head m → UpholdsAlways promise (λ cluster. part cluster m)) → UpholdsAlways promise (λ cluster. each part cluster cluster.facts.members)
+  upheld-members part all book cluster good =
+      subst (λ (ms : List Member). Upholds promise book cluster (each part cluster ms)) (sym (parts.members book cluster good))
+      (upholds-each promise composable part (declared_members head) (each-declared head few (λ m. UpholdsAlways promise (λ cluster. part cluster m)) all) book cluster good)
+
+  upholds-round : UpholdsAlways promise round_events
+  upholds-round =
+      upholds-then promise composable (λ cluster. each wake_events cluster cluster.facts.members) (λ later. each message_events later (keys_of later.facts.flight)) (upheld-members wake_events upheld-wake)
+      (λ book cluster good. upholds-all promise composable message_events upheld-message (keys_of cluster.facts.flight) book cluster good)
+
+  upholds-rounds : (count : ℕ) → UpholdsAlways promise (λ cluster. rounds_events cluster count)
+  unfolding rounds_events
+  upholds-rounds zero book cluster good = upheld-none promise composable book cluster good
+  upholds-rounds (suc count) book cluster good =
+      upheld-if promise composable book cluster (is_empty (round_events cluster)) [] _ (λ none. upheld-none promise composable book cluster good)
+      (λ some. upholds-then promise composable round_events (λ later. rounds_events later count) upholds-round (upholds-rounds count) book cluster good)
+
+  upholds-receive : (member : Member) → UpholdsAlways promise (λ cluster. receive_events_of cluster member)
+  upholds-receive member book cluster good =
+      upheld-for_some promise composable book cluster (slice_get cluster.facts.frozen member.id.number) _ good
+      (λ frozen is. upheld-if promise composable book cluster frozen [] (receive_events_at_most cluster all_entries member)
+      (λ e. upheld-none promise composable book cluster good) (λ e. parts.receipts all_entries member book cluster good))
+
+  upholds-scheduled : UpholdsAlways promise scheduled_events
+  upholds-scheduled =
+      upholds-then promise composable (λ cluster. each receive_events_of cluster cluster.facts.members) (λ later. rounds_events later most_rounds)
+      (upheld-members receive_events_of (λ m is. upholds-receive m)) (upholds-rounds most_rounds)
+
+  upheld-command : (command : Command) → UpholdsAlways promise (λ cluster. command_events cluster command)
+  upheld-command (commands.Turn id) book cluster good =
+      upheld-for_some promise composable book cluster (declared cluster id) (turn_events cluster) good (λ m is. upheld-turn m (declared-now head few cluster (parts.members book cluster good) id m is) book cluster good)
+  upheld-command (commands.Deliver number) book cluster good = upheld-deliver book cluster number (in_flight cluster.facts.flight number) good refl
+  upheld-command (commands.Lose number) book cluster good = upheld-lose number (in_flight cluster.facts.flight number) book cluster good
+  upheld-command (commands.StartAgent id) book cluster good = parts.restarts id book cluster good
+  upheld-command (commands.Promote id) book cluster good =
+      upheld-for_some promise composable book cluster (declared cluster id) (promote_events cluster) good (λ m is. parts.promotions m book cluster good)
+  upheld-command (commands.Rest id call body) book cluster good =
+      upheld-for_some promise composable book cluster (declared cluster id) (call_events cluster call body) good (λ m is. upheld-call call body m (declared-now head few cluster (parts.members book cluster good) id m is) book cluster good)
+  upheld-command (commands.Stream id most) book cluster good =
+      upheld-for_some promise composable book cluster (declared cluster id) (receive_events_at_most cluster most) good (λ m is. parts.receipts most m book cluster good)
+  upheld-command command book cluster good = parts.commands command book cluster good
+
+  upholds-step : (step : Step) → UpholdsAlways promise (λ cluster. step_events cluster step)
+  upholds-step steps.Scheduled = upholds-then promise composable tick_events scheduled_events parts.ticks upholds-scheduled
+  upholds-step steps.Tick = parts.ticks
+  upholds-step (steps.Command command) = upheld-command command
+
+  pub upholds-next : (step : Step) → UpholdsAlways promise (λ cluster. next_events cluster step)
+  upholds-next step =
+      upholds-then promise composable (λ cluster. step_events cluster step) (λ later. each acknowledge_events later later.facts.members) (upholds-step step)
+      (upheld-members acknowledge_events (λ m is. parts.acknowledgements m))
+
+  pub upholds-run : (steps : List Step) → UpholdsAlways promise (λ cluster. run_events cluster steps)
+  upholds-run [] book cluster good = upheld-none promise composable book cluster good
+  upholds-run (step ∷ more) book cluster good =
+      upholds-then promise composable (λ cluster. next_events cluster step) (λ later. run_events later more) (upholds-next step) (upholds-run more) book cluster good

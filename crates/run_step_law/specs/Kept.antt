@@ -1,0 +1,40 @@
+-- Events that keep the law of one writer.
+use Rattle.std.specs.Prelude.{◌++◌, List}
+use Rattle.cluster_script.specs.Script.{HeadText}
+use Rattle.event_book.specs.declared.event.Event.{Event}
+use Rattle.event_book.specs.Writers.{HasOneWriter}
+use Rattle.cluster_model.specs.Cluster.{cluster_over}
+use Rattle.cluster_model.specs.State.{Cluster}
+use Rattle.lease_law.specs.Premises.{IsTimely, IsHandsOff}
+use Rattle.lease_law.specs.Actions.{Action, IsLawfulAction}
+use Rattle.lease_law.specs.Books.{IsShown}
+use Rattle.lease_law.specs.Claims.{ShowsIt}
+use Rattle.lease_law.specs.Past.{past_of, state_of}
+use Rattle.run_step_law.specs.Bridged.{Bridged, IsMatched}
+use Rattle.run_step_law.specs.Promise.{Promise, Upholds, UpholdsAlways}
+use Rattle.run_step_law.specs.Volatile.{volatile_of}
+use Rattle.run_step_law.specs.Declaring.{declared_of, works_of}
+
+-- the premises of the law: feeds keep the margin, and nobody pauses or promotes by hand
+pub record MeetsPremises (head : HeadText) (book : List Event) : Type 0 where
+  pub timely : IsTimely (declared_of head).margin book
+  pub hands_off : IsHandsOff head.config (works_of head) book
+
+-- at most one server accepts writes, as long as the premises are met, over books and clusters that are bridged
+abbrev pub one_writer : HeadText → Promise
+one_writer head = record { premises = MeetsPremises head; moment = HasOneWriter; between = Bridged head }
+
+-- behind this book and cluster these events keep the law
+abbrev pub IsKept : HeadText → List Event → Cluster → List Event → Type 0
+IsKept head book cluster events = Upholds (one_writer head) book cluster events
+
+-- a part of a step keeps the law behind each book and cluster that are bridged
+abbrev pub Keeps : HeadText → (Cluster → List Event) → Type 0
+Keeps head part = UpholdsAlways (one_writer head) part
+
+-- these events are this action: it is lawful, they tell it, and cluster and book fit behind them
+pub record TellsAction (head : HeadText) (book : List Event) (cluster : Cluster) (events : List Event) (action : Action) : Type 0 where
+  pub lawful : IsLawfulAction (state_of (declared_of head) (past_of book) (volatile_of cluster)) action
+  pub shows : ShowsIt (state_of (declared_of head) (past_of book) (volatile_of cluster)) action events
+  pub shown : IsShown (declared_of head) book (volatile_of cluster) (record { action = action; events = events; volatile_states = volatile_of (cluster_over cluster events) })
+  pub matched : IsMatched head (past_of (book ++ events)) (cluster_over cluster events)
