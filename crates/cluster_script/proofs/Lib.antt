@@ -20,5 +20,6 @@ pub mod PriorityLaws
 pub mod RangeLaws
 pub mod ReadLaws
 pub mod RequestLaws
+pub mod SaidConfigs
 pub mod SpellLaws
 pub mod WordLaws
