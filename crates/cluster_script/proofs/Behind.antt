@@ -6,7 +6,7 @@ use Rattle.cluster_script.specs.Arguments.{missing_behind, last_word, word_behin
 use Rattle.cluster_script.specs.Faults.{both}
 use Rattle.cluster_script.specs.Words.{cut_word}
 use Rattle.cluster_script.specs.declared.fault.Fault.{Fault}
-use Rattle.cluster_script.specs.declared.rest.RestCall.{RestCall}
+use Rattle.rest_api.specs.declared.call.RestCall.{RestCall}
 
 pub word_behind-is : {A B : Type 0} (members : List Name) (before : Result A Fault) (read : List ℕ → Result B Fault) (rest : Option (List ℕ)) (words : List ℕ) (cut : List ℕ × Option (List ℕ)) (value : Result B Fault) (r : Result (A × B) Fault)
     → rest ≡ Some words → cut ≡ cut_word words → value ≡ read cut.0 → r ≡ last_word members (both before value) cut.1 → r ≡ word_behind members before read rest

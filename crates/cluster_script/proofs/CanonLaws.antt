@@ -42,7 +42,7 @@ use Rattle.cluster_script.specs.declared.line.SlowedCall.{SlowedCall}
 use Rattle.cluster_script.specs.declared.line.SlowedCall.TheVariants as slowed_calls
 use Rattle.cluster_script.specs.declared.member_option.MemberOption.{MemberOption}
 use Rattle.cluster_script.specs.declared.member_option.MemberOption.TheVariants as options
-use Rattle.cluster_script.specs.declared.rest.RestCall.{RestCall}
+use Rattle.rest_api.specs.declared.call.RestCall.{RestCall}
 use Rattle.cluster_script.proofs.OptionCanonLaws.{options-enough}
 use Rattle.cluster_script.proofs.OptionWords.{margin-fits}
 use Rattle.cluster_script.proofs.PlainTexts.{is_plain, IsPlain, IsPlain-append, IsPlain-most, blank-IsPlain, name-IsPlain, some_name-IsPlain, decimal-IsPlain, word-IsPlain, plain-is_utf8, no-feeds}

@@ -9,7 +9,8 @@ use Rattle.cluster_script.specs.Faults.{on_ok, both}
 use Rattle.cluster_script.specs.Members.{member_named}
 use Rattle.cluster_script.specs.Numbers.{number}
 use Rattle.cluster_script.specs.Ranges.{commit_size_of, delay_of}
-use Rattle.cluster_script.specs.Rest.{call_of, is_token}
+use Rattle.rest_api.specs.Tokens.{is_token}
+use Rattle.rest_api.specs.Calls.{call_of}
 use Rattle.cluster_script.specs.Words.{cut_word}
 use Rattle.cluster_script.specs.declared.fault.Fault.{Fault}
 use Rattle.cluster_script.specs.declared.fault.Fault.TheVariants as faults
@@ -25,7 +26,7 @@ use Rattle.cluster_script.specs.declared.line.Line.{Line}
 use Rattle.cluster_script.specs.declared.line.Line.TheVariants as lines
 use Rattle.cluster_script.specs.declared.ranges.CommitSize.{CommitSize}
 use Rattle.cluster_script.specs.declared.ranges.Delay.{Delay}
-use Rattle.cluster_script.specs.declared.rest.RestCall.{RestCall}
+use Rattle.rest_api.specs.declared.call.RestCall.{RestCall}
 
 -- a number
 abbrev pub number_in : List ℕ → Result ℕ Fault

@@ -12,7 +12,6 @@ pub mod Options
 pub mod Priorities
 pub mod Ranges
 pub mod Reading
-pub mod Rest
 pub mod Script
 pub mod Steps
 pub mod Words

@@ -12,7 +12,7 @@ use Rattle.cluster_config.specs.ConfigReading.{config_read}
 use Rattle.cluster_config.specs.declared.config_fault.ConfigFault.{ConfigFault}
 use Rattle.cluster_script.specs.Lines.{ended, lines_in, counted_lines, is_one_line}
 use Rattle.cluster_script.specs.Options.{SayOnce, option_text, behind_blanks, options_or_default, options_to_say}
-use Rattle.cluster_script.specs.Rest.{request_words}
+use Rattle.rest_api.specs.Calls.{request_words}
 use Rattle.cluster_script.specs.Words.{spelled}
 use Rattle.cluster_script.specs.declared.head.MemberOptions.{MemberOptions}
 use Rattle.cluster_script.specs.declared.keyword.Keyword.TheVariants as words
@@ -26,7 +26,7 @@ use Rattle.cluster_script.specs.declared.line.Line.{Line}
 use Rattle.cluster_script.specs.declared.line.Line.TheVariants as lines
 use Rattle.cluster_script.specs.declared.member_option.MemberOption.{MemberOption}
 use Rattle.cluster_script.specs.declared.member_option.SaidOptions.{SaidOptions}
-use Rattle.cluster_script.specs.declared.rest.RestCall.{RestCall}
+use Rattle.rest_api.specs.declared.call.RestCall.{RestCall}
 
 -- what a script declares of a member
 pub record MemberText : Type 0 where

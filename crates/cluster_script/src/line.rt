@@ -1,8 +1,9 @@
 //! What a script tells the run to do.
 ghost use Rattle.std.specs.Prelude.{◌≡◌, IfOk};
 
-use crate::{CommitSize, Delay, RequestBody, RestCall};
+use crate::{CommitSize, Delay};
 use pat_base::MemberId;
+use rest_api::{RequestBody, RestCall};
 use std::alloc::AllocError;
 
 /// One end of a link: a member, or the key store.

@@ -6,10 +6,10 @@ ghost use Rattle.cluster_script.specs.Arguments.{method_in, call_in, target_in, 
 
 use crate::arguments::{both, member_in, missing_behind, missing_word};
 use crate::members::Members;
-use crate::rest::{call_of, is_token};
 use crate::words::cut_word;
-use crate::{Command, Fault, Line, RequestBody, RestCall};
+use crate::{Command, Fault, Line};
 use pat_base::MemberId;
+use rest_api::{RequestBody, RestCall, call_of, is_token};
 use std::alloc::{AllocError, Global};
 
 /// A method: any token of HTTP.

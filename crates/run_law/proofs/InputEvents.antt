@@ -32,7 +32,7 @@ use Rattle.agent_model.specs.declared.output.Repair.{Repair}
 use Rattle.agent_model.specs.declared.output.Repair.TheVariants as repairs
 use Rattle.agent_model.specs.declared.output.Target.TheVariants as targets
 use Rattle.agent_model.specs.Agents.{AgentFacts}
-use Rattle.agent_model.specs.Operators.{ok}
+use Rattle.operator_keys.specs.Statuses.{ok}
 use Rattle.agent_law.specs.Orders.{IsAsk, IsOfTable}
 use Rattle.cluster_model.specs.declared.beginning.Beginning.{Beginning}
 use Rattle.cluster_model.specs.declared.beginning.Beginning.TheVariants as beginnings
