@@ -1,6 +1,5 @@
 pub mod Apart
 pub mod Book
-pub mod Calls
 pub mod Comes
 pub mod Emits
 pub mod Idle

@@ -6,7 +6,7 @@ ghost use Rattle.operator_keys.specs.Refusals.{Answers};
 ghost use Rattle.cluster_model.specs.Inputs.{moment_of, outcome_of, outputs_of, standing_of};
 ghost use Rattle.cluster_model.specs.Messages.{call_events, call_events_of, decided_events, operate_events};
 ghost use Rattle.cluster_model.specs.Parts.{event_of, for_some};
-ghost use Rattle.cluster_model.specs.Requests.{action_of, decision_on_call, refusing};
+ghost use Rattle.cluster_model.specs.Requests.{action_of, decision_at, refusing};
 ghost use Rattle.pat_world.specs.Emits.{Emits};
 ghost use Rattle.pat_world.specs.Room.{HasRoom, call_cost};
 
@@ -14,13 +14,13 @@ use super::agents::NO_MESSAGE;
 use super::{Stage, note};
 use crate::places::agent_at;
 use crate::processes::may_act;
-use crate::requests::{copy_of, decision_on_call, refusing};
+use crate::requests::refusing;
 use agent_model::Heard;
-use cluster_script::RestCall;
 use event_book::{AgentEvent, Event, EventKind, Member, Note};
 use ha_loop::Outputs;
 use lease_store::OperatorAction;
 use operator_keys::CheckFault;
+use rest_api::{RestCall, copy_of, decision_on_call};
 use std::alloc::AllocError;
 
 impl Stage {
