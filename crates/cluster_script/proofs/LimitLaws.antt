@@ -4,16 +4,17 @@ use Rattle.std.specs.List.{sum_by}
 use Rattle.std.proofs.lemmas.Bool.Decides.{nat_tests}
 use Rattle.std.proofs.lemmas.List.Sums.{sum_by-append, sum_by-cons}
 use Rattle.pat_base.specs.declared.name.Name.{Name}
-use Rattle.cluster_script.specs.Lines.{lines_in, is_skipped, counted_lines}
+use Rattle.script_words.specs.Lines.{lines_in, is_skipped, counted_lines}
 use Rattle.cluster_script.specs.Limits.{member_line_count, ticks_or_none, ticks_in_line, ticks_in, limit_of_lines, limit_of}
 use Rattle.cluster_script.specs.Reading.{script_of}
-use Rattle.cluster_script.specs.Script.{ScriptText, names_of, IsLine, AllAreLines, line_text, SpellsLine, OwnText, BlankBehind, SpellBody}
-use Rattle.cluster_script.specs.Steps.{ticks_of_line, total_ticks}
-use Rattle.cluster_script.specs.declared.line.Line.{Line}
-use Rattle.cluster_script.specs.declared.line.Line.TheVariants as lines
+use Rattle.script_model.specs.Script.{ScriptText, names_of, IsLine, AllAreLines, line_text}
+use Rattle.script_model.specs.Spelling.{SpellsLine, OwnText, BlankBehind, SpellBody}
+use Rattle.script_model.specs.Steps.{ticks_of_line, total_ticks}
+use Rattle.script_model.specs.declared.line.Line.{Line}
+use Rattle.script_model.specs.declared.line.Line.TheVariants as lines
 use Rattle.cluster_script.specs.declared.limits.Limit.{Limit}
 use Rattle.cluster_script.specs.declared.limits.Limit.TheVariants as limits
-use Rattle.cluster_script.proofs.NumberLaws.{number-decimal}
+use Rattle.script_words.proofs.NumberLaws.{number-decimal}
 use Rattle.cluster_script.proofs.ReadLaws.{read-is-spelled}
 
 -- a test that gives nothing

@@ -15,31 +15,40 @@ use Rattle.cluster_config.specs.ConfigReading.{config_read}
 use Rattle.cluster_config.specs.declared.config_fault.ConfigFault.{ConfigFault}
 use Rattle.cluster_script.specs.Arguments.{number_in, line_of_words}
 use Rattle.cluster_script.specs.Draft.{DraftText, script_so_far}
-use Rattle.cluster_script.specs.Faults.{on_ok, both}
-use Rattle.cluster_script.specs.Lines.{push_byte, lines_in, is_skipped, counted_lines, is_in_line, is_one_line}
+use Rattle.script_words.specs.Faults.{on_ok, both}
+use Rattle.script_words.specs.Lines.{push_byte, lines_in, is_skipped, counted_lines, is_in_line, is_one_line}
 use Rattle.cluster_script.specs.Members.{place_of}
-use Rattle.cluster_script.specs.Options.{SayOnce, option_text, behind_blanks, options_or_default}
-use Rattle.cluster_script.specs.OptionReading.{options_in}
+use Rattle.member_options.specs.Options.{SayOnce, option_text, behind_blanks, options_or_default}
+use Rattle.member_options.specs.OptionReading.{options_in}
 use Rattle.cluster_script.specs.Reading.{name_in, declared_in_head, declared_once, named_member, new_member, next_member, ranged_base, base_in, head_end, base_end, next_base, addition_of, with_addition, config_if_read, next_config, is_config, with_config, with_other, with_line, alone, cluster_named, cluster_in, cluster_by_keyword, first_line, first_draft, after_counted, after_text, after_line, after_lines, at_line, with_some, finished, script_of}
-use Rattle.cluster_script.specs.Script.{AreDifferent, MemberText, MemberLine, ScriptText, member_names, names_of, member_of_entry, member_of_line, IsScript, IsLine, AllAreLines, cluster_text, member_line_text, base_text, config_text, HeadLine, ConfigLine, BaseLine, MembersLine, head_line_text, config_said, base_said, member_said, configs_said, bases_said, members_said, at_most_one, read_at_most_once, base_or_default, head_with, IsHeadLines, IsInForm, AllInForm, SpellsLine, SpellBody, Spells}
-use Rattle.cluster_script.specs.Words.{spelled, keyword_of, cut_word}
+use Rattle.script_model.specs.Script.{AreDifferent, MemberText, ScriptText, member_names, names_of, member_of_entry, IsScript, IsLine, AllAreLines, cluster_text, base_text, config_text, base_or_default, IsInForm}
+use Rattle.script_model.specs.Spelling.{MemberLine, member_of_line, member_line_text, HeadLine, ConfigLine, BaseLine, MembersLine, head_line_text, config_said, base_said, member_said, configs_said, bases_said, members_said, at_most_one, read_at_most_once, head_with, IsHeadLines, AllInForm, SpellsLine, SpellBody, Spells}
+use Rattle.cluster_script.specs.FirstWords.{keyword_of}
+use Rattle.script_model.specs.Keywords.{spelled}
+use Rattle.script_words.specs.Words.{cut_word}
 use Rattle.cluster_script.specs.declared.addition.Addition.{Addition}
 use Rattle.cluster_script.specs.declared.addition.Addition.TheVariants as additions
-use Rattle.cluster_script.specs.declared.fault.Fault.TheVariants as faults
-use Rattle.cluster_script.specs.declared.keyword.Keyword.{Keyword}
-use Rattle.cluster_script.specs.declared.keyword.Keyword.TheVariants as words
-use Rattle.cluster_script.specs.declared.head.MemberOptions.{MemberOptions}
-use Rattle.cluster_script.specs.declared.line.Line.{Line}
-use Rattle.cluster_script.specs.declared.member_option.MemberOption.{MemberOption}
-use Rattle.cluster_script.specs.declared.member_option.SaidOptions.{SaidOptions}
+use Rattle.script_words.specs.declared.fault.Fault.{Fault}
+use Rattle.script_words.specs.declared.fault.Fault.TheVariants as faults
+use Rattle.script_model.specs.declared.keyword.Keyword.{Keyword}
+use Rattle.script_model.specs.declared.keyword.Keyword.TheVariants as words
+use Rattle.member_options.specs.declared.member_option.MemberOptions.{MemberOptions}
+use Rattle.script_model.specs.declared.line.Line.{Line}
+use Rattle.member_options.specs.declared.member_option.MemberOption.{MemberOption}
+use Rattle.member_options.specs.declared.member_option.SaidOptions.{SaidOptions}
 use Rattle.cluster_script.proofs.ArgumentLaws.{number_in-Ok, line_of_words-Ok}
 use Rattle.cluster_script.proofs.NameLaws.{AreDifferent-push}
-use Rattle.cluster_script.proofs.NumberLaws.{number-is}
-use Rattle.cluster_script.proofs.OptionReadLaws.{options_in-Ok}
-use Rattle.cluster_script.proofs.OptionWords.{options-behind}
-use Rattle.cluster_script.proofs.Outcomes.{none_is, ok_is, err_is, on_ok-Ok, on_ok-made, ok_or-Ok, both-Ok, at_line-Ok, cond-Ok, cond-Err}
+use Rattle.script_words.proofs.NumberLaws.{number-is}
+use Rattle.member_options.proofs.OptionReadLaws.{options_in-Ok}
+use Rattle.member_options.proofs.OptionWords.{options-behind}
+use Rattle.script_words.proofs.Outcomes.{none_is, ok_is, err_is, on_ok-Ok, on_ok-made, ok_or-Ok, both-Ok, cond-Ok, cond-Err}
 use Rattle.cluster_script.proofs.RequestLaws.{MayBeLine}
-use Rattle.cluster_script.proofs.WordLaws.{cut_word-None, cut_word-Some, keyword_of-is}
+use Rattle.script_words.proofs.WordLaws.{cut_word-None, cut_word-Some}
+use Rattle.cluster_script.proofs.FirstWordLaws.{keyword_of-is}
+
+pub at_line-Ok : {A : Type 0} (number : ℕ) (r : Result A Fault) (x : A) → at_line number r ≡ Ok x → r ≡ Ok x
+at_line-Ok number (Ok y) x e = let same : y ≡ x = ok_is y x e in rw same refl
+at_line-Ok number (Err f) x e = absurd (err_is (number, f) x e)
 
 -- a line that declares a member
 pub record DeclaredLine (line : List ℕ) (name : Name) (declared : MemberOptions) : Type 0 where

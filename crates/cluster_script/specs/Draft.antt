@@ -3,8 +3,8 @@ use Rattle.std.specs.Prelude.{ℕ, ◌≡◌, ◌≤◌, List, [], Option, Some,
 use Rattle.pat_base.specs.declared.name.Name.{Name}
 use Rattle.lease_store.specs.Settings.{Settings}
 use Rattle.cluster_config.specs.ConfigReading.{IsConfiguration}
-use Rattle.cluster_script.specs.Script.{MemberText, ScriptText, config_or_default, base_or_default}
-use Rattle.cluster_script.specs.declared.line.Line.{Line}
+use Rattle.script_model.specs.Script.{MemberText, ScriptText, config_or_default, base_or_default}
+use Rattle.script_model.specs.declared.line.Line.{Line}
 
 -- what the lines so far say, from the cluster's on: no configuration and no base where none of them does
 pub record DraftText : Type 0 where

@@ -1,10 +1,11 @@
 -- What a script has at most. It is counted on the bytes alone, whatever faults they have.
 use Rattle.std.specs.Prelude.{ℕ, ◌-◌, ◌^◌, nat_lt, min, Bool, true, false, if◌then◌else◌, List, Option, Some, None, codes, length, count_by, sum_by}
-use Rattle.cluster_script.specs.Lines.{lines_in}
-use Rattle.cluster_script.specs.Numbers.{number}
-use Rattle.cluster_script.specs.Words.{keyword_of, cut_word}
-use Rattle.cluster_script.specs.declared.keyword.Keyword.{Keyword}
-use Rattle.cluster_script.specs.declared.keyword.Keyword.TheVariants as words
+use Rattle.script_words.specs.Lines.{lines_in}
+use Rattle.script_words.specs.Numbers.{number}
+use Rattle.cluster_script.specs.FirstWords.{keyword_of}
+use Rattle.script_words.specs.Words.{cut_word}
+use Rattle.script_model.specs.declared.keyword.Keyword.{Keyword}
+use Rattle.script_model.specs.declared.keyword.Keyword.TheVariants as words
 use Rattle.cluster_script.specs.declared.limits.Limit.{Limit}
 use Rattle.cluster_script.specs.declared.limits.Limit.TheVariants as limits
 

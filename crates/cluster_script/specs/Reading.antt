@@ -9,20 +9,21 @@ use Rattle.cluster_config.specs.ConfigReading.{config_read}
 use Rattle.cluster_config.specs.declared.config_fault.ConfigFault.{ConfigFault}
 use Rattle.cluster_script.specs.Arguments.{number_in, line_of_words}
 use Rattle.cluster_script.specs.Draft.{DraftText, script_so_far}
-use Rattle.cluster_script.specs.Faults.{on_ok, both}
-use Rattle.cluster_script.specs.Lines.{lines_in, is_skipped}
+use Rattle.script_words.specs.Faults.{on_ok, both}
+use Rattle.script_words.specs.Lines.{lines_in, is_skipped}
 use Rattle.cluster_script.specs.Members.{place_of}
-use Rattle.cluster_script.specs.OptionReading.{options_in}
-use Rattle.cluster_script.specs.Script.{MemberText, ScriptText, member_names, member_of_entry}
-use Rattle.cluster_script.specs.Words.{keyword_of, cut_word}
+use Rattle.member_options.specs.OptionReading.{options_in}
+use Rattle.script_model.specs.Script.{MemberText, ScriptText, member_names, member_of_entry}
+use Rattle.cluster_script.specs.FirstWords.{keyword_of}
+use Rattle.script_words.specs.Words.{cut_word}
 use Rattle.cluster_script.specs.declared.addition.Addition.{Addition}
 use Rattle.cluster_script.specs.declared.addition.Addition.TheVariants as additions
-use Rattle.cluster_script.specs.declared.fault.Fault.{Fault}
-use Rattle.cluster_script.specs.declared.fault.Fault.TheVariants as faults
-use Rattle.cluster_script.specs.declared.head.MemberOptions.{MemberOptions}
-use Rattle.cluster_script.specs.declared.keyword.Keyword.{Keyword}
-use Rattle.cluster_script.specs.declared.keyword.Keyword.TheVariants as words
-use Rattle.cluster_script.specs.declared.line.Line.{Line}
+use Rattle.script_words.specs.declared.fault.Fault.{Fault}
+use Rattle.script_words.specs.declared.fault.Fault.TheVariants as faults
+use Rattle.member_options.specs.declared.member_option.MemberOptions.{MemberOptions}
+use Rattle.script_model.specs.declared.keyword.Keyword.{Keyword}
+use Rattle.script_model.specs.declared.keyword.Keyword.TheVariants as words
+use Rattle.script_model.specs.declared.line.Line.{Line}
 use Rattle.cluster_script.specs.declared.script_fault.ScriptFault.{ScriptFault}
 use Rattle.cluster_script.specs.declared.script_fault.ScriptFault.TheVariants as script_faults
 

@@ -1,18 +1,15 @@
 //! The words behind a line's first word.
-ghost use Rattle.std.specs.Prelude.{ℕ, ◌≡◌, ◌≤◌, List, length, map, IfOk};
+ghost use Rattle.std.specs.Prelude.{◌≡◌, ◌≤◌, length, IfOk};
 ghost use Rattle.std.specs.Option.{option_copied};
 ghost use Rattle.indexmap.specs.IndexMap.{keys};
-ghost use Rattle.cluster_script.specs.Faults.{both};
+ghost use Rattle.script_words.specs.Faults.{both};
 ghost use Rattle.cluster_script.specs.Arguments.{number_in, switch_in, slowed_call_in, commit_size_in, delay_in, member_in, end_in, missing_word, missing_behind, line_end, last_word, one_word, word_behind, words_behind, same_end, two_ends, commit_in, stream_in, slow_in, plain_line, line_of_words};
 
-use crate::fault::earlier;
-use crate::keyword::Keyword;
 use crate::members::{Members, member_named};
-use crate::numbers::number;
 use crate::rest_line::rest_line;
-use crate::words::cut_word;
-use crate::{Command, CommitSize, Delay, End, Fault, Line, SlowedCall};
 use pat_base::{MemberId, Name};
+use script_model::{Command, CommitSize, Delay, End, Keyword, Line, SlowedCall};
+use script_words::{Fault, both, cut_word, number};
 use std::alloc::{AllocError, Global};
 
 /// A number.
@@ -174,21 +171,6 @@ fn same_end(first: End, second: End) -> bool
         (End::Store, End::Store) => true,
         (End::Member(a), End::Member(b)) => a.number == b.number,
         _ => false,
-    }
-}
-
-/// Two things that are both wanted, or the first of their faults.
-pub fn both<A: Drop, B: Drop>(
-    first: Result<A, Fault>,
-    second: Result<B, Fault>,
-) -> Result<(A, B), Fault>
-    ensures { result ≡ both first second }
-{
-    match (first, second) {
-        (Ok(first), Ok(second)) => Ok((first, second)),
-        (Ok(_), Err(fault)) => Err(fault),
-        (Err(fault), Ok(_)) => Err(fault),
-        (Err(first), Err(second)) => Err(earlier(first, second)),
     }
 }
 

@@ -1,17 +1,17 @@
 //! The lines of a script's head.
-ghost use Rattle.std.specs.Prelude.{ℕ, ◌≡◌, ◌<◌, ◌≤◌, ◌^◌, List, length, None, IfOk};
+ghost use Rattle.std.specs.Prelude.{◌≡◌, ◌<◌, length, None, IfOk};
 ghost use Rattle.std.specs.Option.{option_copied};
 ghost use Rattle.indexmap.specs.IndexMap.{keys};
 ghost use Rattle.cluster_script.specs.Members.{place_of};
 ghost use Rattle.cluster_script.specs.Reading.{in_head, declared_in_head, named_member, name_in, new_member, next_member, base_in, head_end, base_end, base_missing, next_base, second_cluster, cluster_in, first_line};
 
-use crate::arguments::{both, number_in};
-use crate::keyword::Keyword;
+use crate::arguments::number_in;
+use crate::first_words::keyword_of;
 use crate::members::{Members, place_of};
-use crate::options::options_in;
-use crate::words::{cut_word, keyword_of};
-use crate::{Fault, Line, MemberOptions};
+use member_options::{MemberOptions, options_in};
 use pat_base::Name;
+use script_model::{Keyword, Line};
+use script_words::{Fault, both, cut_word};
 
 /// The most members that a script may have.
 const MEMBERS: usize = 16;

@@ -3,13 +3,13 @@ ghost use Rattle.std.specs.Prelude.{ℕ, ◌≡◌, ◌≤◌, List, length, map
 ghost use Rattle.std.specs.Option.{option_copied};
 ghost use Rattle.cluster_script.specs.Limits.{limit_text, is_member_line, member_line_count, ticks_or_none, ticks_behind, ticks_in_line, ticks_in, limit_of_lines, limit_of};
 ghost use Rattle.cluster_script.specs.Reading.{script_of};
-ghost use Rattle.cluster_script.specs.Script.{ScriptText};
-ghost use Rattle.cluster_script.specs.Steps.{total_ticks};
+ghost use Rattle.script_model.specs.Script.{ScriptText};
+ghost use Rattle.script_model.specs.Steps.{total_ticks};
 
 use crate::ScriptLines;
-use crate::keyword::Keyword;
-use crate::numbers::number;
-use crate::words::{cut_word, keyword_of};
+use crate::first_words::keyword_of;
+use script_model::Keyword;
+use script_words::{cut_word, number};
 use std::alloc::{AllocError, Global};
 use std::fmt;
 

@@ -1,10 +1,10 @@
 //! The table of members.
-ghost use Rattle.std.specs.Prelude.{ℕ, ◌≡◌, ◌<◌, ◌≤◌, length, IfSome};
+ghost use Rattle.std.specs.Prelude.{◌≡◌, ◌<◌, ◌≤◌, length, IfSome};
 ghost use Rattle.indexmap.specs.IndexMap.{keys};
 ghost use Rattle.cluster_script.specs.Members.{place_of, member_named};
 
-use crate::MemberOptions;
 use indexmap::IndexMap;
+use member_options::MemberOptions;
 use pat_base::{MemberId, Name};
 
 /// What a script declares of each member, in the order of their lines.

@@ -4,12 +4,12 @@ ghost use Rattle.std.specs.Option.{option_copied};
 ghost use Rattle.indexmap.specs.IndexMap.{keys};
 ghost use Rattle.cluster_script.specs.Arguments.{method_in, call_in, target_in, target_behind, method_behind, call_words, behind_word, body_in, rest_line};
 
-use crate::arguments::{both, member_in, missing_behind, missing_word};
+use crate::arguments::{member_in, missing_behind, missing_word};
 use crate::members::Members;
-use crate::words::cut_word;
-use crate::{Command, Fault, Line};
 use pat_base::MemberId;
 use rest_api::{RequestBody, RestCall, call_of, is_token};
+use script_model::{Command, Line};
+use script_words::{Fault, both, cut_word};
 use std::alloc::{AllocError, Global};
 
 /// A method: any token of HTTP.

@@ -20,13 +20,13 @@ use crate::links::CutLinks;
 use crate::places::{change_agents_by, reset_agent};
 use crate::processes::{change_process, reset_process};
 use crate::watchdogs::{change_deadline, change_hold};
-use cluster_script::MemberOptions;
 use event_book::{
     AgentProcess, EventKind, LogEvent, Member, MessageEvent, ReplicationEvent, ServerEvent,
     ServerOf,
 };
 use ha_loop::Agent;
 use lease_store::Store;
+use member_options::MemberOptions;
 use pat_base::{Name, Ticks};
 use std::alloc::AllocError;
 

@@ -11,9 +11,9 @@ ghost use Rattle.pat_world.specs.Room.{HasNumbers};
 
 use crate::machines::who_of;
 use agent_model::{Heard, Machine, Who};
-use cluster_script::MemberOptions;
 use event_book::{AgentEvent, Member, WatchdogEvent};
 use ha_loop::{Agent, Outputs};
+use member_options::MemberOptions;
 use pat_base::{Name, Ticks};
 use std::alloc::{AllocError, Global};
 use wal_model::History;

@@ -1,7 +1,7 @@
 //! The stage of a world: what a cluster has at a moment, and how the steps of a script change it.
 ghost use Rattle.std.specs.Prelude.{ℕ, List, ◌≡◌, ◌<◌, ◌≤◌, ◌+◌, ◌*◌, ◌^◌, ◌++◌, ◌∷◌, ◌↔◌, [], length, OnOk, OnErr, IfOk, IfSome, IsSome, option_and_then, slice_get, Some};
 ghost use Rattle.pat_base.specs.MemberId.{member_of};
-ghost use Rattle.cluster_script.specs.Script.{IsCommand, IsLink, IsMember};
+ghost use Rattle.script_model.specs.Script.{IsCommand, IsLink, IsMember};
 ghost use Rattle.event_book.specs.declared.event.Event.{Event};
 ghost use Rattle.cluster_model.specs.Acknowledging.{AreAcknowledged};
 ghost use Rattle.cluster_model.specs.Commands.{link_of};
@@ -32,14 +32,15 @@ use crate::from_head::{hosts_of, members_of, options_of, processes_of};
 use crate::links::{CutLinks, cut_of, join_of, link_of};
 use crate::members;
 use crate::places::{close_all, first_agents};
-use crate::processes::{suspend_of, kill_of, resume_of};
+use crate::processes::{kill_of, resume_of, suspend_of};
 use crate::server_commands::{commit_of, crash_of, freezing_of, slow_of};
-use cluster_script::{Command, End, Head, MemberOptions, Step};
 use event_book::{AgentProcess, Event, EventKind, Link, Member};
 use ha_loop::{Agent, Outputs};
 use lease_store::Store;
+use member_options::MemberOptions;
 use pat_base::{Host, MemberId, Name, Ticks};
 use pg_model::Servers;
+use script_model::{Command, End, Head, Step};
 use std::alloc::{AllocError, Global};
 use std::marker::Model;
 

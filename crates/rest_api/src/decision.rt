@@ -1,5 +1,5 @@
 //! What an agent makes of a request.
-ghost use Rattle.std.specs.Prelude.{◌≡◌, Result, option_copied};
+ghost use Rattle.std.specs.Prelude.{Result, option_copied};
 ghost use Rattle.lease_store.specs.declared.action.OperatorRequest.TheVariants as requests;
 ghost use Rattle.lease_store.specs.declared.value.FailoverKey.{FailoverKey};
 ghost use Rattle.lease_store.specs.Settings.{Settings};

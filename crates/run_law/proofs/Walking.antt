@@ -12,16 +12,16 @@ use Rattle.event_book.specs.declared.link.LinkEnd.{LinkEnd}
 use Rattle.event_book.specs.declared.link.LinkEnd.TheVariants as ends
 use Rattle.event_book.specs.declared.member.Member.{Member}
 use Rattle.event_book.specs.Flight.{InFlightFacts, in_flight}
-use Rattle.cluster_script.specs.declared.line.Command.{Command}
-use Rattle.cluster_script.specs.declared.line.Command.TheVariants as commands
-use Rattle.cluster_script.specs.declared.line.Step.{Step}
+use Rattle.script_model.specs.declared.line.Command.{Command}
+use Rattle.script_model.specs.declared.line.Command.TheVariants as commands
+use Rattle.script_model.specs.declared.line.Step.{Step}
 use Rattle.rest_api.specs.declared.call.RestCall.{RestCall}
 use Rattle.agent_model.specs.Agents.{Outcome}
-use Rattle.cluster_script.specs.declared.line.Step.TheVariants as steps
+use Rattle.script_model.specs.declared.line.Step.TheVariants as steps
 use Rattle.cluster_model.specs.declared.delivery.Delivery.{Delivery}
 use Rattle.cluster_model.specs.declared.delivery.Delivery.TheVariants as deliveries
 use Rattle.cluster_model.specs.Deliveries.{delivery_of}
-use Rattle.cluster_script.specs.Script.{HeadText, names_of}
+use Rattle.script_model.specs.Script.{HeadText, names_of}
 use Rattle.cluster_model.specs.Inputs.{has_work, is_to_wake, may_act, moment_of, standing_of}
 use Rattle.cluster_model.specs.Limits.{most_rounds}
 use Rattle.cluster_model.specs.Messages.{arrival_events_at, call_events, call_events_if, call_events_of, decided_events, deliver_events, deliver_events_by, lose_events, message_events, message_events_by, turn_events, turn_events_if, wake_events, wake_events_if, wake_events_of}

@@ -2,7 +2,7 @@ use Rattle.std.proofs.Common.{◌≡◌, ◌<◌, ◌∙◌, ap, subst, None, le
 use Rattle.pat_base.proofs.Names.{same_fields-Decides}
 use Rattle.cluster_script.specs.Members.{place_of}
 use Rattle.cluster_script.specs.Reading.{IsNew}
-use Rattle.cluster_script.specs.Script.{member_names, members_in}
+use Rattle.script_model.specs.Script.{member_names, members_in}
 use Rattle.cluster_script.specs.declared.addition.Addition.{Addition}
 use Rattle.cluster_script.proofs.MemberLaws.{members-insert_entry}
 use Rattle.cluster_script.proofs.draft.apply.Goals as goal
