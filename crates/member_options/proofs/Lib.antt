@@ -3,6 +3,8 @@ pub mod HostLaws
 pub mod OptionCanonLaws
 pub mod OptionReadLaws
 pub mod OptionSpellLaws
+pub mod OptionTexts
 pub mod OptionWords
 pub mod PriorityLaws
 pub mod RangeLaws
+pub mod SaidLaws

@@ -1,7 +1,9 @@
 -- The options that have to be said of a member say what is declared of it.
-use Rattle.std.proofs.Common.{◌≡◌, ◌+◌, ◌==◌, Bool, true, false, cond, List, [], ◌∷◌, ◌++◌, Option, Some, None, refl, ◌∙◌, ap, sym}
+use Rattle.std.proofs.Common.{◌≡◌, ◌≤◌, ◌==◌, Bool, true, false, cond, List, [], ◌∷◌, ◌++◌, length, Option, Some, None, refl, ◌∙◌, ap, sym, arith, append-nil, length-append}
+use Rattle.std.specs.List.{flat_map}
 use Rattle.std.specs.Str.{bytes_eq}
 use Rattle.std.proofs.lemmas.Bool.{eqb-true}
+use Rattle.std.proofs.lemmas.List.Elements.{filter-append}
 use Rattle.std.proofs.lemmas.Slice.Eq.{bytes_eq-Decides}
 use Rattle.pat_base.specs.Host.{host_bytes, local_host}
 use Rattle.pat_base.specs.declared.host.Host.{Host}
@@ -9,197 +11,71 @@ use Rattle.pat_base.proofs.Hosts.{host_bytes-injective}
 use Rattle.leader_key.specs.declared.watchdog.Mode.{Mode}
 use Rattle.leader_key.specs.declared.watchdog.Mode.TheVariants as modes
 use Rattle.member_options.specs.Margins.{unsaid_margin}
-use Rattle.member_options.specs.Options.{once_or_never, is_no_failover, is_no_sync, is_no_load_balance, once_if, SayOnce, nothing_said, host_or_default, priority_or_default, tags_with, mode_or_default, works_or_default, margin_or_default, options_or_default, flag_to_say, is_default_priority, priority_of, priority_to_say, mode_to_say, device_to_say, margin_to_say, watchdog_to_say, options_to_say}
+use Rattle.member_options.specs.Options.{name_of_option, option_names, same_option_name, options_of_name, option_said, flag_said, said_by, SayOnce, host_or_default, priority_or_default, tags_with, mode_or_default, works_or_default, margin_or_default, options_or_default, is_default_priority, priority_of, mode_to_say, device_to_say, to_say, options_saying, options_to_say}
 use Rattle.member_options.specs.Ranges.{default_margin}
 use Rattle.member_options.specs.declared.member_option.MemberOptions.{MemberOptions}
 use Rattle.member_options.specs.declared.member_option.MemberOption.{MemberOption}
 use Rattle.member_options.specs.declared.member_option.MemberOption.TheVariants as options
 use Rattle.member_options.specs.declared.member_option.SaidOptions.{SaidOptions}
+use Rattle.member_options.specs.declared.option_name.OptionName.{OptionName}
+use Rattle.member_options.specs.declared.option_name.OptionName.TheVariants as names
 use Rattle.member_options.specs.declared.ranges.Margin.{Margin}
 use Rattle.member_options.specs.declared.ranges.Priority.{Priority}
-use Rattle.member_options.proofs.OptionWords.{counted}
 use Rattle.member_options.proofs.PriorityLaws.{default-is}
 use Rattle.member_options.proofs.RangeLaws.{same_margin, default-seconds}
+use Rattle.member_options.proofs.SaidLaws.{said-few}
 
--- options with this one in front of them
-say-host : (host : Host) (t : Bool) (os : List MemberOption) (said : SaidOptions) → said.host ≡ None → SayOnce os said → SayOnce (cond t [] (options.Host host ∷ []) ++ os) (record said { host = cond t None (Some host) })
-say-host host true os said none h = record {
-  host = h.host ∙ ap once_or_never none;
-  nofailover = h.nofailover;
-  nosync = h.nosync;
-  noloadbalance = h.noloadbalance;
-  priority = h.priority;
-  watchdog = h.watchdog;
-  device = h.device;
-  margin = h.margin;
-}
-say-host host false os said none h = record {
-  host = ap (λ xs. host ∷ xs) (h.host ∙ ap once_or_never none);
-  nofailover = h.nofailover;
-  nosync = h.nosync;
-  noloadbalance = h.noloadbalance;
-  priority = h.priority;
-  watchdog = h.watchdog;
-  device = h.device;
-  margin = h.margin;
-}
+-- what is said under one name has no option of another
+none-either : (t : Bool) → ◌≡◌ {A = List MemberOption} [] (cond t [] [])
+none-either true = refl
+none-either false = refl
 
-say-no_failover : (set : Bool) (os : List MemberOption) (said : SaidOptions) → said.nofailover ≡ false → SayOnce os said → SayOnce (flag_to_say options.NoFailover set ++ os) (record said { nofailover = set })
-say-no_failover true os said none h = record {
-  host = h.host;
-  nofailover = counted is_no_failover options.NoFailover os refl ∙ ap (λ n. 1 + n) (h.nofailover ∙ ap once_if none);
-  nosync = h.nosync;
-  noloadbalance = h.noloadbalance;
-  priority = h.priority;
-  watchdog = h.watchdog;
-  device = h.device;
-  margin = h.margin;
-}
-say-no_failover false os said none h = record {
-  host = h.host;
-  nofailover = h.nofailover ∙ ap once_if none;
-  nosync = h.nosync;
-  noloadbalance = h.noloadbalance;
-  priority = h.priority;
-  watchdog = h.watchdog;
-  device = h.device;
-  margin = h.margin;
-}
+named-option : {A : Type 0} (name other : OptionName) (option : A → MemberOption) (o : Option A) → ((x : A) → name_of_option (option x) ≡ other) → options_of_name name (option_said option o) ≡ cond (same_option_name name other) (option_said option o) []
+named-option name other option None is = none-either (same_option_name name other)
+named-option name other option (Some x) is = ap (λ n. cond (same_option_name name n) (option x ∷ []) []) (is x)
 
-say-no_sync : (set : Bool) (os : List MemberOption) (said : SaidOptions) → said.nosync ≡ false → SayOnce os said → SayOnce (flag_to_say options.NoSync set ++ os) (record said { nosync = set })
-say-no_sync true os said none h = record {
-  host = h.host;
-  nofailover = h.nofailover;
-  nosync = counted is_no_sync options.NoSync os refl ∙ ap (λ n. 1 + n) (h.nosync ∙ ap once_if none);
-  noloadbalance = h.noloadbalance;
-  priority = h.priority;
-  watchdog = h.watchdog;
-  device = h.device;
-  margin = h.margin;
-}
-say-no_sync false os said none h = record {
-  host = h.host;
-  nofailover = h.nofailover;
-  nosync = h.nosync ∙ ap once_if none;
-  noloadbalance = h.noloadbalance;
-  priority = h.priority;
-  watchdog = h.watchdog;
-  device = h.device;
-  margin = h.margin;
-}
+named-flag : (name : OptionName) (option : MemberOption) (set : Bool) → options_of_name name (flag_said option set) ≡ cond (same_option_name name (name_of_option option)) (flag_said option set) []
+named-flag name option true = refl
+named-flag name option false = none-either (same_option_name name (name_of_option option))
 
-say-no_load_balance : (set : Bool) (os : List MemberOption) (said : SaidOptions) → said.noloadbalance ≡ false → SayOnce os said → SayOnce (flag_to_say options.NoLoadBalance set ++ os) (record said { noloadbalance = set })
-say-no_load_balance true os said none h = record {
-  host = h.host;
-  nofailover = h.nofailover;
-  nosync = h.nosync;
-  noloadbalance = counted is_no_load_balance options.NoLoadBalance os refl ∙ ap (λ n. 1 + n) (h.noloadbalance ∙ ap once_if none);
-  priority = h.priority;
-  watchdog = h.watchdog;
-  device = h.device;
-  margin = h.margin;
-}
-say-no_load_balance false os said none h = record {
-  host = h.host;
-  nofailover = h.nofailover;
-  nosync = h.nosync;
-  noloadbalance = h.noloadbalance ∙ ap once_if none;
-  priority = h.priority;
-  watchdog = h.watchdog;
-  device = h.device;
-  margin = h.margin;
-}
+named-said : (name other : OptionName) (said : SaidOptions) → options_of_name name (said_by other said) ≡ cond (same_option_name name other) (said_by other said) []
+named-said name names.Host said = named-option name names.Host options.Host said.host (λ x. refl)
+named-said name names.NoFailover said = named-flag name options.NoFailover said.nofailover
+named-said name names.NoSync said = named-flag name options.NoSync said.nosync
+named-said name names.NoLoadBalance said = named-flag name options.NoLoadBalance said.noloadbalance
+named-said name names.Priority said = named-option name names.Priority options.Priority said.priority (λ x. refl)
+named-said name names.Watchdog said = named-option name names.Watchdog options.Watchdog said.watchdog (λ x. refl)
+named-said name names.Device said = named-option name names.Device options.Device said.device_works (λ x. refl)
+named-said name names.Margin said = named-option name names.Margin options.Margin said.margin (λ x. refl)
 
-say-priority : (priority : Priority) (t : Bool) (os : List MemberOption) (said : SaidOptions) → said.priority ≡ None → SayOnce os said → SayOnce (cond t [] (options.Priority priority ∷ []) ++ os) (record said { priority = cond t None (Some priority) })
-say-priority priority true os said none h = record {
-  host = h.host;
-  nofailover = h.nofailover;
-  nosync = h.nosync;
-  noloadbalance = h.noloadbalance;
-  priority = h.priority ∙ ap once_or_never none;
-  watchdog = h.watchdog;
-  device = h.device;
-  margin = h.margin;
-}
-say-priority priority false os said none h = record {
-  host = h.host;
-  nofailover = h.nofailover;
-  nosync = h.nosync;
-  noloadbalance = h.noloadbalance;
-  priority = ap (λ xs. priority ∷ xs) (h.priority ∙ ap once_or_never none);
-  watchdog = h.watchdog;
-  device = h.device;
-  margin = h.margin;
-}
+named-all : (name : OptionName) (said : SaidOptions) (others : List OptionName)
+    → options_of_name name (flat_map (λ n. said_by n said) others) ≡ flat_map (λ n. cond (same_option_name name n) (said_by n said) []) others
+named-all name said [] = refl
+named-all name said (n ∷ ns) =
+    filter-append (λ option. same_option_name name (name_of_option option)) (said_by n said) (flat_map (λ m. said_by m said) ns)
+    ∙ (λ i. named-said name n said i ++ named-all name said ns i)
 
--- the mode that has to be said
-abbrev mode_as_said : Mode → Option Mode
-mode_as_said modes.Off = Some modes.Off
-mode_as_said modes.Automatic = None
-mode_as_said modes.Required = Some modes.Required
+-- each name stands once among all
+once-among : (name : OptionName) (said : SaidOptions) → flat_map (λ n. cond (same_option_name name n) (said_by n said) []) option_names ≡ said_by name said
+once-among names.Host said = append-nil (said_by names.Host said)
+once-among names.NoFailover said = append-nil (said_by names.NoFailover said)
+once-among names.NoSync said = append-nil (said_by names.NoSync said)
+once-among names.NoLoadBalance said = append-nil (said_by names.NoLoadBalance said)
+once-among names.Priority said = append-nil (said_by names.Priority said)
+once-among names.Watchdog said = append-nil (said_by names.Watchdog said)
+once-among names.Device said = append-nil (said_by names.Device said)
+once-among names.Margin said = append-nil (said_by names.Margin said)
 
-say-mode : (mode : Mode) (os : List MemberOption) (said : SaidOptions) → said.watchdog ≡ None → SayOnce os said → SayOnce (mode_to_say mode ++ os) (record said { watchdog = mode_as_said mode })
-say-mode modes.Off os said none h = record {
-  host = h.host;
-  nofailover = h.nofailover;
-  nosync = h.nosync;
-  noloadbalance = h.noloadbalance;
-  priority = h.priority;
-  watchdog = ap (λ xs. modes.Off ∷ xs) (h.watchdog ∙ ap once_or_never none);
-  device = h.device;
-  margin = h.margin;
-}
-say-mode modes.Automatic os said none h = record {
-  host = h.host;
-  nofailover = h.nofailover;
-  nosync = h.nosync;
-  noloadbalance = h.noloadbalance;
-  priority = h.priority;
-  watchdog = h.watchdog ∙ ap once_or_never none;
-  device = h.device;
-  margin = h.margin;
-}
-say-mode modes.Required os said none h = record {
-  host = h.host;
-  nofailover = h.nofailover;
-  nosync = h.nosync;
-  noloadbalance = h.noloadbalance;
-  priority = h.priority;
-  watchdog = ap (λ xs. modes.Required ∷ xs) (h.watchdog ∙ ap once_or_never none);
-  device = h.device;
-  margin = h.margin;
-}
+say-once : (said : SaidOptions) → SayOnce (options_saying said) said
+say-once said name = named-all name said option_names ∙ once-among name said
 
--- what has to be said of a device
-abbrev device_as_said : Bool → Option Bool
-device_as_said true = None
-device_as_said false = Some false
+-- there are no more of them than names
+few-of : (said : SaidOptions) (some : List OptionName) → length (flat_map (λ n. said_by n said) some) ≤ length some
+few-of said [] = omega arith
+few-of said (n ∷ ns) = omega (arith, length-append (said_by n said) (flat_map (λ m. said_by m said) ns), said-few n said, few-of said ns)
 
-say-device : (works : Bool) (os : List MemberOption) (said : SaidOptions) → said.device_works ≡ None → SayOnce os said → SayOnce (device_to_say works ++ os) (record said { device_works = device_as_said works })
-say-device true os said none h = record {
-  host = h.host;
-  nofailover = h.nofailover;
-  nosync = h.nosync;
-  noloadbalance = h.noloadbalance;
-  priority = h.priority;
-  watchdog = h.watchdog;
-  device = h.device ∙ ap once_or_never none;
-  margin = h.margin;
-}
-say-device false os said none h = record {
-  host = h.host;
-  nofailover = h.nofailover;
-  nosync = h.nosync;
-  noloadbalance = h.noloadbalance;
-  priority = h.priority;
-  watchdog = h.watchdog;
-  device = ap (λ xs. false ∷ xs) (h.device ∙ ap once_or_never none);
-  margin = h.margin;
-}
-
-last-margin : (margin : Margin) (t : Bool) → SayOnce (cond t [] (options.Margin margin ∷ [])) (record nothing_said { margin = cond t None (Some margin) })
-last-margin margin true = record { host = refl; nofailover = refl; nosync = refl; noloadbalance = refl; priority = refl; watchdog = refl; device = refl; margin = refl }
-last-margin margin false = record { host = refl; nofailover = refl; nosync = refl; noloadbalance = refl; priority = refl; watchdog = refl; device = refl; margin = refl }
+pub few-options : (declared : MemberOptions) → length (options_to_say declared) ≤ 8
+few-options declared = few-of (to_say declared) option_names
 
 -- the options that have to be said say what is declared
 pub record AreEnough (declared : MemberOptions) (os : List MemberOption) : Type 0 where
@@ -215,12 +91,12 @@ priority-again : (priority : Priority) (t : Bool) → is_default_priority priori
 priority-again priority true is = default-is priority is
 priority-again priority false is = refl
 
-mode-again : (mode : Mode) → mode_or_default (mode_as_said mode) ≡ mode
+mode-again : (mode : Mode) → mode_or_default (mode_to_say mode) ≡ mode
 mode-again modes.Off = refl
 mode-again modes.Automatic = refl
 mode-again modes.Required = refl
 
-device-again : (works : Bool) → works_or_default (device_as_said works) ≡ works
+device-again : (works : Bool) → works_or_default (device_to_say works) ≡ works
 device-again true = refl
 device-again false = refl
 
@@ -228,38 +104,13 @@ margin-again : (margin : Margin) (t : Bool) → (margin.seconds == unsaid_margin
 margin-again margin true is = same_margin default_margin margin (default-seconds ∙ sym (eqb-true margin.seconds unsaid_margin is))
 margin-again margin false is = refl
 
--- what has to be said of options
-abbrev said_of : MemberOptions → SaidOptions
-said_of declared = record {
-  host = cond (bytes_eq (host_bytes declared.host) (host_bytes local_host)) None (Some declared.host);
-  nofailover = declared.tags.nofailover;
-  nosync = declared.tags.nosync;
-  noloadbalance = declared.tags.noloadbalance;
-  priority = cond (is_default_priority declared.tags.failover_priority) None (Some (priority_of declared.tags));
-  watchdog = mode_as_said declared.watchdog;
-  device_works = device_as_said declared.device_works;
-  margin = cond (declared.margin.seconds == unsaid_margin) None (Some declared.margin);
-}
-
-say-all : (declared : MemberOptions) → SayOnce (options_to_say declared) (said_of declared)
-say-all declared =
-    let tags = declared.tags in
-    let margin = last-margin declared.margin (declared.margin.seconds == unsaid_margin) in
-    let device = say-device declared.device_works (margin_to_say declared.margin) _ refl margin in
-    let mode = say-mode declared.watchdog (device_to_say declared.device_works ++ margin_to_say declared.margin) _ refl device in
-    let priority = say-priority (priority_of tags) (is_default_priority tags.failover_priority) (watchdog_to_say declared) _ refl mode in
-    let no_load_balance = say-no_load_balance tags.noloadbalance (priority_to_say (priority_of tags) ++ watchdog_to_say declared) _ refl priority in
-    let no_sync = say-no_sync tags.nosync _ _ refl no_load_balance in
-    let no_failover = say-no_failover tags.nofailover _ _ refl no_sync in
-    say-host declared.host (bytes_eq (host_bytes declared.host) (host_bytes local_host)) _ _ refl no_failover
-
 pub options-enough : (declared : MemberOptions) → AreEnough declared (options_to_say declared)
 options-enough declared = record {
-  said = said_of declared;
-  once = say-all declared;
+  said = to_say declared;
+  once = say-once (to_say declared);
   is = λ i. record {
     host = host-again declared.host (bytes_eq (host_bytes declared.host) (host_bytes local_host)) refl i;
-    tags = tags_with (said_of declared) (priority-again (priority_of declared.tags) (is_default_priority declared.tags.failover_priority) refl i);
+    tags = tags_with (to_say declared) (priority-again (priority_of declared.tags) (is_default_priority declared.tags.failover_priority) refl i);
     watchdog = mode-again declared.watchdog i;
     device_works = device-again declared.device_works i;
     margin = margin-again declared.margin (declared.margin.seconds == unsaid_margin) refl i;

@@ -1,11 +1,9 @@
 -- One option as a word, the words behind a name, and what they say, each thing at most once.
-use Rattle.std.proofs.Common.{◌≡◌, ℕ, ◌+◌, ◌^◌, ◌<◌, ◌==◌, Bool, true, false, cond, List, [], ◌∷◌, ◌++◌, map, Option, Some, None, Result, Ok, Err, codes, refl, ◌∙◌, ap, sym, arith, append-nil}
+use Rattle.std.proofs.Common.{◌≡◌, ℕ, ◌^◌, ◌<◌, ◌==◌, Bool, true, false, cond, List, [], ◌∷◌, ◌++◌, map, Option, Some, None, Result, Ok, Err, codes, refl, ◌∙◌, ap, sym, arith, append-nil}
 use Rattle.std.specs.Fmt.{decimal, signed_decimal}
-use Rattle.std.specs.List.{count_by}
 use Rattle.std.specs.Option.{ok_or}
 use Rattle.std.specs.Str.{bytes_eq}
 use Rattle.std.proofs.lemmas.Bool.{eqb-true}
-use Rattle.std.proofs.lemmas.List.Sums.{sum_by-cons}
 use Rattle.std.proofs.lemmas.Slice.Eq.{bytes_eq-Decides}
 use Rattle.pat_base.specs.Host.{host_bytes}
 use Rattle.pat_base.specs.declared.host.Host.{Host}
@@ -15,15 +13,14 @@ use Rattle.script_words.specs.Faults.{on_ok}
 use Rattle.member_options.specs.Hosts.{host_of}
 use Rattle.script_words.specs.Lines.{first_at, push_byte}
 use Rattle.script_words.specs.Numbers.{number}
-use Rattle.member_options.specs.Options.{option_name_text, mode_text, device_text, name_and_value, option_text, behind_blanks, once_or_never, all_said, host_said, priority_said, mode_said, device_said, margin_said, is_no_failover, is_no_sync, is_no_load_balance, once_if}
-use Rattle.member_options.specs.OptionReading.{words_in, option_words, option_names, option_name_of, cut_name, host_in, priority_in, mode_in, device_in, margin_by_number, margin_in, option_of, known_option, option_in}
+use Rattle.member_options.specs.Options.{option_name_text, option_names, mode_text, device_text, name_and_value, option_text, behind_blanks}
+use Rattle.member_options.specs.OptionReading.{words_in, option_words, option_name_of, cut_name, host_in, priority_in, mode_in, device_in, margin_by_number, margin_in, option_of, known_option, option_in}
 use Rattle.member_options.specs.Ranges.{margin_of}
 use Rattle.script_words.specs.Words.{cut_word}
 use Rattle.script_words.specs.declared.fault.Fault.{Fault}
 use Rattle.script_words.specs.declared.fault.Fault.TheVariants as faults
 use Rattle.member_options.specs.declared.member_option.MemberOption.{MemberOption}
 use Rattle.member_options.specs.declared.member_option.MemberOption.TheVariants as options
-use Rattle.member_options.specs.declared.member_option.SaidOptions.{SaidOptions}
 use Rattle.member_options.specs.declared.option_name.OptionName.{OptionName}
 use Rattle.member_options.specs.declared.option_name.OptionName.TheVariants as names
 use Rattle.member_options.specs.declared.ranges.Margin.{Margin}
@@ -178,18 +175,3 @@ words-cut name (w ∷ ws) h k =
 
 pub options-cut : (name : List ℕ) (os : List MemberOption) → first_at 32 name ≡ None → AreCut (name ++ behind_blanks (map option_text os)) name (map option_text os)
 options-cut name os h = words-cut name (map option_text os) h (options-HaveNoBlank os)
-
--- options behind what is said, with which this is said, each at most once
-pub record SayMore (said : SaidOptions) (os : List MemberOption) (all : SaidOptions) : Type 0 where
-  pub host : once_or_never said.host ++ all_said host_said os ≡ once_or_never all.host
-  pub nofailover : once_if said.nofailover + count_by is_no_failover os ≡ once_if all.nofailover
-  pub nosync : once_if said.nosync + count_by is_no_sync os ≡ once_if all.nosync
-  pub noloadbalance : once_if said.noloadbalance + count_by is_no_load_balance os ≡ once_if all.noloadbalance
-  pub priority : once_or_never said.priority ++ all_said priority_said os ≡ once_or_never all.priority
-  pub watchdog : once_or_never said.watchdog ++ all_said mode_said os ≡ once_or_never all.watchdog
-  pub device : once_or_never said.device_works ++ all_said device_said os ≡ once_or_never all.device_works
-  pub margin : once_or_never said.margin ++ all_said margin_said os ≡ once_or_never all.margin
-
--- one flag more is counted once more
-pub counted : (test : MemberOption → Bool) (o : MemberOption) (os : List MemberOption) → test o ≡ true → count_by test (o ∷ os) ≡ 1 + count_by test os
-counted test o os is = sum_by-cons (λ x. cond (test x) 1 0) o os ∙ ap (λ t. cond t 1 0 + count_by test os) is

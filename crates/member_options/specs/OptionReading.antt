@@ -1,5 +1,5 @@
 -- What the words behind a member's name say, or the first of their faults in the order of faults.
-use Rattle.std.specs.Prelude.{ℕ, ◌==◌, nat_lt, ◌&&◌, not, Bool, true, false, if◌then◌else◌, List, [], ◌∷◌, Option, Some, None, Result, Ok, Err, codes, length}
+use Rattle.std.specs.Prelude.{ℕ, ◌==◌, nat_lt, ◌&&◌, not, Bool, true, false, if◌then◌else◌, List, [], ◌∷◌, Option, Some, None, is_some, Result, Ok, Err, codes, length}
 use Rattle.std.specs.Char.{is_ascii_digit}
 use Rattle.std.specs.List.{find, list_all}
 use Rattle.std.specs.Option.{ok_or, option_and_then}
@@ -11,7 +11,7 @@ use Rattle.script_words.specs.Faults.{on_ok, both}
 use Rattle.member_options.specs.Hosts.{host_of}
 use Rattle.script_words.specs.Lines.{push_byte, first_at}
 use Rattle.script_words.specs.Numbers.{number}
-use Rattle.member_options.specs.Options.{option_name_text, nothing_said, options_or_default}
+use Rattle.member_options.specs.Options.{option_name_text, option_names, name_of_option, nothing_said, options_or_default}
 use Rattle.member_options.specs.Ranges.{margin_of, priority_from_zero, priority_below_zero}
 use Rattle.script_words.specs.Words.{cut_at}
 use Rattle.script_words.specs.declared.fault.Fault.{Fault}
@@ -34,10 +34,6 @@ words_in (b ∷ bs) = if b == 32 then [] ∷ words_in bs else push_byte b (words
 abbrev pub option_words : Option (List ℕ) → List (List ℕ)
 option_words None = []
 option_words (Some words) = words_in words
-
--- all names of options
-abbrev pub option_names : List OptionName
-option_names = names.Host ∷ names.NoFailover ∷ names.NoSync ∷ names.NoLoadBalance ∷ names.Priority ∷ names.Watchdog ∷ names.Device ∷ names.Margin ∷ []
 
 -- the option of this name
 abbrev pub option_name_of : List ℕ → Option OptionName
@@ -128,26 +124,31 @@ known_option (Some name) (Some value) = option_of name value
 abbrev pub option_in : List ℕ → Result MemberOption Fault
 option_in word = known_option (option_name_of (cut_name word).0) (cut_name word).1
 
--- what is said for the first time
-abbrev pub said_first : {A : Type 0} → Option A → A → Result (Option A) Fault
-said_first None x = Ok (Some x)
-said_first (Some before) x = Err faults.Duplicate
+-- something is said under this name
+abbrev pub is_said : OptionName → SaidOptions → Bool
+is_said names.Host said = is_some said.host
+is_said names.NoFailover said = said.nofailover
+is_said names.NoSync said = said.nosync
+is_said names.NoLoadBalance said = said.noloadbalance
+is_said names.Priority said = is_some said.priority
+is_said names.Watchdog said = is_some said.watchdog
+is_said names.Device said = is_some said.device_works
+is_said names.Margin said = is_some said.margin
 
--- a flag that is said for the first time
-abbrev pub said_once : Bool → Result Bool Fault
-said_once false = Ok true
-said_once true = Err faults.Duplicate
+-- what is said, with what this option says
+abbrev pub saying : MemberOption → SaidOptions → SaidOptions
+saying (options.Host host) said = record said { host = Some host }
+saying options.NoFailover said = record said { nofailover = true }
+saying options.NoSync said = record said { nosync = true }
+saying options.NoLoadBalance said = record said { noloadbalance = true }
+saying (options.Priority priority) said = record said { priority = Some priority }
+saying (options.Watchdog mode) said = record said { watchdog = Some mode }
+saying (options.Device works) said = record said { device_works = Some works }
+saying (options.Margin margin) said = record said { margin = Some margin }
 
 -- one more option behind what is said
 abbrev pub with_option : SaidOptions → MemberOption → Result SaidOptions Fault
-with_option said (options.Host host) = on_ok (said_first said.host host) (λ o. Ok (record said { host = o }))
-with_option said options.NoFailover = on_ok (said_once said.nofailover) (λ o. Ok (record said { nofailover = o }))
-with_option said options.NoSync = on_ok (said_once said.nosync) (λ o. Ok (record said { nosync = o }))
-with_option said options.NoLoadBalance = on_ok (said_once said.noloadbalance) (λ o. Ok (record said { noloadbalance = o }))
-with_option said (options.Priority priority) = on_ok (said_first said.priority priority) (λ o. Ok (record said { priority = o }))
-with_option said (options.Watchdog mode) = on_ok (said_first said.watchdog mode) (λ o. Ok (record said { watchdog = o }))
-with_option said (options.Device works) = on_ok (said_first said.device_works works) (λ o. Ok (record said { device_works = o }))
-with_option said (options.Margin margin) = on_ok (said_first said.margin margin) (λ o. Ok (record said { margin = o }))
+with_option said option = if is_said (name_of_option option) said then Err faults.Duplicate else Ok (saying option said)
 
 -- one more word behind others
 abbrev pub with_word : Result SaidOptions Fault → List ℕ → Result SaidOptions Fault

@@ -1,7 +1,7 @@
 -- What the options of a member's line say, and how they are spelled.
 use Rattle.std.specs.Prelude.{ℕ, ℤ, pos, negsuc, ◌≡◌, ◌==◌, Bool, true, false, if◌then◌else◌, List, [], ◌∷◌, ◌++◌, Option, Some, None, codes}
 use Rattle.std.specs.Fmt.{decimal, signed_decimal}
-use Rattle.std.specs.List.{count_by}
+use Rattle.std.specs.List.{filter, flat_map}
 use Rattle.std.specs.Str.{bytes_eq}
 use Rattle.pat_base.specs.Host.{host_bytes, local_host}
 use Rattle.pat_base.specs.declared.host.Host.{Host}
@@ -62,71 +62,64 @@ abbrev pub behind_blanks : List (List ℕ) → List ℕ
 behind_blanks [] = []
 behind_blanks (word ∷ words) = 32 ∷ (word ++ behind_blanks words)
 
--- what is said once, or not at all
-abbrev pub once_or_never : {A : Type 0} → Option A → List A
-once_or_never None = []
-once_or_never (Some x) = x ∷ []
+-- what an option is about
+abbrev pub name_of_option : MemberOption → OptionName
+name_of_option (options.Host host) = names.Host
+name_of_option options.NoFailover = names.NoFailover
+name_of_option options.NoSync = names.NoSync
+name_of_option options.NoLoadBalance = names.NoLoadBalance
+name_of_option (options.Priority priority) = names.Priority
+name_of_option (options.Watchdog mode) = names.Watchdog
+name_of_option (options.Device works) = names.Device
+name_of_option (options.Margin margin) = names.Margin
 
--- what options say by this, in order
-abbrev pub all_said : {A : Type 0} → (MemberOption → Option A) → List MemberOption → List A
-all_said say [] = []
-all_said say (o ∷ os) = once_or_never (say o) ++ all_said say os
+-- all names of options, in order
+abbrev pub option_names : List OptionName
+option_names = names.Host ∷ names.NoFailover ∷ names.NoSync ∷ names.NoLoadBalance ∷ names.Priority ∷ names.Watchdog ∷ names.Device ∷ names.Margin ∷ []
 
--- the host that an option says
-abbrev pub host_said : MemberOption → Option Host
-host_said (options.Host host) = Some host
-host_said _ = None
+-- the place of a name in that order
+abbrev pub option_place : OptionName → ℕ
+option_place names.Host = 0
+option_place names.NoFailover = 1
+option_place names.NoSync = 2
+option_place names.NoLoadBalance = 3
+option_place names.Priority = 4
+option_place names.Watchdog = 5
+option_place names.Device = 6
+option_place names.Margin = 7
 
--- the priority that an option says
-abbrev pub priority_said : MemberOption → Option Priority
-priority_said (options.Priority priority) = Some priority
-priority_said _ = None
+-- two names are one
+abbrev pub same_option_name : OptionName → OptionName → Bool
+same_option_name first second = option_place first == option_place second
 
--- the mode that an option says
-abbrev pub mode_said : MemberOption → Option Mode
-mode_said (options.Watchdog mode) = Some mode
-mode_said _ = None
+-- the options of this name, in order
+abbrev pub options_of_name : OptionName → List MemberOption → List MemberOption
+options_of_name name words = filter (λ option. same_option_name name (name_of_option option)) words
 
--- what an option says of the device
-abbrev pub device_said : MemberOption → Option Bool
-device_said (options.Device works) = Some works
-device_said _ = None
+-- the option that says this, where anything is said
+abbrev pub option_said : {A : Type 0} → (A → MemberOption) → Option A → List MemberOption
+option_said option None = []
+option_said option (Some x) = option x ∷ []
 
--- the margin that an option says
-abbrev pub margin_said : MemberOption → Option Margin
-margin_said (options.Margin margin) = Some margin
-margin_said _ = None
+-- the option of a flag, where it is set
+abbrev pub flag_said : MemberOption → Bool → List MemberOption
+flag_said option true = option ∷ []
+flag_said option false = []
 
--- an option is 'nofailover=true'
-abbrev pub is_no_failover : MemberOption → Bool
-is_no_failover options.NoFailover = true
-is_no_failover _ = false
+-- the option that says what is said under this name, if anything is
+abbrev pub said_by : OptionName → SaidOptions → List MemberOption
+said_by names.Host said = option_said options.Host said.host
+said_by names.NoFailover said = flag_said options.NoFailover said.nofailover
+said_by names.NoSync said = flag_said options.NoSync said.nosync
+said_by names.NoLoadBalance said = flag_said options.NoLoadBalance said.noloadbalance
+said_by names.Priority said = option_said options.Priority said.priority
+said_by names.Watchdog said = option_said options.Watchdog said.watchdog
+said_by names.Device said = option_said options.Device said.device_works
+said_by names.Margin said = option_said options.Margin said.margin
 
--- an option is 'nosync=true'
-abbrev pub is_no_sync : MemberOption → Bool
-is_no_sync options.NoSync = true
-is_no_sync _ = false
-
--- an option is 'noloadbalance=true'
-abbrev pub is_no_load_balance : MemberOption → Bool
-is_no_load_balance options.NoLoadBalance = true
-is_no_load_balance _ = false
-
--- how often a flag is said that is said once, or not at all
-abbrev pub once_if : Bool → ℕ
-once_if true = 1
-once_if false = 0
-
--- options in any order that say this, each at most once
-pub record SayOnce (words : List MemberOption) (said : SaidOptions) : Type 0 where
-  pub host : all_said host_said words ≡ once_or_never said.host
-  pub nofailover : count_by is_no_failover words ≡ once_if said.nofailover
-  pub nosync : count_by is_no_sync words ≡ once_if said.nosync
-  pub noloadbalance : count_by is_no_load_balance words ≡ once_if said.noloadbalance
-  pub priority : all_said priority_said words ≡ once_or_never said.priority
-  pub watchdog : all_said mode_said words ≡ once_or_never said.watchdog
-  pub device : all_said device_said words ≡ once_or_never said.device_works
-  pub margin : all_said margin_said words ≡ once_or_never said.margin
+-- options in any order that say this, each at most once: under each name stands the one option that says it, or none
+abbrev pub SayOnce : List MemberOption → SaidOptions → Type 0
+SayOnce words said = (name : OptionName) → options_of_name name words ≡ said_by name said
 
 -- no option says anything
 abbrev pub nothing_said : SaidOptions
@@ -180,14 +173,9 @@ options_or_default said = record { host = host_or_default said.host; tags = tags
 abbrev pub unsaid_options : MemberOptions
 unsaid_options = options_or_default nothing_said
 
--- the option of a host that has to be said: of any but the default
-abbrev pub host_to_say : Host → List MemberOption
-host_to_say host = if bytes_eq (host_bytes host) (host_bytes local_host) then [] else options.Host host ∷ []
-
--- the option of a flag, where it is set
-abbrev pub flag_to_say : MemberOption → Bool → List MemberOption
-flag_to_say option true = option ∷ []
-flag_to_say option false = []
+-- what has to be said of a host: any but the default
+abbrev pub host_to_say : Host → Option Host
+host_to_say host = if bytes_eq (host_bytes host) (host_bytes local_host) then None else Some host
 
 -- a priority is the default
 abbrev pub is_default_priority : ℤ → Bool
@@ -198,33 +186,42 @@ is_default_priority (negsuc less) = false
 abbrev pub priority_of : Tags → Priority
 priority_of tags = record { number = tags.failover_priority; lowest = tags.lowest; highest = tags.highest }
 
--- the option of a priority that has to be said: of any but the default
-abbrev pub priority_to_say : Priority → List MemberOption
-priority_to_say priority = if is_default_priority priority.number then [] else options.Priority priority ∷ []
+-- what has to be said of a priority: any but the default
+abbrev pub priority_to_say : Priority → Option Priority
+priority_to_say priority = if is_default_priority priority.number then None else Some priority
 
--- the option of a mode that has to be said: of any but the default
-abbrev pub mode_to_say : Mode → List MemberOption
-mode_to_say modes.Off = options.Watchdog modes.Off ∷ []
-mode_to_say modes.Automatic = []
-mode_to_say modes.Required = options.Watchdog modes.Required ∷ []
+-- what has to be said of a mode: any but the default
+abbrev pub mode_to_say : Mode → Option Mode
+mode_to_say modes.Off = Some modes.Off
+mode_to_say modes.Automatic = None
+mode_to_say modes.Required = Some modes.Required
 
--- the option of a device, where it doesn't work
-abbrev pub device_to_say : Bool → List MemberOption
-device_to_say true = []
-device_to_say false = options.Device false ∷ []
+-- what has to be said of a device: that it doesn't work
+abbrev pub device_to_say : Bool → Option Bool
+device_to_say true = None
+device_to_say false = Some false
 
--- the option of a margin that has to be said: of any but the default
-abbrev pub margin_to_say : Margin → List MemberOption
-margin_to_say margin = if margin.seconds == unsaid_margin then [] else options.Margin margin ∷ []
+-- what has to be said of a margin: any but the default
+abbrev pub margin_to_say : Margin → Option Margin
+margin_to_say margin = if margin.seconds == unsaid_margin then None else Some margin
 
--- the options of a watchdog that have to be said, in order
-abbrev pub watchdog_to_say : MemberOptions → List MemberOption
-watchdog_to_say declared = mode_to_say declared.watchdog ++ (device_to_say declared.device_works ++ margin_to_say declared.margin)
+-- what has to be said of what is declared
+abbrev pub to_say : MemberOptions → SaidOptions
+to_say declared = record {
+  host = host_to_say declared.host;
+  nofailover = declared.tags.nofailover;
+  nosync = declared.tags.nosync;
+  noloadbalance = declared.tags.noloadbalance;
+  priority = priority_to_say (priority_of declared.tags);
+  watchdog = mode_to_say declared.watchdog;
+  device_works = device_to_say declared.device_works;
+  margin = margin_to_say declared.margin;
+}
 
--- the options of tags that have to be said, in order, in front of others
-abbrev pub tags_to_say : Tags → List MemberOption → List MemberOption
-tags_to_say tags others = flag_to_say options.NoFailover tags.nofailover ++ (flag_to_say options.NoSync tags.nosync ++ (flag_to_say options.NoLoadBalance tags.noloadbalance ++ (priority_to_say (priority_of tags) ++ others)))
+-- the options that say this, in order
+abbrev pub options_saying : SaidOptions → List MemberOption
+options_saying said = flat_map (λ name. said_by name said) option_names
 
 -- the options that have to be said, in order
 abbrev pub options_to_say : MemberOptions → List MemberOption
-options_to_say declared = host_to_say declared.host ++ tags_to_say declared.tags (watchdog_to_say declared)
+options_to_say declared = options_saying (to_say declared)

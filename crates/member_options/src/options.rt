@@ -1,8 +1,8 @@
 //! The options of a member's line.
 ghost use Rattle.std.specs.Prelude.{◌≡◌, Option, None, Some, Ok};
 ghost use Rattle.std.specs.Option.{option_copied};
-ghost use Rattle.member_options.specs.Options.{option_name_text, host_or_default, priority_or_default, tags_or_default, mode_or_default, works_or_default, margin_or_default, nothing_said, options_or_default};
-ghost use Rattle.member_options.specs.OptionReading.{option_name_of, cut_name, host_in, flag_in, mode_in, device_in, has_leading_zero, are_digits, is_decimal, is_whole, no_priority, priority_found, priority_in, no_margin, margin_in, option_of, known_option, option_in, said_first, said_once, with_option, with_word, said_in, options_in};
+ghost use Rattle.member_options.specs.Options.{option_name_text, name_of_option, host_or_default, priority_or_default, tags_or_default, mode_or_default, works_or_default, margin_or_default, nothing_said, options_or_default};
+ghost use Rattle.member_options.specs.OptionReading.{option_name_of, cut_name, host_in, flag_in, mode_in, device_in, has_leading_zero, are_digits, is_decimal, is_whole, no_priority, priority_found, priority_in, no_margin, margin_in, option_of, known_option, option_in, is_said, saying, with_option, with_word, said_in, options_in};
 
 use crate::member_option::{MemberOption, MemberOptions, SaidOptions};
 use crate::option_name::OptionName;
@@ -226,22 +226,75 @@ fn option_in(word: &[u8]) -> Result<MemberOption, Fault>
     known_option(option_name_of(name), value)
 }
 
-fn said_first<A: Drop>(before: Option<A>, said: A) -> Result<Option<A>, Fault>
-    ensures { result ≡ said_first before said }
+/// What an option is about.
+fn name_of_option(option: MemberOption) -> OptionName
+    ensures { result ≡ name_of_option option }
 {
-    match before {
-        None => Ok(Some(said)),
-        Some(_) => Err(Fault::Duplicate),
+    match option {
+        MemberOption::Host(_) => OptionName::Host,
+        MemberOption::NoFailover => OptionName::NoFailover,
+        MemberOption::NoSync => OptionName::NoSync,
+        MemberOption::NoLoadBalance => OptionName::NoLoadBalance,
+        MemberOption::Priority(_) => OptionName::Priority,
+        MemberOption::Watchdog(_) => OptionName::Watchdog,
+        MemberOption::Device(_) => OptionName::Device,
+        MemberOption::Margin(_) => OptionName::Margin,
     }
 }
 
-fn said_once(before: bool) -> Result<bool, Fault>
-    ensures { result ≡ said_once before }
+/// Whether something is said under this name.
+fn is_said(name: OptionName, said: &SaidOptions) -> bool
+    ensures { result ≡ is_said name said.now }
 {
-    if before {
-        Err(Fault::Duplicate)
-    } else {
-        Ok(true)
+    match name {
+        OptionName::Host => said.host.is_some(),
+        OptionName::NoFailover => said.nofailover,
+        OptionName::NoSync => said.nosync,
+        OptionName::NoLoadBalance => said.noloadbalance,
+        OptionName::Priority => said.priority.is_some(),
+        OptionName::Watchdog => said.watchdog.is_some(),
+        OptionName::Device => said.device_works.is_some(),
+        OptionName::Margin => said.margin.is_some(),
+    }
+}
+
+/// What is said, with what this option says.
+fn saying(option: MemberOption, said: SaidOptions) -> SaidOptions
+    ensures { result ≡ saying option said }
+{
+    match option {
+        MemberOption::Host(host) => SaidOptions {
+            host: Some(host),
+            ..said
+        },
+        MemberOption::NoFailover => SaidOptions {
+            nofailover: true,
+            ..said
+        },
+        MemberOption::NoSync => SaidOptions {
+            nosync: true,
+            ..said
+        },
+        MemberOption::NoLoadBalance => SaidOptions {
+            noloadbalance: true,
+            ..said
+        },
+        MemberOption::Priority(priority) => SaidOptions {
+            priority: Some(priority),
+            ..said
+        },
+        MemberOption::Watchdog(mode) => SaidOptions {
+            watchdog: Some(mode),
+            ..said
+        },
+        MemberOption::Device(works) => SaidOptions {
+            device_works: Some(works),
+            ..said
+        },
+        MemberOption::Margin(margin) => SaidOptions {
+            margin: Some(margin),
+            ..said
+        },
     }
 }
 
@@ -249,39 +302,10 @@ fn said_once(before: bool) -> Result<bool, Fault>
 fn with_option(said: SaidOptions, option: MemberOption) -> Result<SaidOptions, Fault>
     ensures { result ≡ with_option said option }
 {
-    match option {
-        MemberOption::Host(host) => Ok(SaidOptions {
-            host: said_first(said.host, host)?,
-            ..said
-        }),
-        MemberOption::NoFailover => Ok(SaidOptions {
-            nofailover: said_once(said.nofailover)?,
-            ..said
-        }),
-        MemberOption::NoSync => Ok(SaidOptions {
-            nosync: said_once(said.nosync)?,
-            ..said
-        }),
-        MemberOption::NoLoadBalance => Ok(SaidOptions {
-            noloadbalance: said_once(said.noloadbalance)?,
-            ..said
-        }),
-        MemberOption::Priority(priority) => Ok(SaidOptions {
-            priority: said_first(said.priority, priority)?,
-            ..said
-        }),
-        MemberOption::Watchdog(mode) => Ok(SaidOptions {
-            watchdog: said_first(said.watchdog, mode)?,
-            ..said
-        }),
-        MemberOption::Device(works) => Ok(SaidOptions {
-            device_works: said_first(said.device_works, works)?,
-            ..said
-        }),
-        MemberOption::Margin(margin) => Ok(SaidOptions {
-            margin: said_first(said.margin, margin)?,
-            ..said
-        }),
+    if is_said(name_of_option(option), &said) {
+        Err(Fault::Duplicate)
+    } else {
+        Ok(saying(option, said))
     }
 }
 

@@ -1,36 +1,29 @@
 -- The lines of a script and nothing else spell it.
-use Rattle.std.proofs.Common.{◌≡◌, ℕ, ◌+◌, ◌*◌, ◌^◌, ◌≤◌, ◌<◌, ℤ, pos, negsuc, ◌≤ℤ◌, suc, ◌==◌, Bool, true, false, cond, List, [], ◌∷◌, ◌++◌, length, map, slice_get, codes, Option, Some, None, Result, Ok, append-nil, refl, ◌∙◌, ap, sym, subst, arith, length-append}
-use Rattle.std.specs.Fmt.{decimal, signed_decimal}
+use Rattle.std.proofs.Common.{◌≡◌, ℕ, ◌+◌, ◌*◌, ◌^◌, ◌≤◌, ◌<◌, ◌==◌, Bool, true, false, cond, List, [], ◌∷◌, ◌++◌, length, map, slice_get, codes, Option, Some, None, Result, Ok, append-nil, refl, ◌∙◌, ap, sym, subst, arith}
+use Rattle.std.specs.Fmt.{decimal}
 use Rattle.std.specs.List.{list_all}
 use Rattle.std.specs.Str.{is_utf8, bytes_eq}
-use Rattle.std.proofs.lemmas.Bool.{and_parts, and_from, eqb-true}
+use Rattle.std.proofs.lemmas.Bool.{and_parts, eqb-true}
 use Rattle.std.proofs.lemmas.Bool.Decides.{nat_tests}
 use Rattle.std.proofs.lemmas.List.Folds.{list_all-append}
 use Rattle.std.proofs.lemmas.Grind.{flat_map-append}
 use Rattle.std.proofs.lemmas.List.{map-append}
 use Rattle.std.proofs.lemmas.Slice.Eq.{bytes_eq-Decides}
 use Rattle.std.proofs.lemmas.Str.{IsUtf8-append, IsUtf8-from_is_utf8, is_utf8-from_IsUtf8}
-use Rattle.pat_base.specs.Bounded.{is_text-bytes, is_text-fits}
-use Rattle.pat_base.specs.Host.{host_bytes, local_host}
-use Rattle.pat_base.specs.HostText.{is_host, is_host_byte}
 use Rattle.pat_base.specs.Name.{name_bytes}
 use Rattle.pat_base.specs.declared.name.Name.{Name}
 use Rattle.pat_base.specs.declared.member_id.MemberId.{MemberId}
-use Rattle.leader_key.specs.declared.watchdog.Mode.{Mode}
-use Rattle.leader_key.specs.declared.watchdog.Mode.TheVariants as modes
 use Rattle.lease_store.specs.Defaults.{default_settings}
 use Rattle.lease_store.specs.Settings.{Settings}
 use Rattle.cluster_config.specs.ConfigReading.{config_read, IsConfiguration}
 use Rattle.cluster_config.specs.declared.config_fault.ConfigFault.{ConfigFault}
 use Rattle.cluster_config.proofs.LineLaws.{config_read-line, config_read-utf8, config_read-empty}
 use Rattle.script_words.specs.Lines.{ended, lines_in, is_skipped, counted_lines, is_in_line}
-use Rattle.member_options.specs.Margins.{unsaid_margin}
-use Rattle.member_options.specs.Options.{option_text, behind_blanks, host_to_say, flag_to_say, is_default_priority, priority_of, priority_to_say, mode_to_say, device_to_say, options_to_say}
+use Rattle.member_options.specs.Options.{option_text, behind_blanks, options_to_say}
 use Rattle.cluster_script.specs.Reading.{script_of}
 use Rattle.script_model.specs.Script.{MemberText, HeadText, ScriptText, names_of, cluster_text, shortest_line, IsScript, IsCommand, IsLine, AllAreLines, member_text, end_word, switch_text, slowed_call_text, two_texts, command_text, line_text, config_text, config_or_default, default_base, base_or_default, base_lines, base_to_say, config_lines, config_to_say, head_lines, body_lines, script_lines, spelling_of, IsShort, request_text, rest_text, IsRequest}
 use Rattle.script_model.specs.Spelling.{MemberLine, HeadLine, ConfigLine, BaseLine, MembersLine, head_line_text, config_said, base_said, member_said, configs_said, bases_said, members_said, at_most_one, read_at_most_once, IsHeadLines, AllInForm, OwnText, SpellBody, Spells}
 use Rattle.script_model.specs.Keywords.{spelled, word_of}
-use Rattle.member_options.specs.declared.member_option.MemberOptions.{MemberOptions}
 use Rattle.script_model.specs.declared.keyword.Keyword.{Keyword}
 use Rattle.script_model.specs.declared.keyword.Keyword.TheVariants as words
 use Rattle.script_model.specs.declared.line.End.{End}
@@ -44,11 +37,10 @@ use Rattle.script_model.specs.declared.line.SlowedCall.TheVariants as slowed_cal
 use Rattle.member_options.specs.declared.member_option.MemberOption.{MemberOption}
 use Rattle.member_options.specs.declared.member_option.MemberOption.TheVariants as options
 use Rattle.rest_api.specs.declared.call.RestCall.{RestCall}
-use Rattle.member_options.proofs.OptionCanonLaws.{options-enough}
-use Rattle.member_options.proofs.OptionWords.{margin-fits}
-use Rattle.script_words.proofs.PlainTexts.{is_plain, IsPlain, IsPlain-append, IsPlain-most, blank-IsPlain, name-IsPlain, decimal-IsPlain, plain-is_utf8, no-feeds}
+use Rattle.member_options.proofs.OptionCanonLaws.{few-options, options-enough}
+use Rattle.member_options.proofs.OptionTexts.{options-IsPlain}
+use Rattle.script_words.proofs.PlainTexts.{IsPlain, IsPlain-append, IsPlain-most, blank-IsPlain, name-IsPlain, decimal-IsPlain, plain-is_utf8, no-feeds}
 use Rattle.cluster_script.proofs.FirstWordLaws.{some_name-IsPlain, word-IsPlain}
-use Rattle.member_options.proofs.PriorityLaws.{fits-from-zero, fits-below-zero}
 use Rattle.cluster_script.proofs.RequestLaws.{request-one-line}
 use Rattle.script_law.proofs.SpellLaws.{size-fits, delay-fits, base-fits, spelled-is-read}
 use Rattle.script_law.proofs.FirstWords.{spelled-counts}
@@ -145,78 +137,6 @@ name-line : (keyword : Keyword) (name : Name) → IsLineText (spelled keyword (n
 name-line keyword name = spelled-IsLineText keyword (name_bytes name) (IsPlain-most (name_bytes name) 32 500 (omega arith) (name-IsPlain name))
 
 -- the line of a member with its options
-host-byte : (b : ℕ) → is_host_byte b ≡ true → is_plain b ≡ true
-host-byte b h = grind (arith, nat_tests)
-
-host-bytes : (v : List ℕ) → list_all is_host_byte v ≡ true → list_all is_plain v ≡ true
-host-bytes [] h = refl
-host-bytes (b ∷ bs) h =
-    let both = and_parts (is_host_byte b) (list_all is_host_byte bs) h in
-    and_from (is_plain b) (list_all is_plain bs) (host-byte b both.0) (host-bytes bs both.1)
-
-host-text-IsPlain : (v : List ℕ) → is_host v ≡ true → IsPlain v 40
-host-text-IsPlain v h = record { plain = host-bytes v (is_text-bytes 40 is_host_byte v h); short = is_text-fits 40 is_host_byte v h }
-
-whole_number-IsPlain : (z : ℤ) → negsuc 999 ≤ℤ z → z ≤ℤ pos 1000 → IsPlain (signed_decimal z) 21
-whole_number-IsPlain (pos n) low high = IsPlain-most (decimal n) 20 21 (omega arith) (decimal-IsPlain n (fits-from-zero n high))
-whole_number-IsPlain (negsuc less) low high = IsPlain-append (45 ∷ []) (decimal (suc less)) 1 20 (record { plain = refl; short = omega arith }) (decimal-IsPlain (suc less) (fits-below-zero less low))
-
-option-IsPlain : (o : MemberOption) → IsPlain (option_text o) 45
-option-IsPlain (options.Host host) = IsPlain-append (codes "host=") (host_bytes host) 5 40 (record { plain = refl; short = omega arith }) (host-text-IsPlain (host_bytes host) host.legal)
-option-IsPlain options.NoFailover = record { plain = refl; short = omega arith }
-option-IsPlain options.NoSync = record { plain = refl; short = omega arith }
-option-IsPlain options.NoLoadBalance = record { plain = refl; short = omega arith }
-option-IsPlain (options.Priority priority) =
-    IsPlain-append (codes "priority=") (signed_decimal priority.number) 9 36 (record { plain = refl; short = omega arith })
-    (IsPlain-most (signed_decimal priority.number) 21 36 (omega arith) (whole_number-IsPlain priority.number priority.lowest priority.highest))
-option-IsPlain (options.Watchdog modes.Off) = record { plain = refl; short = omega arith }
-option-IsPlain (options.Watchdog modes.Automatic) = record { plain = refl; short = omega arith }
-option-IsPlain (options.Watchdog modes.Required) = record { plain = refl; short = omega arith }
-option-IsPlain (options.Device true) = record { plain = refl; short = omega arith }
-option-IsPlain (options.Device false) = record { plain = refl; short = omega arith }
-option-IsPlain (options.Margin margin) =
-    IsPlain-append (codes "margin=") (decimal margin.seconds) 7 38 (record { plain = refl; short = omega arith })
-    (IsPlain-most (decimal margin.seconds) 20 38 (omega arith) (decimal-IsPlain margin.seconds (margin-fits margin)))
-
-options-IsPlain : (os : List MemberOption) → IsPlain (behind_blanks (map option_text os)) (length os * 46)
-options-IsPlain [] = record { plain = refl; short = omega arith }
-options-IsPlain (o ∷ os) =
-    let whole : IsPlain (option_text o ++ behind_blanks (map option_text os)) (45 + length os * 46) = IsPlain-append (option_text o) (behind_blanks (map option_text os)) 45 (length os * 46) (option-IsPlain o) (options-IsPlain os) in
-    IsPlain-most (32 ∷ (option_text o ++ behind_blanks (map option_text os))) ((45 + length os * 46) + 1) (length (o ∷ os) * 46) (omega arith) (blank-IsPlain (option_text o ++ behind_blanks (map option_text os)) (45 + length os * 46) whole)
-
--- at most so many options in front of at most so many others
-few-more : (front others : List MemberOption) (n : ℕ) → length front ≤ 1 → length others ≤ n → length (front ++ others) ≤ n + 1
-few-more front others n one few = omega (arith, length-append front others, one, few)
-
-one-mode : (mode : Mode) → length (mode_to_say mode) ≤ 1
-one-mode modes.Off = omega arith
-one-mode modes.Automatic = omega arith
-one-mode modes.Required = omega arith
-
-one-device : (works : Bool) → length (device_to_say works) ≤ 1
-one-device true = omega arith
-one-device false = omega arith
-
-one-flag : (o : MemberOption) (set : Bool) → length (flag_to_say o set) ≤ 1
-one-flag o true = omega arith
-one-flag o false = omega arith
-
-one-of : (t : Bool) (o : MemberOption) → length (cond t [] (o ∷ [])) ≤ 1
-one-of true o = omega arith
-one-of false o = omega arith
-
-few-options : (declared : MemberOptions) → length (options_to_say declared) ≤ 8
-few-options declared =
-    let tags = declared.tags in
-    few-more (host_to_say declared.host) _ 7 (one-of (bytes_eq (host_bytes declared.host) (host_bytes local_host)) (options.Host declared.host))
-    (few-more (flag_to_say options.NoFailover tags.nofailover) _ 6 (one-flag options.NoFailover tags.nofailover)
-    (few-more (flag_to_say options.NoSync tags.nosync) _ 5 (one-flag options.NoSync tags.nosync)
-    (few-more (flag_to_say options.NoLoadBalance tags.noloadbalance) _ 4 (one-flag options.NoLoadBalance tags.noloadbalance)
-    (few-more (priority_to_say (priority_of tags)) _ 3 (one-of (is_default_priority tags.failover_priority) (options.Priority (priority_of tags)))
-    (few-more (mode_to_say declared.watchdog) _ 2 (one-mode declared.watchdog)
-    (few-more (device_to_say declared.device_works) _ 1 (one-device declared.device_works)
-    (one-of (declared.margin.seconds == unsaid_margin) (options.Margin declared.margin))))))))
-
 member-line : (m : MemberText) → IsLineText (shortest_line m)
 member-line m =
     let os : List MemberOption = options_to_say m.options in
