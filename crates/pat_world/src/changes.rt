@@ -10,7 +10,7 @@ ghost use Rattle.event_book.specs.Keys.{keys_after};
 ghost use Rattle.event_book.specs.Links.{cuts_after};
 ghost use Rattle.event_book.specs.Watchdogs.{deadlines_after, holds_after};
 ghost use Rattle.agent_model.specs.Agents.{latest};
-ghost use Rattle.cluster_model.specs.Limits.{most_members};
+ghost use Rattle.script_model.specs.Bounds.{most_members};
 ghost use Rattle.lease_store.specs.Keys.{Keys};
 ghost use Rattle.pat_world.specs.Apart.{agents_apart};
 ghost use Rattle.pat_world.specs.Comes.{IsBare};

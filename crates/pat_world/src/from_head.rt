@@ -4,7 +4,7 @@ ghost use Rattle.pat_base.specs.MemberId.{member_of};
 ghost use Rattle.script_model.specs.Script.{names_of};
 ghost use Rattle.event_book.specs.Processes.{first_processes};
 ghost use Rattle.event_book.specs.Members.{members_from};
-ghost use Rattle.cluster_model.specs.Limits.{most_members};
+ghost use Rattle.script_model.specs.Bounds.{most_members};
 ghost use Rattle.cluster_model.specs.Machines.{hosts_of};
 ghost use Rattle.cluster_model.specs.Starting.{options_of};
 

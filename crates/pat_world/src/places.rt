@@ -5,7 +5,7 @@ ghost use Rattle.agent_model.specs.Agents.{AgentFacts, IsWithin, latest, most_me
 ghost use Rattle.agent_model.specs.Outputs.{most_outputs};
 ghost use Rattle.cluster_model.specs.Cluster.{agent_after, agent_facts_moved, agent_facts_by_watchdog, agent_facts_without};
 ghost use Rattle.cluster_model.specs.Inputs.{agent_at, outcome_at, outputs_of, standing, starting_agent};
-ghost use Rattle.cluster_model.specs.Limits.{most_members};
+ghost use Rattle.script_model.specs.Bounds.{most_members};
 ghost use Rattle.cluster_model.specs.Starting.{first_agent};
 ghost use Rattle.pat_world.specs.Room.{HasNumbers};
 

@@ -83,7 +83,7 @@ pub struct Stage {
 
 impl Model for Stage {
     ghost use Rattle.std.specs.Prelude.{◌≡◌, ◌≤◌, [], length};
-    ghost use Rattle.cluster_model.specs.Limits.{most_members};
+    ghost use Rattle.script_model.specs.Bounds.{most_members};
     ghost use Rattle.cluster_model.specs.Machines.{hosts_of};
     ghost use Rattle.cluster_model.specs.State.{Cluster};
     ghost use Rattle.pat_world.specs.FlightIndex.{AreNumbered, AreTended};

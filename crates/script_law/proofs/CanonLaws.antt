@@ -3,6 +3,7 @@ use Rattle.std.proofs.Common.{◌≡◌, ℕ, ◌+◌, ◌*◌, ◌^◌, ◌≤�
 use Rattle.std.specs.Fmt.{decimal}
 use Rattle.std.specs.List.{list_all}
 use Rattle.std.specs.Str.{is_utf8, bytes_eq}
+use Rattle.std.specs.Option.{option_to_list}
 use Rattle.std.proofs.lemmas.Bool.{and_parts, eqb-true}
 use Rattle.std.proofs.lemmas.Bool.Decides.{nat_tests}
 use Rattle.std.proofs.lemmas.List.Folds.{list_all-append}
@@ -21,8 +22,9 @@ use Rattle.cluster_config.proofs.LineLaws.{config_read-line, config_read-utf8, c
 use Rattle.script_words.specs.Lines.{ended, lines_in, is_skipped, counted_lines, is_in_line}
 use Rattle.member_options.specs.Options.{option_text, behind_blanks, options_to_say}
 use Rattle.cluster_script.specs.Reading.{script_of}
+use Rattle.script_model.specs.Bounds.{longest_line}
 use Rattle.script_model.specs.Script.{MemberText, HeadText, ScriptText, names_of, cluster_text, shortest_line, IsScript, IsCommand, IsLine, AllAreLines, member_text, end_word, switch_text, slowed_call_text, two_texts, command_text, line_text, config_text, config_or_default, default_base, base_or_default, base_lines, base_to_say, config_lines, config_to_say, head_lines, body_lines, script_lines, spelling_of, IsShort, request_text, rest_text, IsRequest}
-use Rattle.script_model.specs.Spelling.{MemberLine, HeadLine, ConfigLine, BaseLine, MembersLine, head_line_text, config_said, base_said, member_said, configs_said, bases_said, members_said, at_most_one, read_at_most_once, IsHeadLines, AllInForm, OwnText, SpellBody, Spells}
+use Rattle.script_model.specs.Spelling.{MemberLine, HeadLine, ConfigLine, BaseLine, MembersLine, head_line_text, config_said, base_said, member_said, configs_said, bases_said, members_said, read_at_most_once, IsHeadLines, AllInForm, OwnText, SpellBody, Spells}
 use Rattle.script_model.specs.Keywords.{spelled, word_of}
 use Rattle.script_model.specs.declared.keyword.Keyword.{Keyword}
 use Rattle.script_model.specs.declared.keyword.Keyword.TheVariants as words
@@ -35,7 +37,6 @@ use Rattle.script_model.specs.declared.line.Line.TheVariants as lines
 use Rattle.script_model.specs.declared.line.SlowedCall.{SlowedCall}
 use Rattle.script_model.specs.declared.line.SlowedCall.TheVariants as slowed_calls
 use Rattle.member_options.specs.declared.member_option.MemberOption.{MemberOption}
-use Rattle.member_options.specs.declared.member_option.MemberOption.TheVariants as options
 use Rattle.rest_api.specs.declared.call.RestCall.{RestCall}
 use Rattle.member_options.proofs.OptionCanonLaws.{few-options, options-enough}
 use Rattle.member_options.proofs.OptionTexts.{options-IsPlain}
@@ -49,7 +50,7 @@ use Rattle.script_law.proofs.FirstWords.{spelled-counts}
 record IsLineText (line : List ℕ) : Type 0 where
   pub text : is_utf8 line ≡ true
   pub alone : list_all is_in_line line ≡ true
-  pub short : length line ≤ 8192
+  pub short : length line ≤ longest_line
   pub counts : is_skipped line ≡ false
 
 end-IsPlain : (members : List Name) (x : End) → IsPlain (end_word members x) 32
@@ -287,7 +288,7 @@ unfolding base_line
 base-texts None rest = refl
 base-texts (Some n) rest = refl
 
-base-bases : (base : Option ℕ) (members : List MemberText) → bases_said (base_line base ++ canonical_lines members) ≡ at_most_one base
+base-bases : (base : Option ℕ) (members : List MemberText) → bases_said (base_line base ++ canonical_lines members) ≡ option_to_list base
 unfolding base_line
 base-bases None members = no-bases members
 base-bases (Some n) members = ap (λ ns. n ∷ ns) (no-bases members)

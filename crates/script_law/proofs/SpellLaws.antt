@@ -2,7 +2,7 @@
 use Rattle.std.proofs.Common.{◌≡◌, ◌≢◌, ℕ, ◌+◌, ◌^◌, ◌≤◌, ◌<◌, ◌&&◌, ◌==◌, nat_le, Bool, true, false, cond, List, [], ◌∷◌, ◌++◌, length, map, slice_get, Option, Some, None, Result, Ok, Err, codes, refl, ◌∙◌, ap, sym, subst, zero, suc, arith, append_assoc, append-nil, length-append}
 use Rattle.std.specs.Fmt.{decimal}
 use Rattle.std.specs.List.{list_all}
-use Rattle.std.specs.Option.{ok_or, option_and_then}
+use Rattle.std.specs.Option.{ok_or, option_and_then, option_to_list}
 use Rattle.std.specs.Str.{bytes_eq}
 use Rattle.std.proofs.lemmas.Bool.{and_parts, eqb-true}
 use Rattle.std.proofs.lemmas.Bool.Decides.{nat_tests}
@@ -20,12 +20,13 @@ use Rattle.cluster_config.specs.ConfigReading.{config_read}
 use Rattle.cluster_config.specs.declared.config_fault.ConfigFault.{ConfigFault}
 use Rattle.script_words.specs.Numbers.{number}
 use Rattle.script_words.specs.Lines.{first_at}
+use Rattle.script_model.specs.Bounds.{most_members, longest_line, greatest_base}
 use Rattle.script_model.specs.Ranges.{commit_size_of, delay_of}
 use Rattle.cluster_script.specs.Arguments.{number_in, switch_in, slowed_call_in, commit_size_in, delay_in, known_member, member_in, end_in, line_end, last_word, one_word, word_behind, two_words, words_behind, same_end, apart, two_ends, commit_in, stream_in, slow_in, command}
 use Rattle.cluster_script.specs.Draft.{DraftText, script_so_far}
 use Rattle.script_words.specs.Faults.{both}
 use Rattle.script_model.specs.Script.{end_word, switch_text, slowed_call_text, two_texts, base_text, config_text, config_or_default, base_or_default, AreDifferent, MemberText, ScriptText, member_names, names_of, IsScript, IsMember, IsEnd, IsLink, IsCommand, IsLine, AllAreLines, cluster_text, line_text, IsInForm, IsRequest, request_text, member_text, text_of_name}
-use Rattle.script_model.specs.Spelling.{HeadLine, ConfigLine, BaseLine, MembersLine, head_line_text, configs_said, bases_said, members_said, at_most_one, read_at_most_once, head_with, IsHeadLines, MemberLine, member_of_line, member_line_text, AllInForm, SpellsLine, OwnText, BlankBehind, SpellBody, Spells}
+use Rattle.script_model.specs.Spelling.{HeadLine, ConfigLine, BaseLine, MembersLine, head_line_text, configs_said, bases_said, members_said, read_at_most_once, head_with, IsHeadLines, MemberLine, member_of_line, member_line_text, AllInForm, SpellsLine, OwnText, BlankBehind, SpellBody, Spells}
 use Rattle.pat_base.specs.Name.{name_bytes, name_of}
 use Rattle.pat_base.specs.declared.name.Name.{Name}
 use Rattle.script_words.specs.Faults.{on_ok}
@@ -324,10 +325,10 @@ line_text-again d text line some h is (BlankBehind m call request blank) =
     ∙ ap (λ (l : Line). Ok (record d { body = d.body ++ l ∷ [] })) (sym request)
 
 -- a member's line is read again
-few : (n : ℕ) → n < 16 → nat_le 16 n ≡ false
+few : (n : ℕ) → n < most_members → nat_le most_members n ≡ false
 few n h = grind (arith, nat_tests)
 
-new-again : (members : List Name) (line : MemberLine) → length members < 16 → place_of members line.name ≡ None
+new-again : (members : List Name) (line : MemberLine) → length members < most_members → place_of members line.name ≡ None
     → next_member members [] (Some (name_bytes line.name ++ behind_blanks (map option_text line.words))) ≡ Ok (line.name, options_or_default line.said)
 new-again members line small absent =
     let text : List ℕ = name_bytes line.name ++ behind_blanks (map option_text line.words) in
@@ -340,13 +341,13 @@ new-again members line small absent =
     ∙ ap (declared_once (line.name, declared) []) absent
 
 -- a base is read again
-in_range : (n : ℕ) → 1 ≤ n → n ≤ 2 ^ 40 → (nat_le 1 n && nat_le n (2 ^ 40)) ≡ true
+in_range : (n : ℕ) → 1 ≤ n → n ≤ greatest_base → (nat_le 1 n && nat_le n greatest_base) ≡ true
 in_range n least most = grind (arith, nat_tests)
 
-pub base-fits : (n : ℕ) → n ≤ 2 ^ 40 → n < 2 ^ 64
+pub base-fits : (n : ℕ) → n ≤ greatest_base → n < 2 ^ 64
 base-fits n most = omega arith
 
-next_base-again : (n : ℕ) → 1 ≤ n → n ≤ 2 ^ 40 → next_base None [] (Some (decimal n)) ≡ Ok n
+next_base-again : (n : ℕ) → 1 ≤ n → n ≤ greatest_base → next_base None [] (Some (decimal n)) ≡ Ok n
 next_base-again n least most =
     ap (λ p. on_ok (base_in p.0) (λ k. on_ok (base_end None [] p.1) (λ _. Ok k))) (cut_word-alone (decimal n) (first_at-decimal 32 n (omega arith) (base-fits n most)))
     ∙ ap (λ r. on_ok (on_ok r ranged_base) (λ k. on_ok (base_end None [] None) (λ _. Ok k))) (number_in-again n (base-fits n most))
@@ -356,14 +357,14 @@ next_base-again n least most =
 start : Name → Option Settings → Option ℕ → List MemberText → DraftText
 start cluster config base members = record { cluster = cluster; config = config; base = base; members = members; body = [] }
 
-member_line-again : (cluster : Name) (line : MemberLine) (config : Option Settings) (base : Option ℕ) (members : List MemberText) → length (member_names members) < 16 → place_of (member_names members) line.name ≡ None
+member_line-again : (cluster : Name) (line : MemberLine) (config : Option Settings) (base : Option ℕ) (members : List MemberText) → length (member_names members) < most_members → place_of (member_names members) line.name ≡ None
     → with_line (start cluster config base members) (member_line_text line) ≡ Ok (start cluster config base (members ++ member_of_line line ∷ []))
 unfolding start
 member_line-again cluster line config base members small absent =
     addition-again (start cluster config base members) words.Member (name_bytes line.name ++ behind_blanks (map option_text line.words)) (additions.Member line.name (options_or_default line.said))
     (ap (λ r. on_ok r (λ member. Ok (additions.Member member.0 member.1))) (new-again (member_names members) line small absent))
 
-base_line-again : (cluster : Name) (n : ℕ) (config : Option Settings) (members : List MemberText) → 1 ≤ n → n ≤ 2 ^ 40 → with_line (start cluster config None members) (base_text n) ≡ Ok (start cluster config (Some n) members)
+base_line-again : (cluster : Name) (n : ℕ) (config : Option Settings) (members : List MemberText) → 1 ≤ n → n ≤ greatest_base → with_line (start cluster config None members) (base_text n) ≡ Ok (start cluster config (Some n) members)
 unfolding start
 base_line-again cluster n config members least most =
     addition-again (start cluster config None members) words.Base (decimal n) (additions.Base n)
@@ -409,7 +410,7 @@ count-names : (members : List MemberText) → length (member_names members) ≡ 
 count-names members = length-map members (λ (m : MemberText). m.name)
 
 -- what is said at most once, and is said already
-one-again : {A : Type 0} (x y : Option A) → at_most_one x ++ [] ≡ at_most_one y → x ≡ y
+one-again : {A : Type 0} (x y : Option A) → option_to_list x ++ [] ≡ option_to_list y → x ≡ y
 one-again None None e = refl
 one-again None (Some y) e = cc
 one-again (Some x) None e = cc
@@ -427,7 +428,7 @@ record IsOnlyBase (before : Option ℕ) (n : ℕ) (behind : List ℕ) (base : Op
   pub is : Some n ≡ base
   pub last : behind ≡ []
 
-only-base : (before : Option ℕ) (n : ℕ) (behind : List ℕ) (base : Option ℕ) → at_most_one before ++ n ∷ behind ≡ at_most_one base → IsOnlyBase before n behind base
+only-base : (before : Option ℕ) (n : ℕ) (behind : List ℕ) (base : Option ℕ) → option_to_list before ++ n ∷ behind ≡ option_to_list base → IsOnlyBase before n behind base
 only-base None n behind None e = cc
 only-base None n behind (Some k) e = record { first = refl; is = cc; last = cc }
 only-base (Some m) n behind None e = cc
@@ -450,11 +451,11 @@ only-config (Some x) r behind (Some y) e = cc
 -- what the lines of a head are to say in the end, behind those that are read
 record IsLeft (config : Option Settings) (base : Option ℕ) (members : List MemberText) (back : List HeadLine) (all_config : Option Settings) (all_base : Option ℕ) : Type 0 where
   pub configs : read_at_most_once config ++ configs_said back ≡ read_at_most_once all_config
-  pub bases : at_most_one base ++ bases_said back ≡ at_most_one all_base
+  pub bases : option_to_list base ++ bases_said back ≡ option_to_list all_base
   pub different : AreDifferent (member_names (members ++ members_said back))
-  pub few : length (members ++ members_said back) ≤ 16
+  pub few : length (members ++ members_said back) ≤ most_members
 
-module _ (cluster : Name) (all_config : Option Settings) (all_base : Option ℕ) (least : 1 ≤ base_or_default all_base) (most : base_or_default all_base ≤ 2 ^ 40) where
+module _ (cluster : Name) (all_config : Option Settings) (all_base : Option ℕ) (least : 1 ≤ base_or_default all_base) (most : base_or_default all_base ≤ greatest_base) where
   said-again : (config : Option Settings) (base : Option ℕ) (members : List MemberText) (back : List HeadLine) → IsLeft config base members back all_config all_base
       → Chain (Some (start cluster config base members)) (map head_line_text back) (Some (start cluster all_config all_base (members ++ members_said back)))
   unfolding Chain start
@@ -477,7 +478,7 @@ module _ (cluster : Name) (all_config : Option Settings) (all_base : Option ℕ)
       let only = only-base base n (bases_said back) all_base h.bases in
       let left : IsLeft config (Some n) members back all_config all_base = record {
         configs = h.configs;
-        bases = ap (λ t. n ∷ t) only.last ∙ ap at_most_one only.is;
+        bases = ap (λ t. n ∷ t) only.last ∙ ap option_to_list only.is;
         different = h.different;
         few = h.few;
       } in
@@ -489,7 +490,7 @@ module _ (cluster : Name) (all_config : Option Settings) (all_base : Option ℕ)
       )
   said-again config base members (MembersLine line ∷ back) h =
       let next : (members ++ member_of_line line ∷ []) ++ members_said back ≡ members ++ member_of_line line ∷ members_said back = append_assoc members (member_of_line line ∷ []) (members_said back) in
-      let fits : length (member_names members) < 16 = omega (arith, h.few, length-append members (member_of_line line ∷ members_said back), count-names members) in
+      let fits : length (member_names members) < most_members = omega (arith, h.few, length-append members (member_of_line line ∷ members_said back), count-names members) in
       let apart : AreDifferent (member_names members ++ line.name ∷ member_names (members_said back)) = subst AreDifferent (member_names-append members (member_of_line line ∷ members_said back)) h.different in
       let left : IsLeft config base (members ++ member_of_line line ∷ []) back all_config all_base = record {
         configs = h.configs;
@@ -545,12 +546,12 @@ all-again s head says body spell h =
     (body-again (draft s says.config says.base) [] s.body body (omega (arith, h.head.some, count-names s.head.members)) h.head.different h.body spell)
 
 -- lines among empty lines and comments
-short-true : (line : List ℕ) → length line ≤ 8192 → nat_le (length line) 8192 ≡ true
+short-true : (line : List ℕ) → length line ≤ longest_line → nat_le (length line) longest_line ≡ true
 short-true line h = grind (arith, nat_tests)
 
 in-form : (o : Option DraftText) (line : List ℕ) → IsInForm line → after_line o line ≡ after_text o line
 in-form o line h =
-    ap (λ t. cond t (cond (nat_le (length line) 8192) (after_text o line) (Err faults.TooLong)) (Err faults.NotUtf8)) h.text
+    ap (λ t. cond t (cond (nat_le (length line) longest_line) (after_text o line) (Err faults.TooLong)) (Err faults.NotUtf8)) h.text
     ∙ ap (λ t. cond t (after_text o line) (Err faults.TooLong)) (short-true line h.short)
 
 lines-step : (number : ℕ) (o p : Option DraftText) (line : List ℕ) (rest : List (List ℕ)) (t : Bool) → is_skipped line ≡ t → IsInForm line

@@ -1,3 +1,4 @@
+pub mod Bounds
 pub mod Keywords
 pub mod Ranges
 pub mod Script

@@ -10,6 +10,7 @@ use Rattle.lease_store.specs.Settings.{Settings}
 use Rattle.script_words.specs.Lines.{ended, is_one_line}
 use Rattle.member_options.specs.Options.{option_text, behind_blanks, options_to_say}
 use Rattle.rest_api.specs.Calls.{request_words}
+use Rattle.script_model.specs.Bounds.{most_members, longest_line, greatest_base}
 use Rattle.script_model.specs.Keywords.{spelled}
 use Rattle.member_options.specs.declared.member_option.MemberOptions.{MemberOptions}
 use Rattle.script_model.specs.declared.keyword.Keyword.TheVariants as words
@@ -193,9 +194,9 @@ script_lines s = head_lines s.head ++ body_lines (names_of s.head) s.body
 abbrev pub spelling_of : ScriptText → List ℕ
 spelling_of s = ended (script_lines s)
 
--- at most 8,192 bytes
+-- no longer than a line may be
 abbrev pub IsShort : List ℕ → Type 0
-IsShort line = length line ≤ 8192
+IsShort line = length line ≤ longest_line
 
 -- lines that a script may have at all: text that is short
 pub record IsInForm (line : List ℕ) : Type 0 where
@@ -209,9 +210,9 @@ AreDifferent members = (i j : ℕ) (name : Name) → slice_get members i ≡ Som
 -- a head that a script may have
 pub record IsHead (head : HeadText) : Type 0 where
   pub base_least : 1 ≤ head.base
-  pub base_most : head.base ≤ 2 ^ 40
+  pub base_most : head.base ≤ greatest_base
   pub some : 0 < length head.members
-  pub few : length head.members ≤ 16
+  pub few : length head.members ≤ most_members
   pub different : AreDifferent (names_of head)
 
 -- a member that is declared

@@ -1,6 +1,7 @@
 -- Bytes that spell a script: the lines of a head and their options in any order, and among them empty lines and comments.
 use Rattle.std.specs.Prelude.{ℕ, ◌≡◌, List, [], ◌∷◌, ◌++◌, Option, Some, None, Result, Ok, map}
 use Rattle.std.specs.List.{flat_map}
+use Rattle.std.specs.Option.{option_to_list}
 use Rattle.pat_base.specs.declared.name.Name.{Name}
 use Rattle.pat_base.specs.declared.member_id.MemberId.{MemberId}
 use Rattle.lease_store.specs.Settings.{Settings}
@@ -73,11 +74,6 @@ bases_said lines = flat_map base_said lines
 abbrev pub members_said : List HeadLine → List MemberText
 members_said lines = flat_map member_said lines
 
--- none, or one
-abbrev pub at_most_one : {A : Type 0} → Option A → List A
-at_most_one None = []
-at_most_one (Some x) = x ∷ []
-
 -- none, or one that was read
 abbrev pub read_at_most_once : Option Settings → List (Result Settings ConfigFault)
 read_at_most_once None = []
@@ -93,7 +89,7 @@ pub record IsHeadLines (head : HeadText) (lines : List (List ℕ)) : Type 0 wher
   pub config : Option Settings
   pub base : Option ℕ
   pub configs : configs_said said ≡ read_at_most_once config
-  pub bases : bases_said said ≡ at_most_one base
+  pub bases : bases_said said ≡ option_to_list base
   pub members : members_said said ≡ head.members
   pub config_is : config_or_default config ≡ head.config
   pub base_is : base_or_default base ≡ head.base

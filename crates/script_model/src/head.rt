@@ -1,5 +1,5 @@
 //! The head of a script.
-ghost use Rattle.std.specs.Prelude.{◌≡◌, ◌≤◌, ◌^◌, ◌↔◌, length, slice_get, IsNone};
+ghost use Rattle.std.specs.Prelude.{◌≡◌, ◌≤◌, ◌↔◌, length, slice_get, IsNone};
 
 use indexmap::IndexMap;
 use lease_store::ConfigValue;
@@ -9,6 +9,9 @@ use std::marker::Model;
 
 /// The base of a script that says none: five files of 16 MiB.
 pub const DEFAULT_BASE: u64 = 83_886_080;
+
+/// The most members that a script may have.
+pub const MOST_MEMBERS: usize = 16;
 
 /// The head of a script: the name of its cluster, its configuration, its base, and its 1 to 16 members, in the order of
 /// their lines.
@@ -32,8 +35,9 @@ impl Model for Head {
 }
 
 impl Head {
-    ghost use Rattle.std.specs.Prelude.{◌≡◌, ◌≤◌, ◌^◌, ◌↔◌, length, option_map, slice_get, IsNone};
+    ghost use Rattle.std.specs.Prelude.{◌≡◌, ◌≤◌, ◌↔◌, length, option_map, slice_get, IsNone};
     ghost use Rattle.cluster_config.specs.ConfigReading.{IsConfiguration};
+    ghost use Rattle.script_model.specs.Bounds.{greatest_base, most_members};
     ghost use Rattle.script_model.specs.Script.{IsHead, members_in, names_of};
 
     /// The head of this cluster with this configuration, this base and these members.
@@ -74,7 +78,7 @@ impl Head {
     pub fn base(&self) -> u64
         ensures value { result ≡ self.now.base }
         ensures some { 1 ≤ result }
-        ensures most { result ≤ 2 ^ 40 }
+        ensures most { result ≤ greatest_base }
     {
         self.base
     }
@@ -83,7 +87,7 @@ impl Head {
     pub fn member_count(&self) -> usize
         ensures value { result ≡ length self.now.members }
         ensures some { 1 ≤ result }
-        ensures few { result ≤ 16 }
+        ensures few { result ≤ most_members }
         ensures head { IsHead self.now }
     {
         self.members.len()

@@ -1,5 +1,6 @@
 //! Numbers of commands, with their ranges.
-ghost use Rattle.std.specs.Prelude.{◌≤◌, ◌^◌};
+ghost use Rattle.std.specs.Prelude.{◌≤◌};
+ghost use Rattle.script_model.specs.Bounds.{longest_commit, longest_delay};
 
 /// The shortest commit, in bytes.
 const SHORTEST_COMMIT: u64 = 1;
@@ -16,16 +17,17 @@ pub struct CommitSize {
     /// From 1, and at most 2^30.
     pub bytes: u64,
     ghost least: { 1 ≤ bytes },
-    ghost most: { bytes ≤ 2 ^ 30 },
+    ghost most: { bytes ≤ longest_commit },
 }
 
 impl CommitSize {
-    ghost use Rattle.std.specs.Prelude.{◌≡◌, ◌≤◌, ◌^◌, ◌↔◌, IsSome, IfSome};
+    ghost use Rattle.std.specs.Prelude.{◌≡◌, ◌≤◌, ◌↔◌, IsSome, IfSome};
+    ghost use Rattle.script_model.specs.Bounds.{longest_commit};
     ghost use Rattle.script_model.specs.Ranges.{commit_size_of};
 
     /// A commit of so many bytes. `None` exactly where they are 0 or more than 2^30.
     pub fn new(number: u64) -> Option<Self>
-        ensures found { IsSome result ↔ ((1 ≤ number) × (number ≤ 2 ^ 30)) }
+        ensures found { IsSome result ↔ ((1 ≤ number) × (number ≤ longest_commit)) }
         ensures value { IfSome result (λ size. size.bytes ≡ number) }
         ensures by_number { result ≡ commit_size_of number }
     {
@@ -42,16 +44,17 @@ impl CommitSize {
 pub struct Delay {
     /// At most 100,000, of 100 ms each.
     pub ticks: u64,
-    ghost most: { ticks ≤ 100000 },
+    ghost most: { ticks ≤ longest_delay },
 }
 
 impl Delay {
     ghost use Rattle.std.specs.Prelude.{◌≡◌, ◌≤◌, ◌↔◌, IsSome, IfSome};
+    ghost use Rattle.script_model.specs.Bounds.{longest_delay};
     ghost use Rattle.script_model.specs.Ranges.{delay_of};
 
     /// A delay of so many ticks. `None` exactly where they are more than 100,000.
     pub fn new(number: u64) -> Option<Self>
-        ensures found { IsSome result ↔ (number ≤ 100000) }
+        ensures found { IsSome result ↔ (number ≤ longest_delay) }
         ensures value { IfSome result (λ delay. delay.ticks ≡ number) }
         ensures by_number { result ≡ delay_of number }
     {

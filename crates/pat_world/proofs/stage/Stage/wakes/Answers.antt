@@ -1,6 +1,6 @@
 use Rattle.std.proofs.Common.{◌≤◌, ◌*◌, arith, ap, length}
 use Rattle.cluster_model.specs.State.{Cluster}
-use Rattle.cluster_model.specs.Limits.{most_members}
+use Rattle.script_model.specs.Bounds.{most_members}
 use Rattle.pat_world.specs.Room.{input_cost, wakes_cost}
 use Rattle.pat_world.proofs.Rest.{EachLeft-end, EachLeft-members, EachLeft-more, EachLeft-place, EachLeft-room}
 use Rattle.pat_world.proofs.Rooms.{HasRoom-fewer}
