@@ -18,10 +18,10 @@ returns-in-Turn c =
 
 pub returns-in-StartAgent : goal.returns-in-StartAgent
 returns-in-StartAgent c =
-    on_ok_weaker c.restart.result
+    on_ok_weaker c.start_agent.result
     (λ took. commanded _ _ _ _ _ (commands.StartAgent c.in-StartAgent.id) agent_start_cost c.in-StartAgent.is
     (found-took _ _ _ _ _ (agent_start_events c.args.self.now) _ _ agent_start_cost c.declared-in-StartAgent.ensures took) (omega arith))
-    c.restart.ensures
+    c.start_agent.ensures
 
 pub returns-in-Promote : goal.returns-in-Promote
 returns-in-Promote c =
