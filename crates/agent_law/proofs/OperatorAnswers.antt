@@ -18,7 +18,7 @@ use Rattle.pg_model.specs.Running.{is_primary}
 use Rattle.cluster_config.specs.KeyValues.{failover_in}
 use Rattle.cluster_config.specs.Snapshots.{SnapshotFacts}
 use Rattle.operator_keys.specs.declared.answer_text.Text.TheVariants as texts
-use Rattle.operator_keys.specs.Refusals.{service_unavailable}
+use Rattle.operator_keys.specs.Statuses.{service_unavailable, ok}
 use Rattle.event_book.specs.declared.message.Body.TheVariants as bodies
 use Rattle.lease_law.proofs.Tools.{some-is, none-some}
 use Rattle.agent_model.specs.declared.heard.Heard.{Heard}
@@ -38,7 +38,7 @@ use Rattle.agent_model.specs.Agents.{RoleFacts, Outcome, made}
 use Rattle.agent_model.specs.Before.{before}
 use Rattle.agent_model.specs.Decisions.{granted, is_write_of, refused}
 use Rattle.agent_law.specs.OperatorAnswers.{told_in, HasNewLeader, HasOldLeader, IsResultBy, IsReason, AnswersWaiting, IsDoneIn, AnswersOneAtMost, IsWish, IsAskedFor, WaitsAsAsked}
-use Rattle.agent_model.specs.Operators.{ok, answering, answering_if, operating, config_revision, operated, done_by, failed_by, done_text, failed_text, holder_in, holder_if, name_in, is_same_member, result_as, looked_by, uses_read, looked, operator_until, late_answer, given_up_by, given_up, learned, granted_as, is_asked_for, operates, grants_operator, operator_granted, refusal_of, operator_refused}
+use Rattle.agent_model.specs.Operators.{answering, answering_if, operating, config_revision, operated, done_by, failed_by, done_text, failed_text, holder_in, holder_if, name_in, is_same_member, result_as, looked_by, uses_read, looked, operator_until, late_answer, given_up_by, given_up, learned, granted_as, is_asked_for, operates, grants_operator, operator_granted, refusal_of, operator_refused}
 use Rattle.agent_model.specs.Acting.{lease_span}
 use Rattle.agent_model.specs.Outputs.{listed}
 use Rattle.agent_model.specs.Table.{step}

@@ -12,7 +12,7 @@ use Rattle.lease_store.specs.declared.txn.Txn.TheVariants as txns
 use Rattle.cluster_config.specs.KeyValues.{failover_in}
 use Rattle.cluster_config.specs.Snapshots.{SnapshotFacts}
 use Rattle.operator_keys.specs.declared.answer_text.Text.TheVariants as texts
-use Rattle.operator_keys.specs.Refusals.{service_unavailable}
+use Rattle.operator_keys.specs.Statuses.{service_unavailable, ok}
 use Rattle.event_book.specs.declared.message.Body.TheVariants as bodies
 use Rattle.agent_model.specs.declared.heard.Heard.{Heard}
 use Rattle.agent_model.specs.declared.heard.Heard.TheVariants.{Wake, Got, Granted, Mismatch, Operated}
@@ -27,7 +27,7 @@ use Rattle.agent_model.specs.declared.output.Target.TheVariants as targets
 use Rattle.agent_model.specs.Agents.{Outcome}
 use Rattle.agent_model.specs.Before.{before}
 use Rattle.agent_model.specs.Decisions.{is_write_of}
-use Rattle.agent_model.specs.Operators.{ok, done_text, failed_text, holder_in, holder_if, name_in, is_same_member, uses_read, operator_until, late_answer, refusal_of}
+use Rattle.agent_model.specs.Operators.{done_text, failed_text, holder_in, holder_if, name_in, is_same_member, uses_read, operator_until, late_answer, refusal_of}
 
 -- what an output tells an operator, with the number of the request; most tell none
 abbrev pub told_by : Output → List (ℕ × Told)

@@ -43,7 +43,8 @@ use Rattle.agent_model.specs.Planning.{leader_view, writing_sync, switching_off,
 use Rattle.agent_model.specs.Fits.{Fits}
 use Rattle.agent_model.specs.Outputs.{listed}
 use Rattle.agent_model.specs.HandingOver.{is_done, leader_revision, clearing_under, clearing, successor_by, hands_over, hands_over_to, handover_judged, judged_if_leading, whom_answered, checking, checks, checks_unless_paused, failover_duty, duty_on, duties, check_answered}
-use Rattle.agent_model.specs.Operators.{ok, telling, answering, answering_if, operating, config_revision, restarting, wiping, operated, result_as, looked_by, uses_read, looked, operator_until, late_answer, given_up_by, given_up, learned, granted_as, operates, grants_operator, operator_granted, refusal_of, operator_refused}
+use Rattle.agent_model.specs.Operators.{telling, answering, answering_if, operating, config_revision, restarting, wiping, operated, result_as, looked_by, uses_read, looked, operator_until, late_answer, given_up_by, given_up, learned, granted_as, operates, grants_operator, operator_granted, refusal_of, operator_refused}
+use Rattle.operator_keys.specs.Statuses.{ok}
 use Rattle.agent_model.specs.declared.operating.Operating.{Operating}
 use Rattle.agent_model.specs.declared.operating.Operation.{Operation}
 use Rattle.agent_model.specs.declared.operating.Operation.TheVariants.{FailingOver, Configuring}

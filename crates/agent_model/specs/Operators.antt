@@ -22,7 +22,7 @@ use Rattle.cluster_config.specs.Naming.{is_member}
 use Rattle.cluster_config.specs.Snapshots.{SnapshotFacts, entry_in, leader_in}
 use Rattle.operator_keys.specs.declared.answer_text.Text.{Text}
 use Rattle.operator_keys.specs.declared.answer_text.Text.TheVariants as texts
-use Rattle.operator_keys.specs.Refusals.{service_unavailable}
+use Rattle.operator_keys.specs.Statuses.{ok, conflict, service_unavailable}
 use Rattle.event_book.specs.declared.message.Body.{Body}
 use Rattle.event_book.specs.declared.message.Body.TheVariants as bodies
 use Rattle.agent_model.specs.declared.knowledge.Knowledge.{Knowledge}
@@ -38,14 +38,6 @@ use Rattle.agent_model.specs.Agents.{Outcome}
 use Rattle.agent_model.specs.Decisions.{is_write_of}
 use Rattle.agent_model.specs.Outputs.{listed}
 use Rattle.agent_model.specs.Snapshots.{informed, is_active, awaits_read}
-
--- the status of a request that was carried out (RFC 9110, "200 OK")
-abbrev pub ok : ℕ
-ok = 200
-
--- the status of a request that meets another state than it expects (RFC 9110, "409 Conflict")
-abbrev pub conflict : ℕ
-conflict = 409
 
 -- for so many ticks an operator waits for what comes of a switchover or a failover
 abbrev pub most_operator_ticks : ℕ

@@ -6,3 +6,4 @@ mod MergeSteps
 mod PatchLaws
 mod ReadingLaws
 mod SettingLaws
+pub mod TextLaws

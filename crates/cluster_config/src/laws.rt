@@ -1,5 +1,5 @@
 //! Laws of configurations. Each is a function without a body whose contract is what is proved.
-ghost use Rattle.std.specs.Prelude.{ℕ, Bool, codes, ◌≡◌, ◌+◌, ◌*◌, ◌≤◌, List, Some, None, Ok};
+ghost use Rattle.std.specs.Prelude.{ℕ, Bool, codes, ◌≡◌, ◌+◌, ◌*◌, ◌≤◌, List, length, Some, None, Ok};
 ghost use Rattle.lease_store.specs.Settings.{Settings};
 ghost use Rattle.serde_json.specs.Data.{Data, Members, null, object, unsigned};
 ghost use Rattle.serde_json.specs.Find.{get_member, as_number};
@@ -43,4 +43,11 @@ pub fn settings_are_those_of_the_text()
 pub fn configurations_keep_times()
     ensures { (bytes : List ℕ) (settings : Settings) → config_read bytes ≡ Ok settings
         → settings.config.loop_wait + 2 * settings.config.retry_timeout ≤ settings.config.ttl }
+{}
+
+/// The text of a configuration that is read is no longer than the bytes that it is read from, and is read as that
+/// configuration.
+pub fn texts_say_what_was_read()
+    ensures no_longer { (bytes : List ℕ) (settings : Settings) → config_read bytes ≡ Ok settings → length settings.text ≤ length bytes }
+    ensures read_again { (bytes : List ℕ) (settings : Settings) → config_read bytes ≡ Ok settings → IsConfiguration settings }
 {}

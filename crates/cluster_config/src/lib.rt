@@ -18,6 +18,7 @@ pub use config_fault::ConfigFault;
 pub use config_text::ConfigText;
 pub use laws::{
     configurations_keep_times, patches_change_what_they_name, settings_are_those_of_the_text,
+    texts_say_what_was_read,
 };
 pub use naming::{candidate_of, is_candidate, is_failover_to, is_named, is_standby};
 pub use setting::{Setting, SettingRange};

@@ -11,7 +11,7 @@ use Rattle.agent_model.specs.declared.operating.Told.TheVariants as tolds
 use Rattle.agent_model.specs.declared.output.Repair.{Repair}
 use Rattle.agent_model.specs.declared.output.Repair.TheVariants as repairs
 use Rattle.agent_model.specs.Agents.{AgentFacts}
-use Rattle.agent_model.specs.Operators.{ok}
+use Rattle.operator_keys.specs.Statuses.{ok}
 use Rattle.cluster_model.specs.Orders.{copying, repair_by, repair_over, rewinding}
 use Rattle.cluster_model.specs.Requests.{answering, config_text_of, told_kind}
 use Rattle.cluster_model.specs.Streaming.{link_of_members}

@@ -14,8 +14,8 @@ use Rattle.event_book.specs.declared.link.Link.{Link}
 use Rattle.event_book.specs.declared.link.LinkEnd.{LinkEnd}
 use Rattle.event_book.specs.declared.link.LinkEnd.TheVariants as link_ends
 use Rattle.event_book.specs.Links.{CutLinks, is_cut}
-use Rattle.cluster_script.specs.declared.line.End.{End}
-use Rattle.cluster_script.specs.declared.line.End.TheVariants as ends
+use Rattle.script_model.specs.declared.line.End.{End}
+use Rattle.script_model.specs.declared.line.End.TheVariants as ends
 use Rattle.agent_model.specs.declared.machine.Machine.{Machine}
 
 -- an agent that runs and isn't suspended becomes suspended

@@ -1,10 +1,6 @@
 -- How many there may be.
 use Rattle.std.specs.Prelude.{ℕ}
 
--- so many members may be declared
-abbrev pub most_members : ℕ
-most_members = 16
-
 -- so many messages may be in flight
 abbrev pub most_in_flight : ℕ
 most_in_flight = 65536

@@ -8,8 +8,8 @@ use Rattle.agent_model.specs.declared.machine.Replication.{Replication}
 use Rattle.pat_base.specs.declared.host.Host.{Host}
 use Rattle.pat_base.specs.declared.name.Name.{Name}
 use Rattle.pat_base.specs.declared.ticks.Ticks.{Ticks}
-use Rattle.cluster_script.specs.Options.{unsaid_options}
-use Rattle.cluster_script.specs.declared.head.MemberOptions.{MemberOptions}
+use Rattle.member_options.specs.Options.{unsaid_options}
+use Rattle.member_options.specs.declared.member_option.MemberOptions.{MemberOptions}
 use Rattle.wal_model.specs.declared.entry.HistoryPoint.{HistoryPoint}
 use Rattle.pg_model.specs.Facts.{ServerFacts}
 use Rattle.pg_model.specs.Status.{status_of}

@@ -26,7 +26,7 @@ use Rattle.event_book.specs.declared.message.Body.TheVariants as bodies
 use Rattle.event_book.specs.declared.message.Message.{Message}
 use Rattle.event_book.specs.Flight.{InFlightFacts, in_flight}
 use Rattle.event_book.specs.declared.reason.Reason.{Reason}
-use Rattle.cluster_script.specs.declared.rest.RestCall.{RestCall}
+use Rattle.rest_api.specs.declared.call.RestCall.{RestCall}
 use Rattle.operator_keys.specs.declared.refusal.Refused.{Refused}
 use Rattle.agent_model.specs.declared.heard.Heard.{Heard}
 use Rattle.agent_model.specs.declared.heard.Heard.TheVariants.{Wake, Operated as HearsOperator}
@@ -47,7 +47,7 @@ use Rattle.cluster_model.specs.Inputs.{moment_of, outcome_of, outcome_of_heard, 
 use Rattle.cluster_model.specs.Limits.{most_in_flight}
 use Rattle.cluster_model.specs.Orders.{declared_member, order_kind, repair_over, replica_start_kinds, server_at, stop_kinds, feed_kinds, arming, feeding}
 use Rattle.cluster_model.specs.Parts.{event_of, events_of, events_then, for_some, each}
-use Rattle.cluster_model.specs.Requests.{action_of, decision_on_call, refusing}
+use Rattle.cluster_model.specs.Requests.{action_of, decision_at, refusing}
 use Rattle.cluster_model.specs.State.{Cluster}
 
 -- the loss of the message of this number, where as many are in flight as may be
@@ -159,7 +159,7 @@ decided_events cluster member o (Err refused) = event_of cluster (refusing membe
 
 -- the agent of a member that stands so hears a call with this body
 abbrev pub call_events_of : Cluster → RestCall → List ℕ → Member → Outcome → List Event
-call_events_of cluster call body member o = decided_events cluster member o (decision_on_call (moment_of cluster) o call body)
+call_events_of cluster call body member o = decided_events cluster member o (decision_at (moment_of cluster) o call body)
 
 -- a call to the agent of a member: one that doesn't run or is suspended gives no answer
 abbrev pub call_events_if : Cluster → RestCall → List ℕ → Member → AgentProcess → List Event

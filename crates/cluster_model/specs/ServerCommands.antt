@@ -13,9 +13,9 @@ use Rattle.event_book.specs.declared.event.ServerEvent.TheVariants as servers
 use Rattle.event_book.specs.declared.member.Member.{Member}
 use Rattle.event_book.specs.Members.{server_of}
 use Rattle.cluster_model.specs.Losing.{beginning_kinds}
-use Rattle.cluster_script.specs.declared.line.SlowedCall.{SlowedCall}
-use Rattle.cluster_script.specs.declared.line.SlowedCall.TheVariants as slowed_calls
-use Rattle.cluster_script.specs.declared.ranges.Delay.{Delay}
+use Rattle.script_model.specs.declared.line.SlowedCall.{SlowedCall}
+use Rattle.script_model.specs.declared.line.SlowedCall.TheVariants as slowed_calls
+use Rattle.script_model.specs.declared.ranges.Delay.{Delay}
 
 -- a replica is promoted by its operator, and begins to accept writes on the next timeline
 abbrev pub promote_kinds : Member → List ℕ → ServerFacts → List EventKind

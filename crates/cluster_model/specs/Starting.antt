@@ -1,8 +1,8 @@
 -- What there is before the first event.
 use Rattle.std.specs.Prelude.{List, [], Option, Some, map}
 use Rattle.pat_base.specs.declared.name.Name.{Name}
-use Rattle.cluster_script.specs.declared.head.MemberOptions.{MemberOptions}
-use Rattle.cluster_script.specs.Script.{HeadText, MemberText, names_of}
+use Rattle.member_options.specs.declared.member_option.MemberOptions.{MemberOptions}
+use Rattle.script_model.specs.Script.{HeadText, MemberText, names_of}
 use Rattle.event_book.specs.declared.member.Member.{Member}
 use Rattle.event_book.specs.Facts.{start_of}
 use Rattle.agent_model.specs.Agents.{AgentFacts}

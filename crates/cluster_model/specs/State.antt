@@ -1,7 +1,7 @@
 -- A cluster at a moment.
 use Rattle.std.specs.Prelude.{List, Option}
 use Rattle.pat_base.specs.declared.name.Name.{Name}
-use Rattle.cluster_script.specs.declared.head.MemberOptions.{MemberOptions}
+use Rattle.member_options.specs.declared.member_option.MemberOptions.{MemberOptions}
 use Rattle.event_book.specs.Facts.{Facts}
 use Rattle.agent_model.specs.Agents.{AgentFacts}
 

@@ -2,9 +2,9 @@
 use Rattle.std.specs.Prelude.{List, map}
 use Rattle.pat_base.specs.declared.name.Name.{Name}
 use Rattle.event_book.specs.declared.member.Member.{Member}
-use Rattle.cluster_script.specs.declared.line.Step.{Step}
-use Rattle.cluster_script.specs.declared.line.Step.TheVariants as steps
-use Rattle.cluster_script.specs.Script.{IsCommand}
+use Rattle.script_model.specs.declared.line.Step.{Step}
+use Rattle.script_model.specs.declared.line.Step.TheVariants as steps
+use Rattle.script_model.specs.Script.{IsCommand}
 
 -- the names of members, in script order
 abbrev pub names_in : List Member → List Name

@@ -12,32 +12,34 @@ use Rattle.pat_base.specs.declared.member_id.MemberId.{MemberId}
 use Rattle.pat_base.proofs.Members.{number-member_of}
 use Rattle.pat_base.proofs.Names.{name_of-text}
 use Rattle.cluster_script.specs.Arguments.{number_in, switch_in, slowed_call_in, commit_size_in, delay_in, known_member, member_in, end_in, line_end, last_word, one_word, word_behind, two_words, words_behind, three_words, same_end, apart, two_ends, commit_in, stream_in, slow_in, command, call_words, body_in, rest_line, plain_line, line_of_words}
-use Rattle.cluster_script.specs.Faults.{on_ok, both}
+use Rattle.script_words.specs.Faults.{on_ok, both}
 use Rattle.cluster_script.specs.Members.{place_of, member_named}
-use Rattle.cluster_script.specs.Numbers.{number}
-use Rattle.cluster_script.specs.Ranges.{commit_size_of, delay_of}
-use Rattle.cluster_script.specs.Script.{text_of_name, member_text, end_word, switch_text, slowed_call_text, two_texts, line_text, IsMember, IsEnd, IsLink, IsLine, SpellsLine, OwnText}
-use Rattle.cluster_script.specs.Words.{spelled, cut_word}
-use Rattle.cluster_script.specs.declared.fault.Fault.{Fault}
-use Rattle.cluster_script.specs.declared.fault.Fault.TheVariants as faults
-use Rattle.cluster_script.specs.declared.keyword.Keyword.{Keyword}
-use Rattle.cluster_script.specs.declared.keyword.Keyword.TheVariants as words
-use Rattle.cluster_script.specs.declared.line.End.{End}
-use Rattle.cluster_script.specs.declared.line.End.TheVariants as ends
-use Rattle.cluster_script.specs.declared.line.Command.{Command}
-use Rattle.cluster_script.specs.declared.line.Command.TheVariants as commands
-use Rattle.cluster_script.specs.declared.line.Line.{Line}
-use Rattle.cluster_script.specs.declared.line.Line.TheVariants as lines
-use Rattle.cluster_script.specs.declared.line.SlowedCall.{SlowedCall}
-use Rattle.cluster_script.specs.declared.line.SlowedCall.TheVariants as slowed_calls
-use Rattle.cluster_script.specs.declared.ranges.CommitSize.{CommitSize}
-use Rattle.cluster_script.specs.declared.ranges.Delay.{Delay}
+use Rattle.script_words.specs.Numbers.{number}
+use Rattle.script_model.specs.Ranges.{commit_size_of, delay_of}
+use Rattle.script_model.specs.Script.{text_of_name, member_text, end_word, switch_text, slowed_call_text, two_texts, line_text, IsMember, IsEnd, IsLink, IsLine}
+use Rattle.script_model.specs.Spelling.{SpellsLine, OwnText}
+use Rattle.script_model.specs.Keywords.{spelled}
+use Rattle.script_words.specs.Words.{cut_word}
+use Rattle.script_words.specs.declared.fault.Fault.{Fault}
+use Rattle.script_words.specs.declared.fault.Fault.TheVariants as faults
+use Rattle.script_model.specs.declared.keyword.Keyword.{Keyword}
+use Rattle.script_model.specs.declared.keyword.Keyword.TheVariants as words
+use Rattle.script_model.specs.declared.line.End.{End}
+use Rattle.script_model.specs.declared.line.End.TheVariants as ends
+use Rattle.script_model.specs.declared.line.Command.{Command}
+use Rattle.script_model.specs.declared.line.Command.TheVariants as commands
+use Rattle.script_model.specs.declared.line.Line.{Line}
+use Rattle.script_model.specs.declared.line.Line.TheVariants as lines
+use Rattle.script_model.specs.declared.line.SlowedCall.{SlowedCall}
+use Rattle.script_model.specs.declared.line.SlowedCall.TheVariants as slowed_calls
+use Rattle.script_model.specs.declared.ranges.CommitSize.{CommitSize}
+use Rattle.script_model.specs.declared.ranges.Delay.{Delay}
 use Rattle.cluster_script.proofs.NameLaws.{place_of-Some}
-use Rattle.cluster_script.proofs.NumberLaws.{number-is, number-below}
-use Rattle.cluster_script.proofs.Outcomes.{ok_is, err_is, and_then-Some, on_ok-Ok, on_ok-made, ok_or-Ok, both-Ok, cond-Err}
-use Rattle.cluster_script.proofs.RangeLaws.{commit_size_of-bytes, delay_of-ticks}
+use Rattle.script_words.proofs.NumberLaws.{number-is, number-below}
+use Rattle.script_words.proofs.Outcomes.{ok_is, err_is, and_then-Some, on_ok-Ok, on_ok-made, ok_or-Ok, both-Ok, cond-Err}
+use Rattle.script_model.proofs.RangeLaws.{commit_size_of-bytes, delay_of-ticks}
 use Rattle.cluster_script.proofs.RequestLaws.{MayBeLine, words_with, call_words-Ok, request-SpellsLine, request-IsRequest}
-use Rattle.cluster_script.proofs.WordLaws.{cut_word-None, cut_word-Some}
+use Rattle.script_words.proofs.WordLaws.{cut_word-None, cut_word-Some}
 
 -- a member that a word names
 pub record IsNamed (members : List Name) (word : List ℕ) (m : MemberId) : Type 0 where

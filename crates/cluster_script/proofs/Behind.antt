@@ -3,10 +3,10 @@ use Rattle.std.proofs.Common.{◌≡◌, ℕ, ◌==◌, false, cond, List, lengt
 use Rattle.pat_base.specs.declared.name.Name.{Name}
 use Rattle.pat_base.specs.declared.member_id.MemberId.{MemberId}
 use Rattle.cluster_script.specs.Arguments.{missing_behind, last_word, word_behind, words_behind, call_in, target_in}
-use Rattle.cluster_script.specs.Faults.{both}
-use Rattle.cluster_script.specs.Words.{cut_word}
-use Rattle.cluster_script.specs.declared.fault.Fault.{Fault}
-use Rattle.cluster_script.specs.declared.rest.RestCall.{RestCall}
+use Rattle.script_words.specs.Faults.{both}
+use Rattle.script_words.specs.Words.{cut_word}
+use Rattle.script_words.specs.declared.fault.Fault.{Fault}
+use Rattle.rest_api.specs.declared.call.RestCall.{RestCall}
 
 pub word_behind-is : {A B : Type 0} (members : List Name) (before : Result A Fault) (read : List ℕ → Result B Fault) (rest : Option (List ℕ)) (words : List ℕ) (cut : List ℕ × Option (List ℕ)) (value : Result B Fault) (r : Result (A × B) Fault)
     → rest ≡ Some words → cut ≡ cut_word words → value ≡ read cut.0 → r ≡ last_word members (both before value) cut.1 → r ≡ word_behind members before read rest

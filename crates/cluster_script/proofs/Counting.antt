@@ -3,12 +3,13 @@ use Rattle.std.proofs.Common.{◌≡◌, ℕ, true, false, cond, List, Option, S
 use Rattle.pat_base.specs.declared.name.Name.{Name}
 use Rattle.lease_store.specs.Settings.{Settings}
 use Rattle.cluster_script.specs.Draft.{DraftText, draft_of}
-use Rattle.cluster_script.specs.Faults.{on_ok}
+use Rattle.script_words.specs.Faults.{on_ok}
 use Rattle.cluster_script.specs.Reading.{known_addition, next_config, is_config, with_config, with_other, base_after, members_after, body_after, after_counted}
-use Rattle.cluster_script.specs.Script.{MemberText, member_names}
-use Rattle.cluster_script.specs.Words.{keyword_of, cut_word}
-use Rattle.cluster_script.specs.declared.fault.Fault.{Fault}
-use Rattle.cluster_script.specs.declared.line.Line.{Line}
+use Rattle.script_model.specs.Script.{MemberText, member_names}
+use Rattle.cluster_script.specs.FirstWords.{keyword_of}
+use Rattle.script_words.specs.Words.{cut_word}
+use Rattle.script_words.specs.declared.fault.Fault.{Fault}
+use Rattle.script_model.specs.declared.line.Line.{Line}
 
 twice : {A B C : Type 0} (r : Result A Fault) (f : A → B) (g : B → C) → on_ok (on_ok r (λ x. Ok (f x))) (λ y. Ok (g y)) ≡ on_ok r (λ x. Ok (g (f x)))
 twice (Ok x) f g = refl

@@ -4,8 +4,8 @@ use Rattle.pat_base.specs.declared.name.Name.{Name}
 use Rattle.lease_store.specs.Settings.{Settings}
 use Rattle.cluster_script.specs.Draft.{draft_of}
 use Rattle.cluster_script.specs.Reading.{finished}
-use Rattle.cluster_script.specs.Script.{MemberText, ScriptText, IsScript, config_or_default, base_or_default}
-use Rattle.cluster_script.specs.declared.line.Line.{Line}
+use Rattle.script_model.specs.Script.{MemberText, ScriptText, IsScript, config_or_default, base_or_default}
+use Rattle.script_model.specs.declared.line.Line.{Line}
 
 pub finished-IsScript : (o : Option Name) (cluster : Name) (config : Option Settings) (base : Option ℕ) (members : List MemberText) (body : List Line) → o ≡ Some cluster → (length members ≡ 0 → ⊥)
     → ((text : ScriptText) → finished (draft_of o config base members body) ≡ Ok text → IsScript text)

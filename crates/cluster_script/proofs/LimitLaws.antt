@@ -4,16 +4,18 @@ use Rattle.std.specs.List.{sum_by}
 use Rattle.std.proofs.lemmas.Bool.Decides.{nat_tests}
 use Rattle.std.proofs.lemmas.List.Sums.{sum_by-append, sum_by-cons}
 use Rattle.pat_base.specs.declared.name.Name.{Name}
-use Rattle.cluster_script.specs.Lines.{lines_in, is_skipped, counted_lines}
-use Rattle.cluster_script.specs.Limits.{member_line_count, ticks_or_none, ticks_in_line, ticks_in, limit_of_lines, limit_of}
+use Rattle.script_words.specs.Lines.{lines_in, is_skipped, counted_lines}
+use Rattle.cluster_script.specs.Limits.{most_bytes, most_lines, most_ticks, member_line_count, ticks_or_none, ticks_in_line, ticks_in, limit_of_lines, limit_of}
 use Rattle.cluster_script.specs.Reading.{script_of}
-use Rattle.cluster_script.specs.Script.{ScriptText, names_of, IsLine, AllAreLines, line_text, SpellsLine, OwnText, BlankBehind, SpellBody}
-use Rattle.cluster_script.specs.Steps.{ticks_of_line, total_ticks}
-use Rattle.cluster_script.specs.declared.line.Line.{Line}
-use Rattle.cluster_script.specs.declared.line.Line.TheVariants as lines
+use Rattle.script_model.specs.Bounds.{most_members}
+use Rattle.script_model.specs.Script.{ScriptText, names_of, IsLine, AllAreLines, line_text}
+use Rattle.script_model.specs.Spelling.{SpellsLine, OwnText, BlankBehind, SpellBody}
+use Rattle.script_model.specs.Steps.{ticks_of_line, total_ticks}
+use Rattle.script_model.specs.declared.line.Line.{Line}
+use Rattle.script_model.specs.declared.line.Line.TheVariants as lines
 use Rattle.cluster_script.specs.declared.limits.Limit.{Limit}
 use Rattle.cluster_script.specs.declared.limits.Limit.TheVariants as limits
-use Rattle.cluster_script.proofs.NumberLaws.{number-decimal}
+use Rattle.script_words.proofs.NumberLaws.{number-decimal}
 use Rattle.cluster_script.proofs.ReadLaws.{read-is-spelled}
 
 -- a test that gives nothing
@@ -64,27 +66,27 @@ body-lengths members [] (line ∷ body) spell = absurd spell
 body-lengths members (text ∷ texts) [] spell = absurd spell
 body-lengths members (text ∷ texts) (line ∷ body) spell = omega (arith, body-lengths members texts body spell.1)
 
-least : (n : ℕ) → min n (2 ^ 64 - 1) ≤ 1000000 → n ≤ 1000000
+least : (n : ℕ) → min n (2 ^ 64 - 1) ≤ most_ticks → n ≤ most_ticks
 least n h = omega arith
 
 -- lines that pass no limit
-lines-within : (ls : List (List ℕ)) → limit_of_lines ls ≡ None → (length ls ≤ 100000) × (sum_by ticks_in_line ls ≤ 1000000)
+lines-within : (ls : List (List ℕ)) → limit_of_lines ls ≡ None → (length ls ≤ most_lines) × (sum_by ticks_in_line ls ≤ most_ticks)
 lines-within ls none =
-    let l = none_passed (nat_lt 100000 (length ls)) limits.Lines _ none in
-    let m = none_passed (nat_lt 16 (member_line_count ls)) limits.Members _ l.1 in
-    let t = none_passed (nat_lt 1000000 (ticks_in ls)) limits.Ticks None m.1 in
-    (not-more 100000 (length ls) l.0, least (sum_by ticks_in_line ls) (not-more 1000000 (ticks_in ls) t.0))
+    let l = none_passed (nat_lt most_lines (length ls)) limits.Lines _ none in
+    let m = none_passed (nat_lt most_members (member_line_count ls)) limits.Members _ l.1 in
+    let t = none_passed (nat_lt most_ticks (ticks_in ls)) limits.Ticks None m.1 in
+    (not-more most_lines (length ls) l.0, least (sum_by ticks_in_line ls) (not-more most_ticks (ticks_in ls) t.0))
 
 -- a script of lines that pass none
-text-within : (ls head texts : List (List ℕ)) (members : List Name) (body : List Line) → AllAreLines members body → SpellBody members texts body → counted_lines ls ≡ head ++ texts → (length ls ≤ 100000) × (sum_by ticks_in_line ls ≤ 1000000)
-    → (total_ticks body ≤ 1000000) × (length body ≤ 100000)
+text-within : (ls head texts : List (List ℕ)) (members : List Name) (body : List Line) → AllAreLines members body → SpellBody members texts body → counted_lines ls ≡ head ++ texts → (length ls ≤ most_lines) × (sum_by ticks_in_line ls ≤ most_ticks)
+    → (total_ticks body ≤ most_ticks) × (length body ≤ most_lines)
 text-within ls head texts members body fit spell same within =
     let few : length (head ++ texts) ≤ length ls = subst (λ (some : List (List ℕ)). length some ≤ length ls) same (fewer ls) in
     let ticks : sum_by ticks_in_line (head ++ texts) ≤ sum_by ticks_in_line ls = subst (λ (some : List (List ℕ)). sum_by ticks_in_line some ≤ sum_by ticks_in_line ls) same (fewer-ticks ls) in
     (omega (arith, within.1, ticks, sum_by-append ticks_in_line head texts, body-ticks members texts body fit spell), omega (arith, within.0, few, length-append head texts, body-lengths members texts body spell))
 
-pub within-limits : (bytes : List ℕ) (text : ScriptText) → script_of bytes ≡ Ok text → limit_of bytes ≡ None → (total_ticks text.body ≤ 1000000) × (length text.body ≤ 100000)
+pub within-limits : (bytes : List ℕ) (text : ScriptText) → script_of bytes ≡ Ok text → limit_of bytes ≡ None → (total_ticks text.body ≤ most_ticks) × (length text.body ≤ most_lines)
 within-limits bytes text e none =
     let read = read-is-spelled bytes text e in
-    let passed = none_passed (nat_lt 1048576 (length bytes)) limits.Bytes (limit_of_lines (lines_in bytes)) none in
+    let passed = none_passed (nat_lt most_bytes (length bytes)) limits.Bytes (limit_of_lines (lines_in bytes)) none in
     text-within (lines_in bytes) read.1.head read.1.body (names_of text.head) text.body read.0.body read.1.spells read.1.lines (lines-within (lines_in bytes) passed.1)

@@ -1,28 +1,18 @@
 -- Members in a table.
-use Rattle.std.proofs.Common.{◌≡◌, ℕ, Bool, true, false, cond, List, [], ◌∷◌, ◌++◌, ◌<◌, slice_get, length, Option, Some, None, is_some, option_map, arith, refl, ◌∙◌, ap, sym}
+use Rattle.std.proofs.Common.{◌≡◌, ℕ, Bool, true, false, cond, List, [], ◌∷◌, ◌++◌, ◌<◌, length, Option, Some, None, is_some, arith, refl, ◌∙◌, ap, sym}
 use Rattle.std.specs.Bool.{Decides}
 use Rattle.std.specs.Str.{bytes_eq}
 use Rattle.std.specs.Map.{keys_of}
 use Rattle.std.proofs.lemmas.List.{length-map}
-use Rattle.std.proofs.lemmas.Option.{slice_get-map}
 use Rattle.indexmap.specs.IndexMap.{insert_entry}
 use Rattle.pat_base.specs.Name.{name_bytes}
 use Rattle.pat_base.specs.declared.name.Name.{Name}
-use Rattle.cluster_script.specs.Lines.{one_more}
+use Rattle.script_words.specs.Lines.{one_more}
+use Rattle.script_model.specs.Bounds.{most_members}
 use Rattle.cluster_script.specs.Members.{place_of}
-use Rattle.cluster_script.specs.Script.{MemberText, member_names, member_of_entry, members_in}
-use Rattle.cluster_script.specs.declared.head.MemberOptions.{MemberOptions}
+use Rattle.script_model.specs.Script.{member_names, member_of_entry, members_in}
+use Rattle.member_options.specs.declared.member_option.MemberOptions.{MemberOptions}
 use Rattle.cluster_script.proofs.Places.{same_text}
-
--- the entry at a place is the member there
-pub slice_get-members_in : (es : List (Name × MemberOptions)) (i : ℕ) (name : Name) (v : MemberOptions) → slice_get es i ≡ Some (name, v) → slice_get (members_in es) i ≡ Some (record { name = name; options = v })
-slice_get-members_in es i name v e = slice_get-map member_of_entry es i ∙ ap (option_map member_of_entry) e
-
-pub slice_get-members_in-None : (es : List (Name × MemberOptions)) (i : ℕ) → slice_get es i ≡ None → slice_get (members_in es) i ≡ None
-slice_get-members_in-None es i e = slice_get-map member_of_entry es i ∙ ap (option_map member_of_entry) e
-
-pub slice_get-member_names : (es : List (Name × MemberOptions)) (i : ℕ) (name : Name) (v : MemberOptions) → slice_get es i ≡ Some (name, v) → slice_get (member_names (members_in es)) i ≡ Some name
-slice_get-member_names es i name v e = slice_get-map (λ (m : MemberText). m.name) (members_in es) i ∙ ap (option_map (λ (m : MemberText). m.name)) (slice_get-members_in es i name v e)
 
 more-none : (o : Option ℕ) → one_more o ≡ None → o ≡ None
 more-none None e = refl
@@ -49,7 +39,7 @@ pub keys-count : (es : List (Name × MemberOptions)) → length (keys_of es) ≡
 keys-count es = length-map es (λ x. x.0) ∙ sym (length-map es member_of_entry)
 
 -- what is new among keys is new among members
-pub among-members : (es : List (Name × MemberOptions)) (name : Name) → length (keys_of es) < 16 → place_of (keys_of es) name ≡ None → (length (members_in es) < 16) × (place_of (member_names (members_in es)) name ≡ None)
+pub among-members : (es : List (Name × MemberOptions)) (name : Name) → length (keys_of es) < most_members → place_of (keys_of es) name ≡ None → (length (members_in es) < most_members) × (place_of (member_names (members_in es)) name ≡ None)
 among-members es name few none = (omega (arith, keys-count es), ap (λ names. place_of names name) (names-are-keys es) ∙ none)
 
 pub absent : {X : Type 0} (o : Option X) → is_some o ≡ false → o ≡ None

@@ -5,10 +5,10 @@ use Rattle.std.proofs.lemmas.Slice.Eq.{bytes_eq-Decides}
 use Rattle.pat_base.specs.Name.{name_bytes}
 use Rattle.pat_base.specs.declared.name.Name.{Name}
 use Rattle.pat_base.proofs.Names.{name_bytes-injective}
-use Rattle.cluster_script.specs.Lines.{one_more}
+use Rattle.script_words.specs.Lines.{one_more}
 use Rattle.cluster_script.specs.Members.{place_of}
-use Rattle.cluster_script.specs.Script.{AreDifferent}
-use Rattle.cluster_script.proofs.Outcomes.{some_is, none_is}
+use Rattle.script_model.specs.Script.{AreDifferent}
+use Rattle.script_words.proofs.Outcomes.{some_is, none_is}
 
 -- a name that has no place stands nowhere
 none-step : (t : Bool) (m name : Name) (members : List Name) (o : Option ℕ) (i : ℕ) → bytes_eq (name_bytes m) (name_bytes name) ≡ t → ((k : ℕ) → o ≡ None → slice_get members k ≡ Some name → ⊥) → cond t (Some 0) (one_more o) ≡ None → slice_get (m ∷ members) i ≡ Some name → ⊥

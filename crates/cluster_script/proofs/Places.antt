@@ -9,7 +9,7 @@ use Rattle.pat_base.specs.Name.{name_bytes}
 use Rattle.pat_base.specs.declared.name.Name.{Name}
 use Rattle.pat_base.proofs.Names.{name_bytes-injective}
 use Rattle.std.specs.Bool.{Decides}
-use Rattle.cluster_script.specs.Lines.{one_more}
+use Rattle.script_words.specs.Lines.{one_more}
 use Rattle.cluster_script.specs.Members.{place_of}
 
 -- the first place, from the test of each name

@@ -1,8 +1,9 @@
 -- What is read as a script is one, and is spelled so.
-use Rattle.std.proofs.Common.{◌≡◌, ℕ, ◌+◌, ◌^◌, ◌≤◌, ◌<◌, ◌&&◌, ◌==◌, not, nat_le, Bool, true, false, cond, List, [], ◌∷◌, ◌++◌, length, map, Option, Some, None, Result, Ok, Err, refl, ◌∙◌, ap, sym, subst, arith, append_assoc, append-nil, length-append}
+use Rattle.std.proofs.Common.{◌≡◌, ℕ, ◌+◌, ◌≤◌, ◌<◌, ◌&&◌, ◌==◌, not, nat_le, Bool, true, false, cond, List, [], ◌∷◌, ◌++◌, length, map, Option, Some, None, Result, Ok, Err, refl, ◌∙◌, ap, sym, subst, arith, append_assoc, append-nil, length-append}
 use Rattle.std.specs.Fmt.{decimal}
 use Rattle.std.specs.List.{flat_map}
 use Rattle.std.specs.Str.{is_utf8}
+use Rattle.std.specs.Option.{option_to_list}
 use Rattle.std.proofs.lemmas.Bool.{and_from}
 use Rattle.std.proofs.lemmas.Bool.Decides.{nat_tests}
 use Rattle.std.proofs.lemmas.Grind.{flat_map-append}
@@ -15,31 +16,41 @@ use Rattle.cluster_config.specs.ConfigReading.{config_read}
 use Rattle.cluster_config.specs.declared.config_fault.ConfigFault.{ConfigFault}
 use Rattle.cluster_script.specs.Arguments.{number_in, line_of_words}
 use Rattle.cluster_script.specs.Draft.{DraftText, script_so_far}
-use Rattle.cluster_script.specs.Faults.{on_ok, both}
-use Rattle.cluster_script.specs.Lines.{push_byte, lines_in, is_skipped, counted_lines, is_in_line, is_one_line}
+use Rattle.script_words.specs.Faults.{on_ok, both}
+use Rattle.script_words.specs.Lines.{push_byte, lines_in, is_skipped, counted_lines, is_in_line, is_one_line}
 use Rattle.cluster_script.specs.Members.{place_of}
-use Rattle.cluster_script.specs.Options.{SayOnce, option_text, behind_blanks, options_or_default}
-use Rattle.cluster_script.specs.OptionReading.{options_in}
+use Rattle.member_options.specs.Options.{SayOnce, option_text, behind_blanks, options_or_default}
+use Rattle.member_options.specs.OptionReading.{options_in}
 use Rattle.cluster_script.specs.Reading.{name_in, declared_in_head, declared_once, named_member, new_member, next_member, ranged_base, base_in, head_end, base_end, next_base, addition_of, with_addition, config_if_read, next_config, is_config, with_config, with_other, with_line, alone, cluster_named, cluster_in, cluster_by_keyword, first_line, first_draft, after_counted, after_text, after_line, after_lines, at_line, with_some, finished, script_of}
-use Rattle.cluster_script.specs.Script.{AreDifferent, MemberText, MemberLine, ScriptText, member_names, names_of, member_of_entry, member_of_line, IsScript, IsLine, AllAreLines, cluster_text, member_line_text, base_text, config_text, HeadLine, ConfigLine, BaseLine, MembersLine, head_line_text, config_said, base_said, member_said, configs_said, bases_said, members_said, at_most_one, read_at_most_once, base_or_default, head_with, IsHeadLines, IsInForm, AllInForm, SpellsLine, SpellBody, Spells}
-use Rattle.cluster_script.specs.Words.{spelled, keyword_of, cut_word}
+use Rattle.script_model.specs.Bounds.{most_members, longest_line, greatest_base}
+use Rattle.script_model.specs.Script.{AreDifferent, MemberText, ScriptText, member_names, names_of, member_of_entry, IsScript, IsLine, AllAreLines, cluster_text, base_text, config_text, base_or_default, IsInForm}
+use Rattle.script_model.specs.Spelling.{MemberLine, member_of_line, member_line_text, HeadLine, ConfigLine, BaseLine, MembersLine, head_line_text, config_said, base_said, member_said, configs_said, bases_said, members_said, read_at_most_once, head_with, IsHeadLines, AllInForm, SpellsLine, SpellBody, Spells}
+use Rattle.cluster_script.specs.FirstWords.{keyword_of}
+use Rattle.script_model.specs.Keywords.{spelled}
+use Rattle.script_words.specs.Words.{cut_word}
 use Rattle.cluster_script.specs.declared.addition.Addition.{Addition}
 use Rattle.cluster_script.specs.declared.addition.Addition.TheVariants as additions
-use Rattle.cluster_script.specs.declared.fault.Fault.TheVariants as faults
-use Rattle.cluster_script.specs.declared.keyword.Keyword.{Keyword}
-use Rattle.cluster_script.specs.declared.keyword.Keyword.TheVariants as words
-use Rattle.cluster_script.specs.declared.head.MemberOptions.{MemberOptions}
-use Rattle.cluster_script.specs.declared.line.Line.{Line}
-use Rattle.cluster_script.specs.declared.member_option.MemberOption.{MemberOption}
-use Rattle.cluster_script.specs.declared.member_option.SaidOptions.{SaidOptions}
+use Rattle.script_words.specs.declared.fault.Fault.{Fault}
+use Rattle.script_words.specs.declared.fault.Fault.TheVariants as faults
+use Rattle.script_model.specs.declared.keyword.Keyword.{Keyword}
+use Rattle.script_model.specs.declared.keyword.Keyword.TheVariants as words
+use Rattle.member_options.specs.declared.member_option.MemberOptions.{MemberOptions}
+use Rattle.script_model.specs.declared.line.Line.{Line}
+use Rattle.member_options.specs.declared.member_option.MemberOption.{MemberOption}
+use Rattle.member_options.specs.declared.member_option.SaidOptions.{SaidOptions}
 use Rattle.cluster_script.proofs.ArgumentLaws.{number_in-Ok, line_of_words-Ok}
 use Rattle.cluster_script.proofs.NameLaws.{AreDifferent-push}
-use Rattle.cluster_script.proofs.NumberLaws.{number-is}
-use Rattle.cluster_script.proofs.OptionReadLaws.{options_in-Ok}
-use Rattle.cluster_script.proofs.OptionWords.{options-behind}
-use Rattle.cluster_script.proofs.Outcomes.{none_is, ok_is, err_is, on_ok-Ok, on_ok-made, ok_or-Ok, both-Ok, at_line-Ok, cond-Ok, cond-Err}
+use Rattle.script_words.proofs.NumberLaws.{number-is}
+use Rattle.member_options.proofs.OptionReadLaws.{options_in-Ok}
+use Rattle.member_options.proofs.OptionWords.{options-behind}
+use Rattle.script_words.proofs.Outcomes.{none_is, ok_is, err_is, on_ok-Ok, on_ok-made, ok_or-Ok, both-Ok, cond-Ok, cond-Err}
 use Rattle.cluster_script.proofs.RequestLaws.{MayBeLine}
-use Rattle.cluster_script.proofs.WordLaws.{cut_word-None, cut_word-Some, keyword_of-is}
+use Rattle.script_words.proofs.WordLaws.{cut_word-None, cut_word-Some}
+use Rattle.cluster_script.proofs.FirstWordLaws.{keyword_of-is}
+
+pub at_line-Ok : {A : Type 0} (number : ℕ) (r : Result A Fault) (x : A) → at_line number r ≡ Ok x → r ≡ Ok x
+at_line-Ok number (Ok y) x e = let same : y ≡ x = ok_is y x e in rw same refl
+at_line-Ok number (Err f) x e = absurd (err_is (number, f) x e)
 
 -- a line that declares a member
 pub record DeclaredLine (line : List ℕ) (name : Name) (declared : MemberOptions) : Type 0 where
@@ -49,8 +60,8 @@ pub record DeclaredLine (line : List ℕ) (name : Name) (declared : MemberOption
 
 -- what a line adds, and how it is spelled
 abbrev IsAddition : Option ℕ → List Name → List Line → List ℕ → Addition → Type 0
-IsAddition base members body line (additions.Member name declared) = DeclaredLine line name declared × (length members < 16) × (place_of members name ≡ None) × (body ≡ [])
-IsAddition base members body line (additions.Base n) = (base_text n ≡ line) × (1 ≤ n) × (n ≤ 2 ^ 40) × (base ≡ None) × (body ≡ [])
+IsAddition base members body line (additions.Member name declared) = DeclaredLine line name declared × (length members < most_members) × (place_of members name ≡ None) × (body ≡ [])
+IsAddition base members body line (additions.Base n) = (base_text n ≡ line) × (1 ≤ n) × (n ≤ greatest_base) × (base ≡ None) × (body ≡ [])
 IsAddition base members body line (additions.Body l) = SpellsLine members line l × IsLine members l
 
 -- the words of a member's line
@@ -62,7 +73,7 @@ record DeclaresMember (members : List Name) (body : List Line) (rest : Option (L
   pub once : SayOnce os said
   pub declared : options_or_default said ≡ member.1
   pub text : name_bytes member.0 ++ behind_blanks (map option_text os) ≡ words
-  pub few : length members < 16
+  pub few : length members < most_members
   pub absent : place_of members member.0 ≡ None
   pub in_head : body ≡ []
 
@@ -74,15 +85,15 @@ once-Ok : (members : List Name) (member x : Name × MemberOptions) (body : List 
 once-Ok members member x body (Some place) is e = absurd (err_is _ x e)
 once-Ok members member x body None is e = let p = in_head-Ok member x body e in (p.0, is, p.1)
 
-not-many : (n : ℕ) → nat_le 16 n ≡ false → n < 16
+not-many : (n : ℕ) → nat_le most_members n ≡ false → n < most_members
 not-many n e = grind (arith, nat_tests)
 
 next_member-Ok : (members : List Name) (body : List Line) (rest : Option (List ℕ)) (x : Name × MemberOptions) → next_member members body rest ≡ Ok x → DeclaresMember members body rest x
 next_member-Ok members body rest x e =
-    let p = cond-Err (nat_le 16 (length members)) (new_member members body rest) faults.BadWord x e in
+    let p = cond-Err (nat_le most_members (length members)) (new_member members body rest) faults.BadWord x e in
     words-Ok rest (not-many (length members) p.0) p.1
   where
-    words-Ok : (rest : Option (List ℕ)) → length members < 16 → new_member members body rest ≡ Ok x → DeclaresMember members body rest x
+    words-Ok : (rest : Option (List ℕ)) → length members < most_members → new_member members body rest ≡ Ok x → DeclaresMember members body rest x
     words-Ok None few e = absurd (err_is _ x e)
     words-Ok (Some words) few e =
         let p = on_ok-Ok (both (name_in (cut_word words).0) (options_in (cut_word words).1)) (named_member members body) x e in
@@ -109,7 +120,7 @@ record DeclaresBase (said : Option ℕ) (body : List Line) (rest : Option (List 
   pub is : rest ≡ Some words
   pub text : decimal n ≡ words
   pub least : 1 ≤ n
-  pub most : n ≤ 2 ^ 40
+  pub most : n ≤ greatest_base
   pub first : said ≡ None
   pub in_head : body ≡ []
 
@@ -122,20 +133,20 @@ base_end-Ok : (said : Option ℕ) (body : List Line) (rest : Option (List ℕ)) 
 base_end-Ok (Some n) body rest u e = absurd (err_is _ u e)
 base_end-Ok None body rest u e = let p = head_end-Ok body rest u e in (refl, p.0, p.1)
 
-in_range : (n : ℕ) → (nat_le 1 n && nat_le n (2 ^ 40)) ≡ true → (1 ≤ n) × (n ≤ 2 ^ 40)
+in_range : (n : ℕ) → (nat_le 1 n && nat_le n greatest_base) ≡ true → (1 ≤ n) × (n ≤ greatest_base)
 in_range n e = (grind (arith, nat_tests), grind (arith, nat_tests))
 
-ranged_base-Ok : (n k : ℕ) → ranged_base n ≡ Ok k → (n ≡ k) × (1 ≤ n) × (n ≤ 2 ^ 40)
+ranged_base-Ok : (n k : ℕ) → ranged_base n ≡ Ok k → (n ≡ k) × (1 ≤ n) × (n ≤ greatest_base)
 ranged_base-Ok n k e =
-    let p = cond-Ok (nat_le 1 n && nat_le n (2 ^ 40)) (Ok n) faults.BadNumber k e in
+    let p = cond-Ok (nat_le 1 n && nat_le n greatest_base) (Ok n) faults.BadNumber k e in
     let r = in_range n p.0 in
     (ok_is n k p.1, r.0, r.1)
 
-base_in-Ok : (word : List ℕ) (n : ℕ) → base_in word ≡ Ok n → (decimal n ≡ word) × (1 ≤ n) × (n ≤ 2 ^ 40)
+base_in-Ok : (word : List ℕ) (n : ℕ) → base_in word ≡ Ok n → (decimal n ≡ word) × (1 ≤ n) × (n ≤ greatest_base)
 base_in-Ok word n e =
     let p = on_ok-Ok (number_in word) ranged_base n e in
     let r = ranged_base-Ok p.0 n p.2 in
-    (sym (ap decimal r.0) ∙ sym (number-is word p.0 (number_in-Ok word p.0 p.1)), subst (λ (k : ℕ). 1 ≤ k) r.0 r.1, subst (λ (k : ℕ). k ≤ 2 ^ 40) r.0 r.2)
+    (sym (ap decimal r.0) ∙ sym (number-is word p.0 (number_in-Ok word p.0 p.1)), subst (λ (k : ℕ). 1 ≤ k) r.0 r.1, subst (λ (k : ℕ). k ≤ greatest_base) r.0 r.2)
 
 next_base-Ok : (said : Option ℕ) (body : List Line) (rest : Option (List ℕ)) (n : ℕ) → next_base said body rest ≡ Ok n → DeclaresBase said body rest n
 next_base-Ok said body None n e = absurd (err_is _ n e)
@@ -211,12 +222,12 @@ of-Ok base members body line words.Trace a may k e = body-Ok base members body l
 -- a base that is said is in its range
 abbrev IsBaseIfSaid : Option ℕ → Type 0
 IsBaseIfSaid None = Unit {0}
-IsBaseIfSaid (Some n) = (1 ≤ n) × (n ≤ 2 ^ 40)
+IsBaseIfSaid (Some n) = (1 ≤ n) × (n ≤ greatest_base)
 
 -- what holds of the lines so far
 record IsBegun (d : DraftText) : Type 0 where
   pub base : IsBaseIfSaid d.base
-  pub few : length d.members ≤ 16
+  pub few : length d.members ≤ most_members
   pub different : AreDifferent (member_names d.members)
   pub body : AllAreLines (member_names d.members) d.body
 
@@ -224,7 +235,7 @@ record IsBegun (d : DraftText) : Type 0 where
 record SayDraft (d : DraftText) (ls : List (List ℕ)) : Type 0 where
   pub said : List HeadLine
   pub configs : configs_said said ≡ read_at_most_once d.config
-  pub bases : bases_said said ≡ at_most_one d.base
+  pub bases : bases_said said ≡ option_to_list d.base
   pub members : members_said said ≡ d.members
   pub body : List (List ℕ)
   pub spells : SpellBody (member_names d.members) body d.body
@@ -265,13 +276,13 @@ start cluster config base members = record { cluster = cluster; config = config;
 
 -- one more line of a head says what it says, behind what those before it say
 head-line : (cluster : Name) (line : HeadLine) (config config' : Option Settings) (base base' : Option ℕ) (members members' : List MemberText) (ls : List (List ℕ))
-    → read_at_most_once config ++ config_said line ≡ read_at_most_once config' → at_most_one base ++ base_said line ≡ at_most_one base' → members ++ member_said line ≡ members'
+    → read_at_most_once config ++ config_said line ≡ read_at_most_once config' → option_to_list base ++ base_said line ≡ option_to_list base' → members ++ member_said line ≡ members'
     → SayDraft (start cluster config base members) ls → SayDraft (start cluster config' base' members') (ls ++ head_line_text line ∷ [])
 unfolding start
 head-line cluster line config config' base base' members members' ls configs bases declared h = record {
   said = h.said ++ line ∷ [];
   configs = flat_map-append config_said h.said (line ∷ []) ∙ ap (λ t. t ++ flat_map config_said (line ∷ [])) h.configs ∙ ap (λ t. read_at_most_once config ++ t) (flat_map-one config_said line) ∙ configs;
-  bases = flat_map-append base_said h.said (line ∷ []) ∙ ap (λ t. t ++ flat_map base_said (line ∷ [])) h.bases ∙ ap (λ t. at_most_one base ++ t) (flat_map-one base_said line) ∙ bases;
+  bases = flat_map-append base_said h.said (line ∷ []) ∙ ap (λ t. t ++ flat_map base_said (line ∷ [])) h.bases ∙ ap (λ t. option_to_list base ++ t) (flat_map-one base_said line) ∙ bases;
   members = flat_map-append member_said h.said (line ∷ []) ∙ ap (λ t. t ++ flat_map member_said (line ∷ [])) h.members ∙ ap (λ t. members ++ t) (flat_map-one member_said line) ∙ declared;
   body = [];
   spells = tt;
@@ -290,12 +301,12 @@ body-line d l line ls is h = record {
   lines = ap (λ t. t ++ line ∷ []) h.lines ∙ append_assoc (head_with d.cluster h.said) h.body (line ∷ []);
 }
 
-member-Adds : (cluster : Name) (line : MemberLine) (config : Option Settings) (base : Option ℕ) (members : List MemberText) (body : List Line) (ls : List (List ℕ)) → body ≡ [] → length (member_names members) < 16 → place_of (member_names members) line.name ≡ None
+member-Adds : (cluster : Name) (line : MemberLine) (config : Option Settings) (base : Option ℕ) (members : List MemberText) (body : List Line) (ls : List (List ℕ)) → body ≡ [] → length (member_names members) < most_members → place_of (member_names members) line.name ≡ None
     → Adds (record { cluster = cluster; config = config; base = base; members = members; body = body }) ls
     → Adds (record { cluster = cluster; config = config; base = base; members = members ++ member_of_line line ∷ []; body = body }) (ls ++ member_line_text line ∷ [])
 unfolding start
 member-Adds cluster line config base members [] ls is few absent h = record {
-  says = head-line cluster (MembersLine line) config config base base members (members ++ member_of_line line ∷ []) ls (append-nil (read_at_most_once config)) (append-nil (at_most_one base)) refl h.says;
+  says = head-line cluster (MembersLine line) config config base base members (members ++ member_of_line line ∷ []) ls (append-nil (read_at_most_once config)) (append-nil (option_to_list base)) refl h.says;
   begun = record {
     base = h.begun.base;
     few = omega (arith, length-append members (member_of_line line ∷ []), length-map members (λ (m : MemberText). m.name));
@@ -305,7 +316,7 @@ member-Adds cluster line config base members [] ls is few absent h = record {
 }
 member-Adds cluster line config base members (l ∷ body) ls is few absent h = cc
 
-base-Adds : (cluster : Name) (n : ℕ) (config : Option Settings) (base : Option ℕ) (members : List MemberText) (body : List Line) (ls : List (List ℕ)) → base ≡ None → body ≡ [] → 1 ≤ n → n ≤ 2 ^ 40
+base-Adds : (cluster : Name) (n : ℕ) (config : Option Settings) (base : Option ℕ) (members : List MemberText) (body : List Line) (ls : List (List ℕ)) → base ≡ None → body ≡ [] → 1 ≤ n → n ≤ greatest_base
     → Adds (record { cluster = cluster; config = config; base = base; members = members; body = body }) ls
     → Adds (record { cluster = cluster; config = config; base = Some n; members = members; body = body }) (ls ++ base_text n ∷ [])
 unfolding start
@@ -354,7 +365,7 @@ config-Adds : (cluster : Name) (bytes : List ℕ) (config : Option Settings) (re
     → Adds (record { cluster = cluster; config = Some read; base = base; members = members; body = body }) (ls ++ config_text bytes ∷ [])
 unfolding start
 config-Adds cluster bytes None read base members [] ls is first in_head h = record {
-  says = head-line cluster (ConfigLine bytes) None (Some read) base base members members ls (ap (λ r. r ∷ []) is) (append-nil (at_most_one base)) (append-nil members) h.says;
+  says = head-line cluster (ConfigLine bytes) None (Some read) base base members members ls (ap (λ r. r ∷ []) is) (append-nil (option_to_list base)) (append-nil members) h.says;
   begun = record { base = h.begun.base; few = h.begun.few; different = h.begun.different; body = tt };
 }
 config-Adds cluster bytes None read base members (l ∷ body) ls is first in_head h = cc
@@ -439,13 +450,13 @@ text-Adds : (o p : Option DraftText) (ls : List (List ℕ)) (line : List ℕ) (t
 text-Adds o p ls line true may h e = subst (λ (x : Option DraftText). AddsIfAny x (ls ++ [])) (ok_is o p e) (subst (AddsIfAny o) (sym (append-nil ls)) h)
 text-Adds o p ls line false may h e = counted-Adds o p ls line may h e
 
-short : (line : List ℕ) → nat_le (length line) 8192 ≡ true → length line ≤ 8192
+short : (line : List ℕ) → nat_le (length line) longest_line ≡ true → length line ≤ longest_line
 short line e = grind (arith, nat_tests)
 
 line-read : (o p : Option DraftText) (ls : List (List ℕ)) (line : List ℕ) → is_one_line line ≡ true → AddsIfAny o ls → after_line o line ≡ Ok p → IsInForm line × AddsIfAny p (ls ++ cond (is_skipped line) [] (line ∷ []))
 line-read o p ls line one h e =
-    let a = cond-Ok (is_utf8 line) (cond (nat_le (length line) 8192) (after_text o line) (Err faults.TooLong)) faults.NotUtf8 p e in
-    let b = cond-Ok (nat_le (length line) 8192) (after_text o line) faults.TooLong p a.1 in
+    let a = cond-Ok (is_utf8 line) (cond (nat_le (length line) longest_line) (after_text o line) (Err faults.TooLong)) faults.NotUtf8 p e in
+    let b = cond-Ok (nat_le (length line) longest_line) (after_text o line) faults.TooLong p a.1 in
     let form : IsInForm line = record { text = a.0; short = short line b.0 } in
     (form, text-Adds o p ls line (is_skipped line) (record { form = form; one_line = one }) h b.1)
 
@@ -501,7 +512,7 @@ pub record AreScript (text : ScriptText) (all : List (List ℕ)) : Type 0 where
   pub spells : SpellBody (names_of text.head) body text.body
   pub counted : counted_lines all ≡ head ++ body
 
-base-range : (said : Option ℕ) → IsBaseIfSaid said → (1 ≤ base_or_default said) × (base_or_default said ≤ 2 ^ 40)
+base-range : (said : Option ℕ) → IsBaseIfSaid said → (1 ≤ base_or_default said) × (base_or_default said ≤ greatest_base)
 base-range None h = (omega arith, omega arith)
 base-range (Some n) h = h
 

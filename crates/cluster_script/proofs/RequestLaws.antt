@@ -9,21 +9,24 @@ use Rattle.std.proofs.lemmas.Slice.Eq.{bytes_eq-Decides}
 use Rattle.pat_base.specs.declared.name.Name.{Name}
 use Rattle.pat_base.specs.declared.member_id.MemberId.{MemberId}
 use Rattle.cluster_script.specs.Arguments.{member_in, missing_behind, method_in, call_in, target_behind, method_behind, call_words, behind_word, bytes_or_none, body_in, rest_line}
-use Rattle.cluster_script.specs.Faults.{on_ok, both}
-use Rattle.cluster_script.specs.Lines.{first_at, is_in_line, is_one_line}
-use Rattle.cluster_script.specs.Rest.{request_words, rest_calls, is_call, call_of}
-use Rattle.cluster_script.specs.Script.{member_text, two_texts, request_text, rest_text, IsInForm, IsMember, IsRequest, SpellsLine, OwnText, BlankBehind}
-use Rattle.cluster_script.specs.Words.{spelled, word_of, cut_word}
-use Rattle.cluster_script.specs.declared.fault.Fault.{Fault}
-use Rattle.cluster_script.specs.declared.fault.Fault.TheVariants as faults
-use Rattle.cluster_script.specs.declared.keyword.Keyword.TheVariants as words
-use Rattle.cluster_script.specs.declared.line.Command.TheVariants as commands
-use Rattle.cluster_script.specs.declared.line.Line.TheVariants as lines
-use Rattle.cluster_script.specs.declared.rest.RestCall.{RestCall}
-use Rattle.cluster_script.specs.declared.rest.RestCall.TheVariants as calls
-use Rattle.cluster_script.proofs.Outcomes.{err_is, ok_or-Ok, both-Ok, cond-Err}
-use Rattle.cluster_script.proofs.PlainTexts.{IsPlain, IsPlain-append, blank-IsPlain, some_name-IsPlain, word-IsPlain, plain-is_utf8, no-feeds}
-use Rattle.cluster_script.proofs.WordLaws.{find-passes, cut_word-None, cut_word-Some, cut_word-again, cut_word-alone}
+use Rattle.script_words.specs.Faults.{on_ok, both}
+use Rattle.script_words.specs.Lines.{first_at, is_in_line, is_one_line}
+use Rattle.rest_api.specs.Calls.{request_words, rest_calls, is_call, call_of}
+use Rattle.script_model.specs.Script.{member_text, two_texts, request_text, rest_text, IsInForm, IsMember, IsRequest}
+use Rattle.script_model.specs.Spelling.{SpellsLine, OwnText, BlankBehind}
+use Rattle.script_model.specs.Keywords.{spelled, word_of}
+use Rattle.script_words.specs.Words.{cut_word}
+use Rattle.script_words.specs.declared.fault.Fault.{Fault}
+use Rattle.script_words.specs.declared.fault.Fault.TheVariants as faults
+use Rattle.script_model.specs.declared.keyword.Keyword.TheVariants as words
+use Rattle.script_model.specs.declared.line.Command.TheVariants as commands
+use Rattle.script_model.specs.declared.line.Line.TheVariants as lines
+use Rattle.rest_api.specs.declared.call.RestCall.{RestCall}
+use Rattle.rest_api.specs.declared.call.RestCall.TheVariants as calls
+use Rattle.script_words.proofs.Outcomes.{err_is, ok_or-Ok, both-Ok, cond-Err}
+use Rattle.script_words.proofs.PlainTexts.{IsPlain, IsPlain-append, blank-IsPlain, plain-is_utf8, no-feeds}
+use Rattle.cluster_script.proofs.FirstWordLaws.{some_name-IsPlain, word-IsPlain}
+use Rattle.script_words.proofs.WordLaws.{find-passes, cut_word-None, cut_word-Some, cut_word-again, cut_word-alone}
 
 -- a target, and what stands behind its blank, if there is one
 abbrev pub with_behind : List ℕ → Option (List ℕ) → List ℕ

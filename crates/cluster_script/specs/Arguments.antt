@@ -5,27 +5,28 @@ use Rattle.std.specs.Str.{bytes_eq}
 use Rattle.pat_base.specs.Name.{name_of}
 use Rattle.pat_base.specs.declared.name.Name.{Name}
 use Rattle.pat_base.specs.declared.member_id.MemberId.{MemberId}
-use Rattle.cluster_script.specs.Faults.{on_ok, both}
+use Rattle.script_words.specs.Faults.{on_ok, both}
 use Rattle.cluster_script.specs.Members.{member_named}
-use Rattle.cluster_script.specs.Numbers.{number}
-use Rattle.cluster_script.specs.Ranges.{commit_size_of, delay_of}
-use Rattle.cluster_script.specs.Rest.{call_of, is_token}
-use Rattle.cluster_script.specs.Words.{cut_word}
-use Rattle.cluster_script.specs.declared.fault.Fault.{Fault}
-use Rattle.cluster_script.specs.declared.fault.Fault.TheVariants as faults
-use Rattle.cluster_script.specs.declared.keyword.Keyword.{Keyword}
-use Rattle.cluster_script.specs.declared.keyword.Keyword.TheVariants as words
-use Rattle.cluster_script.specs.declared.line.End.{End}
-use Rattle.cluster_script.specs.declared.line.End.TheVariants as ends
-use Rattle.cluster_script.specs.declared.line.Command.{Command}
-use Rattle.cluster_script.specs.declared.line.Command.TheVariants as commands
-use Rattle.cluster_script.specs.declared.line.SlowedCall.{SlowedCall}
-use Rattle.cluster_script.specs.declared.line.SlowedCall.TheVariants as slowed_calls
-use Rattle.cluster_script.specs.declared.line.Line.{Line}
-use Rattle.cluster_script.specs.declared.line.Line.TheVariants as lines
-use Rattle.cluster_script.specs.declared.ranges.CommitSize.{CommitSize}
-use Rattle.cluster_script.specs.declared.ranges.Delay.{Delay}
-use Rattle.cluster_script.specs.declared.rest.RestCall.{RestCall}
+use Rattle.script_words.specs.Numbers.{number}
+use Rattle.script_model.specs.Ranges.{commit_size_of, delay_of}
+use Rattle.rest_api.specs.Tokens.{is_token}
+use Rattle.rest_api.specs.Calls.{call_of}
+use Rattle.script_words.specs.Words.{cut_word}
+use Rattle.script_words.specs.declared.fault.Fault.{Fault}
+use Rattle.script_words.specs.declared.fault.Fault.TheVariants as faults
+use Rattle.script_model.specs.declared.keyword.Keyword.{Keyword}
+use Rattle.script_model.specs.declared.keyword.Keyword.TheVariants as words
+use Rattle.script_model.specs.declared.line.End.{End}
+use Rattle.script_model.specs.declared.line.End.TheVariants as ends
+use Rattle.script_model.specs.declared.line.Command.{Command}
+use Rattle.script_model.specs.declared.line.Command.TheVariants as commands
+use Rattle.script_model.specs.declared.line.SlowedCall.{SlowedCall}
+use Rattle.script_model.specs.declared.line.SlowedCall.TheVariants as slowed_calls
+use Rattle.script_model.specs.declared.line.Line.{Line}
+use Rattle.script_model.specs.declared.line.Line.TheVariants as lines
+use Rattle.script_model.specs.declared.ranges.CommitSize.{CommitSize}
+use Rattle.script_model.specs.declared.ranges.Delay.{Delay}
+use Rattle.rest_api.specs.declared.call.RestCall.{RestCall}
 
 -- a number
 abbrev pub number_in : List ℕ → Result ℕ Fault

@@ -3,8 +3,9 @@ use Rattle.std.specs.Prelude.{ℕ, ◌≡◌, ◌≤◌, List, [], Option, Some,
 use Rattle.pat_base.specs.declared.name.Name.{Name}
 use Rattle.lease_store.specs.Settings.{Settings}
 use Rattle.cluster_config.specs.ConfigReading.{IsConfiguration}
-use Rattle.cluster_script.specs.Script.{MemberText, ScriptText, config_or_default, base_or_default}
-use Rattle.cluster_script.specs.declared.line.Line.{Line}
+use Rattle.script_model.specs.Bounds.{most_members}
+use Rattle.script_model.specs.Script.{MemberText, ScriptText, config_or_default, base_or_default}
+use Rattle.script_model.specs.declared.line.Line.{Line}
 
 -- what the lines so far say, from the cluster's on: no configuration and no base where none of them does
 pub record DraftText : Type 0 where
@@ -25,7 +26,7 @@ script_so_far d = record { head = record { cluster = d.cluster; config = config_
 
 -- at most 16 members, a configuration that is what its text says, and nothing before the line of the cluster
 pub record IsDraft (cluster : Option Name) (config : Option Settings) (base : Option ℕ) (members : List MemberText) (body : List Line) : Type 0 where
-  pub few : length members ≤ 16
+  pub few : length members ≤ most_members
   pub configured : IfSome config IsConfiguration
   pub no_config : cluster ≡ None → config ≡ None
   pub no_base : cluster ≡ None → base ≡ None

@@ -1,12 +1,26 @@
 -- What a script has at most. It is counted on the bytes alone, whatever faults they have.
 use Rattle.std.specs.Prelude.{ℕ, ◌-◌, ◌^◌, nat_lt, min, Bool, true, false, if◌then◌else◌, List, Option, Some, None, codes, length, count_by, sum_by}
-use Rattle.cluster_script.specs.Lines.{lines_in}
-use Rattle.cluster_script.specs.Numbers.{number}
-use Rattle.cluster_script.specs.Words.{keyword_of, cut_word}
-use Rattle.cluster_script.specs.declared.keyword.Keyword.{Keyword}
-use Rattle.cluster_script.specs.declared.keyword.Keyword.TheVariants as words
+use Rattle.script_words.specs.Lines.{lines_in}
+use Rattle.script_words.specs.Numbers.{number}
+use Rattle.cluster_script.specs.FirstWords.{keyword_of}
+use Rattle.script_words.specs.Words.{cut_word}
+use Rattle.script_model.specs.Bounds.{most_members}
+use Rattle.script_model.specs.declared.keyword.Keyword.{Keyword}
+use Rattle.script_model.specs.declared.keyword.Keyword.TheVariants as words
 use Rattle.cluster_script.specs.declared.limits.Limit.{Limit}
 use Rattle.cluster_script.specs.declared.limits.Limit.TheVariants as limits
+
+-- so many bytes a script may have
+abbrev pub most_bytes : ℕ
+most_bytes = 1048576
+
+-- so many lines
+abbrev pub most_lines : ℕ
+most_lines = 100000
+
+-- so many ticks
+abbrev pub most_ticks : ℕ
+most_ticks = 1000000
 
 -- what a limit is called
 abbrev pub limit_text : Limit → List ℕ
@@ -54,8 +68,8 @@ ticks_in lines = min (sum_by ticks_in_line lines) (2 ^ 64 - 1)
 
 -- the first limit that lines pass, if they pass any
 abbrev pub limit_of_lines : List (List ℕ) → Option Limit
-limit_of_lines lines = if nat_lt 100000 (length lines) then Some limits.Lines else if nat_lt 16 (member_line_count lines) then Some limits.Members else if nat_lt 1000000 (ticks_in lines) then Some limits.Ticks else None
+limit_of_lines lines = if nat_lt most_lines (length lines) then Some limits.Lines else if nat_lt most_members (member_line_count lines) then Some limits.Members else if nat_lt most_ticks (ticks_in lines) then Some limits.Ticks else None
 
 -- the first limit that the bytes pass, if they pass any
 abbrev pub limit_of : List ℕ → Option Limit
-limit_of bytes = if nat_lt 1048576 (length bytes) then Some limits.Bytes else limit_of_lines (lines_in bytes)
+limit_of bytes = if nat_lt most_bytes (length bytes) then Some limits.Bytes else limit_of_lines (lines_in bytes)

@@ -6,7 +6,7 @@ use Rattle.pat_base.specs.MemberId.{member_of}
 use Rattle.pat_base.specs.Name.{name_bytes}
 use Rattle.pat_base.specs.declared.name.Name.{Name}
 use Rattle.pat_base.specs.declared.member_id.MemberId.{MemberId}
-use Rattle.cluster_script.specs.Lines.{one_more}
+use Rattle.script_words.specs.Lines.{one_more}
 
 -- the place of the member of this name
 abbrev pub place_of : List Name → Name → Option ℕ

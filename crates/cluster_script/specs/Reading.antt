@@ -1,5 +1,5 @@
 -- The script that bytes are, or the first line with a fault and its first fault.
-use Rattle.std.specs.Prelude.{ℕ, ◌≡◌, ◌+◌, ◌^◌, ◌<◌, nat_le, ◌&&◌, Bool, true, false, if◌then◌else◌, List, [], ◌∷◌, ◌++◌, Option, Some, None, Result, Ok, Err, length}
+use Rattle.std.specs.Prelude.{ℕ, ◌≡◌, ◌+◌, ◌<◌, nat_le, ◌&&◌, Bool, true, false, if◌then◌else◌, List, [], ◌∷◌, ◌++◌, Option, Some, None, Result, Ok, Err, length}
 use Rattle.std.specs.Option.{ok_or}
 use Rattle.std.specs.Str.{is_utf8}
 use Rattle.pat_base.specs.Name.{name_of}
@@ -9,20 +9,22 @@ use Rattle.cluster_config.specs.ConfigReading.{config_read}
 use Rattle.cluster_config.specs.declared.config_fault.ConfigFault.{ConfigFault}
 use Rattle.cluster_script.specs.Arguments.{number_in, line_of_words}
 use Rattle.cluster_script.specs.Draft.{DraftText, script_so_far}
-use Rattle.cluster_script.specs.Faults.{on_ok, both}
-use Rattle.cluster_script.specs.Lines.{lines_in, is_skipped}
+use Rattle.script_words.specs.Faults.{on_ok, both}
+use Rattle.script_words.specs.Lines.{lines_in, is_skipped}
 use Rattle.cluster_script.specs.Members.{place_of}
-use Rattle.cluster_script.specs.OptionReading.{options_in}
-use Rattle.cluster_script.specs.Script.{MemberText, ScriptText, member_names, member_of_entry}
-use Rattle.cluster_script.specs.Words.{keyword_of, cut_word}
+use Rattle.member_options.specs.OptionReading.{options_in}
+use Rattle.script_model.specs.Bounds.{most_members, longest_line, greatest_base}
+use Rattle.script_model.specs.Script.{MemberText, ScriptText, member_names, member_of_entry}
+use Rattle.cluster_script.specs.FirstWords.{keyword_of}
+use Rattle.script_words.specs.Words.{cut_word}
 use Rattle.cluster_script.specs.declared.addition.Addition.{Addition}
 use Rattle.cluster_script.specs.declared.addition.Addition.TheVariants as additions
-use Rattle.cluster_script.specs.declared.fault.Fault.{Fault}
-use Rattle.cluster_script.specs.declared.fault.Fault.TheVariants as faults
-use Rattle.cluster_script.specs.declared.head.MemberOptions.{MemberOptions}
-use Rattle.cluster_script.specs.declared.keyword.Keyword.{Keyword}
-use Rattle.cluster_script.specs.declared.keyword.Keyword.TheVariants as words
-use Rattle.cluster_script.specs.declared.line.Line.{Line}
+use Rattle.script_words.specs.declared.fault.Fault.{Fault}
+use Rattle.script_words.specs.declared.fault.Fault.TheVariants as faults
+use Rattle.member_options.specs.declared.member_option.MemberOptions.{MemberOptions}
+use Rattle.script_model.specs.declared.keyword.Keyword.{Keyword}
+use Rattle.script_model.specs.declared.keyword.Keyword.TheVariants as words
+use Rattle.script_model.specs.declared.line.Line.{Line}
 use Rattle.cluster_script.specs.declared.script_fault.ScriptFault.{ScriptFault}
 use Rattle.cluster_script.specs.declared.script_fault.ScriptFault.TheVariants as script_faults
 
@@ -56,11 +58,11 @@ new_member members body (Some words) = on_ok (both (name_in (cut_word words).0) 
 
 -- the seventeenth line 'member' is unknown
 abbrev pub next_member : List Name → List Line → Option (List ℕ) → Result (Name × MemberOptions) Fault
-next_member members body rest = if nat_le 16 (length members) then Err faults.BadWord else new_member members body rest
+next_member members body rest = if nat_le most_members (length members) then Err faults.BadWord else new_member members body rest
 
 -- how many bytes a log may begin with: 1 to 2 ^ 40
 abbrev pub ranged_base : ℕ → Result ℕ Fault
-ranged_base n = if nat_le 1 n && nat_le n (2 ^ 40) then Ok n else Err faults.BadNumber
+ranged_base n = if nat_le 1 n && nat_le n greatest_base then Ok n else Err faults.BadNumber
 
 -- a base, in its range
 abbrev pub base_in : List ℕ → Result ℕ Fault
@@ -223,11 +225,11 @@ after_text d line = if is_skipped line then Ok d else after_counted d line
 
 -- a line, behind those before it
 abbrev pub after_line : Option DraftText → List ℕ → Result (Option DraftText) Fault
-after_line d line = if is_utf8 line then (if nat_le (length line) 8192 then after_text d line else Err faults.TooLong) else Err faults.NotUtf8
+after_line d line = if is_utf8 line then (if nat_le (length line) longest_line then after_text d line else Err faults.TooLong) else Err faults.NotUtf8
 
 -- a member that a line adds is one of at most 16, and no other has its name
 abbrev pub IsNew : List MemberText → Addition → Type 0
-IsNew members (additions.Member name options) = (length members < 16) × (place_of (member_names members) name ≡ None)
+IsNew members (additions.Member name options) = (length members < most_members) × (place_of (member_names members) name ≡ None)
 IsNew members (additions.Base n) = Unit {0}
 IsNew members (additions.Body line) = Unit {0}
 

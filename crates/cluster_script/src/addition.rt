@@ -1,6 +1,7 @@
 //! What a line adds to a script.
-use crate::{Line, MemberOptions};
+use member_options::MemberOptions;
 use pat_base::Name;
+use script_model::Line;
 
 /// What a line behind the cluster's adds to a script.
 #[derive(Debug, Drop)]

@@ -4,9 +4,10 @@ ghost use Rattle.std.specs.Option.{option_copied};
 ghost use Rattle.cluster_config.specs.ConfigReading.{IsConfiguration};
 ghost use Rattle.cluster_script.specs.Reading.{config_in, next_config};
 
-use crate::{Fault, Line};
 use cluster_config::{ConfigFault, ConfigText};
 use lease_store::ConfigValue;
+use script_model::Line;
+use script_words::Fault;
 use std::alloc::{AllocError, Global};
 
 /// A configuration: the whole rest of its line.

@@ -1,24 +1,24 @@
 //! A script while its lines are read.
-ghost use Rattle.std.specs.Prelude.{ℕ, ◌≡◌, ◌<◌, ◌≤◌, ◌+◌, ◌++◌, ◌∷◌, ◌^◌, List, [], length, map, Option, None, Some, Ok, IfOk, OnOk, OnErr, IfErr, IfSome};
+ghost use Rattle.std.specs.Prelude.{◌≡◌, ◌≤◌, ◌+◌, length, map, Option, None, Some, Ok, IfOk, OnOk, OnErr, IfErr, IfSome};
 ghost use Rattle.std.specs.Option.{option_copied};
 ghost use Rattle.indexmap.specs.IndexMap.{keys};
 ghost use Rattle.cluster_config.specs.ConfigReading.{IsConfiguration};
-ghost use Rattle.cluster_script.specs.Script.{ScriptText, IsScript, config_or_default, base_or_default, member_names, members_in};
+ghost use Rattle.script_model.specs.Bounds.{most_members};
+ghost use Rattle.script_model.specs.Script.{ScriptText, IsScript, config_or_default, base_or_default, member_names, members_in};
 ghost use Rattle.cluster_script.specs.Reading.{Gives, IsNew, base_addition, member_addition, body_addition, addition_of, known_addition, is_config, base_after, members_after, body_after, after_counted, after_line, after_lines, at_line, finished};
 
+use crate::ScriptFault;
 use crate::addition::Addition;
 use crate::arguments::line_of_words;
 use crate::config_line::next_config;
-use crate::head::DEFAULT_BASE;
+use crate::first_words::keyword_of;
 use crate::head_lines::{first_line, next_base, next_member, second_cluster};
-use crate::keyword::Keyword;
-use crate::lines::{is_skipped, is_text};
 use crate::members::Members;
-use crate::words::{cut_word, keyword_of};
-use crate::{Fault, Head, Line, Script, ScriptFault};
 use indexmap::IndexMap;
 use lease_store::ConfigValue;
 use pat_base::Name;
+use script_model::{DEFAULT_BASE, Head, Keyword, Line, Script};
+use script_words::{Fault, cut_word, is_skipped, is_text};
 use std::alloc::{AllocError, Global};
 use std::marker::Model;
 
@@ -38,7 +38,7 @@ pub struct Draft {
 impl Model for Draft {
     ghost use Rattle.std.specs.Prelude.{Option};
     ghost use Rattle.cluster_script.specs.Draft.{DraftText, IsDraft, draft_of};
-    ghost use Rattle.cluster_script.specs.Script.{members_in};
+    ghost use Rattle.script_model.specs.Script.{members_in};
 
     ghost Value = { Option DraftText };
 
@@ -71,7 +71,7 @@ fn body_addition(
     keyword: Keyword,
     rest: Option<&[u8]>,
 ) -> Result<Result<Addition, Fault>, AllocError>
-    requires { length (keys members.now) ≤ 16 }
+    requires { length (keys members.now) ≤ most_members }
     ensures value { IfOk result (λ outcome. outcome ≡ body_addition (keys members.now) keyword (option_copied rest.entry)) }
     ensures new { IfOk result (λ outcome. IfOk outcome (IsNew (members_in members.now.entries))) }
 {
@@ -91,7 +91,7 @@ fn addition_of(
     keyword: Keyword,
     rest: Option<&[u8]>,
 ) -> Result<Result<Addition, Fault>, AllocError>
-    requires { length (keys members.now) ≤ 16 }
+    requires { length (keys members.now) ≤ most_members }
     ensures value { IfOk result (λ outcome. outcome ≡ addition_of base (keys members.now) body.now keyword (option_copied rest.entry)) }
     ensures new { IfOk result (λ outcome. IfOk outcome (IsNew (members_in members.now.entries))) }
 {
@@ -112,7 +112,7 @@ fn known_addition(
     keyword: Option<Keyword>,
     rest: Option<&[u8]>,
 ) -> Result<Result<Addition, Fault>, AllocError>
-    requires { length (members_in members.now.entries) ≤ 16 }
+    requires { length (members_in members.now.entries) ≤ most_members }
     ensures value { IfOk result (λ outcome. outcome ≡ known_addition base (member_names (members_in members.now.entries)) body.now keyword (option_copied rest.entry)) }
     ensures new { IfOk result (λ outcome. IfOk outcome (IsNew (members_in members.now.entries))) }
 {

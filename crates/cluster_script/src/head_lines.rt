@@ -1,20 +1,18 @@
 //! The lines of a script's head.
-ghost use Rattle.std.specs.Prelude.{ℕ, ◌≡◌, ◌<◌, ◌≤◌, ◌^◌, List, length, None, IfOk};
+ghost use Rattle.std.specs.Prelude.{◌≡◌, ◌<◌, length, None, IfOk};
 ghost use Rattle.std.specs.Option.{option_copied};
 ghost use Rattle.indexmap.specs.IndexMap.{keys};
 ghost use Rattle.cluster_script.specs.Members.{place_of};
 ghost use Rattle.cluster_script.specs.Reading.{in_head, declared_in_head, named_member, name_in, new_member, next_member, base_in, head_end, base_end, base_missing, next_base, second_cluster, cluster_in, first_line};
+ghost use Rattle.script_model.specs.Bounds.{most_members};
 
-use crate::arguments::{both, number_in};
-use crate::keyword::Keyword;
+use crate::arguments::number_in;
+use crate::first_words::keyword_of;
 use crate::members::{Members, place_of};
-use crate::options::options_in;
-use crate::words::{cut_word, keyword_of};
-use crate::{Fault, Line, MemberOptions};
+use member_options::{MemberOptions, options_in};
 use pat_base::Name;
-
-/// The most members that a script may have.
-const MEMBERS: usize = 16;
+use script_model::{Keyword, Line, MOST_MEMBERS};
+use script_words::{Fault, both, cut_word};
 
 /// The greatest base of a script, in bytes.
 const GREATEST_BASE: u64 = 1_099_511_627_776;
@@ -91,9 +89,9 @@ pub fn next_member(
 ) -> Result<(Name, MemberOptions), Fault>
     ensures value { result ≡ next_member (keys members.now) body.now (option_copied rest.entry) }
     ensures new { IfOk result (λ member. place_of (keys members.now) member.0 ≡ None) }
-    ensures few { IfOk result (λ _. length (keys members.now) < 16) }
+    ensures few { IfOk result (λ _. length (keys members.now) < most_members) }
 {
-    if members.len() >= MEMBERS {
+    if members.len() >= MOST_MEMBERS {
         return Err(Fault::BadWord);
     }
     new_member(members, body, rest)

@@ -1,21 +1,10 @@
-//! What ties the reading of scripts to their spelling, in both directions.
+//! What is read is spelled so.
 ghost use Rattle.std.specs.Prelude.{ℕ, ◌≡◌, List, Ok};
-ghost use Rattle.cluster_config.specs.ConfigReading.{IsConfiguration};
+ghost use Rattle.script_model.specs.Script.{ScriptText, IsScript};
+ghost use Rattle.script_model.specs.Spelling.{Spells};
 ghost use Rattle.cluster_script.specs.Reading.{script_of};
-ghost use Rattle.cluster_script.specs.Script.{ScriptText, IsScript, IsShort, Spells, config_text, spelling_of};
 
 /// What is read as a script is one, and is spelled so.
 pub fn read_is_spelled()
     ensures { (bytes : List ℕ) (text : ScriptText) → script_of bytes ≡ Ok text → IsScript text × Spells bytes text }
-{}
-
-/// What is spelled as a script is read as it.
-pub fn spelled_is_read()
-    ensures { (bytes : List ℕ) (text : ScriptText) → IsScript text → Spells bytes text → script_of bytes ≡ Ok text }
-{}
-
-/// The bytes of a script's lines and nothing else are read as it, where its configuration is what its text says, as that of
-/// each script that was read is, and the line of that text isn't too long.
-pub fn canonical_spelling_is_read()
-    ensures { (text : ScriptText) → IsScript text → IsConfiguration text.head.config → IsShort (config_text text.head.config.text) → Spells (spelling_of text) text × (script_of (spelling_of text) ≡ Ok text) }
 {}

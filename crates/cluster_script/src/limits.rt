@@ -1,15 +1,15 @@
 //! The limits of a script. Bytes that pass one are judged by it before any fault of their lines.
 ghost use Rattle.std.specs.Prelude.{ℕ, ◌≡◌, ◌≤◌, List, length, map, IfOk, None, Ok};
 ghost use Rattle.std.specs.Option.{option_copied};
-ghost use Rattle.cluster_script.specs.Limits.{limit_text, is_member_line, member_line_count, ticks_or_none, ticks_behind, ticks_in_line, ticks_in, limit_of_lines, limit_of};
+ghost use Rattle.cluster_script.specs.Limits.{most_lines, most_ticks, limit_text, is_member_line, member_line_count, ticks_or_none, ticks_behind, ticks_in_line, ticks_in, limit_of_lines, limit_of};
 ghost use Rattle.cluster_script.specs.Reading.{script_of};
-ghost use Rattle.cluster_script.specs.Script.{ScriptText};
-ghost use Rattle.cluster_script.specs.Steps.{total_ticks};
+ghost use Rattle.script_model.specs.Script.{ScriptText};
+ghost use Rattle.script_model.specs.Steps.{total_ticks};
 
 use crate::ScriptLines;
-use crate::keyword::Keyword;
-use crate::numbers::number;
-use crate::words::{cut_word, keyword_of};
+use crate::first_words::keyword_of;
+use script_model::{Keyword, MOST_MEMBERS};
+use script_words::{cut_word, number};
 use std::alloc::{AllocError, Global};
 use std::fmt;
 
@@ -18,9 +18,6 @@ pub(crate) const MOST_BYTES: usize = 1_048_576;
 
 /// The most lines of a script: its line feeds, and one for an unended last line.
 const MOST_LINES: usize = 100_000;
-
-/// The most lines of a script whose first word is `member`.
-const MOST_MEMBERS: usize = 16;
 
 /// The most ticks, of 100 ms, of all lines `tick N` and `run N` of a script.
 const MOST_TICKS: u64 = 1_000_000;
@@ -137,5 +134,5 @@ pub fn limit_passed(alloc: Global, bytes: &[u8]) -> Result<Option<Limit>, AllocE
 
 /// A script within the limits has at most 1,000,000 ticks, and a body of at most 100,000 lines.
 pub fn within_limits()
-    ensures { (bytes : List ℕ) (text : ScriptText) → script_of bytes ≡ Ok text → limit_of bytes ≡ None → (total_ticks text.body ≤ 1000000) × (length text.body ≤ 100000) }
+    ensures { (bytes : List ℕ) (text : ScriptText) → script_of bytes ≡ Ok text → limit_of bytes ≡ None → (total_ticks text.body ≤ most_ticks) × (length text.body ≤ most_lines) }
 {}

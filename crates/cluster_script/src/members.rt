@@ -1,10 +1,11 @@
 //! The table of members.
-ghost use Rattle.std.specs.Prelude.{ℕ, ◌≡◌, ◌<◌, ◌≤◌, length, IfSome};
+ghost use Rattle.std.specs.Prelude.{◌≡◌, ◌<◌, ◌≤◌, length, IfSome};
 ghost use Rattle.indexmap.specs.IndexMap.{keys};
 ghost use Rattle.cluster_script.specs.Members.{place_of, member_named};
+ghost use Rattle.script_model.specs.Bounds.{most_members};
 
-use crate::MemberOptions;
 use indexmap::IndexMap;
+use member_options::MemberOptions;
 use pat_base::{MemberId, Name};
 
 /// What a script declares of each member, in the order of their lines.
@@ -20,7 +21,7 @@ pub fn place_of(members: &Members, name: Name) -> Option<usize>
 
 /// The member of this name.
 pub fn member_named(members: &Members, name: Name) -> Option<MemberId>
-    requires { length (keys members.now) ≤ 16 }
+    requires { length (keys members.now) ≤ most_members }
     ensures { result ≡ member_named (keys members.now) name }
 {
     let place = place_of(members, name)?;

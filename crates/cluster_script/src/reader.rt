@@ -1,9 +1,10 @@
 //! The reader of scripts.
-ghost use Rattle.std.specs.Prelude.{ℕ, ◌≡◌, ◌<◌, ◌≤◌, ◌+◌, List, length, map, IfOk, Ok};
-ghost use Rattle.cluster_script.specs.Script.{IsScript};
+ghost use Rattle.std.specs.Prelude.{IfOk};
+ghost use Rattle.script_model.specs.Script.{IsScript};
 ghost use Rattle.cluster_script.specs.Reading.{Gives, script_of};
 
-use crate::{Script, ScriptFault, ScriptLines};
+use crate::{ScriptFault, ScriptLines};
+use script_model::Script;
 use std::alloc::Global;
 
 /// The script that the bytes are, or the first line with a fault and its first fault. Lines are counted from 1; what is

@@ -3,13 +3,14 @@ ghost use Rattle.std.specs.Prelude.{◌≡◌, ◌≤◌, length, IfOk};
 ghost use Rattle.std.specs.Option.{option_copied};
 ghost use Rattle.indexmap.specs.IndexMap.{keys};
 ghost use Rattle.cluster_script.specs.Arguments.{method_in, call_in, target_in, target_behind, method_behind, call_words, behind_word, body_in, rest_line};
+ghost use Rattle.script_model.specs.Bounds.{most_members};
 
-use crate::arguments::{both, member_in, missing_behind, missing_word};
+use crate::arguments::{member_in, missing_behind, missing_word};
 use crate::members::Members;
-use crate::rest::{call_of, is_token};
-use crate::words::cut_word;
-use crate::{Command, Fault, Line, RequestBody, RestCall};
 use pat_base::MemberId;
+use rest_api::{RequestBody, RestCall, call_of, is_token};
+use script_model::{Command, Line};
+use script_words::{Fault, both, cut_word};
 use std::alloc::{AllocError, Global};
 
 /// A method: any token of HTTP.
@@ -79,7 +80,7 @@ fn method_behind(
 
 /// The member and the call of a request.
 fn call_words(members: &Members, rest: Option<&[u8]>) -> Result<((MemberId, ()), RestCall), Fault>
-    requires { length (keys members.now) ≤ 16 }
+    requires { length (keys members.now) ≤ most_members }
     ensures { result ≡ call_words (keys members.now) (option_copied rest.entry) }
 {
     let Some(words) = rest else {
@@ -117,7 +118,7 @@ pub fn rest_line(
     members: &Members,
     rest: Option<&[u8]>,
 ) -> Result<Result<Line, Fault>, AllocError>
-    requires { length (keys members.now) ≤ 16 }
+    requires { length (keys members.now) ≤ most_members }
     ensures { IfOk result (λ outcome. outcome ≡ rest_line (keys members.now) (option_copied rest.entry)) }
 {
     match call_words(members, rest) {

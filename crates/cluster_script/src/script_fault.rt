@@ -2,7 +2,7 @@
 ghost use Rattle.std.specs.Prelude.{◌≡◌};
 ghost use Rattle.cluster_script.specs.declared.script_fault.ScriptFault.TheVariants.{Memory};
 
-use crate::Fault;
+use script_words::Fault;
 use std::alloc::{AllocError, AllocFailed};
 use thiserror::Error;
 

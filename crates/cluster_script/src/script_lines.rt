@@ -1,8 +1,9 @@
 //! The bytes of a script, cut into lines once.
 use crate::draft::Draft;
 use crate::limits::{MOST_BYTES, limit_of_lines};
-use crate::lines::lines_in;
-use crate::{Limit, Script, ScriptFault};
+use crate::{Limit, ScriptFault};
+use script_model::Script;
+use script_words::lines_in;
 use std::alloc::{AllocError, Global};
 use std::marker::Model;
 
@@ -15,7 +16,7 @@ pub struct ScriptLines<'a> {
 
 impl<'a> Model for ScriptLines<'a> {
     ghost use Rattle.std.specs.Prelude.{ℕ, ◌≡◌, List, map};
-    ghost use Rattle.cluster_script.specs.Lines.{lines_in};
+    ghost use Rattle.script_words.specs.Lines.{lines_in};
 
     ghost Value = { List ℕ };
 
@@ -28,7 +29,7 @@ impl<'a> ScriptLines<'a> {
     ghost use Rattle.std.specs.Prelude.{ℕ, ◌≡◌, IfOk};
     ghost use Rattle.cluster_script.specs.Limits.{limit_of};
     ghost use Rattle.cluster_script.specs.Reading.{Gives, script_of};
-    ghost use Rattle.cluster_script.specs.Script.{IsScript};
+    ghost use Rattle.script_model.specs.Script.{IsScript};
 
     /// The lines of these bytes. It fails only for want of memory.
     pub fn cut(alloc: Global, bytes: &'a [u8]) -> Result<ScriptLines<'a>, AllocError>

@@ -1,7 +1,7 @@
 -- What the timed lease gives to an agent that claims the sync key: the lease that it hears is the present one, and nobody else acts.
 use Rattle.std.proofs.Common.{ℕ, ◌≡◌, ◌++◌, true, false, List, Option, Some, slice_get, refl, sym, ap, ◌∙◌, inl, inr}
 use Rattle.event_book.specs.declared.event.Event.{Event}
-use Rattle.cluster_script.specs.Script.{HeadText}
+use Rattle.script_model.specs.Script.{HeadText}
 use Rattle.agent_model.specs.declared.heard.Heard.{Heard}
 use Rattle.agent_model.specs.declared.heard.Heard.TheVariants as heards
 use Rattle.agent_model.specs.Agents.{is_ready as is_ready_role}

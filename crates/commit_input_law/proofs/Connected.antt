@@ -11,7 +11,7 @@ use Rattle.pg_model.specs.Facts.{ServerFacts}
 use Rattle.event_book.specs.declared.event.Event.{Event}
 use Rattle.event_book.specs.declared.member.Member.{Member}
 use Rattle.event_book.specs.Links.{CutLinks}
-use Rattle.cluster_script.specs.Script.{HeadText}
+use Rattle.script_model.specs.Script.{HeadText}
 use Rattle.agent_model.specs.declared.machine.Machine.{Machine}
 use Rattle.agent_model.specs.declared.machine.Replication.{Replication}
 use Rattle.agent_model.specs.Agents.{AgentFacts, made}

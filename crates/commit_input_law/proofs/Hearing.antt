@@ -24,7 +24,7 @@ use Rattle.event_book.specs.declared.message.Message.{Message}
 use Rattle.event_book.specs.Flight.{InFlightFacts, in_flight}
 use Rattle.sync_state.specs.Published.{standbys_of}
 use Rattle.sync_state.specs.Sets.{nobody}
-use Rattle.cluster_script.specs.Script.{HeadText}
+use Rattle.script_model.specs.Script.{HeadText}
 use Rattle.agent_model.specs.declared.heard.Heard.{Heard}
 use Rattle.agent_model.specs.declared.heard.Heard.TheVariants as heards
 use Rattle.agent_model.specs.declared.knowledge.Waited.{Waited}

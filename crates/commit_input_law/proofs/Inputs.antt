@@ -9,7 +9,7 @@ use Rattle.event_book.specs.declared.event.Event.{Event}
 use Rattle.event_book.specs.declared.event.EventKind.{EventKind}
 use Rattle.event_book.specs.declared.member.Member.{Member}
 use Rattle.event_book.specs.Functions.{put_at}
-use Rattle.cluster_script.specs.Script.{HeadText}
+use Rattle.script_model.specs.Script.{HeadText}
 use Rattle.agent_model.specs.declared.heard.Heard.{Heard}
 use Rattle.agent_model.specs.declared.heard.Heard.TheVariants as heards
 use Rattle.agent_model.specs.declared.machine.Machine.{Machine}

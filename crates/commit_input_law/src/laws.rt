@@ -1,5 +1,5 @@
 //! The law of inputs of agents in synchronous mode.
-ghost use Rattle.cluster_script.specs.Script.{HeadText, IsHead};
+ghost use Rattle.script_model.specs.Script.{HeadText, IsHead};
 ghost use Rattle.run_step_law.specs.Parts.{InputsUphold};
 ghost use Rattle.commit_step_law.specs.Bridged.{kept_commits};
 

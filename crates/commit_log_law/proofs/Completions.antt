@@ -24,9 +24,9 @@ use Rattle.cluster_model.specs.Parts.{events_of}
 use Rattle.cluster_model.specs.ServerCommands.{crash_of, freezing_of, is_gone, slow_by, slow_of, ticks_of}
 use Rattle.cluster_model.specs.State.{Cluster}
 use Rattle.cluster_model.specs.Ticking.{completion_events, reset_events, reset_of}
-use Rattle.cluster_script.specs.declared.line.SlowedCall.{SlowedCall}
-use Rattle.cluster_script.specs.declared.line.SlowedCall.TheVariants as slowed_calls
-use Rattle.cluster_script.specs.declared.ranges.Delay.{Delay}
+use Rattle.script_model.specs.declared.line.SlowedCall.{SlowedCall}
+use Rattle.script_model.specs.declared.line.SlowedCall.TheVariants as slowed_calls
+use Rattle.script_model.specs.declared.ranges.Delay.{Delay}
 use Rattle.wal_model.specs.Lacking.{lacks_in}
 use Rattle.commit_log_law.specs.Happening.{MayFollow, MayHappen}
 use Rattle.commit_log_law.proofs.Following.{follow-for_some, follow-if, unless-some}

@@ -30,7 +30,7 @@ use Rattle.agent_model.specs.declared.output.Output.TheVariants as outputs
 use Rattle.agent_model.specs.declared.output.Target.TheVariants as targets
 use Rattle.agent_model.specs.Agents.{AgentFacts}
 use Rattle.agent_commit_law.specs.Committing.{IsCovered, IsQuietBody, IsQuietTxn}
-use Rattle.agent_model.specs.Operators.{ok}
+use Rattle.operator_keys.specs.Statuses.{ok}
 use Rattle.agent_law.specs.Orders.{IsAsk, IsOfTable}
 use Rattle.cluster_model.specs.declared.heard_message.HeardMessage.{HeardMessage}
 use Rattle.cluster_model.specs.Cluster.{cluster_after, cluster_over}

@@ -1,8 +1,8 @@
 -- Commits are kept, and required lists and sync key in order, at each moment of each run in synchronous mode up to which the premises are met.
 use Rattle.std.proofs.Common.{ℕ, ◌≡◌, true, List, [], Option, Some, None, slice_get}
 use Rattle.wal_model.specs.declared.entry.Entry.{Entry}
-use Rattle.cluster_script.specs.declared.line.Step.{Step}
-use Rattle.cluster_script.specs.Script.{HeadText, IsHead}
+use Rattle.script_model.specs.declared.line.Step.{Step}
+use Rattle.script_model.specs.Script.{HeadText, IsHead}
 use Rattle.event_book.specs.declared.event.Event.{Event}
 use Rattle.cluster_model.specs.Next.{run_events}
 use Rattle.cluster_model.specs.Starting.{cluster_of}

@@ -1,6 +1,6 @@
 -- Writers that hold each acknowledged commit, by the book and by what it leaves.
 use Rattle.std.proofs.Common.{ℕ, ◌≡◌, ◌∙◌, Bool, true, false, List, [], Contains, ap, sym, subst}
-use Rattle.cluster_script.specs.Script.{HeadText}
+use Rattle.script_model.specs.Script.{HeadText}
 use Rattle.event_book.specs.declared.event.Event.{Event}
 use Rattle.event_book.specs.Acknowledged.{acknowledged_in}
 use Rattle.event_book.specs.Logs.{Logs, logs_over}

@@ -6,7 +6,7 @@ use Rattle.pat_base.specs.Changes.{with_changed}
 use Rattle.pat_base.specs.ServerState.{writes}
 use Rattle.wal_model.specs.declared.entry.Entry.{Entry}
 use Rattle.pg_model.specs.Facts.{ServerFacts, entries_of}
-use Rattle.cluster_script.specs.Script.{HeadText, names_of}
+use Rattle.script_model.specs.Script.{HeadText, names_of}
 use Rattle.event_book.specs.declared.event.Event.{Event}
 use Rattle.event_book.specs.declared.event.EventKind.{EventKind}
 use Rattle.event_book.specs.declared.event.EventKind.TheVariants as kinds

@@ -30,12 +30,12 @@ use Rattle.event_book.specs.Flight.{InFlightFacts}
 use Rattle.event_book.specs.Links.{is_cut}
 use Rattle.event_book.specs.Members.{server_of}
 use Rattle.agent_model.specs.declared.machine.Machine.{Machine}
-use Rattle.cluster_script.specs.declared.line.Command.{Command}
-use Rattle.cluster_script.specs.declared.line.Command.TheVariants as commands
-use Rattle.cluster_script.specs.declared.line.SlowedCall.{SlowedCall}
-use Rattle.cluster_script.specs.declared.line.SlowedCall.TheVariants as slowed_calls
-use Rattle.cluster_script.specs.declared.ranges.Delay.{Delay}
-use Rattle.cluster_script.specs.Script.{HeadText}
+use Rattle.script_model.specs.declared.line.Command.{Command}
+use Rattle.script_model.specs.declared.line.Command.TheVariants as commands
+use Rattle.script_model.specs.declared.line.SlowedCall.{SlowedCall}
+use Rattle.script_model.specs.declared.line.SlowedCall.TheVariants as slowed_calls
+use Rattle.script_model.specs.declared.ranges.Delay.{Delay}
+use Rattle.script_model.specs.Script.{HeadText}
 use Rattle.cluster_model.specs.declared.beginning.Completion.{Completion}
 use Rattle.cluster_model.specs.declared.beginning.Completion.TheVariants as completions
 use Rattle.cluster_model.specs.Beginnings.{completed_by, completion_of}

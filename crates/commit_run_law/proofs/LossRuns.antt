@@ -6,8 +6,8 @@ use Rattle.pat_base.specs.declared.server_state.State.TheVariants as states
 use Rattle.pat_base.specs.ServerState.{live}
 use Rattle.pg_model.specs.Facts.{ServerFacts, is_creating, is_down, is_replica, is_up}
 use Rattle.pg_model.specs.Running.{is_primary, stopped}
-use Rattle.cluster_script.specs.declared.line.Step.{Step}
-use Rattle.cluster_script.specs.Script.{HeadText, IsHead, names_of}
+use Rattle.script_model.specs.declared.line.Step.{Step}
+use Rattle.script_model.specs.Script.{HeadText, IsHead, names_of}
 use Rattle.event_book.specs.declared.agent_process.AgentProcess.{AgentProcess}
 use Rattle.event_book.specs.declared.event.AgentEvent.TheVariants.{Operated, Woken}
 use Rattle.event_book.specs.declared.event.Event.{Event}

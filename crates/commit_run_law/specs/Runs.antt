@@ -1,6 +1,6 @@
 -- Runs in synchronous mode that keep commits, and the order of required lists and sync key.
 use Rattle.std.specs.Prelude.{◌≡◌, ◌++◌, true, List}
-use Rattle.cluster_script.specs.Script.{HeadText, names_of}
+use Rattle.script_model.specs.Script.{HeadText, names_of}
 use Rattle.event_book.specs.declared.event.Event.{Event}
 use Rattle.event_book.specs.Facts.{start_of}
 use Rattle.event_book.specs.Logs.{Logs, logs_in}

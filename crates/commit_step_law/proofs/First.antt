@@ -3,8 +3,8 @@ use Rattle.std.proofs.Common.{ℕ, ◌≡◌, ◌+◌, true, false, List, [], sl
 use Rattle.std.proofs.Math.Path.{fun_ext}
 use Rattle.std.proofs.lemmas.Option.{slice_get-map}
 use Rattle.pat_base.specs.declared.name.Name.{Name}
-use Rattle.cluster_script.specs.declared.head.MemberOptions.{MemberOptions}
-use Rattle.cluster_script.specs.Script.{HeadText, IsHead, names_of}
+use Rattle.member_options.specs.declared.member_option.MemberOptions.{MemberOptions}
+use Rattle.script_model.specs.Script.{HeadText, IsHead, names_of}
 use Rattle.event_book.specs.declared.member.Member.{Member}
 use Rattle.event_book.specs.Facts.{start_of}
 use Rattle.event_book.specs.Logs.{logs_in}

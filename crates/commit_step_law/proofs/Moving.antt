@@ -1,6 +1,6 @@
 -- Events that are actions one after another, behind which books and clusters fit.
 use Rattle.std.proofs.Common.{ℕ, ◌≡◌, ◌<◌, ◌++◌, List, [], ◌∷◌, length, Some, slice_get, refl, ◌∙◌, ap, sym, subst, inr}
-use Rattle.cluster_script.specs.Script.{HeadText}
+use Rattle.script_model.specs.Script.{HeadText}
 use Rattle.event_book.specs.declared.event.Event.{Event}
 use Rattle.event_book.specs.declared.event.EventKind.{EventKind}
 use Rattle.event_book.specs.Writers.{BeginsKind}

@@ -13,7 +13,7 @@ use Rattle.event_book.specs.declared.event.ServerEvent.TheVariants as servers
 use Rattle.event_book.specs.declared.member.Member.{Member}
 use Rattle.event_book.specs.declared.member.ServerOf.{ServerOf}
 use Rattle.event_book.specs.Members.{server_of}
-use Rattle.cluster_script.specs.Script.{HeadText, names_of}
+use Rattle.script_model.specs.Script.{HeadText, names_of}
 use Rattle.cluster_model.specs.Acknowledging.{acknowledge_kinds}
 use Rattle.cluster_model.specs.Cluster.{cluster_after, cluster_over}
 use Rattle.cluster_model.specs.Commands.{kinds_of}

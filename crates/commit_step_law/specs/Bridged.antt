@@ -1,6 +1,6 @@
 -- What a book and a cluster in synchronous mode keep between two parts of a step, and what is promised of each moment.
 use Rattle.std.specs.Prelude.{ℕ, ◌≡◌, true, List, []}
-use Rattle.cluster_script.specs.Script.{HeadText}
+use Rattle.script_model.specs.Script.{HeadText}
 use Rattle.event_book.specs.declared.event.Event.{Event}
 use Rattle.cluster_model.specs.Cluster.{cluster_over}
 use Rattle.cluster_model.specs.Starting.{cluster_of}

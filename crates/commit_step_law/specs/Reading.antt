@@ -1,6 +1,6 @@
 -- What the law of kept commits reads of a run in synchronous mode.
 use Rattle.std.specs.Prelude.{ℕ, false, List, Option, Some, None, option_map, slice_get}
-use Rattle.cluster_script.specs.Script.{HeadText, names_of}
+use Rattle.script_model.specs.Script.{HeadText, names_of}
 use Rattle.event_book.specs.declared.event.Event.{Event}
 use Rattle.event_book.specs.Facts.{Facts, start_of}
 use Rattle.event_book.specs.Logs.{logs_in}

@@ -1,8 +1,8 @@
 //! Laws of the parts of a step in synchronous mode.
 ghost use Rattle.std.specs.Prelude.{ℕ, ◌≡◌, true, false, List, [], Some};
 ghost use Rattle.pat_base.specs.declared.member_id.MemberId.{MemberId};
-ghost use Rattle.cluster_script.specs.declared.line.Command.{Command};
-ghost use Rattle.cluster_script.specs.Script.{HeadText, IsHead};
+ghost use Rattle.script_model.specs.declared.line.Command.{Command};
+ghost use Rattle.script_model.specs.Script.{HeadText, IsHead};
 ghost use Rattle.event_book.specs.declared.event.Event.{Event};
 ghost use Rattle.event_book.specs.declared.event.EventKind.TheVariants.{Message, Note};
 ghost use Rattle.event_book.specs.declared.event.MessageEvent.TheVariants.{Lost};

@@ -24,15 +24,9 @@ use event_book::Body;
 use lease_store::{
     Config, FailoverKey, FailoverKind, Granted, Key, KeyEntry, OperatorRequest, Txn,
 };
-use operator_keys::Text;
+use operator_keys::{CONFLICT, OK, SERVICE_UNAVAILABLE, Text};
 use pat_base::{Host, MemberId, Name, State, Ticks};
 
-/// The request was carried out.
-const OK: u16 = 200;
-/// What the request expects isn't so any more.
-const CONFLICT: u16 = 409;
-/// The request can't be carried out now.
-const SERVICE_UNAVAILABLE: u16 = 503;
 /// For so many ticks an operator waits for what comes of a switchover or a failover.
 const MOST_OPERATOR_TICKS: u64 = 600;
 

@@ -34,7 +34,7 @@ use Rattle.operator_keys.specs.Bodies.{text_at}
 use Rattle.operator_keys.specs.Candidates.{leads, names_leader, info_of, info_of_entry, anyone_may_take_over}
 use Rattle.operator_keys.specs.Checks.{switchover_key, failover_key, switchover_of, failover_of}
 use Rattle.operator_keys.specs.Laws.{MayFollow, IsCalled}
-use Rattle.operator_keys.specs.Refusals.{bad_request, precondition_failed}
+use Rattle.operator_keys.specs.Statuses.{bad_request, precondition_failed}
 use Rattle.operator_keys.specs.Rules.{leader_not_named, candidate_not_named, target_is_source, paused_without_candidate, scheduled, other_leader, candidate_leads, another_under_way, no_such_candidate, candidate_not_standby, candidate_may_not_fail_over, no_good_candidates, switchover_refusal, failover_refusal}
 use Rattle.operator_keys.proofs.Passing.{nobody-is, same-some, first_refusal-none, refused_where-none, not-false, body_of-json, Passed, passed, passed-key}
 

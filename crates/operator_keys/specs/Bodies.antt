@@ -5,7 +5,7 @@ use Rattle.serde_json.specs.Find.{get, as_object, as_str}
 use Rattle.cluster_config.specs.ConfigReading.{json_of}
 use Rattle.operator_keys.specs.declared.answer_text.Text.TheVariants as texts
 use Rattle.operator_keys.specs.declared.refusal.Refused.{Refused}
-use Rattle.operator_keys.specs.Refusals.{bad_request}
+use Rattle.operator_keys.specs.Statuses.{bad_request}
 
 -- the text at a name of an object, if there is one
 abbrev pub text_at : List ℕ → Data → Option (List ℕ)

@@ -10,7 +10,8 @@ use Rattle.operator_keys.specs.declared.asked.Asked.{Asked}
 use Rattle.operator_keys.specs.declared.refusal.Refused.{Refused}
 use Rattle.operator_keys.specs.Asking.{asked_by, member_if}
 use Rattle.operator_keys.specs.Bodies.{body_of}
-use Rattle.operator_keys.specs.Refusals.{service_unavailable, unless_refused, on_ok}
+use Rattle.operator_keys.specs.Refusals.{unless_refused, on_ok}
+use Rattle.operator_keys.specs.Statuses.{service_unavailable}
 use Rattle.operator_keys.specs.Rules.{switchover_refusal, failover_refusal}
 
 -- the snapshot, unless another request waits

@@ -17,7 +17,8 @@ use Rattle.operator_keys.specs.declared.config_checks.ConfigChange.{ConfigChange
 use Rattle.operator_keys.specs.declared.config_checks.ConfigChange.TheVariants as changes
 use Rattle.operator_keys.specs.declared.refusal.Refused.{Refused}
 use Rattle.operator_keys.specs.Checks.{seen_if}
-use Rattle.operator_keys.specs.Refusals.{bad_request, on_ok}
+use Rattle.operator_keys.specs.Refusals.{on_ok}
+use Rattle.operator_keys.specs.Statuses.{bad_request}
 
 -- the configuration that a value is
 abbrev pub configuration_by : Value → Option Settings

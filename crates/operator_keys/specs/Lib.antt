@@ -8,3 +8,4 @@ pub mod Laws
 pub mod Refusals
 pub mod Rules
 pub mod ServerChecks
+pub mod Statuses

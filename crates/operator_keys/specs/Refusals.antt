@@ -5,18 +5,6 @@ use Rattle.operator_keys.specs.declared.refusal.CheckFault.{CheckFault}
 use Rattle.operator_keys.specs.declared.refusal.CheckFault.TheVariants as faults
 use Rattle.operator_keys.specs.declared.refusal.Refused.{Refused}
 
--- the status of a request that can't be carried out as it was sent (RFC 9110, "400 Bad Request")
-abbrev pub bad_request : ℕ
-bad_request = 400
-
--- the status of a request that doesn't fit the cluster as it is (RFC 9110, "412 Precondition Failed")
-abbrev pub precondition_failed : ℕ
-precondition_failed = 412
-
--- the status of a request that can't be carried out now (RFC 9110, "503 Service Unavailable")
-abbrev pub service_unavailable : ℕ
-service_unavailable = 503
-
 -- this refusal, where it is so
 abbrev pub refused_where : Bool → ℕ → Text → Option Refused
 refused_where false status text = None

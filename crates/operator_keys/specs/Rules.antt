@@ -15,7 +15,8 @@ use Rattle.operator_keys.specs.declared.asked.Named.TheVariants as named
 use Rattle.operator_keys.specs.declared.refusal.Refused.{Refused}
 use Rattle.operator_keys.specs.Asking.{is_nobody}
 use Rattle.operator_keys.specs.Candidates.{names_leader, info_of, anyone_may_take_over}
-use Rattle.operator_keys.specs.Refusals.{bad_request, precondition_failed, service_unavailable, refused_where, first_refusal}
+use Rattle.operator_keys.specs.Refusals.{refused_where, first_refusal}
+use Rattle.operator_keys.specs.Statuses.{bad_request, precondition_failed, service_unavailable}
 
 -- the body names no leader
 abbrev pub leader_not_named : Named → Option Refused

@@ -7,7 +7,7 @@ ghost use Rattle.operator_keys.specs.ConfigChecks.{configuration_by, configurati
 ghost use Rattle.operator_keys.specs.Refusals.{Answers};
 
 use crate::checks::seen_by;
-use crate::refusal::BAD_REQUEST;
+use crate::status::BAD_REQUEST;
 use crate::{CheckFault, Refused, Text};
 use cluster_config::{AgentView, ConfigFault, ConfigText, Snapshot};
 use lease_store::{ConfigValue, Key, KeyEntry, Value};

@@ -4,9 +4,8 @@ ghost use Rattle.operator_keys.specs.Rules.{leader_not_named, candidate_not_name
 
 use crate::asked::{Asked, Named};
 use crate::candidates::{anyone_may_take_over, info_of, names_leader};
-use crate::refusal::{
-    BAD_REQUEST, PRECONDITION_FAILED, SERVICE_UNAVAILABLE, first_refusal, refused_where,
-};
+use crate::refusal::{first_refusal, refused_where};
+use crate::status::{BAD_REQUEST, PRECONDITION_FAILED, SERVICE_UNAVAILABLE};
 use crate::{Refused, Text};
 use cluster_config::{LeaderEntry, Snapshot, is_standby};
 use leader_race::may_fail_over;

@@ -8,18 +8,11 @@ use crate::Text;
 use std::alloc::AllocError;
 use thiserror::Error;
 
-/// The request can't be carried out as it was sent.
-pub(crate) const BAD_REQUEST: u16 = 400;
-/// The request doesn't fit the cluster as it is.
-pub(crate) const PRECONDITION_FAILED: u16 = 412;
-/// The request can't be carried out now.
-pub(crate) const SERVICE_UNAVAILABLE: u16 = 503;
-
 /// What a request of an operator is refused with: the status of HTTP and the body of the answer (RFC 9110, "Status Codes").
 #[derive(Clone, Copy, Debug, PartialEq, Eq, Error)]
 #[error("{text}")]
 pub struct Refused {
-    /// 400, 412 or 503.
+    /// 400, 404, 412 or 503.
     pub status: u16,
     /// What stands in the way.
     pub text: Text,

@@ -3,7 +3,8 @@ ghost use Rattle.std.specs.Prelude.{◌≡◌};
 ghost use Rattle.std.specs.Result.{result_err};
 ghost use Rattle.operator_keys.specs.ServerChecks.{is_running, has_key, restart_refusal, reinit_refusal};
 
-use crate::refusal::{SERVICE_UNAVAILABLE, judged, refused_where};
+use crate::refusal::{judged, refused_where};
+use crate::status::SERVICE_UNAVAILABLE;
 use crate::{Refused, Text};
 use cluster_config::{AgentView, RoleWord};
 use pat_base::State;

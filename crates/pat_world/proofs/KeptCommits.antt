@@ -1,7 +1,7 @@
 -- Steps of a world that a run brought keep acknowledged commits.
 use Rattle.std.proofs.Common.{◌≡◌, ℕ, List, [], ◌∷◌, ◌++◌, ◌∙◌, ap, sym, subst}
-use Rattle.cluster_script.specs.declared.line.Step.{Step}
-use Rattle.cluster_script.specs.Script.{HeadText, IsHead}
+use Rattle.script_model.specs.declared.line.Step.{Step}
+use Rattle.script_model.specs.Script.{HeadText, IsHead}
 use Rattle.pat_world.specs.Book.{StandsFor}
 use Rattle.event_book.specs.declared.event.Event.{Event}
 use Rattle.cluster_model.specs.Cluster.{cluster_over}

@@ -1,7 +1,7 @@
 -- What a step keeps.
 use Rattle.std.specs.Prelude.{◌≡◌, ◌++◌, List}
-use Rattle.cluster_script.specs.declared.line.Step.{Step}
-use Rattle.cluster_script.specs.Script.{HeadText, IsHead}
+use Rattle.script_model.specs.declared.line.Step.{Step}
+use Rattle.script_model.specs.Script.{HeadText, IsHead}
 use Rattle.event_book.specs.declared.event.Event.{Event}
 use Rattle.event_book.specs.Writers.{HasOneWriter}
 use Rattle.cluster_model.specs.Next.{run_events}

@@ -1,6 +1,6 @@
 //! The world: it takes the steps of a script and hands out what happens.
 ghost use Rattle.std.specs.Prelude.{ℕ, List, ◌≡◌, ◌<◌, ◌≤◌, ◌+◌, ◌^◌, ◌++◌, [], OnOk, OnErr, IfOk, length, replicate, zero};
-ghost use Rattle.cluster_script.specs.declared.line.Step.TheVariants as steps;
+ghost use Rattle.script_model.specs.declared.line.Step.TheVariants as steps;
 ghost use Rattle.event_book.specs.declared.event.Event.{Event};
 ghost use Rattle.event_book.specs.declared.event.EventKind.TheVariants as kinds;
 ghost use Rattle.cluster_model.specs.Acknowledging.{AreAcknowledged};
@@ -18,9 +18,9 @@ ghost use Rattle.world_model.specs.Emits.{Emits};
 ghost use Rattle.world_model.specs.Room.{HasRoomFor, step_cost};
 
 use cluster_config::AgentView;
-use cluster_script::{Head, Step};
 use event_book::{Event, EventKind};
 use pat_base::{MemberId, Ticks};
+use script_model::{Head, Step};
 use std::alloc::{AllocError, Global};
 use std::marker::Model;
 use world_play::{due_from, ends_from, take_step};
@@ -42,7 +42,7 @@ pub struct World {
 
 impl Model for World {
     ghost use Rattle.cluster_model.specs.State.{Cluster};
-    ghost use Rattle.cluster_script.specs.declared.line.Step.TheVariants as steps;
+    ghost use Rattle.script_model.specs.declared.line.Step.TheVariants as steps;
     ghost use Rattle.world_model.specs.Idle.{IsIdleBefore};
 
     ghost Value = { Cluster };

@@ -5,11 +5,11 @@ use Rattle.pat_base.specs.declared.outside.Source.{Ghosts as SourceGhosts}
 use Rattle.pat_base.specs.Outside.{Known, Rose, Grew, GrewByPrefix, Consumed}
 use Rattle.pat_base.specs.Prints.{Prints}
 use Rattle.pat_base.proofs.Contents.{GrewByPrefix-same}
-use Rattle.cluster_script.specs.declared.fault.Fault.{Fault}
+use Rattle.script_words.specs.declared.fault.Fault.{Fault}
 use Rattle.cluster_script.specs.declared.limits.Limit.{Limit}
 use Rattle.cluster_script.specs.Limits.{limit_of}
 use Rattle.cluster_script.specs.Reading.{script_of}
-use Rattle.cluster_script.specs.Script.{ScriptText}
+use Rattle.script_model.specs.Script.{ScriptText}
 use Rattle.patroni_top.specs.declared.ending.Ending.{Ending}
 use Rattle.patroni_top.specs.declared.ending.Ending.TheVariants as endings
 use Rattle.patroni_top.specs.declared.print_error.PrintError.{PrintError}

@@ -8,8 +8,8 @@ use Rattle.leader_key.specs.declared.watchdog.Mode.{Mode}
 use Rattle.leader_key.specs.declared.watchdog.Mode.TheVariants as modes
 use Rattle.leader_key.specs.Watchdog.{is_armable}
 use Rattle.cluster_script.specs.Reading.{script_of}
-use Rattle.cluster_script.specs.Script.{HeadText, IsHead, MemberText, ScriptText}
-use Rattle.cluster_script.specs.Steps.{steps_of}
+use Rattle.script_model.specs.Script.{HeadText, IsHead, MemberText, ScriptText}
+use Rattle.script_model.specs.Steps.{steps_of}
 use Rattle.cluster_script.proofs.ReadLaws.{read-is-spelled}
 use Rattle.event_book.specs.declared.event.Event.{Event}
 use Rattle.cluster_model.specs.Starting.{cluster_of}

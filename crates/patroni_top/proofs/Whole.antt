@@ -1,12 +1,12 @@
 -- A whole run: the lines of its book, and then the summary.
 use Rattle.std.proofs.Common.{◌≡◌, ◌+◌, ◌*◌, ◌≤◌, Bool, false, ◌++◌, List, [], ◌∷◌, length, arith, ◌∙◌, ap, length-append}
 use Rattle.std.proofs.lemmas.List.{length-replicate}
-use Rattle.cluster_script.specs.declared.line.Line.{Line}
-use Rattle.cluster_script.specs.declared.line.Line.TheVariants as lines
-use Rattle.cluster_script.specs.declared.line.Step.{Step}
-use Rattle.cluster_script.specs.declared.line.Step.TheVariants as steps
-use Rattle.cluster_script.specs.Script.{ScriptText}
-use Rattle.cluster_script.specs.Steps.{steps_of, steps_of_line, ticks_of_line, total_ticks}
+use Rattle.script_model.specs.declared.line.Line.{Line}
+use Rattle.script_model.specs.declared.line.Line.TheVariants as lines
+use Rattle.script_model.specs.declared.line.Step.{Step}
+use Rattle.script_model.specs.declared.line.Step.TheVariants as steps
+use Rattle.script_model.specs.Script.{ScriptText}
+use Rattle.script_model.specs.Steps.{steps_of, steps_of_line, ticks_of_line, total_ticks}
 use Rattle.cluster_model.specs.Starting.{cluster_of}
 use Rattle.cluster_model.specs.State.{Cluster}
 use Rattle.summary.specs.Sights.{SummaryFacts}

@@ -1,6 +1,6 @@
 -- What the run of a script is to keep, and what its closing summary is to say of that.
 use Rattle.std.specs.Prelude.{◌≡◌, ◌++◌, true, List}
-use Rattle.cluster_script.specs.Script.{ScriptText}
+use Rattle.script_model.specs.Script.{ScriptText}
 use Rattle.event_book.specs.declared.event.Event.{Event}
 use Rattle.event_book.specs.Writers.{HasOneWriter}
 use Rattle.summary.specs.Claims.{AreCommitsGuarded, ArePremisesMet, IsGuarded, KeepMode}

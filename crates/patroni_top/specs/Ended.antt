@@ -3,7 +3,7 @@ use Rattle.std.specs.Prelude.{ℕ, ◌≡◌, ◌↔◌, List, Ok, Err, Result, 
 use Rattle.pat_base.specs.declared.outside.Source.{Ghosts}
 use Rattle.pat_base.specs.Outside.{Known}
 use Rattle.cluster_script.specs.Reading.{script_of}
-use Rattle.cluster_script.specs.Script.{ScriptText}
+use Rattle.script_model.specs.Script.{ScriptText}
 use Rattle.cluster_model.specs.Starting.{cluster_of}
 use Rattle.cluster_model.specs.State.{Cluster}
 use Rattle.pat_world.specs.Book.{StandsFor}

@@ -2,7 +2,7 @@
 use Rattle.std.specs.Prelude.{ℕ, ◌≡◌, ◌+◌, ◌-◌, ◌≤◌, List, length, replicate, Result, OnOk}
 use Rattle.pat_base.specs.declared.outside.Sink.{Ghosts}
 use Rattle.pat_base.specs.Prints.{Prints}
-use Rattle.cluster_script.specs.declared.line.Step.{Step}
+use Rattle.script_model.specs.declared.line.Step.{Step}
 use Rattle.cluster_model.specs.Cluster.{cluster_over}
 use Rattle.cluster_model.specs.Next.{run_events}
 use Rattle.world_model.specs.Idle.{BringsTicks}

@@ -2,7 +2,7 @@
 use Rattle.std.specs.Prelude.{◌*◌, Bool, true, false, List, Some, map}
 use Rattle.leader_key.specs.declared.watchdog.Mode.{Mode}
 use Rattle.leader_key.specs.declared.watchdog.Mode.TheVariants as modes
-use Rattle.cluster_script.specs.Script.{HeadText, MemberText}
+use Rattle.script_model.specs.Script.{HeadText, MemberText}
 use Rattle.cluster_model.specs.Machines.{ticks_of_second}
 use Rattle.summary.specs.declared.answers.WatchOf.{WatchOf}
 use Rattle.summary.specs.Sights.{SummaryFacts, summary_of}

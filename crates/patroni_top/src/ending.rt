@@ -6,9 +6,10 @@ ghost use Rattle.patroni_top.specs.declared.ending.Ending.TheVariants as endings
 use crate::Status;
 use crate::print_error::PrintError;
 use arrayvec::ArrayString;
-use cluster_script::{Fault, Limit, ScriptFault, fault_text, limit_text};
+use cluster_script::{Limit, ScriptFault, limit_text};
 use itoa::Buffer;
 use pat_base::ReadError;
+use script_words::{Fault, fault_text};
 use std::alloc::AllocError;
 
 /// A line of the error output, of at most 96 bytes. It lies in the value, so that no want of memory can shorten what is told.

@@ -1,8 +1,8 @@
 //! Steps, and what they print.
 ghost use Rattle.std.specs.Prelude.{◌≡◌, ◌<◌, ◌∷◌, ◌++◌, [], false, All, List, length, IfOk, OnOk, replicate, slice_get, Some};
 ghost use Rattle.pat_base.specs.Prints.{Prints};
-ghost use Rattle.cluster_script.specs.Script.{IsLine, names_of};
-ghost use Rattle.cluster_script.specs.Steps.{steps_of_line, steps_of};
+ghost use Rattle.script_model.specs.Script.{IsLine, names_of};
+ghost use Rattle.script_model.specs.Steps.{steps_of_line, steps_of};
 ghost use Rattle.cluster_model.specs.Cluster.{cluster_over};
 ghost use Rattle.cluster_model.specs.Next.{run_events};
 ghost use Rattle.cluster_model.specs.Starting.{cluster_of};
@@ -21,10 +21,10 @@ ghost use Rattle.patroni_top.specs.Watches.{first_summary};
 use crate::print_error::PrintError;
 use crate::printing::{print_closing, print_events};
 use crate::watches::first_summary;
-use cluster_script::{Command, Head, Line, Script, Step};
 use event_book::Event;
 use pat_base::Sink;
 use pat_world::World;
+use script_model::{Command, Head, Line, Script, Step};
 use std::alloc::{AllocError, Global};
 use summary::Summary;
 

@@ -7,8 +7,9 @@ ghost use Rattle.patroni_top.specs.Run.{KeepsLimits};
 ghost use Rattle.patroni_top.specs.Status.{Says, IsRefusal};
 
 use crate::ending::Ending;
-use cluster_script::{Script, ScriptLines};
+use cluster_script::ScriptLines;
 use pat_base::{Source, read_at_most};
+use script_model::Script;
 use std::alloc::Global;
 
 /// The most bytes that are read: one more than a script may have.

@@ -3,9 +3,10 @@ ghost use Rattle.std.specs.Prelude.{◌≡◌, ◌<◌, ◌≤◌, length, IfOk,
 ghost use Rattle.summary.specs.declared.answers.TheConstants.{MEMBERS};
 ghost use Rattle.patroni_top.specs.Watches.{is_off, first_summary, declared_watch, watches_of};
 
-use cluster_script::{Head, MemberOptions};
 use leader_key::Mode;
+use member_options::MemberOptions;
 use pat_base::{Name, Ticks};
+use script_model::Head;
 use std::alloc::{AllocError, Global};
 use summary::{Summary, WatchOf};
 

@@ -1,5 +1,5 @@
 //! The law of inputs of agents.
-ghost use Rattle.cluster_script.specs.Script.{HeadText};
+ghost use Rattle.script_model.specs.Script.{HeadText};
 ghost use Rattle.run_step_law.specs.Kept.{one_writer};
 ghost use Rattle.run_step_law.specs.Parts.{InputsUphold};
 

@@ -1,10 +1,10 @@
 -- At most one server accepts writes, at every moment of every run up to which the premises are met.
 use Rattle.std.proofs.Common.{ℕ, Bool, Option, subst, ◌≡◌, ◌++◌, List, []}
 use Rattle.std.proofs.Math.Path.{fun_ext}
-use Rattle.cluster_script.specs.declared.line.Step.{Step}
+use Rattle.script_model.specs.declared.line.Step.{Step}
 use Rattle.event_book.specs.declared.event.Event.{Event}
 use Rattle.event_book.specs.Writers.{HasOneWriter}
-use Rattle.cluster_script.specs.Script.{HeadText, IsHead}
+use Rattle.script_model.specs.Script.{HeadText, IsHead}
 use Rattle.cluster_model.specs.Next.{run_events}
 use Rattle.cluster_model.specs.Starting.{cluster_of}
 use Rattle.lease_law.specs.Premises.{IsTimely, IsHandsOff}

@@ -26,8 +26,8 @@ use Rattle.event_book.specs.declared.event.Note.TheVariants.{AlreadyRunning}
 use Rattle.agent_model.specs.declared.machine.Machine.{Machine}
 use Rattle.cluster_model.specs.Machines.{machine_of}
 use Rattle.event_book.specs.Flight.{InFlightFacts}
-use Rattle.cluster_script.specs.declared.line.Command.{Command}
-use Rattle.cluster_script.specs.declared.line.Command.TheVariants as commands
+use Rattle.script_model.specs.declared.line.Command.{Command}
+use Rattle.script_model.specs.declared.line.Command.TheVariants as commands
 use Rattle.cluster_model.specs.Acknowledging.{acknowledge_kinds}
 use Rattle.cluster_model.specs.Cluster.{cluster_after}
 use Rattle.cluster_model.specs.Commands.{disarm_at_start, disarm_if, disarm_of, kill_of, kinds_of, agent_started}

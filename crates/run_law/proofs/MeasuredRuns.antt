@@ -2,7 +2,7 @@
 use Rattle.std.proofs.Common.{ℕ, ◌≡◌, List, [], ◌∷◌, slice_get, Option, Some, None, Result, Ok, Err, zero, suc, refl}
 use Rattle.lease_store.specs.declared.action.OperatorRequest.{OperatorRequest}
 use Rattle.operator_keys.specs.declared.refusal.Refused.{Refused}
-use Rattle.cluster_script.specs.declared.rest.RestCall.{RestCall}
+use Rattle.rest_api.specs.declared.call.RestCall.{RestCall}
 use Rattle.event_book.specs.declared.event.EventKind.TheVariants as kinds
 use Rattle.event_book.specs.declared.event.Note.TheVariants.{NoAnswer}
 use Rattle.agent_model.specs.Agents.{Outcome}
@@ -11,11 +11,11 @@ use Rattle.event_book.specs.declared.link.LinkEnd.{LinkEnd}
 use Rattle.event_book.specs.declared.link.LinkEnd.TheVariants as ends
 use Rattle.event_book.specs.declared.member.Member.{Member}
 use Rattle.event_book.specs.Flight.{InFlightFacts, in_flight}
-use Rattle.cluster_script.specs.Script.{HeadText}
-use Rattle.cluster_script.specs.declared.line.Command.{Command}
-use Rattle.cluster_script.specs.declared.line.Command.TheVariants as commands
-use Rattle.cluster_script.specs.declared.line.Step.{Step}
-use Rattle.cluster_script.specs.declared.line.Step.TheVariants as steps
+use Rattle.script_model.specs.Script.{HeadText}
+use Rattle.script_model.specs.declared.line.Command.{Command}
+use Rattle.script_model.specs.declared.line.Command.TheVariants as commands
+use Rattle.script_model.specs.declared.line.Step.{Step}
+use Rattle.script_model.specs.declared.line.Step.TheVariants as steps
 use Rattle.cluster_model.specs.declared.delivery.Delivery.{Delivery}
 use Rattle.cluster_model.specs.declared.delivery.Delivery.TheVariants as deliveries
 use Rattle.cluster_model.specs.Deliveries.{delivery_of}
@@ -24,7 +24,7 @@ use Rattle.cluster_model.specs.Limits.{most_rounds}
 use Rattle.cluster_model.specs.Messages.{arrival_events_at, call_events, call_events_if, call_events_of, decided_events, deliver_events, deliver_events_by, message_events, message_events_by, turn_events, turn_events_if, wake_events, wake_events_if, wake_events_of}
 use Rattle.cluster_model.specs.Next.{acknowledge_events, command_events, declared, next_events, promote_events, receive_events_at_most, receive_events_of, agent_start_events, round_events, rounds_events, run_events, scheduled_events, step_events}
 use Rattle.cluster_model.specs.Parts.{each, event_of, for_some, is_empty}
-use Rattle.cluster_model.specs.Requests.{action_of, decision_on_call}
+use Rattle.cluster_model.specs.Requests.{action_of, decision_at}
 use Rattle.cluster_model.specs.Starting.{cluster_of}
 use Rattle.cluster_model.specs.State.{Cluster}
 use Rattle.cluster_model.specs.Ticking.{tick_events}
@@ -56,7 +56,7 @@ tells-call : (call : RestCall) (body : List ℕ) (member : Member) → Tells (λ
 tells-call call body member moments cluster knows =
     told-for_some moments cluster (slice_get cluster.facts.processes member.id.number) (call_events_if cluster call body member) (λ process is.
     told-if moments cluster (may_act process) (for_some (standing_of cluster member) (call_events_of cluster call body member)) (event_of cluster (kinds.Note (NoAnswer member)))
-    (told-for_some moments cluster (standing_of cluster member) (call_events_of cluster call body member) (λ o is. told-decided moments cluster member o (decision_on_call (moment_of cluster) o call body)))
+    (told-for_some moments cluster (standing_of cluster member) (call_events_of cluster call body member) (λ o is. told-decided moments cluster member o (decision_at (moment_of cluster) o call body)))
     (told-plain moments cluster _ (tt, tt)))
 
 told-arrival : (moments : Moments) (cluster : Cluster) (number : ℕ) (message : InFlightFacts) (to : LinkEnd) → KnowsSending moments cluster.facts → in_flight cluster.facts.flight number ≡ Some message

@@ -16,7 +16,7 @@ use Rattle.event_book.specs.Facts.{Facts}
 use Rattle.event_book.specs.Writers.{BeginsKind}
 use Rattle.agent_model.specs.Agents.{AgentFacts}
 use Rattle.cluster_model.specs.Cluster.{agent_facts_after, cluster_after, cluster_over}
-use Rattle.cluster_script.specs.Script.{HeadText}
+use Rattle.script_model.specs.Script.{HeadText}
 use Rattle.cluster_model.specs.State.{Cluster}
 use Rattle.lease_law.specs.Claims.{BeginsBehind}
 use Rattle.lease_law.specs.Past.{Past, past_after, past_over, past_of, first_past}

@@ -14,13 +14,13 @@ use Rattle.event_book.specs.declared.link.Link.{Link}
 use Rattle.event_book.specs.declared.member.Member.{Member}
 use Rattle.event_book.specs.Links.{CutLinks, is_cut}
 use Rattle.event_book.specs.Members.{server_of}
-use Rattle.cluster_script.specs.declared.line.Command.{Command}
-use Rattle.cluster_script.specs.declared.line.Command.TheVariants as commands
-use Rattle.cluster_script.specs.declared.line.SlowedCall.{SlowedCall}
-use Rattle.cluster_script.specs.declared.line.SlowedCall.TheVariants as slowed_calls
-use Rattle.cluster_script.specs.declared.ranges.Delay.{Delay}
+use Rattle.script_model.specs.declared.line.Command.{Command}
+use Rattle.script_model.specs.declared.line.Command.TheVariants as commands
+use Rattle.script_model.specs.declared.line.SlowedCall.{SlowedCall}
+use Rattle.script_model.specs.declared.line.SlowedCall.TheVariants as slowed_calls
+use Rattle.script_model.specs.declared.ranges.Delay.{Delay}
 use Rattle.cluster_model.specs.Commands.{cut_of, suspend_of, join_of, kill_of, kinds_of, link_of, resume_of}
-use Rattle.cluster_script.specs.Script.{HeadText, names_of}
+use Rattle.script_model.specs.Script.{HeadText, names_of}
 use Rattle.cluster_model.specs.Next.{command_kind, declared, process_kind, promote_events, agent_start_events}
 use Rattle.cluster_model.specs.Parts.{event_of, events_of, for_some}
 use Rattle.cluster_model.specs.ServerCommands.{commit_of, crash_of, freezing_of, is_gone, slow_of, ticks_of}

@@ -1,6 +1,6 @@
 -- Parts of a step that keep the law keep it one after another.
 use Rattle.std.proofs.Common.{◌≡◌, ◌++◌, List, [], Option, Some, subst}
-use Rattle.cluster_script.specs.Script.{HeadText}
+use Rattle.script_model.specs.Script.{HeadText}
 use Rattle.event_book.specs.declared.event.Event.{Event}
 use Rattle.event_book.specs.Writers.{HasOneWriter}
 use Rattle.cluster_model.specs.Cluster.{cluster_over}

@@ -11,8 +11,8 @@ use Rattle.event_book.specs.declared.member.Member.{Member}
 use Rattle.event_book.specs.Processes.{first_processes, running_in}
 use Rattle.event_book.specs.Writers.{writes_now}
 use Rattle.agent_model.specs.Agents.{AgentFacts}
-use Rattle.cluster_script.specs.declared.head.MemberOptions.{MemberOptions}
-use Rattle.cluster_script.specs.Script.{HeadText, names_of}
+use Rattle.member_options.specs.declared.member_option.MemberOptions.{MemberOptions}
+use Rattle.script_model.specs.Script.{HeadText, names_of}
 use Rattle.cluster_model.specs.Machines.{who_of}
 use Rattle.cluster_model.specs.Starting.{cluster_of, first_agent, options_of}
 use Rattle.lease_law.specs.Books.{first_volatile_states}

@@ -8,7 +8,7 @@ use Rattle.event_book.specs.declared.member.Member.{Member}
 use Rattle.event_book.specs.Members.{members_from, put_first}
 use Rattle.pat_base.specs.MemberId.{member_by}
 use Rattle.pat_base.specs.declared.member_id.MemberId.{MemberId}
-use Rattle.cluster_script.specs.Script.{HeadText, IsHead, names_of}
+use Rattle.script_model.specs.Script.{HeadText, IsHead, names_of}
 use Rattle.cluster_model.specs.Next.{declared}
 use Rattle.cluster_model.specs.State.{Cluster}
 use Rattle.lease_law.proofs.Tools.{some-is}

@@ -14,7 +14,7 @@ use Rattle.event_book.specs.declared.event.StoreEvent.TheVariants as stores
 use Rattle.event_book.specs.Servers.{servers_by}
 use Rattle.event_book.proofs.Parts.{logged-kept, replicated-kept}
 use Rattle.cluster_model.specs.Cluster.{cluster_after}
-use Rattle.cluster_script.specs.Script.{HeadText}
+use Rattle.script_model.specs.Script.{HeadText}
 use Rattle.cluster_model.specs.Parts.{event_of, events_of}
 use Rattle.cluster_model.specs.State.{Cluster}
 use Rattle.lease_law.specs.Actions.{Note}

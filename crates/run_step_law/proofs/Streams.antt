@@ -16,7 +16,7 @@ use Rattle.cluster_model.specs.Acknowledging.{acknowledge_kinds, acknowledgement
 use Rattle.cluster_model.specs.Losing.{is_lacking, loss_if, loss_of, losses_of}
 use Rattle.cluster_model.specs.Cluster.{cluster_after}
 use Rattle.cluster_model.specs.Commands.{kinds_of}
-use Rattle.cluster_script.specs.Script.{HeadText}
+use Rattle.script_model.specs.Script.{HeadText}
 use Rattle.cluster_model.specs.Next.{acknowledge_events, confirm_events, receive_events, receive_events_at_most}
 use Rattle.cluster_model.specs.Parts.{event_of, events_of}
 use Rattle.cluster_model.specs.State.{Cluster}

@@ -16,8 +16,8 @@ use Rattle.agent_model.specs.Agents.{AgentFacts}
 use Rattle.cluster_model.specs.Cluster.{agent_facts_after, cluster_after}
 use Rattle.cluster_model.specs.Inputs.{starting_agent}
 use Rattle.cluster_model.specs.Machines.{who_of}
-use Rattle.cluster_script.specs.declared.head.MemberOptions.{MemberOptions}
-use Rattle.cluster_script.specs.Script.{HeadText}
+use Rattle.member_options.specs.declared.member_option.MemberOptions.{MemberOptions}
+use Rattle.script_model.specs.Script.{HeadText}
 use Rattle.cluster_model.specs.Starting.{cluster_of, first_agent, options_of}
 use Rattle.cluster_model.specs.State.{Cluster}
 use Rattle.lease_law.specs.Leases.{Question}

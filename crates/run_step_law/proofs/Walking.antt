@@ -12,22 +12,22 @@ use Rattle.event_book.specs.declared.link.LinkEnd.{LinkEnd}
 use Rattle.event_book.specs.declared.link.LinkEnd.TheVariants as ends
 use Rattle.event_book.specs.declared.member.Member.{Member}
 use Rattle.event_book.specs.Flight.{InFlightFacts, in_flight}
-use Rattle.cluster_script.specs.declared.line.Command.{Command}
-use Rattle.cluster_script.specs.declared.line.Command.TheVariants as commands
-use Rattle.cluster_script.specs.declared.line.Step.{Step}
-use Rattle.cluster_script.specs.declared.rest.RestCall.{RestCall}
+use Rattle.script_model.specs.declared.line.Command.{Command}
+use Rattle.script_model.specs.declared.line.Command.TheVariants as commands
+use Rattle.script_model.specs.declared.line.Step.{Step}
+use Rattle.rest_api.specs.declared.call.RestCall.{RestCall}
 use Rattle.agent_model.specs.Agents.{Outcome}
-use Rattle.cluster_script.specs.declared.line.Step.TheVariants as steps
+use Rattle.script_model.specs.declared.line.Step.TheVariants as steps
 use Rattle.cluster_model.specs.declared.delivery.Delivery.{Delivery}
 use Rattle.cluster_model.specs.declared.delivery.Delivery.TheVariants as deliveries
 use Rattle.cluster_model.specs.Deliveries.{delivery_of}
-use Rattle.cluster_script.specs.Script.{HeadText, names_of}
+use Rattle.script_model.specs.Script.{HeadText, names_of}
 use Rattle.cluster_model.specs.Inputs.{has_work, is_to_wake, may_act, moment_of, standing_of}
 use Rattle.cluster_model.specs.Limits.{most_rounds}
 use Rattle.cluster_model.specs.Messages.{arrival_events_at, call_events, call_events_if, call_events_of, decided_events, deliver_events, deliver_events_by, lose_events, message_events, message_events_by, turn_events, turn_events_if, wake_events, wake_events_if, wake_events_of}
 use Rattle.cluster_model.specs.Next.{acknowledge_events, all_entries, command_events, declared, next_events, promote_events, receive_events_at_most, receive_events_of, round_events, rounds_events, run_events, scheduled_events, step_events}
 use Rattle.cluster_model.specs.Parts.{each, event_of, for_some, is_empty}
-use Rattle.cluster_model.specs.Requests.{action_of, decision_on_call}
+use Rattle.cluster_model.specs.Requests.{action_of, decision_at}
 use Rattle.cluster_model.specs.State.{Cluster}
 use Rattle.cluster_model.specs.Ticking.{tick_events}
 use Rattle.lease_law.proofs.Tools.{and-first}
@@ -62,7 +62,7 @@ module _ (head : HeadText) (few : length (names_of head) ≤ 16) (promise : Prom
       upheld-for_some promise composable book cluster (slice_get cluster.facts.processes member.id.number) (call_events_if cluster call body member) good
       (λ process found. upheld-if promise composable book cluster (may_act process) (for_some (standing_of cluster member) (call_events_of cluster call body member)) (event_of cluster (kinds.Note (notes.NoAnswer member)))
       (λ acts. upheld-for_some promise composable book cluster (standing_of cluster member) (call_events_of cluster call body member) good
-      (λ o stands. upheld-decided member process o (decision_on_call (moment_of cluster) o call body) is book cluster good found acts))
+      (λ o stands. upheld-decided member process o (decision_at (moment_of cluster) o call body) is book cluster good found acts))
       (λ rests. parts.notes (notes.NoAnswer member) book cluster good))
 
   -- a message comes to its receiver

@@ -1,6 +1,6 @@
 -- What a head declares, as the law of one writer reads it.
 use Rattle.std.specs.Prelude.{ℕ, ◌*◌, Bool, true, false, List, Option, Some, None, length, slice_get}
-use Rattle.cluster_script.specs.Script.{HeadText, MemberText, names_of}
+use Rattle.script_model.specs.Script.{HeadText, MemberText, names_of}
 use Rattle.event_book.specs.declared.member.Member.{Member}
 use Rattle.event_book.specs.Members.{members_from}
 use Rattle.leader_key.specs.Watchdog.{is_armable}

@@ -1,6 +1,6 @@
 -- Events that keep the law of one writer.
 use Rattle.std.specs.Prelude.{◌++◌, List}
-use Rattle.cluster_script.specs.Script.{HeadText}
+use Rattle.script_model.specs.Script.{HeadText}
 use Rattle.event_book.specs.declared.event.Event.{Event}
 use Rattle.event_book.specs.Writers.{HasOneWriter}
 use Rattle.cluster_model.specs.Cluster.{cluster_over}

@@ -1,6 +1,6 @@
 -- The members that a head declares.
 use Rattle.std.specs.Prelude.{ℕ, ◌≡◌, ◌==◌, ◌||◌, Bool, false, List, [], ◌∷◌, Some, slice_get}
-use Rattle.cluster_script.specs.Script.{HeadText}
+use Rattle.script_model.specs.Script.{HeadText}
 use Rattle.event_book.specs.declared.member.Member.{Member}
 use Rattle.run_step_law.specs.Declaring.{declared_members}
 

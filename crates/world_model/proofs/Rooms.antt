@@ -32,7 +32,7 @@ use Rattle.agent_model.specs.Agents.{AgentFacts, made, most_messages}
 use Rattle.agent_model.specs.Outputs.{most_outputs}
 use Rattle.agent_model.specs.Table.{step}
 use Rattle.wal_model.specs.declared.entry.HistoryPoint.{HistoryPoint}
-use Rattle.cluster_script.specs.declared.head.MemberOptions.{MemberOptions}
+use Rattle.member_options.specs.declared.member_option.MemberOptions.{MemberOptions}
 use Rattle.cluster_model.specs.Cluster.{agent_after, agent_facts_after, agent_facts_by, agent_facts_by_message, agent_facts_by_watchdog, agent_facts_moved, agent_facts_reached, agent_facts_reached_at, agent_facts_with, cluster_after}
 use Rattle.cluster_model.specs.Hearing.{heard_from}
 use Rattle.cluster_model.specs.Inputs.{agent_at, moment_of, outcome_at, outcome_of, outcome_of_heard}

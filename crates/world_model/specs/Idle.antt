@@ -14,9 +14,9 @@ use Rattle.event_book.specs.declared.event.EventKind.TheVariants as kinds
 use Rattle.event_book.specs.declared.member.Member.{Member}
 use Rattle.event_book.specs.Flight.{Flight, InFlightFacts, in_flight}
 use Rattle.event_book.specs.Links.{CutLinks}
-use Rattle.cluster_script.specs.declared.line.Step.{Step}
-use Rattle.cluster_script.specs.declared.line.Step.TheVariants as steps
-use Rattle.cluster_script.specs.declared.head.MemberOptions.{MemberOptions}
+use Rattle.script_model.specs.declared.line.Step.{Step}
+use Rattle.script_model.specs.declared.line.Step.TheVariants as steps
+use Rattle.member_options.specs.declared.member_option.MemberOptions.{MemberOptions}
 use Rattle.agent_model.specs.Agents.{AgentFacts, Outcome}
 use Rattle.agent_model.specs.Wake.{due_from}
 use Rattle.cluster_model.specs.declared.delivery.Delivery.TheVariants.{Suspended}

@@ -8,7 +8,8 @@ use Rattle.event_book.specs.declared.event.MessageEvent.{MessageEvent}
 use Rattle.event_book.specs.declared.event.MessageEvent.TheVariants as messages
 use Rattle.agent_model.specs.Agents.{AgentFacts, most_messages}
 use Rattle.agent_model.specs.Outputs.{most_outputs}
-use Rattle.cluster_model.specs.Limits.{most_in_flight, most_members, most_rounds}
+use Rattle.cluster_model.specs.Limits.{most_in_flight, most_rounds}
+use Rattle.script_model.specs.Bounds.{most_members}
 use Rattle.cluster_model.specs.State.{Cluster}
 
 -- an agent that runs has so many more numbers for messages

@@ -1,22 +1,18 @@
 -- Requests of operators: what they are decided to, and what they bring.
-use Rattle.std.proofs.Common.{◌≡◌, ℕ, ◌+◌, ◌<◌, Bool, List, [], Option, Some, None, Result, Ok, Err, arith, refl, ◌∙◌, ap, sym, subst}
-use Rattle.std.specs.Prelude.{is_some, option_and_then, option_copied, slice_get}
+use Rattle.std.proofs.Common.{◌≡◌, ℕ, ◌+◌, ◌<◌, List, [], Option, Some, None, Result, Ok, Err, arith, refl, ◌∙◌, ap, sym, subst}
+use Rattle.std.specs.Prelude.{option_and_then, option_copied, slice_get}
 use Rattle.pat_base.specs.declared.ticks.Ticks.{Ticks}
-use Rattle.lease_store.specs.declared.action.FailoverKind.TheVariants as failover_kinds
 use Rattle.lease_store.specs.declared.action.OperatorRequest.{OperatorRequest}
-use Rattle.lease_store.specs.declared.action.OperatorRequest.TheVariants as requests
 use Rattle.cluster_config.specs.declared.view.AgentView.{AgentView}
 use Rattle.cluster_config.specs.Snapshots.{SnapshotFacts}
-use Rattle.cluster_script.specs.declared.rest.RestCall.{RestCall}
-use Rattle.cluster_script.specs.declared.rest.RestCall.TheVariants as calls
-use Rattle.operator_keys.specs.declared.config_checks.ConfigChange.TheVariants as changes
+use Rattle.rest_api.specs.declared.call.RestCall.{RestCall}
+use Rattle.rest_api.specs.declared.call.RestCall.TheVariants as calls
 use Rattle.operator_keys.specs.declared.refusal.CheckFault.{CheckFault}
 use Rattle.operator_keys.specs.declared.refusal.CheckFault.TheVariants as faults
 use Rattle.operator_keys.specs.declared.refusal.Refused.{Refused}
-use Rattle.operator_keys.specs.Checks.{failover_on, switchover_on}
-use Rattle.operator_keys.specs.ConfigChecks.{configuration_on}
 use Rattle.operator_keys.specs.Refusals.{Answers, with_fault}
-use Rattle.operator_keys.specs.ServerChecks.{reinit_refusal, restart_refusal}
+use Rattle.rest_api.specs.Decisions.{decision_on_call}
+use Rattle.rest_api.proofs.Deciding.{no-err, same-err, same-ok}
 use Rattle.event_book.specs.declared.event.Event.{Event}
 use Rattle.event_book.specs.declared.event.EventKind.{EventKind}
 use Rattle.event_book.specs.declared.member.Member.{Member}
@@ -27,61 +23,35 @@ use Rattle.cluster_model.specs.Inputs.{agent_at, moment_of, standing, standing_o
 use Rattle.cluster_model.specs.Machines.{machine_of}
 use Rattle.cluster_model.specs.Messages.{call_events_of, decided_events, operate_events}
 use Rattle.cluster_model.specs.Parts.{event_of, for_some}
-use Rattle.cluster_model.specs.Requests.{asking, decision_on_call, refusing, unless_refused}
+use Rattle.cluster_model.specs.Requests.{decision_at, refusing}
 use Rattle.cluster_model.specs.State.{Cluster}
-use Rattle.world_parts.specs.Calls.{decision_by}
 use Rattle.world_model.specs.Emits.{Emits}
 use Rattle.world_model.specs.Room.{HasNumbers, HasRoom, call_cost}
 use Rattle.world_model.proofs.ServerRooms.{All-at}
 use Rattle.world_model.proofs.Taking.{Emits-weaker, found-took}
 
-same-ok : {A E : Type 0} (x y : A) → ◌≡◌ {A = Result A E} (Ok x) (Ok y) → x ≡ y
-same-ok x y e = cc
-
-same-err : {A E : Type 0} (x y : E) → ◌≡◌ {A = Result A E} (Err x) (Err y) → x ≡ y
-same-err x y e = cc
-
 same-refused : (x y : Refused) → faults.Refused x ≡ faults.Refused y → x ≡ y
 same-refused x y e = cc
-
-no-err : {A E : Type 0} (x : A) (y : E) → ◌≡◌ {A = Result A E} (Ok x) (Err y) → ⊥
-no-err x y e = cc
 
 refused-memory : (refused : Refused) → faults.Refused refused ≡ faults.Memory → ⊥
 refused-memory refused e = cc
 
-given : {A : Type 0} (request : A → OperatorRequest) (x : A) (answer : Result A Refused) → Ok x ≡ with_fault answer → Ok (request x) ≡ with_fault (asking request answer)
-given request x (Ok other) is = ap (λ y. Ok (request y)) (same-ok x other is)
-given request x (Err refused) is = absurd (no-err x (faults.Refused refused) is)
-
-faulted : {A : Type 0} (request : A → OperatorRequest) (fault : CheckFault) (answer : Result A Refused) → Err fault ≡ with_fault answer → Err fault ≡ with_fault (asking request answer)
-faulted request fault (Ok other) is = absurd (no-err other fault (sym is))
-faulted request fault (Err refused) is = ap Err (same-err fault (faults.Refused refused) is)
-
--- what a check gives is asked for
-pub check-passes : {A : Type 0} (request : A → OperatorRequest) (x : A) (answer : Result A Refused) → Answers (Ok x) answer → Answers (Ok (request x)) (asking request answer)
-check-passes request x answer answers no_want = given request x answer (answers (no-err x faults.Memory))
-
--- what refuses it refuses the request
-pub fault-passes : {A : Type 0} (request : A → OperatorRequest) (fault : CheckFault) (answer : Result A Refused) → Answers (Err fault) answer → Answers {A = OperatorRequest} (Err fault) (asking request answer)
-fault-passes request fault answer answers no_want = faulted request fault answer (answers (λ e. no_want (ap Err (same-err fault faults.Memory e))))
-
--- a check that is made by the snapshot that an agent shows, and by whether a request waits there
-checked-same : {A : Type 0} (view : AgentView) (now : Ticks) (o : Outcome) (check : Option SnapshotFacts → Bool → Result A Refused) (request : A → OperatorRequest) → record view { seen = None } ≡ shown now o → option_copied view.seen ≡ o.knows.seen
-    → asking request (check (option_copied view.seen) view.waits) ≡ asking request (check o.knows.seen (is_some o.knows.operating))
-checked-same view now o check request shows seen =
-    ap (λ (s : Option SnapshotFacts). asking request (check s view.waits)) seen
-    ∙ ap (λ (v : AgentView). asking request (check o.knows.seen v.waits)) shows
+-- the snapshot that an agent shows is read beside the view alone
+without-seen : (view : AgentView) (seen : Option SnapshotFacts) (call : RestCall) (body : List ℕ) → decision_on_call (record view { seen = None }) seen call body ≡ decision_on_call view seen call body
+without-seen view seen calls.Switchover body = refl
+without-seen view seen calls.DropSwitchover body = refl
+without-seen view seen calls.Failover body = refl
+without-seen view seen calls.Restart body = refl
+without-seen view seen calls.Reinitialize body = refl
+without-seen view seen calls.PatchConfiguration body = refl
+without-seen view seen calls.ReplaceConfiguration body = refl
 
 -- an agent decides by what it shows
-decided-same : (view : AgentView) (now : Ticks) (o : Outcome) (call : RestCall) (body : List ℕ) → record view { seen = None } ≡ shown now o → option_copied view.seen ≡ o.knows.seen → decision_by view call body ≡ decision_on_call now o call body
-decided-same view now o calls.Switchover body shows seen = checked-same view now o (λ s waits. switchover_on s waits body) (requests.Failover failover_kinds.Switchover) shows seen
-decided-same view now o calls.DropSwitchover body shows seen = refl
-decided-same view now o calls.Failover body shows seen = checked-same view now o (λ s waits. failover_on s waits body) (requests.Failover failover_kinds.Failover) shows seen
-decided-same view now o calls.Restart body shows seen = ap (λ (v : AgentView). unless_refused (restart_refusal v) requests.Restart) shows
-decided-same view now o calls.Reinitialize body shows seen = ap (λ (v : AgentView). unless_refused (reinit_refusal v) requests.Reinit) shows
-decided-same view now o calls.PatchConfiguration body shows seen = checked-same view now o (λ s waits. configuration_on s waits changes.Patch body) requests.Configuration shows seen
-decided-same view now o calls.ReplaceConfiguration body shows seen = checked-same view now o (λ s waits. configuration_on s waits changes.Replace body) requests.Configuration shows seen
+decided-same : (view : AgentView) (now : Ticks) (o : Outcome) (call : RestCall) (body : List ℕ) → record view { seen = None } ≡ shown now o → option_copied view.seen ≡ o.knows.seen → decision_on_call view (option_copied view.seen) call body ≡ decision_at now o call body
+decided-same view now o call body shows seen =
+    sym (without-seen view (option_copied view.seen) call body)
+    ∙ ap (λ (v : AgentView). decision_on_call v (option_copied view.seen) call body) shows
+    ∙ ap (λ (s : Option SnapshotFacts). decision_on_call (shown now o) s call body) seen
 
 answered-ok : (answer : Result OperatorRequest Refused) (asked : OperatorRequest) → Ok asked ≡ with_fault answer → answer ≡ Ok asked
 answered-ok (Ok other) asked is = ap Ok (sym (same-ok asked other is))
@@ -136,23 +106,23 @@ module _ (cluster : Cluster) (member : Member) (agent : AgentFacts) (machine : M
   stands-so : standing_of cluster member ≡ Some stands
   stands-so = ap (λ (a : Option AgentFacts). standing a (machine_of cluster member)) asks.agent_is ∙ ap (λ (m : Option Machine). standing (Some agent) m) asks.machine_is
 
-  decided-took : (after : Cluster) (call : RestCall) (body : List ℕ) (decided : Result OperatorRequest Refused) (had has : List Event) → decision_by view call body ≡ decided
+  decided-took : (after : Cluster) (call : RestCall) (body : List ℕ) (decided : Result OperatorRequest Refused) (had has : List Event) → decision_on_call view (option_copied view.seen) call body ≡ decided
       → Emits cluster after had has (decided_events cluster member stands decided) call_cost → Emits cluster after had has (for_some (standing_of cluster member) (call_events_of cluster call body member)) call_cost
   decided-took after call body decided had has is took =
       found-took Outcome cluster after had has (call_events_of cluster call body member) (standing_of cluster member) stands call_cost stands-so
       (subst (λ (d : Result OperatorRequest Refused). Emits cluster after had has (decided_events cluster member stands d) call_cost) (sym is ∙ decided-same view (moment_of cluster) stands call body asks.shows asks.seen) took)
 
   -- it does what it is asked
-  pub operates-took : (after : Cluster) (call : RestCall) (body : List ℕ) (asked : OperatorRequest) (had has : List Event) → Answers (Ok asked) (decision_by view call body)
+  pub operates-took : (after : Cluster) (call : RestCall) (body : List ℕ) (asked : OperatorRequest) (had has : List Event) → Answers (Ok asked) (decision_on_call view (option_copied view.seen) call body)
       → Emits cluster after had has (operate_events cluster member (record { request = request; asked = asked })) call_cost
       → Emits cluster after had has (for_some (standing_of cluster member) (call_events_of cluster call body member)) call_cost
   operates-took after call body asked had has answers took =
-      decided-took after call body (Ok asked) had has (answered-ok (decision_by view call body) asked (answers (no-err asked faults.Memory)))
+      decided-took after call body (Ok asked) had has (answered-ok (decision_on_call view (option_copied view.seen) call body) asked (answers (no-err asked faults.Memory)))
       (subst (λ (n : ℕ). Emits cluster after had has (operate_events cluster member (record { request = n; asked = asked })) call_cost) asks.next took)
 
   -- or answers what refuses it
-  pub refuses-took : (after : Cluster) (call : RestCall) (body : List ℕ) (refused : Refused) (kind : EventKind) (had has : List Event) → Answers (Err (faults.Refused refused)) (decision_by view call body) → kind ≡ refusing member refused
+  pub refuses-took : (after : Cluster) (call : RestCall) (body : List ℕ) (refused : Refused) (kind : EventKind) (had has : List Event) → Answers (Err (faults.Refused refused)) (decision_on_call view (option_copied view.seen) call body) → kind ≡ refusing member refused
       → Emits cluster after had has (event_of cluster kind) 1 → Emits cluster after had has (for_some (standing_of cluster member) (call_events_of cluster call body member)) call_cost
   refuses-took after call body refused kind had has answers kind_is took =
-      decided-took after call body (Err refused) had has (answered-refused (decision_by view call body) refused (answers (λ e. refused-memory refused (same-err (faults.Refused refused) faults.Memory e))))
+      decided-took after call body (Err refused) had has (answered-refused (decision_on_call view (option_copied view.seen) call body) refused (answers (λ e. refused-memory refused (same-err (faults.Refused refused) faults.Memory e))))
       (Emits-weaker cluster after had has (event_of cluster (refusing member refused)) 1 call_cost (subst (λ (k : EventKind). Emits cluster after had has (event_of cluster k) 1) kind_is took) (omega arith))

@@ -10,7 +10,7 @@ ghost use Rattle.event_book.specs.Keys.{keys_after};
 ghost use Rattle.event_book.specs.Links.{cuts_after};
 ghost use Rattle.event_book.specs.Watchdogs.{deadlines_after, holds_after};
 ghost use Rattle.agent_model.specs.Agents.{latest};
-ghost use Rattle.cluster_model.specs.Limits.{most_members};
+ghost use Rattle.script_model.specs.Bounds.{most_members};
 ghost use Rattle.world_model.specs.Apart.{agents_apart};
 ghost use Rattle.world_model.specs.Comes.{IsBare};
 
@@ -18,13 +18,13 @@ use crate::links::CutLinks;
 use crate::places::{change_agents_by, reset_agent};
 use crate::processes::{change_process, reset_process};
 use crate::watchdogs::{change_deadline, change_hold};
-use cluster_script::MemberOptions;
 use event_book::{
     AgentProcess, EventKind, LogEvent, Member, MessageEvent, ReplicationEvent, ServerEvent,
     ServerOf,
 };
 use ha_loop::Agent;
 use lease_store::Store;
+use member_options::MemberOptions;
 use pat_base::{Name, Ticks};
 use std::alloc::AllocError;
 

@@ -1,17 +1,18 @@
 //! What there is before the first step.
 ghost use Rattle.std.specs.Prelude.{ℕ, ◌≡◌, ◌≤◌, ◌<◌, length, IfOk, Some, slice_get};
 ghost use Rattle.pat_base.specs.MemberId.{member_of};
-ghost use Rattle.cluster_script.specs.Script.{names_of};
+ghost use Rattle.script_model.specs.Script.{names_of};
 ghost use Rattle.event_book.specs.Processes.{first_processes};
 ghost use Rattle.event_book.specs.Members.{members_from};
-ghost use Rattle.cluster_model.specs.Limits.{most_members};
+ghost use Rattle.script_model.specs.Bounds.{most_members};
 ghost use Rattle.cluster_model.specs.Machines.{hosts_of};
 ghost use Rattle.cluster_model.specs.Starting.{options_of};
 
 use crate::machines::declared_options;
-use cluster_script::{Head, MemberOptions};
 use event_book::{AgentProcess, Member};
+use member_options::MemberOptions;
 use pat_base::{Host, MemberId, Name};
+use script_model::Head;
 use std::alloc::{AllocError, Global};
 
 /// The declared members, numbered in order.

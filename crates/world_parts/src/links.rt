@@ -1,6 +1,6 @@
 //! Links: which are cut, and what commands change of them.
 ghost use Rattle.std.specs.Prelude.{◌≡◌, IfOk, IfSome, Some, slice_set};
-ghost use Rattle.cluster_script.specs.Script.{IsEnd};
+ghost use Rattle.script_model.specs.Script.{IsEnd};
 ghost use Rattle.event_book.specs.Links.{cuts_after, is_cut, link_place, none_cut};
 ghost use Rattle.cluster_model.specs.State.{Cluster};
 ghost use Rattle.world_model.specs.Comes.{MayCome};
@@ -8,8 +8,8 @@ ghost use Rattle.cluster_model.specs.Commands.{cut_of, join_of, link_end_of, lin
 ghost use Rattle.cluster_model.specs.Steps.{names_in};
 
 use crate::members::declared;
-use cluster_script::End;
 use event_book::{EventKind, Link, LinkEnd, LinkEvent, Member};
+use script_model::End;
 use std::alloc::{AllocError, Global};
 use std::marker::Model;
 

@@ -2,13 +2,13 @@
 ghost use Rattle.std.specs.Prelude.{◌≡◌, ◌≤◌, ◌<◌, ◌^◌, IfSome, option_map, option_copied, length, slice_get};
 ghost use Rattle.pg_model.specs.Servers.{without_spare};
 ghost use Rattle.agent_model.specs.Agents.{IsWithin};
-ghost use Rattle.cluster_model.specs.Limits.{most_members};
+ghost use Rattle.script_model.specs.Bounds.{most_members};
 ghost use Rattle.cluster_model.specs.Machines.{watchdog_of, machine_from, declared_options, who_of};
 
 use agent_model::{Machine, Replication, Who};
-use cluster_script::MemberOptions;
 use event_book::Member;
 use leader_key::Watchdog;
+use member_options::MemberOptions;
 use pat_base::{Name, Ticks};
 use pg_model::{Server, ServerStatus};
 

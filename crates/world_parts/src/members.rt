@@ -1,6 +1,6 @@
 //! Declared members.
 ghost use Rattle.std.specs.Prelude.{◌≡◌, Some, slice_get};
-ghost use Rattle.cluster_script.specs.Script.{IsMember};
+ghost use Rattle.script_model.specs.Script.{IsMember};
 ghost use Rattle.cluster_model.specs.Steps.{names_in};
 
 use event_book::Member;

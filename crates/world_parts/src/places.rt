@@ -5,15 +5,15 @@ ghost use Rattle.agent_model.specs.Agents.{AgentFacts, IsWithin, latest, most_me
 ghost use Rattle.agent_model.specs.Outputs.{most_outputs};
 ghost use Rattle.cluster_model.specs.Cluster.{agent_after, agent_facts_moved, agent_facts_by_watchdog, agent_facts_without};
 ghost use Rattle.cluster_model.specs.Inputs.{agent_at, outcome_at, outputs_of, standing, starting_agent};
-ghost use Rattle.cluster_model.specs.Limits.{most_members};
+ghost use Rattle.script_model.specs.Bounds.{most_members};
 ghost use Rattle.cluster_model.specs.Starting.{first_agent};
 ghost use Rattle.world_model.specs.Room.{HasNumbers};
 
 use crate::machines::who_of;
 use agent_model::{Heard, Machine, Who};
-use cluster_script::MemberOptions;
 use event_book::{AgentEvent, Member, WatchdogEvent};
 use ha_loop::{Agent, Outputs};
+use member_options::MemberOptions;
 use pat_base::{Name, Ticks};
 use std::alloc::{AllocError, Global};
 use wal_model::History;

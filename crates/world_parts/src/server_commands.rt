@@ -8,10 +8,10 @@ ghost use Rattle.world_model.specs.Promoting.{promoted_timeline};
 ghost use Rattle.cluster_model.specs.ServerCommands.{is_gone, commit_of, crash_of, freezing_of, slow_by, slow_of};
 
 use cluster_model::{Beginning, Completion};
-use cluster_script::{Delay, SlowedCall};
 use event_book::{EventKind, LogEvent, Member, Note, ServerEvent, ServerOf};
 use pat_base::{State, Ticks};
 use pg_model::Servers;
+use script_model::{Delay, SlowedCall};
 use wal_model::Entry;
 
 /// The timeline to which the server of a member is promoted, if it is a replica.

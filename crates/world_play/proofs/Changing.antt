@@ -2,7 +2,7 @@
 use Rattle.std.proofs.Common.{◌≡◌, ℕ, ◌≤◌, List, Option, arith, sym, subst}
 use Rattle.event_book.specs.declared.event.Event.{Event}
 use Rattle.event_book.specs.declared.event.EventKind.{EventKind}
-use Rattle.cluster_script.specs.declared.line.Command.{Command}
+use Rattle.script_model.specs.declared.line.Command.{Command}
 use Rattle.cluster_model.specs.State.{Cluster}
 use Rattle.cluster_model.specs.Commands.{kinds_of}
 use Rattle.cluster_model.specs.Next.{command_events, command_kind}

@@ -9,13 +9,13 @@ ghost use Rattle.world_model.specs.Room.{HasRoom, call_cost};
 
 use crate::carrying::carry_out;
 use crate::wakes::NO_MESSAGE;
-use cluster_script::RestCall;
 use event_book::{Event, EventKind, Member, Note};
 use lease_store::OperatorAction;
 use operator_keys::CheckFault;
+use rest_api::{RestCall, decision_on_call};
 use std::alloc::AllocError;
 use world_parts::processes::may_act;
-use world_parts::requests::{decision_on_call, refusing};
+use world_parts::requests::refusing;
 use world_stage::Stage;
 
 /// A script makes a request of the agent of a member: one that doesn't run or is suspended gives no answer.

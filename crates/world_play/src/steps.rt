@@ -1,6 +1,6 @@
 //! The steps of a script: ticks, and what commands come to.
 ghost use Rattle.std.specs.Prelude.{◌≡◌, ◌<◌, ◌+◌, ◌*◌, OnOk, IfSome, Some};
-ghost use Rattle.cluster_script.specs.Script.{IsCommand};
+ghost use Rattle.script_model.specs.Script.{IsCommand};
 ghost use Rattle.event_book.specs.declared.event.Event.{Event};
 ghost use Rattle.cluster_model.specs.Acknowledging.{AreAcknowledged};
 ghost use Rattle.cluster_model.specs.Limits.{most_rounds};
@@ -16,8 +16,8 @@ use crate::receiving::{all_receive, receive};
 use crate::servers::promote;
 use crate::ticks::tick;
 use crate::wakes::{start_agent, turn, wakes};
-use cluster_script::{Command, Step};
 use event_book::{Event, EventKind};
+use script_model::{Command, Step};
 use std::alloc::AllocError;
 use world_parts::links::{cut_of, join_of};
 use world_parts::processes::{kill_of, resume_of, suspend_of};

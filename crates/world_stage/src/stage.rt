@@ -1,9 +1,9 @@
 //! The stage of a world: what a cluster has at a moment.
 ghost use Rattle.std.specs.Prelude.{◌≡◌, ◌<◌, ◌≤◌, ◌+◌, ◌^◌, ◌++◌, ◌∷◌, [], length, OnOk, IfOk, slice_get, Some};
-ghost use Rattle.cluster_script.specs.Script.{IsLink, IsMember};
+ghost use Rattle.script_model.specs.Script.{IsLink, IsMember};
 ghost use Rattle.event_book.specs.declared.event.Event.{Event};
 ghost use Rattle.cluster_model.specs.Commands.{link_of};
-ghost use Rattle.cluster_model.specs.Limits.{most_members};
+ghost use Rattle.script_model.specs.Bounds.{most_members};
 ghost use Rattle.cluster_model.specs.Next.{declared};
 ghost use Rattle.cluster_model.specs.Starting.{cluster_of};
 ghost use Rattle.cluster_model.specs.State.{Cluster};
@@ -22,12 +22,13 @@ use world_parts::from_head::{hosts_of, members_of, options_of, processes_of};
 use world_parts::links::{CutLinks, link_of};
 use world_parts::members;
 use world_parts::places::{close_all, first_agents};
-use cluster_script::{End, Head, MemberOptions};
 use event_book::{AgentProcess, Event, EventKind, Link, Member};
 use ha_loop::{Agent, Outputs};
 use lease_store::Store;
+use member_options::MemberOptions;
 use pat_base::{Host, MemberId, Name, Ticks};
 use pg_model::Servers;
+use script_model::{End, Head};
 use std::alloc::{AllocError, Global};
 use std::marker::Model;
 
@@ -68,7 +69,7 @@ pub struct Stage {
 
 impl Model for Stage {
     ghost use Rattle.std.specs.Prelude.{◌≡◌, ◌≤◌, [], length};
-    ghost use Rattle.cluster_model.specs.Limits.{most_members};
+    ghost use Rattle.script_model.specs.Bounds.{most_members};
     ghost use Rattle.cluster_model.specs.Machines.{hosts_of};
     ghost use Rattle.cluster_model.specs.State.{Cluster};
     ghost use Rattle.world_flight.specs.FlightIndex.{AreNumbered, AreTended};

@@ -19,7 +19,7 @@ use super::{Stage, write_down};
 use world_flight::flight::InFlight;
 use world_parts::machines::{item_at, machine_from};
 use world_parts::places;
-use world_parts::requests::copy_of;
+use rest_api::copy_of;
 use world_parts::replication::replication_of;
 use world_parts::sources::source_of;
 use agent_model::{Heard, Machine};

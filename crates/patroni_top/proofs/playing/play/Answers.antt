@@ -2,7 +2,7 @@ use Rattle.std.proofs.Common.{ℕ, List, ap, ◌∙◌, Err, Ok, subst}
 use Rattle.pat_base.specs.Prints.{Prints}
 use Rattle.std.proofs.lemmas.Result.{err_from_is_err_and}
 use Rattle.pat_base.proofs.Printing.{Prints-none, Prints-ok}
-use Rattle.cluster_script.specs.Steps.{steps_of}
+use Rattle.script_model.specs.Steps.{steps_of}
 use Rattle.cluster_model.specs.Cluster.{cluster_over}
 use Rattle.cluster_model.specs.Next.{run_events}
 use Rattle.cluster_model.specs.Starting.{cluster_of}

@@ -1,5 +1,5 @@
 use Rattle.std.proofs.Common.{ap, Err, subst}
-use Rattle.cluster_script.specs.Script.{ScriptText}
+use Rattle.script_model.specs.Script.{ScriptText}
 use Rattle.patroni_top.specs.Ended.{IsLeftBy}
 use Rattle.patroni_top.specs.Run.{output_of, output_in}
 use Rattle.patroni_top.proofs.Endings.{script-bytes, same-script, output-is, Ends-refused, Ends-done, Ends-unprinted}

@@ -1,8 +1,8 @@
 use Rattle.std.proofs.Common.{◌≡◌, Option, Some, None, option_map, slice_get, ◌∙◌, ap, sym}
 use Rattle.std.proofs.lemmas.Option.{slice_get-map}
 use Rattle.pat_base.specs.declared.name.Name.{Name}
-use Rattle.cluster_script.specs.Script.{MemberText}
-use Rattle.cluster_script.specs.declared.head.MemberOptions.{MemberOptions}
+use Rattle.script_model.specs.Script.{MemberText}
+use Rattle.member_options.specs.declared.member_option.MemberOptions.{MemberOptions}
 use Rattle.patroni_top.specs.Watches.{declared_watch}
 use Rattle.patroni_top.proofs.watches.watch_at.Goals as goal
 

@@ -1,7 +1,7 @@
 use Rattle.std.proofs.Common.{◌++◌, [], ◌∷◌, List, ap, ◌∙◌}
 use Rattle.pat_base.specs.declared.host.Host.{Host}
 use Rattle.pat_base.specs.declared.name.Name.{Name}
-use Rattle.cluster_script.specs.declared.head.MemberOptions.{MemberOptions}
+use Rattle.member_options.specs.declared.member_option.MemberOptions.{MemberOptions}
 use Rattle.cluster_model.specs.Machines.{declared_options}
 use Rattle.event_book.specs.declared.member.Member.{Member}
 use Rattle.world_model.proofs.Starting.{mapped-end, mapped-more}

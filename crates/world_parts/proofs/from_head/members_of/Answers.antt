@@ -1,6 +1,6 @@
 use Rattle.std.proofs.Common.{ap, arith, drop, length, length-append}
 use Rattle.std.proofs.lemmas.List.{length-map}
-use Rattle.cluster_script.specs.Script.{MemberText, names_of}
+use Rattle.script_model.specs.Script.{MemberText, names_of}
 use Rattle.event_book.specs.Members.{members_from}
 use Rattle.world_model.proofs.Starting.{members-few, members-more}
 use Rattle.world_parts.proofs.from_head.members_of.Goals as goal

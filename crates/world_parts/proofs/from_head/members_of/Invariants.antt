@@ -1,5 +1,5 @@
 use Rattle.std.proofs.Common.{◌≡◌, ◌++◌, drop}
-use Rattle.cluster_script.specs.Script.{names_of}
+use Rattle.script_model.specs.Script.{names_of}
 use Rattle.event_book.specs.Members.{members_from}
 use Rattle.world_parts.proofs.from_head.members_of.Given as goal
 

@@ -1,6 +1,6 @@
 use Rattle.std.proofs.Common.{arith}
 use Rattle.std.proofs.lemmas.List.{length-map}
-use Rattle.cluster_script.specs.Script.{MemberText}
+use Rattle.script_model.specs.Script.{MemberText}
 use Rattle.cluster_model.specs.Starting.{options_of}
 use Rattle.world_model.proofs.Starting.{rest-end, rest-more}
 use Rattle.world_parts.proofs.from_head.options_of.Goals as goal

@@ -4,7 +4,7 @@ use Rattle.std.proofs.lemmas.Result.{on_ok_weaker}
 use Rattle.lease_store.specs.declared.action.OperatorRequest.{OperatorRequest}
 use Rattle.operator_keys.specs.declared.refusal.CheckFault.{CheckFault}
 use Rattle.operator_keys.specs.Refusals.{Answers}
-use Rattle.world_parts.specs.Calls.{decision_by}
+use Rattle.rest_api.specs.Decisions.{decision_on_call}
 use Rattle.world_model.specs.Room.{call_cost}
 use Rattle.world_parts.proofs.Calling.{IsAsked, found-asked, found-there, numbers-left, operates-took, refuses-took}
 use Rattle.world_model.proofs.Rooms.{HasRoom-fewer}
@@ -29,7 +29,7 @@ returns-in-Ok c =
     let request = c.next_number-request.result in
     let asks : IsAsked cluster member agent machine view request =
     found-asked c.self.view_is c.deref.ensures.value c.agent_at.ensures (ap option_copied c.in-Some-agent_at.is) c.machine.ensures.machine c.in-Some.is c.view-view.ensures.shown c.view-view.ensures.seen c.next_number-request.ensures in
-    let answers = subst (λ (r : Result OperatorRequest CheckFault). Answers r (decision_by view c.args.call c.args.body.now)) c.in-Ok.is c.decision_on_call.ensures in
+    let answers = subst (λ (r : Result OperatorRequest CheckFault). Answers r (decision_on_call view (option_copied view.seen) c.args.call c.args.body.now)) c.in-Ok.is c.decision_on_call.ensures in
     on_ok_weaker c.operate.result
     (λ took. operates-took cluster member agent machine view request asks c.operate.new.stage c.args.call c.args.body.now c.in-Ok.asked c.args.events.now.items c.operate.new.events.items answers took)
     c.operate.ensures
@@ -45,7 +45,7 @@ returns-in_ok-refusing-in-Err-Refused c =
     let asks : IsAsked cluster member agent machine view request =
     found-asked c.self.view_is c.deref.ensures.value c.agent_at.ensures (ap option_copied c.in-Some-agent_at.is) c.machine.ensures.machine c.in-Some.is c.view-view.ensures.shown c.view-view.ensures.seen c.next_number-request.ensures in
     let refused = c.in-Err-Refused.refused in
-    let answers = subst (λ (r : Result OperatorRequest CheckFault). Answers r (decision_by view c.args.call c.args.body.now)) (c.in-Err-Refused.is ∙ ap Err c.in-Err-Refused.field-0-is) c.decision_on_call.ensures in
+    let answers = subst (λ (r : Result OperatorRequest CheckFault). Answers r (decision_on_call view (option_copied view.seen) c.args.call c.args.body.now)) (c.in-Err-Refused.is ∙ ap Err c.in-Err-Refused.field-0-is) c.decision_on_call.ensures in
     on_ok_weaker c.happen.result
     (λ took. refuses-took cluster member agent machine view request asks c.happen.new.self c.args.call c.args.body.now refused c.in_ok-refusing-in-Err-Refused.field-0 c.args.events.now.items c.happen.new.events.items answers
     c.in_ok-refusing-in-Err-Refused.ensures.kind took)

@@ -1,6 +1,6 @@
 use Rattle.std.proofs.Common.{◌+◌, ◌*◌, arith}
 use Rattle.std.proofs.lemmas.Result.{on_ok_weaker}
-use Rattle.cluster_script.specs.declared.line.Step.TheVariants as steps
+use Rattle.script_model.specs.declared.line.Step.TheVariants as steps
 use Rattle.cluster_model.specs.Next.{scheduled_events}
 use Rattle.cluster_model.specs.Ticking.{tick_events}
 use Rattle.world_model.specs.Room.{command_cost, schedule_cost, step_cost, tick_cost}

@@ -1,6 +1,6 @@
 use Rattle.std.proofs.Common.{◌≡◌, arith, rules}
 use Rattle.std.proofs.lemmas.Result.{on_ok_weaker}
-use Rattle.cluster_script.specs.declared.line.Command.TheVariants as commands
+use Rattle.script_model.specs.declared.line.Command.TheVariants as commands
 use Rattle.cluster_model.specs.Commands.{kinds_of}
 use Rattle.cluster_model.specs.Messages.{turn_events}
 use Rattle.cluster_model.specs.Next.{command_events, command_kind, promote_events, receive_events_at_most, agent_start_events}

@@ -1,5 +1,5 @@
 use Rattle.std.proofs.Common.{◌≡◌, List, ℕ, map, Option, None, Ok, sym, ap, ◌∙◌}
-use Rattle.cluster_script.specs.Lines.{lines_in}
+use Rattle.script_words.specs.Lines.{lines_in}
 use Rattle.cluster_script.specs.Reading.{after_lines}
 use Rattle.cluster_script.specs.Draft.{DraftText}
 use Rattle.cluster_script.proofs.ReadLaws.{lines-cut, lines-read}

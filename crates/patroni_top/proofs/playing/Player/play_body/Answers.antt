@@ -2,8 +2,8 @@ use Rattle.std.proofs.Common.{List, ap, ◌∙◌, Err, arith, subst, sym}
 use Rattle.std.proofs.lemmas.List.{drop_all}
 use Rattle.std.proofs.lemmas.Result.{err_from_is_err_and}
 use Rattle.pat_base.specs.declared.name.Name.{Name}
-use Rattle.cluster_script.specs.Script.{IsLine}
-use Rattle.cluster_script.specs.Steps.{steps_of}
+use Rattle.script_model.specs.Script.{IsLine}
+use Rattle.script_model.specs.Steps.{steps_of}
 use Rattle.cluster_model.specs.Steps.{names_in}
 use Rattle.patroni_top.proofs.Played.{line-declared, Playing-members, Playing-room, Playing-more, Playing-stop, Playing-end, body-next}
 use Rattle.patroni_top.proofs.playing.Player.play_body.Goals as goal

@@ -1,5 +1,5 @@
 use Rattle.std.proofs.Common.{drop}
-use Rattle.cluster_script.specs.Steps.{steps_of}
+use Rattle.script_model.specs.Steps.{steps_of}
 use Rattle.patroni_top.proofs.Played.{Playing}
 use Rattle.patroni_top.proofs.playing.Player.play_body.Given as goal
 

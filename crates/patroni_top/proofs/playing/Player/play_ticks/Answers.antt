@@ -1,7 +1,7 @@
 use Rattle.std.proofs.Common.{◌-◌, ℕ, [], ◌∷◌, replicate, ap, append-nil, ◌∙◌, Err, refl, sym, subst, arith}
 use Rattle.std.proofs.lemmas.List.{length-replicate}
 use Rattle.std.proofs.lemmas.Result.{err_from_is_err_and}
-use Rattle.cluster_script.specs.declared.line.Step.{Step}
+use Rattle.script_model.specs.declared.line.Step.{Step}
 use Rattle.world_model.specs.Room.{HasRoomFor}
 use Rattle.patroni_top.specs.declared.print_error.PrintError.TheVariants.{Memory}
 use Rattle.patroni_top.proofs.Idling.{Plays-idle, none-left, tick-declared, ticks-first, ticks-split}

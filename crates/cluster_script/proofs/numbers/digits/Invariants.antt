@@ -1,6 +1,0 @@
-use Rattle.std.proofs.Common.{◌≡◌, drop}
-use Rattle.cluster_script.specs.Numbers.{digits_from}
-use Rattle.cluster_script.proofs.numbers.digits.Given as goal
-
-abbrev pub invariant-loop-b : goal.invariant-loop-b
-invariant-loop-b l = digits_from l.n (drop l.b-index l.bytes) ≡ digits_from 0 l.bytes

@@ -1,7 +1,0 @@
-use Rattle.std.proofs.Common.{ap}
-use Rattle.std.specs.Option.{option_copied}
-use Rattle.cluster_script.proofs.Cutting.{word-judged}
-use Rattle.cluster_script.proofs.options.said_in.Goals as goal
-
-pub loop-left-preserved : goal.loop-left-preserved
-loop-left-preserved c = word-judged c.loop-left.outcome _ _ _ _ _ (ap (λ o. option_copied o) c.in-Some.is) c.cut_word.ensures c.with_word-outcome.ensures c.loop-left.invariant

@@ -1,0 +1,10 @@
+pub mod Cutting
+pub mod HostLaws
+pub mod OptionCanonLaws
+pub mod OptionReadLaws
+pub mod OptionSpellLaws
+pub mod OptionTexts
+pub mod OptionWords
+pub mod PriorityLaws
+pub mod RangeLaws
+pub mod SaidLaws

@@ -1,0 +1,6 @@
+pub mod Hosts
+pub mod Margins
+pub mod OptionReading
+pub mod Options
+pub mod Priorities
+pub mod Ranges

@@ -1,0 +1,4 @@
+pub mod CanonLaws
+pub mod FirstWords
+pub mod SaidConfigs
+pub mod SpellLaws

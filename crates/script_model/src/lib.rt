@@ -1,0 +1,14 @@
+//! The script of a run: its head, its lines and what they ask for, and how it is spelled.
+#![tactic(auto)]
+
+mod head;
+mod keyword;
+mod line;
+mod ranges;
+mod script;
+
+pub use head::{DEFAULT_BASE, Head, MOST_MEMBERS};
+pub use keyword::Keyword;
+pub use line::{Command, End, Line, SlowedCall, Step};
+pub use ranges::{CommitSize, Delay};
+pub use script::Script;

@@ -1,0 +1,12 @@
+//! The bytes of a script as lines, words and numbers, and what may be wrong with a line.
+#![tactic(auto)]
+
+mod fault;
+mod lines;
+mod numbers;
+mod words;
+
+pub use fault::{Fault, both, fault_text};
+pub use lines::{first_at, is_skipped, is_text, lines_in};
+pub use numbers::number;
+pub use words::cut_word;
