@@ -35,8 +35,8 @@ none-came-if : (before after : Cluster) (had has : List Event) (outputs : List O
     → NoneCame before after had has outputs number
 none-came-if before after had has outputs number None is landed = record {
   took = subst (λ (o : Option InFlightFacts). Emits before after had has (for_some o (arrival_events before number)) message_cost) (sym is)
-      (subst (λ (c : Cluster). Emits before c had has [] message_cost) (sym landed.0) (subst (λ (es : List Event). Emits before before had es [] message_cost) (sym landed.1.0) (Emits-nothing before had message_cost)));
-  none = landed.1.1;
+      (subst (λ (c : Cluster). Emits before c had has [] message_cost) (sym landed.0) (subst (λ (es : List Event). Emits before before had es [] message_cost) (sym landed.1) (Emits-nothing before had message_cost)));
+  none = landed.2;
 }
 none-came-if before after had has outputs number (Some message) is landed = absurd landed
 
@@ -89,12 +89,12 @@ agent-came-at : (before after : Cluster) (had has : List Event) (outputs : List 
     → AgentCame before after had has outputs number member heard
 agent-came-at before after had has outputs number member heard message link_ends.Store is receiver came arrives = absurd arrives
 agent-came-at before after had has outputs number member heard message (link_ends.Member at) is receiver came arrives = record {
-  few = subst AreFew (sym arrives.1.1) (input-few before at (heard_from before message));
+  few = subst AreFew (sym arrives.2) (input-few before at (heard_from before message));
   room = λ room. came.emits.room outputs_cost (HasRoom-fewer before message_cost (hearing_cost + outputs_cost) (omega arith) room);
   acted = λ last all took.
       let by_receiver = subst (λ (m : Member). Emits after last has all (each (output_events m heard) after outputs) outputs_cost) arrives.0 took in
-      let by_message = subst (λ (h : HeardMessage). Emits after last has all (each (output_events at h) after outputs) outputs_cost) arrives.1.0 by_receiver in
-      let done = subst (λ (os : List Output). Emits after last has all (each (output_events at (heard_message number message)) after os) outputs_cost) arrives.1.1 by_message in
+      let by_message = subst (λ (h : HeardMessage). Emits after last has all (each (output_events at h) after outputs) outputs_cost) arrives.1 by_receiver in
+      let done = subst (λ (os : List Output). Emits after last has all (each (output_events at (heard_message number message)) after os) outputs_cost) arrives.2 by_message in
       arrival-is before last had all number message (link_ends.Member at) is receiver
       (Emits-then before after last had has all (event_of before (kinds.Message (Delivered number))) (λ later. input_events later at (heard_message number message) (outcome_of_heard before at (heard_from before message)))
       hearing_cost outputs_cost message_cost came.emits done (omega arith));

@@ -1,5 +1,5 @@
 use Rattle.std.proofs.Common.{◌≡◌, [], rules}
-use Rattle.world_play.proofs.Carrying.{carrying-end, carrying-more, carrying-room, carrying-short}
+use Rattle.world_play.proofs.Carried.{carrying-end, carrying-more, carrying-room, carrying-short}
 use Rattle.world_play.proofs.carrying.carry_out.Goals as goal
 
 pub carry-requires-clause-room : goal.carry-requires-clause-room

@@ -1,5 +1,5 @@
 use Rattle.std.proofs.Common.{length}
-use Rattle.world_play.proofs.Carrying.{IsCarrying}
+use Rattle.world_play.proofs.Carried.{IsCarrying}
 use Rattle.world_play.proofs.carrying.carry_out.Given as goal
 
 -- what is left in the list is still to be carried out

@@ -1,5 +1,5 @@
-use Rattle.std.proofs.Common.{List, ◌∙◌, Some, ap, sym, subst}
-use Rattle.std.specs.Prelude.{option_and_then, slice_get}
+use Rattle.std.proofs.Common.{◌<◌, ◌^◌, List, ◌∙◌, Some, ap, sym, subst}
+use Rattle.std.specs.Prelude.{IfSome, option_and_then, slice_get}
 use Rattle.std.proofs.lemmas.Result.{on_ok_weaker}
 use Rattle.event_book.specs.declared.event.EventKind.TheVariants as kinds
 use Rattle.event_book.specs.declared.event.ServerEvent.TheVariants as servers
@@ -14,7 +14,8 @@ use Rattle.world_stage.proofs.Worlds.{seen}
 use Rattle.world_play.proofs.servers.begin.Goals as goal
 
 pub beginning_of-requires : goal.beginning_of-requires
-beginning_of-requires c = timeline-below (c.args.stage.now) c.args.member.id.number c.requires
+beginning_of-requires c =
+    subst (λ (known : List ServerFacts). IfSome (slice_get known c.args.member.id.number) (λ s. s.timeline < 2 ^ 60)) (sym c.servers.ensures) (timeline-below c.args.stage.now c.args.member.id.number c.requires)
 
 pub begin_on-requires-clause-comes : goal.begin_on-requires-clause-comes
 begin_on-requires-clause-comes c =

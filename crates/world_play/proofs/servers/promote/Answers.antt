@@ -1,5 +1,5 @@
-use Rattle.std.proofs.Common.{List, ◌∙◌, arith, ap, sym, subst}
-use Rattle.std.specs.Prelude.{option_and_then, slice_get}
+use Rattle.std.proofs.Common.{◌<◌, ◌^◌, List, ◌∙◌, arith, ap, sym, subst}
+use Rattle.std.specs.Prelude.{IfSome, option_and_then, slice_get}
 use Rattle.std.proofs.lemmas.Result.{on_ok_weaker}
 use Rattle.pg_model.specs.Facts.{ServerFacts}
 use Rattle.cluster_model.specs.State.{Cluster}
@@ -13,8 +13,8 @@ use Rattle.world_play.proofs.servers.promote.Goals as goal
 
 pub promoted_timeline-requires : goal.promoted_timeline-requires
 promoted_timeline-requires c =
-    let room = c.requires in
-    timeline-below (c.args.stage.now) c.args.member.id.number (HasRoom-fewer (c.args.stage.now) promotion_cost 2 (omega arith) room)
+    subst (λ (known : List ServerFacts). IfSome (slice_get known c.args.member.id.number) (λ s. s.timeline < 2 ^ 60)) (sym c.servers.ensures)
+    (timeline-below c.args.stage.now c.args.member.id.number (HasRoom-fewer c.args.stage.now promotion_cost 2 (omega arith) c.requires))
 
 pub returns-in_default : goal.returns-in_default
 returns-in_default c =

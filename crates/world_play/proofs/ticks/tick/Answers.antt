@@ -1,6 +1,6 @@
-use Rattle.std.proofs.Common.{◌∙◌, ◌+◌, ◌++◌, arith, ap, sym, subst}
+use Rattle.std.proofs.Common.{◌≡◌, ◌∙◌, ◌+◌, ◌++◌, arith, ap, rules}
 use Rattle.std.proofs.lemmas.Result.{on_ok_weaker}
-use Rattle.lease_store.specs.Answers.{expired_keys}
+use Rattle.lease_store.specs.Answers.{expired_holder, expired_keys}
 use Rattle.event_book.specs.declared.event.EventKind.TheVariants as kinds
 use Rattle.cluster_model.specs.Orders.{declared_member}
 use Rattle.cluster_model.specs.Parts.{event_of, events_at}
@@ -10,7 +10,6 @@ use Rattle.world_model.specs.Emits.{Emits}
 use Rattle.world_model.specs.Room.{completions_cost, resets_cost, tick_cost}
 use Rattle.world_play.proofs.Expiring.{tick-took}
 use Rattle.world_model.proofs.Rooms.{HasRoom-fewer}
-use Rattle.world_stage.proofs.Worlds.{seen}
 use Rattle.world_play.proofs.ticks.tick.Goals as goal
 
 pub happen-requires-clause-room : goal.happen-requires-clause-room
