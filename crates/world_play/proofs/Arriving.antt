@@ -1,5 +1,5 @@
 -- What comes of a message that came to its receiver.
-use Rattle.std.proofs.Common.{◌≡◌, ℕ, ◌+◌, ◌≤◌, List, [], All, length, Option, Some, None, arith, refl, ap, sym, subst, ◌∙◌}
+use Rattle.std.proofs.Common.{◌≡◌, ℕ, ◌+◌, List, [], Option, Some, None, arith, refl, sym, subst}
 use Rattle.event_book.specs.declared.event.Event.{Event}
 use Rattle.event_book.specs.declared.event.EventKind.TheVariants as kinds
 use Rattle.event_book.specs.declared.event.MessageEvent.TheVariants.{Delivered}
@@ -9,11 +9,9 @@ use Rattle.event_book.specs.declared.member.Member.{Member}
 use Rattle.event_book.specs.declared.message.Message.{Message}
 use Rattle.event_book.specs.Flight.{InFlightFacts, in_flight}
 use Rattle.agent_model.specs.declared.output.Output.{Output}
-use Rattle.agent_model.specs.Asked.{AsksShortly}
-use Rattle.agent_model.specs.Outputs.{most_outputs}
 use Rattle.cluster_model.specs.declared.heard_message.HeardMessage.{HeardMessage}
 use Rattle.cluster_model.specs.Hearing.{heard_from}
-use Rattle.cluster_model.specs.Inputs.{outcome_of_heard, outputs_of}
+use Rattle.cluster_model.specs.Inputs.{outcome_of_heard}
 use Rattle.cluster_model.specs.Messages.{answer_events, arrival_events, arrival_events_at, heard_message, input_events, output_events}
 use Rattle.cluster_model.specs.Parts.{each, event_of, for_some}
 use Rattle.cluster_model.specs.State.{Cluster}

@@ -18,7 +18,9 @@ use world_parts::requests::refusing;
 use world_stage::Stage;
 
 /// A script makes a request of the agent of a member: one that doesn't run or is suspended gives no answer.
-pub fn make_call(stage: &mut Stage, member: Member,
+pub fn make_call(
+    stage: &mut Stage,
+    member: Member,
     call: RestCall,
     body: &[u8],
     events: &mut Vec<Event>,
@@ -38,7 +40,9 @@ pub fn make_call(stage: &mut Stage, member: Member,
 }
 
 /// The agent of a member, which may act, does what a request asks, or answers what refuses it.
-fn call_agent(stage: &mut Stage, member: Member,
+fn call_agent(
+    stage: &mut Stage,
+    member: Member,
     call: RestCall,
     body: &[u8],
     events: &mut Vec<Event>,
@@ -65,7 +69,9 @@ fn call_agent(stage: &mut Stage, member: Member,
 }
 
 /// The agent of a member does what an operator asks.
-fn operate(stage: &mut Stage, member: Member,
+fn operate(
+    stage: &mut Stage,
+    member: Member,
     action: OperatorAction,
     events: &mut Vec<Event>,
 ) -> Result<(), AllocError>

@@ -19,12 +19,17 @@ use event_book::{Body, Event, EventKind, LinkEnd, Member, Message, WatchdogEvent
 use ha_loop::Outputs;
 use pat_base::PeerAnswer;
 use std::alloc::AllocError;
-use world_parts::order_kinds::{arming, declared_member, feeding, handing_over, hold_of_request, member_at, not_racing, receiver_of, require_of, stop_of, told_of, upstream_of, wipe_of};
+use world_parts::order_kinds::{
+    arming, declared_member, feeding, handing_over, hold_of_request, member_at, not_racing,
+    receiver_of, require_of, stop_of, told_of, upstream_of, wipe_of,
+};
 use world_parts::requests::told_kind;
 use world_stage::Stage;
 
 /// What the agent of a member did on the message that it heard is carried out, in its order. Then the list is empty.
-pub fn carry_out(stage: &mut Stage, member: Member,
+pub fn carry_out(
+    stage: &mut Stage,
+    member: Member,
     heard: HeardMessage,
     outputs: &mut Outputs,
     events: &mut Vec<Event>,
@@ -42,7 +47,9 @@ pub fn carry_out(stage: &mut Stage, member: Member,
 }
 
 /// One thing that the agent of a member did is carried out.
-fn carry(stage: &mut Stage, member: Member,
+fn carry(
+    stage: &mut Stage,
+    member: Member,
     heard: HeardMessage,
     output: Output,
     events: &mut Vec<Event>,
@@ -90,7 +97,9 @@ fn carry(stage: &mut Stage, member: Member,
 }
 
 /// The watchdog of a member is armed or fed, on the message that was heard; that counts from its sending.
-fn feed(stage: &mut Stage, member: Member,
+fn feed(
+    stage: &mut Stage,
+    member: Member,
     heard: HeardMessage,
     feed: EventKind,
     events: &mut Vec<Event>,
@@ -107,7 +116,9 @@ fn feed(stage: &mut Stage, member: Member,
 }
 
 /// The agent of a member sends this, if there is a receiver.
-fn write(stage: &mut Stage, member: Member,
+fn write(
+    stage: &mut Stage,
+    member: Member,
     to: Option<LinkEnd>,
     sequence: u64,
     body: Body,
@@ -134,7 +145,9 @@ fn write(stage: &mut Stage, member: Member,
 }
 
 /// The agent of a member answers another one, if there is that one, in the run in which it asked.
-fn reply(stage: &mut Stage, member: Member,
+fn reply(
+    stage: &mut Stage,
+    member: Member,
     to: Option<LinkEnd>,
     run: u64,
     sequence: u64,
@@ -158,7 +171,9 @@ fn reply(stage: &mut Stage, member: Member,
 }
 
 /// What an order comes to that brings one event at most, on the message that was heard. It fails only for want of memory.
-fn order_kind(stage: &Stage, member: Member,
+fn order_kind(
+    stage: &Stage,
+    member: Member,
     heard: HeardMessage,
     output: &Output,
 ) -> Result<Option<EventKind>, AllocError>

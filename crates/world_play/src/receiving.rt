@@ -42,7 +42,9 @@ fn frozen(stage: &Stage, member: Member) -> Option<bool>
 }
 
 /// The server of a member receives at most so many entries and confirms what it has, or finds that its log diverged.
-pub fn receive(stage: &mut Stage, member: Member,
+pub fn receive(
+    stage: &mut Stage,
+    member: Member,
     most: u64,
     events: &mut Vec<Event>,
 ) -> Result<(), AllocError>

@@ -14,7 +14,9 @@ use world_stage::Stage;
 
 /// The log of a member's server is repaired by that of this leader's, if there is such a member: where that accepts writes, the
 /// link between the two is joined, and the server may be rewound, or waits for a copy.
-pub fn repair_log(stage: &mut Stage, member: Member,
+pub fn repair_log(
+    stage: &mut Stage,
+    member: Member,
     repair: Repair,
     leader: Option<Member>,
     events: &mut Vec<Event>,
@@ -32,7 +34,9 @@ pub fn repair_log(stage: &mut Stage, member: Member,
 }
 
 /// The same, over a joined link.
-fn repair_by(stage: &mut Stage, member: Member,
+fn repair_by(
+    stage: &mut Stage,
+    member: Member,
     repair: Repair,
     leader: Member,
     events: &mut Vec<Event>,

@@ -52,7 +52,9 @@ pub fn begin(stage: &mut Stage, member: Member, events: &mut Vec<Event>) -> Resu
 }
 
 /// The server of a member begins to accept writes on this timeline, which it can. That it lacks an acknowledged commit then is told.
-pub fn begin_on(stage: &mut Stage, member: Member,
+pub fn begin_on(
+    stage: &mut Stage,
+    member: Member,
     timeline: u64,
     events: &mut Vec<Event>,
 ) -> Result<(), AllocError>
@@ -70,7 +72,9 @@ pub fn begin_on(stage: &mut Stage, member: Member,
 }
 
 /// The server of a member starts as a replica of a leader's, or of none, where it is down.
-pub fn start_replica(stage: &mut Stage, member: Member,
+pub fn start_replica(
+    stage: &mut Stage,
+    member: Member,
     leader: Option<Member>,
     events: &mut Vec<Event>,
 ) -> Result<(), AllocError>
@@ -92,7 +96,9 @@ pub fn start_replica(stage: &mut Stage, member: Member,
 }
 
 /// The agent of a member ends its server for this reason: one that runs or starts shuts down.
-pub fn stop(stage: &mut Stage, member: Member,
+pub fn stop(
+    stage: &mut Stage,
+    member: Member,
     reason: Reason,
     events: &mut Vec<Event>,
 ) -> Result<(), AllocError>
@@ -111,7 +117,9 @@ pub fn stop(stage: &mut Stage, member: Member,
 }
 
 /// The server of a member starts again in its role by the order of its agent, where it runs.
-pub fn restart_server(stage: &mut Stage, member: Member,
+pub fn restart_server(
+    stage: &mut Stage,
+    member: Member,
     events: &mut Vec<Event>,
 ) -> Result<(), AllocError>
     requires { HasRoom stage.old server_restart_cost }
@@ -132,7 +140,11 @@ pub fn restart_server(stage: &mut Stage, member: Member,
 
 /// The server of a member, a primary, ends and starts again as one, at once or when its start is complete. It ends however long its
 /// stops take: so both are done at once.
-fn restart_primary(stage: &mut Stage, member: Member, events: &mut Vec<Event>) -> Result<(), AllocError>
+fn restart_primary(
+    stage: &mut Stage,
+    member: Member,
+    events: &mut Vec<Event>,
+) -> Result<(), AllocError>
     requires room { HasRoom stage.old server_restart_cost }
     requires primary { option_map (λ s. s.state) (server_at stage.old member) ≡ Some states.Primary }
     ensures { OnOk result (Emits stage.old stage.new events.old.items events.new.items (server_restart_events stage.old member) server_restart_cost) }

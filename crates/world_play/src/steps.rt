@@ -65,7 +65,11 @@ fn scheduled(stage: &mut Stage, events: &mut Vec<Event>) -> Result<(), AllocErro
 }
 
 /// What a command comes to.
-fn take_command(stage: &mut Stage, command: &Command, events: &mut Vec<Event>) -> Result<(), AllocError>
+fn take_command(
+    stage: &mut Stage,
+    command: &Command,
+    events: &mut Vec<Event>,
+) -> Result<(), AllocError>
     requires room { HasRoom stage.old command_cost }
     requires declared { IsCommand (names_in stage.old.facts.members) command.now }
     ensures { OnOk result (Emits stage.old stage.new events.old.items events.new.items (command_events stage.old command.now) command_cost) }

@@ -96,7 +96,11 @@ fn awaken(stage: &mut Stage, member: Member, events: &mut Vec<Event>) -> Result<
 
 /// The agent of a member starts, where it doesn't run. It removes the deadline of its watchdog, but over a live server
 /// leaves it.
-pub fn start_agent(stage: &mut Stage, member: Member, events: &mut Vec<Event>) -> Result<(), AllocError>
+pub fn start_agent(
+    stage: &mut Stage,
+    member: Member,
+    events: &mut Vec<Event>,
+) -> Result<(), AllocError>
     requires { HasRoom stage.old agent_start_cost }
     ensures { OnOk result (Emits stage.old stage.new events.old.items events.new.items (agent_start_events stage.old member) agent_start_cost) }
 {

@@ -1,7 +1,6 @@
 use Rattle.std.proofs.Common.{◌∙◌, ap, arith, List, rules, slice_get}
 use Rattle.std.proofs.lemmas.Result.{on_ok_weaker}
 use Rattle.event_book.specs.declared.member.Member.{Member}
-use Rattle.cluster_model.specs.State.{Cluster}
 use Rattle.world_play.proofs.Carried.{carried, order-same, order-took, repair-took}
 use Rattle.world_play.proofs.carrying.carry.Goals as goal
 

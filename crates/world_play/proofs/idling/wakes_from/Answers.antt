@@ -1,6 +1,5 @@
-use Rattle.std.proofs.Common.{ℕ, length, arith, ap}
+use Rattle.std.proofs.Common.{ℕ, arith}
 use Rattle.event_book.specs.declared.member.Member.{Member}
-use Rattle.cluster_model.specs.State.{Cluster}
 use Rattle.world_model.specs.Idle.{SleepsAt}
 use Rattle.world_model.proofs.Idling.{so-more, so-all}
 use Rattle.world_play.proofs.idling.wakes_from.Goals as goal

@@ -1,5 +1,4 @@
-use Rattle.std.proofs.Common.{◌≡◌, ◌∙◌, List, Some, ap, sym, subst}
-use Rattle.event_book.specs.declared.event.Event.{Event}
+use Rattle.std.proofs.Common.{◌∙◌, Some, ap, sym, subst}
 use Rattle.event_book.specs.declared.message.Message.{Message}
 use Rattle.event_book.specs.Flight.{in_flight}
 use Rattle.cluster_model.specs.Messages.{answer_events, arrival_events, output_events}

@@ -6,11 +6,9 @@ use Rattle.event_book.specs.declared.event.ServerEvent.TheVariants as servers
 use Rattle.event_book.specs.declared.member.ServerOf.{ServerOf}
 use Rattle.pg_model.specs.Facts.{ServerFacts}
 use Rattle.cluster_model.specs.Beginnings.{beginning_of}
-use Rattle.cluster_model.specs.State.{Cluster}
-use Rattle.world_model.specs.Room.{HasRoom, beginning_cost}
+use Rattle.world_model.specs.Room.{beginning_cost}
 use Rattle.world_stage.proofs.Promoting.{as-took, at-once-comes, at-once-is, none-begins, nothing-took, server-took, with-start-comes, with-start-is}
 use Rattle.world_parts.proofs.ServerCommanding.{timeline-below}
-use Rattle.world_stage.proofs.Worlds.{seen}
 use Rattle.world_play.proofs.servers.begin.Goals as goal
 
 pub beginning_of-requires : goal.beginning_of-requires

@@ -5,7 +5,6 @@ use Rattle.event_book.specs.declared.event.EventKind.TheVariants as kinds
 use Rattle.event_book.specs.declared.event.ServerEvent.TheVariants as servers
 use Rattle.event_book.specs.declared.member.ServerOf.{ServerOf}
 use Rattle.pg_model.specs.Facts.{ServerFacts}
-use Rattle.cluster_model.specs.State.{Cluster}
 use Rattle.world_model.specs.Comes.{MayCome}
 use Rattle.world_model.specs.Promoting.{loss_of_any}
 use Rattle.world_stage.proofs.Promoting.{began-took}

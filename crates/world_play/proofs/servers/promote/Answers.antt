@@ -2,13 +2,11 @@ use Rattle.std.proofs.Common.{◌<◌, ◌^◌, List, ◌∙◌, arith, ap, sym,
 use Rattle.std.specs.Prelude.{IfSome, option_and_then, slice_get}
 use Rattle.std.proofs.lemmas.Result.{on_ok_weaker}
 use Rattle.pg_model.specs.Facts.{ServerFacts}
-use Rattle.cluster_model.specs.State.{Cluster}
-use Rattle.world_model.specs.Room.{HasRoom, promotion_cost}
+use Rattle.world_model.specs.Room.{promotion_cost}
 use Rattle.world_model.specs.Promoting.{promoted_timeline}
 use Rattle.world_stage.proofs.Promoting.{none-promoted, nothing-took, promoted-took, told-comes}
 use Rattle.world_model.proofs.Rooms.{HasRoom-fewer}
 use Rattle.world_parts.proofs.ServerCommanding.{timeline-below}
-use Rattle.world_stage.proofs.Worlds.{seen}
 use Rattle.world_play.proofs.servers.promote.Goals as goal
 
 pub promoted_timeline-requires : goal.promoted_timeline-requires

@@ -2,7 +2,6 @@ use Rattle.std.proofs.Common.{List, ◌∙◌, Some, ap, sym}
 use Rattle.std.specs.Prelude.{option_map, slice_get}
 use Rattle.pg_model.specs.Facts.{ServerFacts}
 use Rattle.cluster_model.specs.Beginnings.{again_by}
-use Rattle.cluster_model.specs.State.{Cluster}
 use Rattle.world_play.proofs.servers.restart_primary.Goals as goal
 
 pub restart_at_once-requires-clause-again : goal.restart_at_once-requires-clause-again

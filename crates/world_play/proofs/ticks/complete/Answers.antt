@@ -1,11 +1,8 @@
-use Rattle.std.proofs.Common.{◌∙◌, Some, ap, sym}
-use Rattle.std.specs.Prelude.{option_and_then, slice_get}
+use Rattle.std.proofs.Common.{◌∙◌, Some, ap}
 use Rattle.std.proofs.lemmas.Result.{on_ok_weaker}
 use Rattle.event_book.specs.declared.event.EventKind.TheVariants as kinds
 use Rattle.event_book.specs.declared.event.ServerEvent.TheVariants as servers
 use Rattle.event_book.specs.declared.member.ServerOf.{ServerOf}
-use Rattle.cluster_model.specs.Beginnings.{completion_of}
-use Rattle.cluster_model.specs.State.{Cluster}
 use Rattle.world_model.specs.Room.{beginning_cost}
 use Rattle.world_stage.proofs.Promoting.{as-took, completed-comes, completes-begin, completes-end, ended-comes, none-completes, nothing-took, server-took}
 use Rattle.world_play.proofs.Completing.{completion-read}

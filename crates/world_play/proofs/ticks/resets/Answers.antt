@@ -1,5 +1,4 @@
 use Rattle.std.proofs.Common.{◌≤◌, ◌*◌, arith, ap, length}
-use Rattle.cluster_model.specs.State.{Cluster}
 use Rattle.script_model.specs.Bounds.{most_members}
 use Rattle.world_model.specs.Room.{resets_cost}
 use Rattle.world_model.proofs.Rest.{EachLeft-end, EachLeft-members, EachLeft-more, EachLeft-place, EachLeft-room}

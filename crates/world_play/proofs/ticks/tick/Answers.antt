@@ -1,12 +1,9 @@
 use Rattle.std.proofs.Common.{◌≡◌, ◌∙◌, ◌+◌, ◌++◌, arith, ap, rules}
 use Rattle.std.proofs.lemmas.Result.{on_ok_weaker}
 use Rattle.lease_store.specs.Answers.{expired_holder, expired_keys}
-use Rattle.event_book.specs.declared.event.EventKind.TheVariants as kinds
 use Rattle.cluster_model.specs.Orders.{declared_member}
-use Rattle.cluster_model.specs.Parts.{event_of, events_at}
-use Rattle.cluster_model.specs.State.{Cluster}
-use Rattle.cluster_model.specs.Ticking.{expiries_of, tick_events}
-use Rattle.world_model.specs.Emits.{Emits}
+use Rattle.cluster_model.specs.Parts.{events_at}
+use Rattle.cluster_model.specs.Ticking.{expiries_of}
 use Rattle.world_model.specs.Room.{completions_cost, resets_cost, tick_cost}
 use Rattle.world_play.proofs.Expiring.{tick-took}
 use Rattle.world_model.proofs.Rooms.{HasRoom-fewer}

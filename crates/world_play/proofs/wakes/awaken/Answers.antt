@@ -9,7 +9,6 @@ use Rattle.world_model.specs.Emits.{Emits}
 use Rattle.world_model.specs.Room.{HasRoom, input_cost, outputs_cost}
 use Rattle.agent_model.specs.Asked.{AsksShortly}
 use Rattle.world_play.proofs.Waking.{awaken-took, input-few}
-use Rattle.world_stage.proofs.Worlds.{seen}
 use Rattle.world_play.proofs.wakes.awaken.Goals as goal
 
 pub carry_out-requires-clause-room : goal.carry_out-requires-clause-room
