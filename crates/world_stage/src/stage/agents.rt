@@ -16,20 +16,20 @@ ghost use Rattle.world_model.specs.Room.{HasRoom, hearing_cost};
 ghost use Rattle.world_model.specs.Short.{IsSent};
 
 use super::{Stage, write_down};
-use world_flight::flight::InFlight;
-use world_parts::machines::{item_at, machine_from};
-use world_parts::places;
-use rest_api::copy_of;
-use world_parts::replication::replication_of;
-use world_parts::sources::source_of;
 use agent_model::{Heard, Machine};
 use cluster_config::{AgentView, Snapshot};
 use event_book::{AgentEvent, AgentProcess, Body, Event, EventKind, LinkEnd, Member, Message};
 use ha_loop::{Agent, Outputs};
 use lease_store::{Key, KeyEntry, OperatorAction};
 use pat_base::{MemberId, Ticks};
+use rest_api::copy_of;
 use std::alloc::AllocError;
 use std::mem;
+use world_flight::flight::InFlight;
+use world_parts::machines::{item_at, machine_from};
+use world_parts::places;
+use world_parts::replication::replication_of;
+use world_parts::sources::source_of;
 
 /// How many outputs an input brings at most.
 const MOST_OUTPUTS: usize = 40;
