@@ -1,5 +1,6 @@
 pub mod Apart
 pub mod Comes
+pub mod Counted
 pub mod Emits
 pub mod Idle
 pub mod Promoting
