@@ -2,3 +2,4 @@ pub mod Standing
 pub mod IdleTicks
 pub mod OneWriter
 pub mod KeptCommits
+pub mod Stepping
