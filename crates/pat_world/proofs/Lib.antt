@@ -3,3 +3,4 @@ pub mod IdleTicks
 pub mod OneWriter
 pub mod KeptCommits
 pub mod Stepping
+pub mod Running

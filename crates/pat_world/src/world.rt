@@ -1,5 +1,6 @@
 //! The world: it takes the steps of a script and hands out what happens.
-ghost use Rattle.std.specs.Prelude.{ℕ, List, ◌≡◌, ◌<◌, ◌≤◌, ◌+◌, ◌^◌, ◌++◌, [], OnOk, OnErr, IfOk, length, replicate, zero};
+ghost use Rattle.std.specs.Prelude.{ℕ, List, ◌≡◌, ◌<◌, ◌≤◌, ◌+◌, ◌^◌, ◌++◌, [], OnOk, OnErr, IfOk, is_some, replicate};
+ghost use Rattle.script_model.specs.Script.{HeadText, IsHead};
 ghost use Rattle.event_book.specs.declared.event.Event.{Event};
 ghost use Rattle.event_book.specs.declared.event.EventKind.TheVariants as kinds;
 ghost use Rattle.cluster_model.specs.Acknowledging.{AreAcknowledged};
@@ -16,6 +17,7 @@ ghost use Rattle.pat_world.specs.OneWriter.{KeepsOneWriter};
 ghost use Rattle.pat_world.specs.Steps.{HasStepsLeft, TookSteps, IsCounted};
 ghost use Rattle.world_model.specs.Emits.{Emits};
 ghost use Rattle.world_model.specs.Room.{most_steps, step_cost};
+ghost use Rattle.world_model.specs.Running.{agent_runs};
 ghost use Rattle.world_stage.specs.AgentViews.{IsViewOf};
 
 use cluster_config::AgentView;
@@ -106,6 +108,7 @@ impl World {
     /// since no member of this number is declared.
     pub fn view(&self, id: MemberId) -> Option<AgentView<'_>>
         ensures shows { IsViewOf self.now.cluster id result }
+        ensures running { (head : HeadText) (book : List Event) → IsHead head → StandsFor (cluster_of head) book self.now.cluster → is_some result ≡ agent_runs self.now.cluster id }
     {
         self.stage.view(id)
     }

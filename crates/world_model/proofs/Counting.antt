@@ -1,5 +1,5 @@
 -- Counters come no farther than the steps that were taken.
-use Rattle.std.proofs.Common.{◌≡◌, ℕ, ◌+◌, ◌*◌, ◌-◌, ◌^◌, ◌≤◌, ◌<◌, List, [], ◌∷◌, All, Option, Some, None, length, map, replicate, arith, subst, suc, zero}
+use Rattle.std.proofs.Common.{◌≡◌, ℕ, ◌+◌, ◌-◌, ◌^◌, ◌≤◌, ◌<◌, List, [], ◌∷◌, All, Option, Some, None, length, map, replicate, arith, subst, suc, zero}
 use Rattle.std.proofs.lemmas.List.Elements.{All-nil, All-cons, All-weaker}
 use Rattle.pat_base.specs.declared.name.Name.{Name}
 use Rattle.pg_model.specs.Facts.{ServerFacts, fresh}
@@ -8,7 +8,7 @@ use Rattle.script_model.specs.Script.{HeadText, names_of}
 use Rattle.event_book.specs.declared.agent_process.AgentProcess.{AgentProcess}
 use Rattle.event_book.specs.declared.member.Member.{Member}
 use Rattle.event_book.specs.Processes.{first_processes, running_in}
-use Rattle.agent_model.specs.Agents.{AgentFacts, most_messages}
+use Rattle.agent_model.specs.Agents.{AgentFacts}
 use Rattle.cluster_model.specs.Starting.{cluster_of, first_agent}
 use Rattle.cluster_model.specs.State.{Cluster}
 use Rattle.world_model.specs.Counted.{AreCounted, HasNumbered, counted_by}

@@ -10,3 +10,4 @@ pub mod Idling
 pub mod Stillness
 pub mod Declaring
 pub mod Counting
+pub mod Running

@@ -5,4 +5,5 @@ pub mod Emits
 pub mod Idle
 pub mod Promoting
 pub mod Room
+pub mod Running
 pub mod Short
