@@ -83,18 +83,14 @@ pub record IsAsked (cluster : Cluster) (member : Member) (agent : AgentFacts) (m
   pub seen : option_copied view.seen ≡ agent.knows.seen
   pub next : request ≡ agent.knows.sequence + 1
 
--- an agent is found at its place of what is kept of a cluster
-pub found-there : (cluster kept : Cluster) (known : List (Option AgentFacts)) (found : Option AgentFacts) (place : ℕ) (agent : AgentFacts) → kept ≡ cluster → known ≡ kept.agents → found ≡ agent_at known place → found ≡ Some agent → agent_at cluster.agents place ≡ Some agent
-found-there cluster kept known found place agent keeps agents_are at is = ap (λ (b : Cluster). agent_at b.agents place) (sym keeps) ∙ ap (λ (all : List (Option AgentFacts)). agent_at all place) (sym agents_are) ∙ sym at ∙ is
-
--- it is asked, with its machine, by what it shows
-pub found-asked : {cluster kept : Cluster} {member : Member} {known : List (Option AgentFacts)} {found : Option AgentFacts} {agent : AgentFacts} {has : Option Machine} {machine : Machine} {view : AgentView} {request : ℕ}
-    → kept ≡ cluster → known ≡ kept.agents → found ≡ agent_at known member.id.number → found ≡ Some agent → has ≡ machine_of cluster member → has ≡ Some machine
-    → record view { seen = None } ≡ shown (moment_of kept) (made agent.role agent.knows machine []) → option_copied view.seen ≡ agent.knows.seen → request ≡ agent.knows.sequence + 1 → IsAsked cluster member agent machine view request
-found-asked {cluster = cluster} {kept = kept} {member = member} {known = known} {found = found} {agent = agent} {machine = machine} keeps agents_are at is its there shows seen next = record {
-  agent_is = found-there cluster kept known found member.id.number agent keeps agents_are at is;
+-- an agent is found with its machine, and asked by what it shows at this moment
+pub found-asked : (cluster : Cluster) (member : Member) (agent : AgentFacts) (machine : Machine) (view : AgentView) (request : ℕ) (moment : Ticks) (found : Option AgentFacts) (has : Option Machine)
+    → found ≡ agent_at cluster.agents member.id.number → found ≡ Some agent → has ≡ machine_of cluster member → has ≡ Some machine → moment.0 ≡ cluster.facts.clock
+    → record view { seen = None } ≡ shown moment (made agent.role agent.knows machine []) → option_copied view.seen ≡ agent.knows.seen → request ≡ agent.knows.sequence + 1 → IsAsked cluster member agent machine view request
+found-asked cluster member agent machine view request moment found has at is its there clock shows seen next = record {
+  agent_is = sym at ∙ is;
   machine_is = sym its ∙ there;
-  shows = shows ∙ ap (λ (b : Cluster). shown (moment_of b) (made agent.role agent.knows machine [])) keeps;
+  shows = shows ∙ ap (λ (t : ℕ). shown (record { 0 = t }) (made agent.role agent.knows machine [])) clock;
   seen = seen;
   next = next;
 }

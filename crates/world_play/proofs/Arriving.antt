@@ -23,6 +23,7 @@ use Rattle.world_model.specs.Short.{IsShort}
 use Rattle.world_model.proofs.Rooms.{HasRoom-fewer}
 use Rattle.world_model.proofs.Taking.{Emits-nothing, Emits-then, found-took}
 use Rattle.world_stage.specs.Arrivals.{ArrivesAt, Comes, Landed}
+use Rattle.world_stage.specs.declared.arrival.Arrival.{Arrival}
 use Rattle.world_stage.specs.declared.arrival.Arrival.TheVariants as arrivals
 use Rattle.world_play.proofs.Waking.{AreFew, input-few}
 
@@ -40,8 +41,10 @@ none-came-if before after had has outputs number None is landed = record {
 }
 none-came-if before after had has outputs number (Some message) is landed = absurd landed
 
-pub none-came : (before after : Cluster) (had has : List Event) (outputs : List Output) (number : ℕ) → Landed before after had has outputs number (in_flight before.facts.flight number) None → NoneCame before after had has outputs number
-none-came before after had has outputs number landed = none-came-if before after had has outputs number (in_flight before.facts.flight number) refl landed
+pub none-came : {before after : Cluster} {had has : List Event} {outputs : List Output} {number : ℕ} {arrival : Option Arrival} → Landed before after had has outputs number (in_flight before.facts.flight number) arrival → arrival ≡ None
+    → NoneCame before after had has outputs number
+none-came {before} {after} {had} {has} {outputs} {number} landed is =
+    none-came-if before after had has outputs number (in_flight before.facts.flight number) refl (subst (λ (a : Option Arrival). Landed before after had has outputs number (in_flight before.facts.flight number) a) is landed)
 
 -- the events of what came are those of its receiver
 arrival-is : (before after : Cluster) (had has : List Event) (number : ℕ) (message : InFlightFacts) (to : LinkEnd) → in_flight before.facts.flight number ≡ Some message → message.message.to ≡ to
@@ -74,9 +77,10 @@ store-came-if : (before after : Cluster) (had has : List Event) (outputs : List 
 store-came-if before after had has outputs number stored None is landed = absurd landed
 store-came-if before after had has outputs number stored (Some message) is landed = store-came-at before after had has outputs number stored message message.message.to is refl landed landed.arrives
 
-pub store-came : (before after : Cluster) (had has : List Event) (outputs : List Output) (number : ℕ) (stored : Message) → Landed before after had has outputs number (in_flight before.facts.flight number) (Some (arrivals.AtStore stored))
-    → StoreCame before after had has outputs number stored
-store-came before after had has outputs number stored landed = store-came-if before after had has outputs number stored (in_flight before.facts.flight number) refl landed
+pub store-came : {before after : Cluster} {had has : List Event} {outputs : List Output} {number : ℕ} {arrival : Option Arrival} (stored : Message) → Landed before after had has outputs number (in_flight before.facts.flight number) arrival
+    → arrival ≡ Some (arrivals.AtStore stored) → StoreCame before after had has outputs number stored
+store-came {before} {after} {had} {has} {outputs} {number} stored landed is =
+    store-came-if before after had has outputs number stored (in_flight before.facts.flight number) refl (subst (λ (a : Option Arrival). Landed before after had has outputs number (in_flight before.facts.flight number) a) is landed)
 
 -- a message came to the agent of a member, which acted on it
 pub record AgentCame (before after : Cluster) (had has : List Event) (outputs : List Output) (number : ℕ) (member : Member) (heard : HeardMessage) : Type 0 where
@@ -105,6 +109,7 @@ agent-came-if : (before after : Cluster) (had has : List Event) (outputs : List 
 agent-came-if before after had has outputs number member heard None is landed = absurd landed
 agent-came-if before after had has outputs number member heard (Some message) is landed = agent-came-at before after had has outputs number member heard message message.message.to is refl landed landed.arrives
 
-pub agent-came : (before after : Cluster) (had has : List Event) (outputs : List Output) (number : ℕ) (member : Member) (heard : HeardMessage)
-    → Landed before after had has outputs number (in_flight before.facts.flight number) (Some (arrivals.AtAgent member heard)) → AgentCame before after had has outputs number member heard
-agent-came before after had has outputs number member heard landed = agent-came-if before after had has outputs number member heard (in_flight before.facts.flight number) refl landed
+pub agent-came : {before after : Cluster} {had has : List Event} {outputs : List Output} {number : ℕ} {arrival : Option Arrival} (member : Member) (heard : HeardMessage)
+    → Landed before after had has outputs number (in_flight before.facts.flight number) arrival → arrival ≡ Some (arrivals.AtAgent member heard) → AgentCame before after had has outputs number member heard
+agent-came {before} {after} {had} {has} {outputs} {number} member heard landed is =
+    agent-came-if before after had has outputs number member heard (in_flight before.facts.flight number) refl (subst (λ (a : Option Arrival). Landed before after had has outputs number (in_flight before.facts.flight number) a) is landed)

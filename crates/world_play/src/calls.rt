@@ -3,7 +3,6 @@ ghost use Rattle.std.specs.Prelude.{OnOk, Some};
 ghost use Rattle.cluster_model.specs.Inputs.{standing_of};
 ghost use Rattle.cluster_model.specs.Messages.{call_events, call_events_of, operate_events};
 ghost use Rattle.cluster_model.specs.Parts.{for_some};
-ghost use Rattle.cluster_model.specs.Requests.{decision_on_call, refusing};
 ghost use Rattle.world_model.specs.Emits.{Emits};
 ghost use Rattle.world_model.specs.Room.{HasRoom, call_cost};
 

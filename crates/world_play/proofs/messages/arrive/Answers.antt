@@ -1,9 +1,49 @@
-use Rattle.std.proofs.Common.{◌≡◌, ◌≤◌, List, All, Some, None, length, arith, ap, sym, subst}
-use Rattle.std.proofs.lemmas.Result.{on_ok_weaker}
+use Rattle.std.proofs.Common.{◌≡◌, ◌∙◌, List, Some, ap, sym, subst}
+use Rattle.event_book.specs.declared.event.Event.{Event}
+use Rattle.event_book.specs.declared.message.Message.{Message}
 use Rattle.event_book.specs.Flight.{in_flight}
-use Rattle.agent_model.specs.declared.output.Output.{Output}
-use Rattle.agent_model.specs.Asked.{AsksShortly}
-use Rattle.agent_model.specs.Outputs.{most_outputs}
+use Rattle.cluster_model.specs.Messages.{answer_events, arrival_events, output_events}
+use Rattle.cluster_model.specs.Parts.{each, for_some}
 use Rattle.cluster_model.specs.State.{Cluster}
-use Rattle.world_play.proofs.Arriving.{agent-few, agent-room, agent-took, nothing-came, store-none, store-room, store-short, store-took}
+use Rattle.world_model.specs.Emits.{Emits}
+use Rattle.world_model.specs.Room.{HasRoom, decision_cost, message_cost, outputs_cost}
+use Rattle.world_play.proofs.Arriving.{AgentCame, StoreCame, agent-came, store-came}
 use Rattle.world_play.proofs.messages.arrive.Goals as goal
+
+pub carry_out-requires-clause-room : goal.carry_out-requires-clause-room
+carry_out-requires-clause-room c =
+    let came : AgentCame c.take_outputs.new.self c.land.new.self c.args.events.now.items c.land.new.events.items c.land.new.outputs.outputs c.args.number c.in-Some-AtAgent.member c.in-Some-AtAgent.heard
+    = agent-came c.in-Some-AtAgent.member c.in-Some-AtAgent.heard c.in_ok-land.ensures.landed (c.in-Some-AtAgent.is ∙ ap Some c.in-Some-AtAgent.field-0-is) in
+    came.room (subst (λ (b : Cluster). HasRoom b message_cost) (sym c.take_outputs.ensures.world) c.requires)
+
+pub carry_out-requires-clause-few : goal.carry_out-requires-clause-few
+carry_out-requires-clause-few c =
+    let came : AgentCame c.take_outputs.new.self c.land.new.self c.args.events.now.items c.land.new.events.items c.land.new.outputs.outputs c.args.number c.in-Some-AtAgent.member c.in-Some-AtAgent.heard
+    = agent-came c.in-Some-AtAgent.member c.in-Some-AtAgent.heard c.in_ok-land.ensures.landed (c.in-Some-AtAgent.is ∙ ap Some c.in-Some-AtAgent.field-0-is) in
+    came.few.few
+
+pub carry_out-requires-clause-short : goal.carry_out-requires-clause-short
+carry_out-requires-clause-short c =
+    let came : AgentCame c.take_outputs.new.self c.land.new.self c.args.events.now.items c.land.new.events.items c.land.new.outputs.outputs c.args.number c.in-Some-AtAgent.member c.in-Some-AtAgent.heard
+    = agent-came c.in-Some-AtAgent.member c.in-Some-AtAgent.heard c.in_ok-land.ensures.landed (c.in-Some-AtAgent.is ∙ ap Some c.in-Some-AtAgent.field-0-is) in
+    came.few.short
+
+pub returns-in_ok-carry_out-in-Some-AtAgent : goal.returns-in_ok-carry_out-in-Some-AtAgent
+returns-in_ok-carry_out-in-Some-AtAgent c =
+    let after = c.give_back-in-Some-AtAgent.new.self in
+    let came : AgentCame c.take_outputs.new.self c.land.new.self c.args.events.now.items c.land.new.events.items c.land.new.outputs.outputs c.args.number c.in-Some-AtAgent.member c.in-Some-AtAgent.heard
+    = agent-came c.in-Some-AtAgent.member c.in-Some-AtAgent.heard c.in_ok-land.ensures.landed (c.in-Some-AtAgent.is ∙ ap Some c.in-Some-AtAgent.field-0-is) in
+    let done = subst (λ (a : Cluster). Emits c.land.new.self a c.land.new.events.items c.carry_out.new.events.items (each (output_events c.in-Some-AtAgent.member c.in-Some-AtAgent.heard) c.land.new.self c.land.new.outputs.outputs) outputs_cost) (sym c.give_back-in-Some-AtAgent.ensures) c.in_ok-carry_out-in-Some-AtAgent.ensures.emits in
+    subst (λ (b : Cluster). Emits b after c.args.events.now.items c.carry_out.new.events.items (for_some (in_flight b.facts.flight c.args.number) (arrival_events b c.args.number)) message_cost) c.take_outputs.ensures.world
+    (came.acted after c.carry_out.new.events.items done)
+
+pub returns-in_ok-answer-in-Some-AtStore : goal.returns-in_ok-answer-in-Some-AtStore
+returns-in_ok-answer-in-Some-AtStore c =
+    let after = c.give_back-in-Some-AtStore.new.self in
+    let stored = c.in-Some-AtStore.message in
+    let came : StoreCame c.take_outputs.new.self c.land.new.self c.args.events.now.items c.land.new.events.items c.land.new.outputs.outputs c.args.number stored
+    = store-came stored c.in_ok-land.ensures.landed (c.in-Some-AtStore.is ∙ ap Some c.in-Some-AtStore.field-0-is) in
+    let done = subst (λ (a : Cluster). Emits c.land.new.self a c.land.new.events.items c.answer.new.events.items (answer_events c.land.new.self c.args.number stored) decision_cost) (sym c.give_back-in-Some-AtStore.ensures)
+    (subst (λ (m : Message). Emits c.land.new.self c.answer.new.self c.land.new.events.items c.answer.new.events.items (answer_events c.land.new.self c.args.number m) decision_cost) c.get.ensures c.in_ok-answer-in-Some-AtStore.ensures) in
+    subst (λ (b : Cluster). Emits b after c.args.events.now.items c.answer.new.events.items (for_some (in_flight b.facts.flight c.args.number) (arrival_events b c.args.number)) message_cost) c.take_outputs.ensures.world
+    (came.answered after c.answer.new.events.items done)

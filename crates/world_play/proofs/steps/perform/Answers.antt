@@ -23,4 +23,4 @@ pub returns-in-Tick : goal.returns-in-Tick
 returns-in-Tick c = on_ok_weaker c.tick-in-Tick.result (λ took. stepped _ _ _ _ _ steps.Tick tick_cost c.in-Tick.is took (omega arith)) c.tick-in-Tick.ensures
 
 pub returns-in-Command : goal.returns-in-Command
-returns-in-Command c = on_ok_weaker c.command.result (λ took. stepped _ _ _ _ _ (steps.Command c.in-Command.command) command_cost c.in-Command.is took (omega arith)) c.command.ensures
+returns-in-Command c = on_ok_weaker c.take_command.result (λ took. stepped _ _ _ _ _ (steps.Command c.in-Command.command) command_cost c.in-Command.is took (omega arith)) c.take_command.ensures

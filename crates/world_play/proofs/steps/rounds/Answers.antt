@@ -15,10 +15,10 @@ returns-then-len-before c =
 
 pub loop-done-preserved : goal.loop-done-preserved
 loop-done-preserved c =
-    Left-more _ _ _ _ _ _ _ (round_events c.loop-done.self) (λ later. rounds_events later (most_rounds - (c.loop-done.done + 1))) _ _ _ round_cost _
+    Left-more _ _ _ _ _ _ _ (round_events c.loop-done.stage) (λ later. rounds_events later (most_rounds - (c.loop-done.done + 1))) _ _ _ round_cost _
     c.loop-done.invariant
-    (rounds_events-next c.loop-done.self c.loop-done.done _ _ c.loop-done-test.true (c.in_ok-round.ensures).event (λ same. c.if-len-before.false (omega (arith, same, c.len.ensures, c.len-before.ensures))))
+    (rounds_events-next c.loop-done.stage c.loop-done.done _ _ c.loop-done-test.true (c.in_ok-round.ensures).event (λ same. c.if-len-before.false (omega (arith, same, c.len.ensures, c.len-before.ensures))))
     c.in_ok-round.ensures (omega (arith, c.loop-done-test.true))
 
 pub returns : goal.returns
-returns c = Left-end _ _ _ _ _ _ _ _ c.loop-done.invariant (rounds_events-end c.loop-done.self c.loop-done.done c.loop-done-test.false)
+returns c = Left-end _ _ _ _ _ _ _ _ c.loop-done.invariant (rounds_events-end c.loop-done.stage c.loop-done.done c.loop-done-test.false)
