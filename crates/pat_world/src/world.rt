@@ -32,8 +32,8 @@ use world_stage::{Stage, write_down};
 /// A cluster at a moment, which takes the steps of a script. It can't be dropped, since an agent can't: `World::close` ends
 /// one.
 ///
-/// Time is counted in ticks of 100 ms, from 0 on. A world takes at most 2^30 steps: that is what a caller has to see to, and within them no
-/// counter comes to its end.
+/// Time is counted in ticks of 100 ms, from 0 on. A world takes at most 2^30 steps: its caller sees to that, and within them no counter
+/// comes to its end.
 ///
 /// Most ticks bring nothing but themselves. Up to when that is so is found once, where a step of the default schedule brought its
 /// tick alone, or behind a plain tick; until then a tick costs the same little however many members there are, and many of them no
@@ -113,10 +113,10 @@ impl World {
         self.stage.view(id)
     }
 
-    /// One step of a script with these members, into an empty list. Fewer than 2^30 steps were taken. On Ok the events are those that
-    /// come next, and the world is what they leave: a world that stood for a book stands for that book with them at its end. No commit
-    /// is left that may be acknowledged. On Err, want of memory, the list is as it was, and the world isn't to be used any
-    /// more.
+    /// One step of a script with these members, into an empty list. The premises: fewer than 2^30 steps were taken, and a command names
+    /// declared members only. On Ok the events are those that come next, and the world is what they leave: a world that stood for a book
+    /// stands for that book with them at its end. No commit is left that may be acknowledged. On Err, want of memory, the list is as it
+    /// was, and the world isn't to be used any more.
     pub fn step(&mut self, step: &Step, events: &mut Vec<Event>) -> Result<(), AllocError>
         requires room { HasStepsLeft self.old 1 }
         requires declared { IsStep self.old.cluster.facts.members step.now }
@@ -140,8 +140,8 @@ impl World {
     }
 
     /// Takes so many steps of one kind at once as are known to bring nothing but their ticks, at most as many as wanted, and
-    /// answers how many. 0 where the next one may bring more, and for a command. It costs the same however many they are. With as many as
-    /// wanted no more than 2^30 steps are taken.
+    /// answers how many. 0 where the next one may bring more, and for a command. It costs the same however many they are. The premise:
+    /// with as many as wanted, at most 2^30 steps are taken.
     pub fn idle_for(&mut self, step: &Step, most: u64) -> u64
         requires { self.old.steps + most ≤ most_steps }
         ensures most { result ≤ most }
