@@ -14,6 +14,7 @@ ghost use Rattle.world_model.specs.Idle.{HasWorkFrom, work_moment};
 ghost use Rattle.world_model.specs.Emits.{Emits};
 ghost use Rattle.world_model.specs.Room.{HasRoom, hearing_cost};
 ghost use Rattle.world_model.specs.Short.{IsSent};
+ghost use Rattle.world_stage.specs.AgentViews.{IsViewOf};
 
 use super::{Stage, write_down};
 use agent_model::{Heard, Machine};
@@ -193,7 +194,9 @@ impl Stage {
     }
 
     /// What the agent of a member shows of itself and of its server. `None` exactly where none runs.
-    pub fn view(&self, id: MemberId) -> Option<AgentView<'_>> {
+    pub fn view(&self, id: MemberId) -> Option<AgentView<'_>>
+        ensures { IsViewOf self.now id result }
+    {
         let member = *self.members.get(id.number as usize)?;
         let machine = self.machine(member)?;
         let agent = places::agent_at(&self.agents, member.id.number as usize)?;
