@@ -29,7 +29,7 @@ use Rattle.agent_model.specs.Claiming.{begins, begins_or_claims, claims, passing
 use Rattle.agent_model.specs.Decisions.{arms, gives_back, granted, leader_renewed, may_take, refused, stray_renewed, takes_key, takes_over, takes_key_in_pause}
 use Rattle.agent_model.specs.HandingOver.{asking_whom, hands_over}
 use Rattle.agent_model.specs.Operators.{given_up, looked, operated}
-use Rattle.agent_model.specs.Outputs.{listed, most_outputs}
+use Rattle.agent_model.specs.Outputs.{listed}
 use Rattle.agent_model.specs.Racing.{finds_free, judged, unheard}
 use Rattle.agent_model.specs.Repairs.{repair_of}
 use Rattle.agent_model.specs.Snapshots.{follow_row, follows, got, informed, read_noted, led_by_another}

@@ -2,3 +2,5 @@ pub mod Standing
 pub mod IdleTicks
 pub mod OneWriter
 pub mod KeptCommits
+pub mod Stepping
+pub mod Running

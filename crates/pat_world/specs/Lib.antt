@@ -1,3 +1,4 @@
 pub mod Book
 pub mod KeptCommits
 pub mod OneWriter
+pub mod Steps

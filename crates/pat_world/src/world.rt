@@ -1,6 +1,6 @@
 //! The world: it takes the steps of a script and hands out what happens.
-ghost use Rattle.std.specs.Prelude.{ℕ, List, ◌≡◌, ◌<◌, ◌≤◌, ◌+◌, ◌^◌, ◌++◌, [], OnOk, OnErr, IfOk, length, replicate, zero};
-ghost use Rattle.script_model.specs.declared.line.Step.TheVariants as steps;
+ghost use Rattle.std.specs.Prelude.{ℕ, List, ◌≡◌, ◌<◌, ◌≤◌, ◌+◌, ◌^◌, ◌++◌, [], OnOk, OnErr, IfOk, is_some, replicate};
+ghost use Rattle.script_model.specs.Script.{HeadText, IsHead};
 ghost use Rattle.event_book.specs.declared.event.Event.{Event};
 ghost use Rattle.event_book.specs.declared.event.EventKind.TheVariants as kinds;
 ghost use Rattle.cluster_model.specs.Acknowledging.{AreAcknowledged};
@@ -14,8 +14,11 @@ ghost use Rattle.pat_world.specs.Book.{StandsFor, left_by, next_of};
 ghost use Rattle.world_model.specs.Idle.{BringsTicks, IsIdleBefore, IsIdleIn, NothingEnds, NothingIsDue};
 ghost use Rattle.pat_world.specs.KeptCommits.{KeepsCommits};
 ghost use Rattle.pat_world.specs.OneWriter.{KeepsOneWriter};
+ghost use Rattle.pat_world.specs.Steps.{HasStepsLeft, TookSteps, IsCounted};
 ghost use Rattle.world_model.specs.Emits.{Emits};
-ghost use Rattle.world_model.specs.Room.{HasRoomFor, step_cost};
+ghost use Rattle.world_model.specs.Room.{most_steps, step_cost};
+ghost use Rattle.world_model.specs.Running.{agent_runs};
+ghost use Rattle.world_stage.specs.AgentViews.{IsViewOf};
 
 use cluster_config::AgentView;
 use event_book::{Event, EventKind};
@@ -29,11 +32,16 @@ use world_stage::{Stage, write_down};
 /// A cluster at a moment, which takes the steps of a script. It can't be dropped, since an agent can't: `World::close` ends
 /// one.
 ///
+/// Time is counted in ticks of 100 ms, from 0 on. A world takes at most 2^30 steps: its caller sees to that, and within them no counter
+/// comes to its end.
+///
 /// Most ticks bring nothing but themselves. Up to when that is so is found once, where a step of the default schedule brought its
 /// tick alone, or behind a plain tick; until then a tick costs the same little however many members there are, and many of them no
 /// more than one.
 pub struct World {
     stage: Stage,
+    /// How many steps were taken.
+    steps: u64,
     /// Before this moment steps of the default schedule bring nothing but their ticks; 0 where nothing is known of that.
     idle_before: u64,
     /// Before this moment plain ticks bring nothing but themselves, whatever agents have to do; 0 where nothing is known of that.
@@ -41,27 +49,31 @@ pub struct World {
 }
 
 impl Model for World {
-    ghost use Rattle.cluster_model.specs.State.{Cluster};
-    ghost use Rattle.script_model.specs.declared.line.Step.TheVariants as steps;
+    ghost use Rattle.script_model.specs.declared.line.Step.TheVariants.{Scheduled, Tick};
+    ghost use Rattle.pat_world.specs.Steps.{WorldFacts};
     ghost use Rattle.world_model.specs.Idle.{IsIdleBefore};
 
-    ghost Value = { Cluster };
+    ghost Value = { WorldFacts };
 
-    ghost view = { λ w. w.stage };
+    ghost view = { λ w. record { cluster = w.stage; steps = w.steps } };
 
-    ghost invariant = { λ w. IsIdleBefore steps.Scheduled w.idle_before w.stage × IsIdleBefore steps.Tick w.ticks_idle_before w.stage };
+    ghost invariant = { λ w. IsIdleBefore Scheduled w.idle_before w.stage × IsIdleBefore Tick w.ticks_idle_before w.stage };
 }
 
 impl World {
-    /// The world of a script's head, before the first step: it stands for the empty book. It fails only for want of
-    /// memory.
+    /// The world of a script's head, before the first step: it stands for the empty book, and may take 2^30 steps. It fails only for
+    /// want of memory.
     pub fn new(alloc: Global, head: &Head) -> Result<World, AllocError>
-        ensures cluster { IfOk result (λ world. world ≡ cluster_of head.now) }
-        ensures book { IfOk result (λ world. StandsFor (cluster_of head.now) [] world) }
+        ensures cluster { IfOk result (λ world. world.cluster ≡ cluster_of head.now) }
+        ensures steps { IfOk result (λ world. world.steps ≡ 0) }
+        ensures book { IfOk result (λ world. StandsFor (cluster_of head.now) [] world.cluster) }
+        ensures room { IfOk result (λ world. HasStepsLeft world most_steps) }
+        ensures counted { IfOk result IsCounted }
     {
         let stage = Stage::new(alloc, head)?;
         Ok(World {
             stage,
+            steps: 0,
             idle_before: 0,
             ticks_idle_before: 0,
         })
@@ -71,6 +83,7 @@ impl World {
     pub fn close(self) {
         let World {
             stage,
+            steps: _,
             idle_before: _,
             ticks_idle_before: _,
         } = self;
@@ -79,32 +92,44 @@ impl World {
 
     /// The moment, in ticks of 100 ms.
     pub fn clock(&self) -> Ticks
-        ensures { result.0 ≡ self.now.facts.clock }
+        ensures { result.0 ≡ self.now.cluster.facts.clock }
     {
         self.stage.clock()
     }
 
-    /// What the agent of a member shows of itself and of its server. `None` exactly where none runs.
-    pub fn view(&self, id: MemberId) -> Option<AgentView<'_>> {
+    /// How many steps it took.
+    pub fn steps(&self) -> u64
+        ensures { result ≡ self.now.steps }
+    {
+        self.steps
+    }
+
+    /// What the agent of a member shows of itself and of its server at this moment. `None` exactly where that agent doesn't run, also
+    /// since no member of this number is declared.
+    pub fn view(&self, id: MemberId) -> Option<AgentView<'_>>
+        ensures shows { IsViewOf self.now.cluster id result }
+        ensures running { (head : HeadText) (book : List Event) → IsHead head → StandsFor (cluster_of head) book self.now.cluster → is_some result ≡ agent_runs self.now.cluster id }
+    {
         self.stage.view(id)
     }
 
-    /// One step of a script with these members, into an empty list. On Ok the events are those that come next, and the
-    /// world is what they leave: a world that stood for a book stands for that book with them at its end. No commit is
-    /// left that may be acknowledged. On Err, want of memory, the list is as it was, and the world isn't to be used any
-    /// more.
+    /// One step of a script with these members, into an empty list. The premises: fewer than 2^30 steps were taken, and a command names
+    /// declared members only. On Ok the events are those that come next, and the world is what they leave: a world that stood for a book
+    /// stands for that book with them at its end. No commit is left that may be acknowledged. On Err, want of memory, the list is as it
+    /// was, and the world isn't to be used any more.
     pub fn step(&mut self, step: &Step, events: &mut Vec<Event>) -> Result<(), AllocError>
-        requires room { HasRoomFor self.old 1 }
-        requires declared { IsStep self.old.facts.members step.now }
+        requires room { HasStepsLeft self.old 1 }
+        requires declared { IsStep self.old.cluster.facts.members step.now }
         requires empty { events.old.items ≡ [] }
-        ensures emits { OnOk result (Emits self.old self.new events.old.items events.new.items (next_events self.old step.now) step_cost) }
-        ensures book { OnOk result ((start : Cluster) (book : List Event) → StandsFor start book self.old
-            → (events.new.items ≡ events.old.items ++ next_of start book step.now) × StandsFor start (book ++ next_of start book step.now) self.new) }
+        ensures emits { OnOk result (Emits self.old.cluster self.new.cluster events.old.items events.new.items (next_events self.old.cluster step.now) step_cost) }
+        ensures taken { OnOk result (TookSteps self.old self.new 1) }
+        ensures book { OnOk result ((start : Cluster) (book : List Event) → StandsFor start book self.old.cluster
+            → (events.new.items ≡ events.old.items ++ next_of start book step.now) × StandsFor start (book ++ next_of start book step.now) self.new.cluster) }
         // At most one server accepts writes at every moment of it, where a run brought this world and the premises are met.
-        ensures one_writer { OnOk result (KeepsOneWriter self.old events.new.items) }
+        ensures one_writer { OnOk result (KeepsOneWriter self.old.cluster events.new.items) }
         // Each server that accepts writes has each acknowledged commit then, where the run began with synchronous mode on, which stays on.
-        ensures commits { OnOk result (KeepsCommits self.old events.new.items) }
-        ensures acknowledged { OnOk result (AreAcknowledged self.new.facts.members self.new.facts.servers) }
+        ensures commits { OnOk result (KeepsCommits self.old.cluster events.new.items) }
+        ensures acknowledged { OnOk result (AreAcknowledged self.new.cluster.facts.members self.new.cluster.facts.servers) }
         ensures refused { OnErr result (events.new.items ≡ events.old.items) }
     {
         let taken = self.play(step, events);
@@ -115,30 +140,34 @@ impl World {
     }
 
     /// Takes so many steps of one kind at once as are known to bring nothing but their ticks, at most as many as wanted, and
-    /// answers how many. 0 where the next one may bring more, and for a command. It costs the same however many they are.
+    /// answers how many. 0 where the next one may bring more, and for a command. It costs the same however many they are. The premise:
+    /// with as many as wanted, at most 2^30 steps are taken.
     pub fn idle_for(&mut self, step: &Step, most: u64) -> u64
+        requires { self.old.steps + most ≤ most_steps }
         ensures most { result ≤ most }
-        ensures ticks { BringsTicks self.old step.now result }
-        ensures world { self.new ≡ cluster_over self.old (run_events self.old (replicate result step.now)) }
-        ensures room { (more : ℕ) → HasRoomFor self.old (result + more) → HasRoomFor self.new more }
-        ensures book { (start : Cluster) (book : List Event) → StandsFor start book self.old
-            → StandsFor start (book ++ run_events (left_by start book) (replicate result step.now)) self.new }
-        ensures one_writer { KeepsOneWriter self.old (run_events self.old (replicate result step.now)) }
-        ensures commits { KeepsCommits self.old (run_events self.old (replicate result step.now)) }
-        ensures acknowledged { 0 < result → AreAcknowledged self.new.facts.members self.new.facts.servers }
+        ensures ticks { BringsTicks self.old.cluster step.now result }
+        ensures world { self.new.cluster ≡ cluster_over self.old.cluster (run_events self.old.cluster (replicate result step.now)) }
+        ensures taken { TookSteps self.old self.new result }
+        ensures book { (start : Cluster) (book : List Event) → StandsFor start book self.old.cluster
+            → StandsFor start (book ++ run_events (left_by start book) (replicate result step.now)) self.new.cluster }
+        ensures one_writer { KeepsOneWriter self.old.cluster (run_events self.old.cluster (replicate result step.now)) }
+        ensures commits { KeepsCommits self.old.cluster (run_events self.old.cluster (replicate result step.now)) }
+        ensures acknowledged { 0 < result → AreAcknowledged self.new.cluster.facts.members self.new.cluster.facts.servers }
     {
         let ticks = self.idle_ticks(step, most);
+        self.steps += ticks;
         self.stage.pass(ticks);
         ticks
     }
 
     /// A step: a tick that is known to bring nothing else, or any other one.
     fn play(&mut self, step: &Step, events: &mut Vec<Event>) -> Result<(), AllocError>
-        requires room { HasRoomFor self.old 1 }
-        requires declared { IsStep self.old.facts.members step.now }
+        requires room { HasStepsLeft self.old 1 }
+        requires declared { IsStep self.old.cluster.facts.members step.now }
         requires empty { events.old.items ≡ [] }
-        ensures emits { OnOk result (Emits self.old self.new events.old.items events.new.items (next_events self.old step.now) step_cost) }
-        ensures acknowledged { OnOk result (AreAcknowledged self.new.facts.members self.new.facts.servers) }
+        ensures emits { OnOk result (Emits self.old.cluster self.new.cluster events.old.items events.new.items (next_events self.old.cluster step.now) step_cost) }
+        ensures steps { self.new.steps ≡ self.old.steps + 1 }
+        ensures acknowledged { OnOk result (AreAcknowledged self.new.cluster.facts.members self.new.cluster.facts.servers) }
     {
         if self.idle_ticks(step, 1) == 0 {
             return self.take(step, events);
@@ -148,11 +177,13 @@ impl World {
 
     /// A tick that is known to bring nothing else.
     fn tick(&mut self, step: &Step, events: &mut Vec<Event>) -> Result<(), AllocError>
-        requires room { HasRoomFor self.old 1 }
-        requires idle { IsIdleIn step.now (self.old.facts.clock + 1) self.old }
-        ensures emits { OnOk result (Emits self.old self.new events.old.items events.new.items (next_events self.old step.now) step_cost) }
-        ensures acknowledged { OnOk result (AreAcknowledged self.new.facts.members self.new.facts.servers) }
+        requires room { HasStepsLeft self.old 1 }
+        requires idle { IsIdleIn step.now (self.old.cluster.facts.clock + 1) self.old.cluster }
+        ensures emits { OnOk result (Emits self.old.cluster self.new.cluster events.old.items events.new.items (next_events self.old.cluster step.now) step_cost) }
+        ensures steps { self.new.steps ≡ self.old.steps + 1 }
+        ensures acknowledged { OnOk result (AreAcknowledged self.new.cluster.facts.members self.new.cluster.facts.servers) }
     {
+        self.steps += 1;
         self.stage.pass(1);
         write_down(events, self.stage.clock(), EventKind::Tick)
     }
@@ -160,12 +191,14 @@ impl World {
     /// Any step. Behind one that brought nothing but the tick of the default schedule it is found up to when that stays so, and behind
     /// a plain tick, up to when plain ticks bring nothing.
     fn take(&mut self, step: &Step, events: &mut Vec<Event>) -> Result<(), AllocError>
-        requires room { HasRoomFor self.old 1 }
-        requires declared { IsStep self.old.facts.members step.now }
+        requires room { HasStepsLeft self.old 1 }
+        requires declared { IsStep self.old.cluster.facts.members step.now }
         requires empty { events.old.items ≡ [] }
-        ensures emits { OnOk result (Emits self.old self.new events.old.items events.new.items (next_events self.old step.now) step_cost) }
-        ensures acknowledged { OnOk result (AreAcknowledged self.new.facts.members self.new.facts.servers) }
+        ensures emits { OnOk result (Emits self.old.cluster self.new.cluster events.old.items events.new.items (next_events self.old.cluster step.now) step_cost) }
+        ensures steps { self.new.steps ≡ self.old.steps + 1 }
+        ensures acknowledged { OnOk result (AreAcknowledged self.new.cluster.facts.members self.new.cluster.facts.servers) }
     {
+        self.steps += 1;
         self.idle_before = 0;
         self.ticks_idle_before = 0;
         take_step(&mut self.stage, step, events)?;
@@ -177,8 +210,8 @@ impl World {
     /// How many of the next steps of one kind are known to bring nothing but their ticks, at most as many as wanted.
     fn idle_ticks(&self, step: &Step, most: u64) -> u64
         ensures most { result ≤ most }
-        ensures fits { self.now.facts.clock + result < 2 ^ 64 }
-        ensures idle { 0 < result → IsIdleIn step.now (self.now.facts.clock + result) self.now }
+        ensures fits { self.now.cluster.facts.clock + result < 2 ^ 64 }
+        ensures idle { 0 < result → IsIdleIn step.now (self.now.cluster.facts.clock + result) self.now.cluster }
     {
         let clock = self.stage.clock().0;
         let before = self.steps_idle_before(step);
@@ -192,7 +225,7 @@ impl World {
     /// Before which moment steps of one kind are known to bring nothing but their ticks; 0 where nothing is known of that. Where those of
     /// the default schedule bring nothing else, plain ticks don't either.
     fn steps_idle_before(&self, step: &Step) -> u64
-        ensures { IsIdleBefore step.now result self.now }
+        ensures { IsIdleBefore step.now result self.now.cluster }
     {
         match step {
             Step::Scheduled => self.idle_before,
@@ -206,7 +239,7 @@ impl World {
 /// Before which moment a stage is idle after a step that brought so many events; 0 where that isn't known. Where a step of the default
 /// schedule brought one event, that was its tick.
 fn idle_before(stage: &Stage, step: &Step, events: usize) -> u64
-    ensures scheduled { 0 < result → step.now ≡ steps.Scheduled }
+    ensures scheduled { 0 < result → step.now ≡ Step.Scheduled }
     ensures one { 0 < result → events ≡ 1 }
     ensures due { (now : ℕ) → now < result → NothingIsDue now stage.now }
 {

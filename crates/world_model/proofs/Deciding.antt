@@ -1,5 +1,5 @@
 -- What the store decides on, and what comes to its receiver.
-use Rattle.std.proofs.Common.{◌≡◌, ℕ, ◌+◌, ◌≤◌, List, [], ◌∷◌, ◌++◌, Option, Some, None, arith, refl, ◌∙◌, ap, sym, subst}
+use Rattle.std.proofs.Common.{◌≡◌, ℕ, ◌+◌, ◌≤◌, List, [], ◌∷◌, ◌++◌, Option, Some, arith, refl, ◌∙◌, ap, sym, subst}
 use Rattle.pat_base.specs.declared.name.Name.{Name}
 use Rattle.pat_base.specs.declared.ticks.Ticks.{Ticks}
 use Rattle.lease_store.specs.declared.key.Key.{Key}
@@ -20,16 +20,14 @@ use Rattle.event_book.specs.declared.message.Body.TheVariants as bodies
 use Rattle.event_book.specs.declared.message.Message.{Message}
 use Rattle.event_book.specs.Flight.{Flight, InFlightFacts, in_flight, without_message}
 use Rattle.cluster_model.specs.Cluster.{agent_facts_reached_at, cluster_after}
-use Rattle.cluster_model.specs.Hearing.{heard_from}
-use Rattle.cluster_model.specs.Inputs.{outcome_of_heard}
 use Rattle.cluster_model.specs.State.{Cluster}
-use Rattle.cluster_model.specs.Messages.{heard_message, input_events, send_events, answer_message, answer_events, decision_events, published_names, arrival_events, arrival_events_at}
-use Rattle.cluster_model.specs.Parts.{event_of, for_some}
-use Rattle.world_model.specs.Room.{decision_cost, message_cost, outputs_cost, sending_cost, event_cost}
+use Rattle.cluster_model.specs.Messages.{send_events, answer_message, decision_events, published_names}
+use Rattle.cluster_model.specs.Parts.{event_of}
+use Rattle.world_model.specs.Room.{decision_cost, sending_cost, event_cost}
 use Rattle.agent_model.specs.Agents.{AgentFacts}
 use Rattle.world_model.specs.Emits.{Emits}
 use Rattle.world_model.specs.Comes.{Counts}
-use Rattle.world_model.proofs.Taking.{Emits-nothing, Emits-one, Emits-then}
+use Rattle.world_model.proofs.Taking.{Emits-one, Emits-then}
 
 pub stamped-is : (cluster : Cluster) (tick : Ticks) (kind : EventKind) → tick.0 ≡ (cluster_after cluster kind).facts.clock → ◌≡◌ {A = List Event} ((record { tick = tick; kind = kind }) ∷ []) (event_of cluster kind)
 stamped-is cluster tick kind at = ap (λ (n : ℕ). let event : Event = record { tick = record { 0 = n }; kind = kind } in event ∷ []) at
@@ -49,12 +47,6 @@ decision_events-is : (cluster after : Cluster) (number : ℕ) (by : Member) (mes
 decision_events-is cluster after number by message txn decision had has from is took =
     subst (λ (d : Decision). Emits cluster after had has (decision_events cluster number message txn d message.from) decision_cost) (sym is)
     (subst (λ (e : LinkEnd). Emits cluster after had has (decision_events cluster number message txn decision e) decision_cost) (sym from) took)
-
-arrival_events-is : (cluster after : Cluster) (number : ℕ) (message : InFlightFacts) (to : LinkEnd) (had has : List Event) → in_flight cluster.facts.flight number ≡ Some message → message.message.to ≡ to
-    → Emits cluster after had has (arrival_events_at cluster number message to) message_cost → Emits cluster after had has (for_some (in_flight cluster.facts.flight number) (arrival_events cluster number)) message_cost
-arrival_events-is cluster after number message to had has is receiver took =
-    subst (λ (o : Option InFlightFacts). Emits cluster after had has (for_some o (arrival_events cluster number)) message_cost) (sym is)
-    (subst (λ (e : LinkEnd). Emits cluster after had has (arrival_events_at cluster number message e) message_cost) (sym receiver) took)
 
 pub granted-took : (cluster granting after : Cluster) (number : ℕ) (by : Member) (message : Message) (txn : Txn) (tick : Ticks) (had mid has : List Event)
     → message.from ≡ link_ends.Member by → tick.0 ≡ cluster.facts.clock → decision_on cluster.facts.keys cluster.facts.clock txn ≡ Grant
@@ -92,28 +84,7 @@ hearing-is cluster number message to flight flies receiver found =
     ∙ ap (λ (e : LinkEnd). landing cluster (without_message cluster.facts.flight number) (agent_facts_reached_at cluster message e)) (sym receiver)
     ∙ arrived cluster number message found
 
-pub stored-took : (cluster stored after : Cluster) (number : ℕ) (message : InFlightFacts) (tick : Ticks) (had mid has : List Event)
-    → in_flight cluster.facts.flight number ≡ Some message → message.message.to ≡ link_ends.Store → tick.0 ≡ cluster.facts.clock → stored ≡ cluster_after cluster (kinds.Message (Delivered number))
-    → mid ≡ had ++ record { tick = tick; kind = kinds.Message (Delivered number) } ∷ [] → Emits stored after mid has (answer_events stored number message.message) decision_cost
-    → Emits cluster after had has (for_some (in_flight cluster.facts.flight number) (arrival_events cluster number)) message_cost
-stored-took cluster stored after number message tick had mid has is to at state mid_is rest =
-    arrival_events-is cluster after number message link_ends.Store had has is to
-    (Emits-after cluster stored after had mid has tick (kinds.Message (Delivered number)) (λ later. answer_events later number message.message) decision_cost message_cost tt at state mid_is rest (omega arith))
-
-pub heard-took : (cluster hearing after : Cluster) (number : ℕ) (message : InFlightFacts) (member : Member) (tick : Ticks) (had has : List Event)
-    → in_flight cluster.facts.flight number ≡ Some message → message.message.to ≡ link_ends.Member member → tick.0 ≡ cluster.facts.clock → hearing ≡ cluster_after cluster (kinds.Message (Delivered number))
-    → Emits hearing after (had ++ record { tick = tick; kind = kinds.Message (Delivered number) } ∷ []) has (input_events hearing member (heard_message number message) (outcome_of_heard cluster member (heard_from cluster message))) outputs_cost
-    → Emits cluster after had has (for_some (in_flight cluster.facts.flight number) (arrival_events cluster number)) message_cost
-heard-took cluster hearing after number message member tick had has is to at state rest =
-    arrival_events-is cluster after number message (link_ends.Member member) had has is to
-    (Emits-after cluster hearing after had _ has tick (kinds.Message (Delivered number)) (λ later. input_events later member (heard_message number message) (outcome_of_heard cluster member (heard_from cluster message))) outputs_cost message_cost tt at state refl rest (omega arith))
-
 -- the event of a grant, with what was copied into it
 pub granted-event : (tick : Ticks) (number : ℕ) (by : Member) (copy txn : Txn) (names listed : List Name) → copy ≡ txn → names ≡ listed
     → ◌≡◌ {A = List Event} ((record { tick = tick; kind = kinds.Store (stores.Granted number by copy names) }) ∷ []) ((record { tick = tick; kind = kinds.Store (stores.Granted number by txn listed) }) ∷ [])
 granted-event tick number by copy txn names listed same named = rw (same, named) refl
-
-pub nothing-took : (cluster after : Cluster) (number : ℕ) (had : List Event) → in_flight cluster.facts.flight number ≡ None → after ≡ cluster → Emits cluster after had had (for_some (in_flight cluster.facts.flight number) (arrival_events cluster number)) message_cost
-nothing-took cluster after number had is same =
-    subst (λ (o : Option InFlightFacts). Emits cluster after had had (for_some o (arrival_events cluster number)) message_cost) (sym is)
-    (subst (λ (a : Cluster). Emits cluster a had had [] message_cost) (sym same) (Emits-nothing cluster had message_cost))

@@ -9,3 +9,5 @@ pub mod Deciding
 pub mod Idling
 pub mod Stillness
 pub mod Declaring
+pub mod Counting
+pub mod Running

@@ -7,7 +7,6 @@ use Rattle.cluster_config.specs.declared.view.AgentView.{AgentView}
 use Rattle.cluster_config.specs.Snapshots.{SnapshotFacts}
 use Rattle.rest_api.specs.declared.call.RestCall.{RestCall}
 use Rattle.rest_api.specs.declared.call.RestCall.TheVariants as calls
-use Rattle.operator_keys.specs.declared.refusal.CheckFault.{CheckFault}
 use Rattle.operator_keys.specs.declared.refusal.CheckFault.TheVariants as faults
 use Rattle.operator_keys.specs.declared.refusal.Refused.{Refused}
 use Rattle.operator_keys.specs.Refusals.{Answers, with_fault}

@@ -25,25 +25,6 @@ use Rattle.world_stage.specs.declared.arrival.Arrival.{Arrival}
 use Rattle.world_stage.specs.declared.arrival.Arrival.TheVariants as arrivals
 use Rattle.world_play.proofs.Waking.{AreFew, input-few}
 
--- none came
-pub record NoneCame (before after : Cluster) (had has : List Event) (outputs : List Output) (number : ℕ) : Type 0 where
-  pub took : Emits before after had has (for_some (in_flight before.facts.flight number) (arrival_events before number)) message_cost
-  pub none : outputs ≡ []
-
-none-came-if : (before after : Cluster) (had has : List Event) (outputs : List Output) (number : ℕ) (found : Option InFlightFacts) → in_flight before.facts.flight number ≡ found → Landed before after had has outputs number found None
-    → NoneCame before after had has outputs number
-none-came-if before after had has outputs number None is landed = record {
-  took = subst (λ (o : Option InFlightFacts). Emits before after had has (for_some o (arrival_events before number)) message_cost) (sym is)
-      (subst (λ (c : Cluster). Emits before c had has [] message_cost) (sym landed.0) (subst (λ (es : List Event). Emits before before had es [] message_cost) (sym landed.1) (Emits-nothing before had message_cost)));
-  none = landed.2;
-}
-none-came-if before after had has outputs number (Some message) is landed = absurd landed
-
-pub none-came : {before after : Cluster} {had has : List Event} {outputs : List Output} {number : ℕ} {arrival : Option Arrival} → Landed before after had has outputs number (in_flight before.facts.flight number) arrival → arrival ≡ None
-    → NoneCame before after had has outputs number
-none-came {before} {after} {had} {has} {outputs} {number} landed is =
-    none-came-if before after had has outputs number (in_flight before.facts.flight number) refl (subst (λ (a : Option Arrival). Landed before after had has outputs number (in_flight before.facts.flight number) a) is landed)
-
 -- the events of what came are those of its receiver
 arrival-is : (before after : Cluster) (had has : List Event) (number : ℕ) (message : InFlightFacts) (to : LinkEnd) → in_flight before.facts.flight number ≡ Some message → message.message.to ≡ to
     → Emits before after had has (arrival_events_at before number message to) message_cost → Emits before after had has (for_some (in_flight before.facts.flight number) (arrival_events before number)) message_cost

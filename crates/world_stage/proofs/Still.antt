@@ -1,5 +1,5 @@
 -- What may not move stays where it is.
-use Rattle.std.proofs.Common.{◌≡◌, ℕ, false, [], ap}
+use Rattle.std.proofs.Common.{◌≡◌, ℕ, false, []}
 use Rattle.cluster_model.specs.Messages.{message_events}
 use Rattle.cluster_model.specs.State.{Cluster}
 use Rattle.world_flight.specs.FlightIndex.{AreTended, IndexFacts, may_move}

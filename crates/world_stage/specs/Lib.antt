@@ -1,1 +1,2 @@
+pub mod AgentViews
 pub mod Arrivals

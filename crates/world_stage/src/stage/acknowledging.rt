@@ -8,9 +8,9 @@ ghost use Rattle.cluster_model.specs.Parts.{each, events_at};
 ghost use Rattle.world_model.specs.Emits.{Emits};
 
 use super::{Stage, write_down};
-use world_parts::losing::loss_at;
 use event_book::{Event, EventKind, Member, ReplicationEvent, ServerOf};
 use std::alloc::AllocError;
+use world_parts::losing::loss_at;
 
 impl Stage {
     /// The commits of all servers are acknowledged as far as they may be, in script order. Then none is left that may be.

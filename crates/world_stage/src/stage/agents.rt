@@ -14,22 +14,23 @@ ghost use Rattle.world_model.specs.Idle.{HasWorkFrom, work_moment};
 ghost use Rattle.world_model.specs.Emits.{Emits};
 ghost use Rattle.world_model.specs.Room.{HasRoom, hearing_cost};
 ghost use Rattle.world_model.specs.Short.{IsSent};
+ghost use Rattle.world_stage.specs.AgentViews.{IsViewOf};
 
 use super::{Stage, write_down};
-use world_flight::flight::InFlight;
-use world_parts::machines::{item_at, machine_from};
-use world_parts::places;
-use rest_api::copy_of;
-use world_parts::replication::replication_of;
-use world_parts::sources::source_of;
 use agent_model::{Heard, Machine};
 use cluster_config::{AgentView, Snapshot};
 use event_book::{AgentEvent, AgentProcess, Body, Event, EventKind, LinkEnd, Member, Message};
 use ha_loop::{Agent, Outputs};
 use lease_store::{Key, KeyEntry, OperatorAction};
 use pat_base::{MemberId, Ticks};
+use rest_api::copy_of;
 use std::alloc::AllocError;
 use std::mem;
+use world_flight::flight::InFlight;
+use world_parts::machines::{item_at, machine_from};
+use world_parts::places;
+use world_parts::replication::replication_of;
+use world_parts::sources::source_of;
 
 /// How many outputs an input brings at most.
 const MOST_OUTPUTS: usize = 40;
@@ -193,7 +194,9 @@ impl Stage {
     }
 
     /// What the agent of a member shows of itself and of its server. `None` exactly where none runs.
-    pub fn view(&self, id: MemberId) -> Option<AgentView<'_>> {
+    pub fn view(&self, id: MemberId) -> Option<AgentView<'_>>
+        ensures { IsViewOf self.now id result }
+    {
         let member = *self.members.get(id.number as usize)?;
         let machine = self.machine(member)?;
         let agent = places::agent_at(&self.agents, member.id.number as usize)?;

@@ -11,10 +11,10 @@ ghost use Rattle.world_model.specs.Room.{HasRoom, streaming_cost};
 ghost use Rattle.world_model.specs.Emits.{Emits};
 
 use super::{Stage, write_down};
-use world_parts::sources::unconfirmed_end;
 use event_book::{Event, EventKind, LogEvent, Member, ReplicationEvent, ServerEvent, ServerOf};
 use pg_model::Streamed;
 use std::alloc::AllocError;
+use world_parts::sources::unconfirmed_end;
 
 impl Stage {
     /// The server of a member receives from that of another one.

@@ -21,16 +21,16 @@ ghost use Rattle.cluster_model.specs.Deliveries.{delivery_of};
 
 use super::{Stage, write_down};
 use crate::arrival::Arrival;
-use world_parts::deliveries::delivery_of;
-use world_flight::flight::InFlight;
-use world_flight::flight_index::message_way;
-use world_parts::naming::published_names;
 use cluster_model::{Delivery, HeardMessage};
 use event_book::{Body, Event, EventKind, LinkEnd, Member, Message, MessageEvent, StoreEvent};
 use ha_loop::Outputs;
 use lease_store::{Granted, Key, KeyEntry, StoreRefusal, Txn};
 use pat_base::{Shared, Ticks};
 use std::alloc::AllocError;
+use world_flight::flight::InFlight;
+use world_flight::flight_index::message_way;
+use world_parts::deliveries::delivery_of;
+use world_parts::naming::published_names;
 
 impl Stage {
     /// The first message that may move of those with numbers from this one to the last. Those before it stay where they are.

@@ -8,10 +8,10 @@ ghost use Rattle.world_model.specs.Emits.{Emits};
 ghost use Rattle.world_model.specs.Room.{HasRoom, server_restart_cost};
 
 use super::{Stage, write_down};
-use world_parts::losing::loss_of_any;
 use cluster_model::Beginning;
 use event_book::{Event, EventKind, Member, ServerEvent, ServerOf};
 use std::alloc::AllocError;
+use world_parts::losing::loss_of_any;
 
 impl Stage {
     /// A primary ends, and begins again on its timeline at once. That it lacks an acknowledged commit then is told.
@@ -37,7 +37,11 @@ impl Stage {
     }
 
     /// A primary ends, and its start as one begins.
-    pub fn restart_slowly(&mut self, member: Member, events: &mut Vec<Event>) -> Result<(), AllocError>
+    pub fn restart_slowly(
+        &mut self,
+        member: Member,
+        events: &mut Vec<Event>,
+    ) -> Result<(), AllocError>
         requires room { HasRoom self.old server_restart_cost }
         requires primary { option_map (λ s. s.state) (server_at self.old member) ≡ Some states.Primary }
         requires again { option_map (λ s. again_by s.timeline s.start_delay) (server_at self.old member) ≡ Some Beginning.WithItsStart }

@@ -2,14 +2,15 @@ use Rattle.std.proofs.Common.{◌≡◌, ◌+◌, replicate, arith, ap, sym, sub
 use Rattle.script_model.specs.declared.line.Step.TheVariants as steps
 use Rattle.cluster_model.specs.Acknowledging.{AreAcknowledged}
 use Rattle.cluster_model.specs.State.{Cluster}
-use Rattle.world_model.specs.Room.{HasRoomFor}
+use Rattle.pat_world.specs.Steps.{WorldFacts}
 use Rattle.world_model.proofs.Idling.{at_moment, idle-commits}
-use Rattle.pat_world.proofs.IdleTicks.{brings-ticks, idle-passed, passed, room-passed, steps-keep, steps-stand}
+use Rattle.pat_world.proofs.IdleTicks.{brings-ticks, idle-passed, passed, steps-keep, steps-stand}
 use Rattle.pat_world.proofs.KeptCommits.{steps-keep-commits}
+use Rattle.pat_world.proofs.Stepping.{TookSteps-idle}
 use Rattle.pat_world.proofs.world.World.idle_for.Goals as goal
 
 pub pass-requires : goal.pass-requires
-pass-requires c = omega (arith, c.idle_ticks-ticks.ensures.fits, ap (λ (s : Cluster). s.facts.clock) c.self.view_is)
+pass-requires c = omega (arith, c.idle_ticks-ticks.ensures.fits, ap (λ (w : WorldFacts). w.cluster.facts.clock) c.self.view_is)
 
 pub invariant_of-self : goal.invariant_of-self
 invariant_of-self c =
@@ -20,17 +21,19 @@ invariant_of-self c =
 
 pub returns : goal.returns
 returns c =
-    let old = c.args.self.now in
+    let world = c.args.self.now in
+    let old = world.cluster in
     let step = c.args.step.now in
     let n = c.idle_ticks-ticks.result in
-    let new : c.pass.new.self ≡ at_moment old (old.facts.clock + n) = c.pass.ensures ∙ ap (λ (s : Cluster). at_moment s (s.facts.clock + n)) c.self.view_is in
+    let new : c.pass.new.self ≡ at_moment old (old.facts.clock + n) = c.pass.ensures ∙ ap (λ (w : WorldFacts). at_moment w.cluster (w.cluster.facts.clock + n)) c.self.view_is in
+    let took = ap (λ (w : WorldFacts). w.steps + n) c.self.view_is in
     let idle = c.idle_ticks-ticks.ensures.idle in
     let left = new ∙ sym (passed step old (old.facts.clock + n) n (omega arith) idle) in
     record {
       most = c.idle_ticks-ticks.ensures.most;
       ticks = brings-ticks step old (old.facts.clock + n) n (omega arith) idle;
       world = left;
-      room = λ more has. subst (λ (s : Cluster). HasRoomFor s more) (sym new) (room-passed old n more has);
+      taken = TookSteps-idle world c.pass.new.self (c.self.inside.steps + n) n new took;
       book = λ start book stands. steps-stand start book old c.pass.new.self (replicate n step) left stands;
       one_writer = steps-keep old (replicate n step);
       commits = steps-keep-commits old (replicate n step);

@@ -3,6 +3,7 @@ use Rattle.world_model.specs.Room.{step_cost}
 use Rattle.pat_world.proofs.KeptCommits.{step-keeps-commits}
 use Rattle.pat_world.proofs.OneWriter.{step-keeps}
 use Rattle.pat_world.proofs.Standing.{step-stands}
+use Rattle.pat_world.proofs.Stepping.{TookSteps-step}
 use Rattle.pat_world.proofs.world.World.step.Goals as goal
 
 pub returns-else-is_err-clause-book : goal.returns-else-is_err-clause-book
@@ -11,11 +12,17 @@ returns-else-is_err-clause-book c = on_ok_weaker c.play-taken.result (λ took st
 pub returns-else-is_err-clause-one_writer : goal.returns-else-is_err-clause-one_writer
 returns-else-is_err-clause-one_writer c =
     on_ok_weaker c.play-taken.result
-    (λ took. step-keeps c.args.self.now c.play-taken.new.self c.args.events.now.items c.play-taken.new.events.items c.args.step.now step_cost c.requires.empty took)
+    (λ took. step-keeps c.args.self.now.cluster c.play-taken.new.self.cluster c.args.events.now.items c.play-taken.new.events.items c.args.step.now step_cost c.requires.empty took)
     c.play-taken.ensures.emits
 
 pub returns-else-is_err-clause-commits : goal.returns-else-is_err-clause-commits
 returns-else-is_err-clause-commits c =
     on_ok_weaker c.play-taken.result
-    (λ took. step-keeps-commits c.args.self.now c.play-taken.new.self c.args.events.now.items c.play-taken.new.events.items c.args.step.now step_cost c.requires.empty took)
+    (λ took. step-keeps-commits c.args.self.now.cluster c.play-taken.new.self.cluster c.args.events.now.items c.play-taken.new.events.items c.args.step.now step_cost c.requires.empty took)
+    c.play-taken.ensures.emits
+
+pub returns-else-is_err-clause-taken : goal.returns-else-is_err-clause-taken
+returns-else-is_err-clause-taken c =
+    on_ok_weaker c.play-taken.result
+    (λ took. TookSteps-step c.args.self.now c.play-taken.new.self c.args.events.now.items c.play-taken.new.events.items _ c.requires.room c.play-taken.ensures.steps took)
     c.play-taken.ensures.emits

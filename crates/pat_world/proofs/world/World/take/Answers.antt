@@ -4,11 +4,11 @@ use Rattle.pat_world.proofs.IdleTicks.{idle-before-none, idle-found, ticks-idle-
 use Rattle.pat_world.proofs.world.World.take.Goals as goal
 
 pub invariant_of-self : goal.invariant_of-self
-invariant_of-self c = (idle-before-none steps.Scheduled c.play.new.self, idle-before-none steps.Tick c.play.new.self)
+invariant_of-self c = (idle-before-none steps.Scheduled c.take_step.new.stage, idle-before-none steps.Tick c.take_step.new.stage)
 
 pub invariant_of-self-2 : goal.invariant_of-self-2
 invariant_of-self-2 c = (
-  idle-found c.self.inside.stage c.play.new.self c.args.events.now.items c.play.new.events.items c.args.step.now c.idle_before-self-inside.result c.len.result c.idle_before-self-inside.ensures.scheduled c.idle_before-self-inside.ensures.one c.idle_before-self-inside.ensures.due
-      c.requires.empty (omega (arith, c.len.ensures)) c.in_ok-play.ensures.emits c.in_ok-play.ensures.acknowledged,
-  ticks-idle-found c.play.new.self c.ticks_idle_before-self-inside.result c.ticks_idle_before-self-inside.ensures c.in_ok-play.ensures.acknowledged,
+  idle-found c.self.inside.stage c.take_step.new.stage c.args.events.now.items c.take_step.new.events.items c.args.step.now c.idle_before-self-inside.result c.len.result c.idle_before-self-inside.ensures.scheduled c.idle_before-self-inside.ensures.one c.idle_before-self-inside.ensures.due
+      c.requires.empty (omega (arith, c.len.ensures)) c.in_ok-take_step.ensures.emits c.in_ok-take_step.ensures.acknowledged,
+  ticks-idle-found c.take_step.new.stage c.ticks_idle_before-self-inside.result c.ticks_idle_before-self-inside.ensures c.in_ok-take_step.ensures.acknowledged,
 )

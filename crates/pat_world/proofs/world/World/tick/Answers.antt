@@ -1,21 +1,21 @@
 use Rattle.std.proofs.Common.{◌+◌, ap, arith, ◌∙◌}
 use Rattle.std.proofs.lemmas.Result.{on_ok_weaker}
 use Rattle.script_model.specs.declared.line.Step.TheVariants as steps
-use Rattle.cluster_model.specs.State.{Cluster}
+use Rattle.pat_world.specs.Steps.{WorldFacts}
 use Rattle.world_model.proofs.Idling.{at_moment}
 use Rattle.pat_world.proofs.IdleTicks.{idle-passed, tick-noted}
 use Rattle.pat_world.proofs.world.World.tick.Goals as goal
 
 pub returns-clause-emits : goal.returns-clause-emits
 returns-clause-emits c =
-    let old = c.args.self.now in
-    let new = c.pass.ensures ∙ ap (λ (s : Cluster). at_moment s (s.facts.clock + 1)) c.self.view_is in
-    on_ok_weaker c.note.result
-    (λ noted. tick-noted old c.pass.new.self c.args.events.now.items c.note.new.events.items c.args.step.now c.clock.result new c.clock.ensures noted c.requires.idle)
-    c.note.ensures
+    let old = c.args.self.now.cluster in
+    let new = c.pass.ensures ∙ ap (λ (w : WorldFacts). at_moment w.cluster (w.cluster.facts.clock + 1)) c.self.view_is in
+    on_ok_weaker c.write_down.result
+    (λ noted. tick-noted old c.pass.new.self c.args.events.now.items c.write_down.new.events.items c.args.step.now c.clock.result new c.clock.ensures noted c.requires.idle)
+    c.write_down.ensures
 
 pub pass-requires : goal.pass-requires
-pass-requires c = omega (arith, c.requires.room.room.clock, ap (λ (s : Cluster). s.facts.clock) c.self.view_is)
+pass-requires c = omega (arith, c.requires.room.room.room.clock, ap (λ (w : WorldFacts). w.cluster.facts.clock) c.self.view_is)
 
 pub invariant_of-self : goal.invariant_of-self
 invariant_of-self c = (
