@@ -18,7 +18,7 @@ use Rattle.cluster_model.specs.Steps.{IsStep}
 use Rattle.summary.specs.Passing.{IsTickAlone}
 use Rattle.summary.specs.Sights.{noted_steps}
 use Rattle.world_model.specs.Idle.{BringsTicks, IsTick}
-use Rattle.world_model.specs.Room.{HasRoomFor}
+use Rattle.pat_world.specs.Steps.{TookSteps}
 use Rattle.patroni_top.specs.declared.playing.Player.{Player}
 use Rattle.patroni_top.specs.declared.print_error.PrintError.TheVariants.{Write}
 use Rattle.patroni_top.specs.Playing.{Idles, Plays}
@@ -66,8 +66,8 @@ Plays-idle {sink = sink} {before = before} {after = after} {step = step} {count 
   world = idles.world;
   trace = idles.trace ∙ sym (traced-same step before.trace (count - left) is);
   summary = idles.summary;
-  room = λ more room. idles.room more (subst (λ (n : ℕ). HasRoomFor before.world (n + more)) (length-replicate {A = Step} (count - left) step) room);
-  printed = subst (λ (t : List ℕ). Prints {X = Unit {0}} sink out out Write (Ok tt) t) (sym (prints-nothing step before.world before.trace (count - left) is idles.ticks)) (Prints-nothing sink out Write tt);
+  taken = subst (TookSteps before.world after.world) (sym (length-replicate {A = Step} (count - left) step)) idles.taken;
+  printed = subst (λ (t : List ℕ). Prints {X = Unit {0}} sink out out Write (Ok tt) t) (sym (prints-nothing step before.world.cluster before.trace (count - left) is idles.ticks)) (Prints-nothing sink out Write tt);
 }
 
 -- some ticks of one kind, and then the others
@@ -87,19 +87,19 @@ ticks-first step left h =
     ap (λ (n : ℕ). replicate n step) next
 
 -- what is taken at once of some ticks
-pub idles : (before after : Player) (step : Step) (count ticks : ℕ) → ticks ≤ count → BringsTicks before.world step ticks → after.world ≡ cluster_over before.world (run_events before.world (replicate ticks step)) → after.trace ≡ before.trace
-    → ((steps : List (List Event)) → length steps ≡ ticks → All IsTickAlone steps → after.summary ≡ noted_steps before.summary steps) → ((more : ℕ) → HasRoomFor before.world (ticks + more) → HasRoomFor after.world more)
-    → Idles before after step count (count - ticks)
-idles before after step count ticks within brings world trace summary room =
+pub idles : (before after : Player) (step : Step) (count ticks : ℕ) → ticks ≤ count → BringsTicks before.world.cluster step ticks → after.world.cluster ≡ cluster_over before.world.cluster (run_events before.world.cluster (replicate ticks step)) → after.trace ≡ before.trace
+    → ((steps : List (List Event)) → length steps ≡ ticks → All IsTickAlone steps → after.summary ≡ noted_steps before.summary steps) → TookSteps before.world after.world ticks → Idles before after step count (count - ticks)
+idles before after step count ticks within brings world trace summary taken =
+    let start = before.world.cluster in
     let e : ticks ≡ count - (count - ticks) = omega (arith, within) in
-    let noted = summary (events_by_step before.world (replicate ticks step)) (ticks-many step before.world ticks) (ticks-alone step before.world ticks brings) in
+    let noted = summary (events_by_step start (replicate ticks step)) (ticks-many step start ticks) (ticks-alone step start ticks brings) in
     record {
       within = omega arith;
-      ticks = subst (BringsTicks before.world step) e brings;
-      world = world ∙ ap (λ (n : ℕ). cluster_over before.world (run_events before.world (replicate n step))) e;
+      ticks = subst (BringsTicks start step) e brings;
+      world = world ∙ ap (λ (n : ℕ). cluster_over start (run_events start (replicate n step))) e;
       trace = trace;
-      summary = noted ∙ ap (λ (n : ℕ). noted_from before.summary before.world (replicate n step)) e;
-      room = λ more has. room more (subst (λ (n : ℕ). HasRoomFor before.world (n + more)) (sym e) has);
+      summary = noted ∙ ap (λ (n : ℕ). noted_from before.summary start (replicate n step)) e;
+      taken = subst (TookSteps before.world after.world) e taken;
     }
 
 -- none is left

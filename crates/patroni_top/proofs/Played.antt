@@ -16,9 +16,10 @@ use Rattle.cluster_model.specs.Cluster.{cluster_over}
 use Rattle.cluster_model.specs.Next.{next_events, run_events}
 use Rattle.cluster_model.specs.State.{Cluster}
 use Rattle.summary.specs.Sights.{SummaryFacts, noted_step}
-use Rattle.world_model.specs.Room.{HasRoomFor, step_cost}
+use Rattle.pat_world.specs.Steps.{HasStepsLeft, TookSteps}
+use Rattle.world_model.specs.Room.{step_cost}
 use Rattle.world_model.specs.Emits.{Emits}
-use Rattle.world_model.proofs.Rooms.{HasRoom-fewer}
+use Rattle.pat_world.proofs.Stepping.{TookSteps-none, TookSteps-then, steps-left-behind, steps-left-fewer}
 use Rattle.world_model.proofs.Starting.{drop-get}
 use Rattle.world_model.proofs.Taking.{members-stay, cluster_over-append}
 use Rattle.patroni_top.specs.declared.playing.Player.{Player}
@@ -34,40 +35,30 @@ Prints-err p = record { ok = tt; part = p.part; write = λ e. p.write (ap Err cc
 pub memory-is-no-write : Memory ≡ Write → ⊥
 memory-is-no-write e = cc
 
--- fewer steps have room too
-pub HasRoomFor-fewer : (cluster : Cluster) (n m : ℕ) → HasRoomFor cluster n → m ≤ n → HasRoomFor cluster m
-HasRoomFor-fewer cluster n m room fewer = record { room = HasRoom-fewer cluster (step_cost * n) (step_cost * m) (omega (arith, fewer)) room.room }
-
--- a step takes the room of one
-HasRoomFor-step : (cluster next : Cluster) (had has events : List Event) (more : ℕ) → Emits cluster next had has events step_cost → HasRoomFor cluster (1 + more) → HasRoomFor next more
-HasRoomFor-step cluster next had has events more took room = record {
-  room = took.room (step_cost * more) (HasRoom-fewer cluster (step_cost * (1 + more)) (step_cost + step_cost * more) (omega arith) room.room);
-}
-
 -- what a step hands out into an empty buffer is all that it prints
-step-text : (before : Player) (next : Cluster) (step : Step) (had has : List Event) → Emits before.world next had has (next_events before.world step) step_cost → had ≡ [] → lines_of before.trace has ≡ printed_from before.world before.trace (step ∷ [])
+step-text : (before : Player) (next : Cluster) (step : Step) (had has : List Event) → Emits before.world.cluster next had has (next_events before.world.cluster step) step_cost → had ≡ [] → lines_of before.trace has ≡ printed_from before.world.cluster before.trace (step ∷ [])
 step-text before next step had has took empty =
-    ap (lines_of before.trace) (took.event ∙ ap (λ l. l ++ next_events before.world step) empty) ∙ sym (append-nil (lines_of before.trace (next_events before.world step)))
+    ap (lines_of before.trace) (took.event ∙ ap (λ l. l ++ next_events before.world.cluster step) empty) ∙ sym (append-nil (lines_of before.trace (next_events before.world.cluster step)))
 
-pub Plays-step : {K X : Type 0} {sink : Ghosts K} {before after : Player} {out then : K} {step : Step} {had has seen text : List Event} {x : X} → Emits before.world after.world had has (next_events before.world step) step_cost → had ≡ [] → seen ≡ has
+pub Plays-step : {K X : Type 0} {sink : Ghosts K} {before after : Player} {out then : K} {step : Step} {had has seen text : List Event} {x : X} → Emits before.world.cluster after.world.cluster had has (next_events before.world.cluster step) step_cost → TookSteps before.world after.world 1 → had ≡ [] → seen ≡ has
     → after.summary ≡ noted_step before.summary seen → text ≡ has → after.trace ≡ traced_after before.trace step → Prints sink out then Write (Ok x) (lines_of before.trace text) → Plays {X = Unit {0}} sink before after out then (Ok tt) (step ∷ [])
-Plays-step {sink = sink} {before = before} {after = after} {out = out} {then = then} {step = step} {had = had} {has = has} took empty sees noted same traced printed = record {
-  world = took.state ∙ ap (cluster_over before.world) (sym (append-nil (next_events before.world step)));
+Plays-step {sink = sink} {before = before} {after = after} {out = out} {then = then} {step = step} {had = had} {has = has} took taken empty sees noted same traced printed = record {
+  world = took.state ∙ ap (cluster_over before.world.cluster) (sym (append-nil (next_events before.world.cluster step)));
   trace = traced;
-  summary = noted ∙ ap (noted_step before.summary) (sees ∙ took.event ∙ ap (λ l. l ++ next_events before.world step) empty);
-  room = λ more room. HasRoomFor-step before.world after.world had has (next_events before.world step) more took room;
-  printed = subst (λ (t : List ℕ). Prints {X = Unit {0}} sink out then Write (Ok tt) t) (ap (lines_of before.trace) same ∙ step-text before after.world step had has took empty) (Prints-ok Write tt printed);
+  summary = noted ∙ ap (noted_step before.summary) (sees ∙ took.event ∙ ap (λ l. l ++ next_events before.world.cluster step) empty);
+  taken = taken;
+  printed = subst (λ (t : List ℕ). Prints {X = Unit {0}} sink out then Write (Ok tt) t) (ap (lines_of before.trace) same ∙ step-text before after.world.cluster step had has took empty) (Prints-ok Write tt printed);
 }
 
 -- so is a front of it
-pub Plays-step-stop : {K X Y : Type 0} {sink : Ghosts K} {before after : Player} {out then : K} {step : Step} {had has text : List Event} {error : PrintError} (final : Result Y PrintError) → Emits before.world after.world had has (next_events before.world step) step_cost → had ≡ [] → text ≡ has
+pub Plays-step-stop : {K X Y : Type 0} {sink : Ghosts K} {before after : Player} {out then : K} {step : Step} {had has text : List Event} {error : PrintError} (final : Result Y PrintError) → Emits before.world.cluster after.world.cluster had has (next_events before.world.cluster step) step_cost → had ≡ [] → text ≡ has
     → Prints {X = X} sink out then Write (Err error) (lines_of before.trace text) → final ≡ Err error → Plays sink before after out then final (step ∷ [])
 Plays-step-stop {Y = Y} {sink = sink} {before = before} {after = after} {out = out} {then = then} {step = step} {had = had} {has = has} {error = error} final took empty same printed stops = rw stops (record {
   world = tt;
   trace = tt;
   summary = tt;
-  room = tt;
-  printed = subst (λ (t : List ℕ). Prints {X = Y} sink out then Write (Err error) t) (ap (lines_of before.trace) same ∙ step-text before after.world step had has took empty)
+  taken = tt;
+  printed = subst (λ (t : List ℕ). Prints {X = Y} sink out then Write (Err error) t) (ap (lines_of before.trace) same ∙ step-text before after.world.cluster step had has took empty)
       (record { ok = tt; part = printed.part; write = λ e. printed.write (ap Err cc); grows = printed.grows; room = printed.room });
 })
 
@@ -77,8 +68,8 @@ Plays-none {X = X} {sink = sink} {before = before} {out = out} final steps stops
   world = tt;
   trace = tt;
   summary = tt;
-  room = tt;
-  printed = Prints-none {X = X} sink out Write Memory (Err Memory) (printed_from before.world before.trace steps) refl memory-is-no-write;
+  taken = tt;
+  printed = Prints-none {X = X} sink out Write Memory (Err Memory) (printed_from before.world.cluster before.trace steps) refl memory-is-no-write;
 })
 
 -- some steps, and then others: what they leave, and what they print
@@ -117,31 +108,35 @@ noted_from-append summary world (step ∷ steps) rest =
 
 -- of the steps of a whole, these are left
 pub record Playing {K : Type 0} (sink : Ghosts K) (start now : Player) (out then : K) (whole left : List Step) : Type 0 where
-  pub text : IsPrinting sink out then Write (printed_from start.world start.trace whole) (printed_from now.world now.trace left)
-  pub state : cluster_over now.world (run_events now.world left) ≡ cluster_over start.world (run_events start.world whole)
+  pub text : IsPrinting sink out then Write (printed_from start.world.cluster start.trace whole) (printed_from now.world.cluster now.trace left)
+  pub state : cluster_over now.world.cluster (run_events now.world.cluster left) ≡ cluster_over start.world.cluster (run_events start.world.cluster whole)
   pub traced : traced_over now.trace left ≡ traced_over start.trace whole
-  pub noted : noted_from now.summary now.world left ≡ noted_from start.summary start.world whole
-  pub room : (more : ℕ) → HasRoomFor start.world (length whole + more) → HasRoomFor now.world (length left + more)
+  pub noted : noted_from now.summary now.world.cluster left ≡ noted_from start.summary start.world.cluster whole
+  pub count : ℕ
+  pub counts : count + length left ≡ length whole
+  pub taken : TookSteps start.world now.world count
 
 pub Playing-start : {K : Type 0} (sink : Ghosts K) (start : Player) (out : K) (whole : List Step) → Playing sink start start out out whole whole
 Playing-start sink start out whole = record {
-  text = IsPrinting-start sink out Write (printed_from start.world start.trace whole);
+  text = IsPrinting-start sink out Write (printed_from start.world.cluster start.trace whole);
   state = refl;
   traced = refl;
   noted = refl;
-  room = λ more room. room;
+  count = 0;
+  counts = omega arith;
+  taken = TookSteps-none start.world;
 }
 
 -- there is room for the next piece
-pub Playing-room : {K : Type 0} {sink : Ghosts K} {start now : Player} {out then : K} {whole left : List Step} (piece rest : List Step) → Playing sink start now out then whole left → left ≡ piece ++ rest → HasRoomFor start.world (length whole) → HasRoomFor now.world (length piece)
+pub Playing-room : {K : Type 0} {sink : Ghosts K} {start now : Player} {out then : K} {whole left : List Step} (piece rest : List Step) → Playing sink start now out then whole left → left ≡ piece ++ rest → HasStepsLeft start.world (length whole) → HasStepsLeft now.world (length piece)
 Playing-room {start = start} {now = now} {whole = whole} {left = left} piece rest p is room =
-    let all = p.room 0 (HasRoomFor-fewer start.world (length whole) (length whole + 0) room (omega arith)) in
-    HasRoomFor-fewer now.world (length left + 0) (length piece) all (omega (arith, ap length is, length-append piece rest))
+    let behind : HasStepsLeft now.world (length left) = steps-left-behind start.world now.world p.count (length left) p.taken (subst (HasStepsLeft start.world) (sym p.counts) room) in
+    steps-left-fewer now.world (length left) (length piece) (omega (arith, ap length is, length-append piece rest)) behind
 
 -- meanwhile the members stay
-pub Playing-members : {K : Type 0} {sink : Ghosts K} {start now : Player} {out then : K} {whole left : List Step} → Playing sink start now out then whole left → now.world.facts.members ≡ start.world.facts.members
+pub Playing-members : {K : Type 0} {sink : Ghosts K} {start now : Player} {out then : K} {whole left : List Step} → Playing sink start now out then whole left → now.world.cluster.facts.members ≡ start.world.cluster.facts.members
 Playing-members {start = start} {now = now} {whole = whole} {left = left} p =
-    sym (members-stay now.world (run_events now.world left)) ∙ ap (λ (c : Cluster). c.facts.members) p.state ∙ members-stay start.world (run_events start.world whole)
+    sym (members-stay now.world.cluster (run_events now.world.cluster left)) ∙ ap (λ (c : Cluster). c.facts.members) p.state ∙ members-stay start.world.cluster (run_events start.world.cluster whole)
 
 -- each line of a script names declared members only
 pub line-declared : (members : List Name) (body : List Line) (i : ℕ) (line : Line) → AllAreLines members body → slice_get body i ≡ Some line → IsLine members line
@@ -149,31 +144,32 @@ line-declared members [] i line all is = absurd (none-some line is)
 line-declared members (first ∷ body) zero line all is = subst (IsLine members) (same_Some first line is) all.0
 line-declared members (first ∷ body) (suc i) line all is = line-declared members body i line all.1 is
 
-next-text : (before after : Player) (piece rest : List Step) → after.world ≡ cluster_over before.world (run_events before.world piece) → after.trace ≡ traced_over before.trace piece
-    → printed_from before.world before.trace (piece ++ rest) ≡ printed_from before.world before.trace piece ++ printed_from after.world after.trace rest
-next-text before after piece rest world trace = printed_from-append before.world before.trace piece rest
-    ∙ ap (λ c. printed_from before.world before.trace piece ++ printed_from c (traced_over before.trace piece) rest) (sym world)
-    ∙ ap (λ t. printed_from before.world before.trace piece ++ printed_from after.world t rest) (sym trace)
+next-text : (before after : Player) (piece rest : List Step) → after.world.cluster ≡ cluster_over before.world.cluster (run_events before.world.cluster piece) → after.trace ≡ traced_over before.trace piece
+    → printed_from before.world.cluster before.trace (piece ++ rest) ≡ printed_from before.world.cluster before.trace piece ++ printed_from after.world.cluster after.trace rest
+next-text before after piece rest world trace = printed_from-append before.world.cluster before.trace piece rest
+    ∙ ap (λ c. printed_from before.world.cluster before.trace piece ++ printed_from c (traced_over before.trace piece) rest) (sym world)
+    ∙ ap (λ t. printed_from before.world.cluster before.trace piece ++ printed_from after.world.cluster t rest) (sym trace)
 
 pub Playing-more : {K X : Type 0} {sink : Ghosts K} {start before after : Player} {out mid then : K} {x : X} {whole left piece : List Step} (rest : List Step)
     → Playing sink start before out mid whole left → left ≡ piece ++ rest → Plays sink before after mid then (Ok x) piece → Playing sink start after out then whole rest
 Playing-more {start = start} {before = before} {after = after} {whole = whole} {left = left} {piece = piece} rest p is q = record {
-  text = IsPrinting-more (printed_from after.world after.trace rest) p.text (ap (λ s. printed_from before.world before.trace s) is ∙ next-text before after piece rest q.world q.trace) q.printed;
-  state = ap (λ c. cluster_over c (run_events c rest)) q.world ∙ run_events-append before.world piece rest ∙ ap (λ s. cluster_over before.world (run_events before.world s)) (sym is) ∙ p.state;
-  noted = ap (λ s. noted_from s after.world rest) q.summary ∙ ap (λ c. noted_from (noted_from before.summary before.world piece) c rest) q.world ∙ noted_from-append before.summary before.world piece rest
-      ∙ ap (noted_from before.summary before.world) (sym is) ∙ p.noted;
+  text = IsPrinting-more (printed_from after.world.cluster after.trace rest) p.text (ap (λ s. printed_from before.world.cluster before.trace s) is ∙ next-text before after piece rest q.world q.trace) q.printed;
+  state = ap (λ c. cluster_over c (run_events c rest)) q.world ∙ run_events-append before.world.cluster piece rest ∙ ap (λ s. cluster_over before.world.cluster (run_events before.world.cluster s)) (sym is) ∙ p.state;
+  noted = ap (λ s. noted_from s after.world.cluster rest) q.summary ∙ ap (λ c. noted_from (noted_from before.summary before.world.cluster piece) c rest) q.world ∙ noted_from-append before.summary before.world.cluster piece rest
+      ∙ ap (noted_from before.summary before.world.cluster) (sym is) ∙ p.noted;
   traced = ap (λ t. traced_over t rest) q.trace ∙ sym (traced_over-append before.trace piece rest) ∙ ap (traced_over before.trace) (sym is) ∙ p.traced;
-  room = λ more room. q.room (length rest + more)
-      (HasRoomFor-fewer before.world (length left + more) (length piece + (length rest + more)) (p.room more room) (omega (arith, ap length is, length-append piece rest)));
+  count = p.count + length piece;
+  counts = omega (arith, p.counts, ap length is, length-append piece rest);
+  taken = TookSteps-then start.world before.world after.world p.count (length piece) (p.count + length piece) refl p.taken q.taken;
 }
 
 pub Playing-end : {K : Type 0} {sink : Ghosts K} {start now : Player} {out then : K} {whole left : List Step} → Playing sink start now out then whole left → left ≡ [] → Plays {X = Unit {0}} sink start now out then (Ok tt) whole
 Playing-end {start = start} {now = now} {whole = whole} p none = record {
-  world = ap (λ s. cluster_over now.world (run_events now.world s)) (sym none) ∙ p.state;
+  world = ap (λ s. cluster_over now.world.cluster (run_events now.world.cluster s)) (sym none) ∙ p.state;
   trace = ap (traced_over now.trace) (sym none) ∙ p.traced;
-  summary = ap (noted_from now.summary now.world) (sym none) ∙ p.noted;
-  room = λ more room. HasRoomFor-fewer now.world _ more (p.room more room) (omega arith);
-  printed = IsPrinting-end p.text (ap (printed_from now.world now.trace) none);
+  summary = ap (noted_from now.summary now.world.cluster) (sym none) ∙ p.noted;
+  taken = subst (TookSteps start.world now.world) (omega (arith, p.counts, ap length none)) p.taken;
+  printed = IsPrinting-end p.text (ap (printed_from now.world.cluster now.trace) none);
 }
 
 -- a call that stops in the midst of the next piece
@@ -183,8 +179,8 @@ Playing-stop {before = before} {piece = piece} final rest p is q stops = rw stop
   world = tt;
   trace = tt;
   summary = tt;
-  room = tt;
-  printed = IsPrinting-stop _ _ p.text (ap (λ s. printed_from before.world before.trace s) is ∙ printed_from-append before.world before.trace piece rest) q.printed refl;
+  taken = tt;
+  printed = IsPrinting-stop _ _ p.text (ap (λ s. printed_from before.world.cluster before.trace s) is ∙ printed_from-append before.world.cluster before.trace piece rest) q.printed refl;
 })
 
 -- lines that are left, one and then the others

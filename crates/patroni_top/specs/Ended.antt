@@ -1,12 +1,14 @@
 -- The world that a run leaves.
-use Rattle.std.specs.Prelude.{ℕ, ◌≡◌, ◌↔◌, List, Ok, Err, Result, IsSome, IfSome}
+use Rattle.std.specs.Prelude.{ℕ, ◌≡◌, ◌-◌, ◌↔◌, List, length, Ok, Err, Result, IsSome, IfSome}
 use Rattle.pat_base.specs.declared.outside.Source.{Ghosts}
 use Rattle.pat_base.specs.Outside.{Known}
 use Rattle.cluster_script.specs.Reading.{script_of}
 use Rattle.script_model.specs.Script.{ScriptText}
+use Rattle.script_model.specs.Steps.{steps_of}
 use Rattle.cluster_model.specs.Starting.{cluster_of}
-use Rattle.cluster_model.specs.State.{Cluster}
 use Rattle.pat_world.specs.Book.{StandsFor}
+use Rattle.pat_world.specs.Steps.{HasStepsLeft, IsCounted, WorldFacts}
+use Rattle.world_model.specs.Room.{most_steps}
 use Rattle.patroni_top.specs.declared.ended.Ended.{Ended}
 use Rattle.patroni_top.specs.declared.ending.Ending.{Ending}
 use Rattle.patroni_top.specs.declared.ending.Ending.TheVariants as endings
@@ -18,9 +20,13 @@ abbrev pub ending_in : {A : Type 0} → Result A Ending → Ending
 ending_in (Ok left) = endings.Done
 ending_in (Err ending) = ending
 
--- the world took all steps of this script: it stands for the book of them
-abbrev pub IsLeftBy : ScriptText → Cluster → Type 0
-IsLeftBy script world = StandsFor (cluster_of script.head) (run_of script) world
+-- the world took all steps of this script: it stands for the book of them and counts them, it may take what is left of the most steps, and no
+-- counter has come farther than its steps bring one
+pub record IsLeftBy (script : ScriptText) (world : WorldFacts) : Type 0 where
+  pub stands : StandsFor (cluster_of script.head) (run_of script) world.cluster
+  pub steps : world.steps ≡ length (steps_of script.body)
+  pub left : HasStepsLeft world (most_steps - length (steps_of script.body))
+  pub counted : IsCounted world
 
 -- this holds of the script that these bytes are, if they are one
 abbrev pub IfScript : (ScriptText → Type 0) → List ℕ → Type 0

@@ -12,7 +12,8 @@ ghost use Rattle.summary.specs.Passing.{IsTickAlone};
 ghost use Rattle.summary.specs.Sights.{noted_step, noted_steps};
 ghost use Rattle.summary.specs.SummaryText.{closing_text};
 ghost use Rattle.world_model.specs.Idle.{IsTick};
-ghost use Rattle.world_model.specs.Room.{HasRoomFor};
+ghost use Rattle.world_model.specs.Room.{most_steps};
+ghost use Rattle.pat_world.specs.Steps.{HasStepsLeft, IsCounted, TookSteps};
 ghost use Rattle.patroni_top.specs.Ended.{IsLeftBy};
 ghost use Rattle.patroni_top.specs.Playing.{Idles, Plays};
 ghost use Rattle.patroni_top.specs.Run.{KeepsLimits, noted_from, output_of, printed_from, traced_after};
@@ -63,7 +64,10 @@ struct Player {
 
 impl Player {
     fn new(alloc: Global, head: &Head) -> Result<Player, AllocError>
-        ensures world { IfOk result (λ player. player.world ≡ cluster_of head.now) }
+        ensures world { IfOk result (λ player. player.world.cluster ≡ cluster_of head.now) }
+        ensures steps { IfOk result (λ player. player.world.steps ≡ 0) }
+        ensures room { IfOk result (λ player. HasStepsLeft player.world most_steps) }
+        ensures counted { IfOk result (λ player. IsCounted player.world) }
         ensures trace { IfOk result (λ player. player.trace ≡ false) }
         ensures summary { IfOk result (λ player. player.summary ≡ first_summary head.now) }
     {
@@ -97,11 +101,12 @@ impl Player {
 
     /// The lines of a script, one after another, and then the closing summary.
     fn play<K: Sink>(&mut self, script: &Script, out: &mut K) -> Result<(), PrintError>
-        requires room { HasRoomFor self.old.world (length (steps_of script.now.body)) }
-        requires members { names_in self.old.world.facts.members ≡ names_of script.now.head }
-        ensures world { OnOk result (self.new.world ≡ cluster_over self.old.world (run_events self.old.world (steps_of script.now.body))) }
+        requires room { HasStepsLeft self.old.world (length (steps_of script.now.body)) }
+        requires members { names_in self.old.world.cluster.facts.members ≡ names_of script.now.head }
+        ensures world { OnOk result (self.new.world.cluster ≡ cluster_over self.old.world.cluster (run_events self.old.world.cluster (steps_of script.now.body))) }
+        ensures taken { OnOk result (TookSteps self.old.world self.new.world (length (steps_of script.now.body))) }
         ensures printed { Prints K.Sink out.old out.new PrintError.Write result
-            (printed_from self.old.world self.old.trace (steps_of script.now.body) ++ closing_text (noted_from self.old.summary self.old.world (steps_of script.now.body)).watch.closing) }
+            (printed_from self.old.world.cluster self.old.trace (steps_of script.now.body) ++ closing_text (noted_from self.old.summary self.old.world.cluster (steps_of script.now.body)).watch.closing) }
     {
         self.play_body(script, out)?;
         print_closing(self.alloc, &self.summary.closing(), out)
@@ -109,8 +114,8 @@ impl Player {
 
     /// The lines of a body, one after another.
     fn play_body<K: Sink>(&mut self, script: &Script, out: &mut K) -> Result<(), PrintError>
-        requires room { HasRoomFor self.old.world (length (steps_of script.now.body)) }
-        requires members { names_in self.old.world.facts.members ≡ names_of script.now.head }
+        requires room { HasStepsLeft self.old.world (length (steps_of script.now.body)) }
+        requires members { names_in self.old.world.cluster.facts.members ≡ names_of script.now.head }
         ensures { Plays K.Sink self.old self.new out.old out.new result (steps_of script.now.body) }
     {
         for place in 0..script.len() {
@@ -120,8 +125,8 @@ impl Player {
     }
 
     fn play_line<K: Sink>(&mut self, line: &Line, out: &mut K) -> Result<(), PrintError>
-        requires room { HasRoomFor self.old.world (length (steps_of_line line.now)) }
-        requires declared { IsLine (names_in self.old.world.facts.members) line.now }
+        requires room { HasStepsLeft self.old.world (length (steps_of_line line.now)) }
+        requires declared { IsLine (names_in self.old.world.cluster.facts.members) line.now }
         ensures { Plays K.Sink self.old self.new out.old out.new result (steps_of_line line.now) }
     {
         match line {
@@ -138,7 +143,7 @@ impl Player {
         step: &Step,
         out: &mut K,
     ) -> Result<(), PrintError>
-        requires room { HasRoomFor self.old.world count }
+        requires room { HasStepsLeft self.old.world count }
         requires tick { IsTick step.now }
         ensures { Plays K.Sink self.old self.new out.old out.new result (replicate count step.now) }
     {
@@ -152,7 +157,8 @@ impl Player {
 
     /// Takes those of so many ticks of one kind at once that are known to bring nothing else, and answers how many are left.
     fn idle(&mut self, step: &Step, count: u64) -> Result<u64, AllocError>
-        requires { IsTick step.now }
+        requires tick { IsTick step.now }
+        requires room { HasStepsLeft self.old.world count }
         ensures { IfOk result (Idles self.old self.new step.now count) }
     {
         let ticks = self.world.idle_for(step, count);
@@ -161,8 +167,8 @@ impl Player {
     }
 
     fn play_step<K: Sink>(&mut self, step: &Step, out: &mut K) -> Result<(), PrintError>
-        requires room { HasRoomFor self.old.world 1 }
-        requires declared { IsStep self.old.world.facts.members step.now }
+        requires room { HasStepsLeft self.old.world 1 }
+        requires declared { IsStep self.old.world.cluster.facts.members step.now }
         ensures { Plays K.Sink self.old self.new out.old out.new result (step.now ∷ []) }
     {
         self.events.clear();

@@ -2,23 +2,18 @@ use Rattle.std.proofs.Common.{ℕ, List, ap, ◌∙◌, Err, Ok, subst}
 use Rattle.pat_base.specs.Prints.{Prints}
 use Rattle.std.proofs.lemmas.Result.{err_from_is_err_and}
 use Rattle.pat_base.proofs.Printing.{Prints-none, Prints-ok}
-use Rattle.script_model.specs.Steps.{steps_of}
-use Rattle.cluster_model.specs.Cluster.{cluster_over}
-use Rattle.cluster_model.specs.Next.{run_events}
 use Rattle.cluster_model.specs.Starting.{cluster_of}
 use Rattle.cluster_model.specs.State.{Cluster}
 use Rattle.cluster_model.specs.Steps.{names_in}
 use Rattle.world_model.proofs.Declaring.{names-start}
-use Rattle.pat_world.proofs.Standing.{is-stands}
 use Rattle.patroni_top.specs.declared.print_error.PrintError.TheVariants.{Memory, Write}
-use Rattle.patroni_top.specs.Run.{run_of}
 use Rattle.patroni_top.specs.Watches.{first_summary}
 use Rattle.patroni_top.proofs.Played.{Prints-err, memory-is-no-write}
-use Rattle.patroni_top.proofs.Whole.{has-room, text-is}
+use Rattle.patroni_top.proofs.Whole.{has-room, left-by, text-is}
 use Rattle.patroni_top.proofs.playing.play.Goals as goal
 
 pub play-requires-clause-room : goal.play-requires-clause-room
-play-requires-clause-room g c = has-room c.args.script.now c.in_ok-player.player.world c.requires (c.in_ok-player.ensures.world ∙ ap (λ h. cluster_of h) c.head.ensures.value)
+play-requires-clause-room g c = has-room c.args.script.now c.in_ok-player.player.world c.requires c.in_ok-player.ensures.room
 
 pub play-requires-clause-members : goal.play-requires-clause-members
 play-requires-clause-members g c =
@@ -37,15 +32,15 @@ returns-in-Ok-clause-printed g c =
     let first = c.in_ok-player.ensures in
     Prints-ok Write c.into_world.result
     (subst (λ (t : List ℕ). Prints {X = Unit {0}} g.K.Sink c.args.out.now c.play.new.out Write (Ok tt) t)
-    (text-is script player.world player.trace player.summary (first.world ∙ ap (λ h. cluster_of h) c.head.ensures.value) first.trace (first.summary ∙ ap (λ h. first_summary h) c.head.ensures.value))
+    (text-is script player.world.cluster player.trace player.summary (first.world ∙ ap (λ h. cluster_of h) c.head.ensures.value) first.trace (first.summary ∙ ap (λ h. first_summary h) c.head.ensures.value))
     c.in-Ok.ensures.printed)
 
 pub returns-in-Ok-clause-world : goal.returns-in-Ok-clause-world
 returns-in-Ok-clause-world g c =
     let script = c.args.script.now in
-    let steps = steps_of script.body in
     let start = c.in_ok-player.ensures.world ∙ ap (λ h. cluster_of h) c.head.ensures.value in
-    is-stands (cluster_of script.head) (run_of script) c.into_world.result (c.into_world.ensures ∙ c.in-Ok.ensures.world ∙ ap (λ (w : Cluster). cluster_over w (run_events w steps)) start)
+    let first = c.in_ok-player.ensures in
+    left-by script c.in_ok-player.player.world _ c.into_world.result c.requires start first.steps first.room first.counted c.in-Ok.ensures.world c.in-Ok.ensures.taken c.into_world.ensures
 
 pub returns-in-Err-clause-printed : goal.returns-in-Err-clause-printed
 returns-in-Err-clause-printed g c =
@@ -54,5 +49,5 @@ returns-in-Err-clause-printed g c =
     let first = c.in_ok-player.ensures in
     Prints-err
     (subst (λ (t : List ℕ). Prints {X = Unit {0}} g.K.Sink c.args.out.now c.play.new.out Write (Err c.in-Err.error) t)
-    (text-is script player.world player.trace player.summary (first.world ∙ ap (λ h. cluster_of h) c.head.ensures.value) first.trace (first.summary ∙ ap (λ h. first_summary h) c.head.ensures.value))
+    (text-is script player.world.cluster player.trace player.summary (first.world ∙ ap (λ h. cluster_of h) c.head.ensures.value) first.trace (first.summary ∙ ap (λ h. first_summary h) c.head.ensures.value))
     c.in-Err.ensures.printed)

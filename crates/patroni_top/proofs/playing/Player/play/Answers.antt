@@ -20,7 +20,7 @@ pub returns-clause-printed : goal.returns-clause-printed
 returns-clause-printed g c =
     let player = c.args.self.now in
     let final = c.print_closing.result in
-    subst (λ (s : SummaryFacts). Prints g.K.Sink c.args.out.now c.print_closing.new.out Write final (printed_from player.world player.trace (steps_of c.args.script.now.body) ++ closing_text s.watch.closing))
+    subst (λ (s : SummaryFacts). Prints g.K.Sink c.args.out.now c.print_closing.new.out Write final (printed_from player.world.cluster player.trace (steps_of c.args.script.now.body) ++ closing_text s.watch.closing))
     c.in_ok-play_body.ensures.summary
     (Prints-then final c.in_ok-play_body.ensures.printed
     (subst (λ (closing : Closing). Prints g.K.Sink c.play_body.new.out c.print_closing.new.out Write final (closing_text closing)) c.closing.ensures c.print_closing.ensures))

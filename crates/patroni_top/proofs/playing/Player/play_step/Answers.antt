@@ -22,4 +22,4 @@ returns-in_err-print_events g c =
 
 pub returns : goal.returns
 returns g c =
-    Plays-step c.in_ok-step.ensures.emits c.clear.ensures.items c.deref.ensures.value c.in_ok-note.ensures c.deref-2.ensures.value c.traced_after-self.ensures c.in_ok-print_events.ensures
+    Plays-step c.in_ok-step.ensures.emits c.in_ok-step.ensures.taken c.clear.ensures.items c.deref.ensures.value c.in_ok-note.ensures c.deref-2.ensures.value c.traced_after-self.ensures c.in_ok-print_events.ensures

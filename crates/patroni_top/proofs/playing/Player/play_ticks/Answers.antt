@@ -2,7 +2,7 @@ use Rattle.std.proofs.Common.{◌-◌, ℕ, [], ◌∷◌, replicate, ap, append
 use Rattle.std.proofs.lemmas.List.{length-replicate}
 use Rattle.std.proofs.lemmas.Result.{err_from_is_err_and}
 use Rattle.script_model.specs.declared.line.Step.{Step}
-use Rattle.world_model.specs.Room.{HasRoomFor}
+use Rattle.pat_world.specs.Steps.{HasStepsLeft}
 use Rattle.patroni_top.specs.declared.print_error.PrintError.TheVariants.{Memory}
 use Rattle.patroni_top.proofs.Idling.{Plays-idle, none-left, tick-declared, ticks-first, ticks-split}
 use Rattle.patroni_top.proofs.Played.{Playing-end, Playing-more, Playing-room, Playing-stop, Plays-none}
@@ -10,10 +10,18 @@ use Rattle.patroni_top.proofs.playing.Player.play_ticks.Goals as goal
 
 pub play_step-requires-clause-room : goal.play_step-requires-clause-room
 play_step-requires-clause-room g c = Playing-room (c.args.step.now ∷ []) _ c.loop-left.invariant (ticks-first c.args.step.now c.loop-left.left (omega (arith, c.loop-left-test.true)))
-    (subst (λ (k : ℕ). HasRoomFor c.args.self.now.world k) (sym (length-replicate {A = Step} c.args.count c.args.step.now)) c.requires.room)
+    (subst (HasStepsLeft c.args.self.now.world) (sym (length-replicate {A = Step} c.args.count c.args.step.now)) c.requires.room)
+
+pub idle-requires-clause-room : goal.idle-requires-clause-room
+idle-requires-clause-room g c =
+    let step = c.args.step.now in
+    let left = replicate (c.loop-left.left - 1) step in
+    let stepped = Playing-more left c.loop-left.invariant (ticks-first step c.loop-left.left (omega (arith, c.loop-left-test.true))) c.in_ok-play_step.ensures in
+    subst (HasStepsLeft c.play_step.new.self.world) (length-replicate {A = Step} (c.loop-left.left - 1) step)
+    (Playing-room left [] stepped (sym (append-nil left)) (subst (HasStepsLeft c.args.self.now.world) (sym (length-replicate {A = Step} c.args.count step)) c.requires.room))
 
 pub play_step-requires-clause-declared : goal.play_step-requires-clause-declared
-play_step-requires-clause-declared g c = tick-declared c.loop-left.self.world.facts.members c.args.step.now c.requires.tick
+play_step-requires-clause-declared g c = tick-declared c.loop-left.self.world.cluster.facts.members c.args.step.now c.requires.tick
 
 pub loop-left-preserved : goal.loop-left-preserved
 loop-left-preserved g c =
