@@ -1,5 +1,5 @@
 -- A run on its way: what is left, from the player as it is, is the rest of the whole.
-use Rattle.std.proofs.Common.{◌≡◌, Bool, ℕ, ◌+◌, ◌*◌, ◌≤◌, List, [], ◌∷◌, ◌++◌, length, drop, Some, Result, Ok, Err, arith, append_assoc, append-nil, length-append, refl, ◌∙◌, ap, sym, subst, suc, zero}
+use Rattle.std.proofs.Common.{◌≡◌, Bool, ℕ, ◌+◌, List, [], ◌∷◌, ◌++◌, length, drop, Some, Result, Ok, Err, arith, append_assoc, append-nil, length-append, refl, ◌∙◌, ap, sym, subst, suc, zero}
 use Rattle.std.proofs.lemmas.Option.{none-some, same_Some}
 use Rattle.pat_base.specs.declared.name.Name.{Name}
 use Rattle.std.specs.Prelude.{slice_get}

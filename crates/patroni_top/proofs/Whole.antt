@@ -1,5 +1,5 @@
 -- A whole run: the lines of its book, and then the summary.
-use Rattle.std.proofs.Common.{◌≡◌, ℕ, ◌+◌, ◌-◌, ◌≤◌, refl, sym, subst, Bool, false, ◌++◌, List, [], ◌∷◌, length, arith, ◌∙◌, ap, length-append}
+use Rattle.std.proofs.Common.{◌≡◌, ℕ, ◌+◌, ◌-◌, ◌≤◌, sym, subst, Bool, false, ◌++◌, List, [], ◌∷◌, length, arith, ◌∙◌, ap, length-append}
 use Rattle.std.proofs.lemmas.List.{length-replicate}
 use Rattle.script_model.specs.declared.line.Line.{Line}
 use Rattle.script_model.specs.declared.line.Line.TheVariants as lines
