@@ -26,6 +26,7 @@ use Rattle.agent_model.specs.Agents.{Outcome}
 use Rattle.agent_commit_law.specs.Committing.{GrowsByConnected, NeedsOne}
 use Rattle.agent_commit_law.proofs.CommitTools.{is-one, no-members, where-one}
 use Rattle.std.specs.Int.{bit_at}
+use Rattle.pat_base.specs.declared.member_id.TheConstants.{MOST_MEMBERS}
 
 -- who is in a required list is waited for by name
 pub required-needs : (required : Required) (n : ℕ) → set_members (required_members required) n ≡ true → NeedsOne (need_in required) n
@@ -61,11 +62,11 @@ end-where true published found name is = end-by published found name is
 end-where false published found name is = absurd (no-both is)
 
 -- a set of sixteen has members below sixteen
-few-wanted : (view : LeaderView) (seen : SnapshotFacts) (n : ℕ) → set_members (wanted_in view seen) n ≡ true → n < 16
+few-wanted : (view : LeaderView) (seen : SnapshotFacts) (n : ℕ) → set_members (wanted_in view seen) n ≡ true → n < MOST_MEMBERS
 unfolding candidates_in
 few-wanted view seen n is =
     let chosen : List Bool = map (is_wanted (config_in seen).synchronous_node_count (candidates_in view seen)) (candidates_in view seen) in
-    let few : length chosen ≡ 16 = length-map (candidates_in view seen) (is_wanted (config_in seen).synchronous_node_count (candidates_in view seen)) ∙ length-map-range_with_len (candidate_numbered view seen) 0 16 in
+    let few : length chosen ≡ MOST_MEMBERS = length-map (candidates_in view seen) (is_wanted (config_in seen).synchronous_node_count (candidates_in view seen)) ∙ length-map-range_with_len (candidate_numbered view seen) 0 16 in
     let on : get_or chosen n false ≡ true = where-one (get_or chosen n false) (sym (bit-set_of chosen n) ∙ is-one (bit_at (set_of chosen).bits n) is) in
     elim (cases_lt n (length chosen)) [
       | inl lt ↦ subst (λ (k : ℕ). n < k) few lt

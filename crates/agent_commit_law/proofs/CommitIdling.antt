@@ -21,7 +21,7 @@ use Rattle.agent_model.specs.declared.why.Why.{Why}
 use Rattle.agent_model.specs.declared.why.Why.TheVariants.{HandOver, Lost}
 use Rattle.agent_model.specs.Acting.{disarming, disarmed, ending_server, shutting_down, touching, starting_replica, following_server, waiting_no_more}
 use Rattle.agent_model.specs.Agents.{RoleFacts, Follower, Outcome, is_ready, is_leader}
-use Rattle.agent_model.specs.Answers.{most_answers}
+use Rattle.pat_base.specs.declared.member_id.TheConstants.{MOST_MEMBERS}
 use Rattle.agent_model.specs.Before.{leader_finds_ended, has_ended, finds_live, stray_finds_ended, before}
 use Rattle.agent_model.specs.Claiming.{postpones}
 use Rattle.agent_commit_law.specs.Committing.{IsQuietTxn}
@@ -278,7 +278,7 @@ free-idle told now o = let x : Outcome = record o { role = Follower } in let sta
       touches = idle-then told o x (touching x) fell (touching-idle told x) (omega arith);
       bars = λ bar. idle-then told o x (barred bar x) fell (barred-idle told x bar) (omega arith);
       judges = idle-then told o (unheard x) (judged now (unheard x)) (falls told o (unheard x) refl refl refl refl refl (waits-same o (unheard x) refl) (λ q. q)) (judged-idle told now (unheard x)) (omega arith);
-      asks = falls told o (asking_others now (unheard x)) refl refl refl refl refl (waits-new o (asking_others now (unheard x)) _ refl (omega arith)) (λ q. asks-quiet o.knows.who (o.knows.sequence + 1) most_answers o.outputs q);
+      asks = falls told o (asking_others now (unheard x)) refl refl refl refl refl (waits-new o (asking_others now (unheard x)) _ refl (omega arith)) (λ q. asks-quiet o.knows.who (o.knows.sequence + 1) MOST_MEMBERS o.outputs q);
     })
 
 read-idle : (now : Ticks) (snapshot : SnapshotFacts) (o : Outcome) → Idle (Some snapshot) o (record o { knows = read_noted now snapshot o.knows })

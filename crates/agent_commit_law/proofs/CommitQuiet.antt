@@ -24,7 +24,8 @@ use Rattle.agent_model.specs.declared.output.Target.TheVariants as targets
 use Rattle.agent_model.specs.declared.who.Who.{Who}
 use Rattle.agent_model.specs.Acting.{armed, fed_until, disarmed}
 use Rattle.agent_model.specs.Agents.{Outcome}
-use Rattle.agent_model.specs.Answers.{most_answers, is_other, asking_one, asking_first}
+use Rattle.agent_model.specs.Answers.{is_other, asking_one, asking_first}
+use Rattle.pat_base.specs.declared.member_id.TheConstants.{MOST_MEMBERS}
 use Rattle.agent_model.specs.Claiming.{passing}
 use Rattle.agent_commit_law.specs.Committing.{request_in, request_of_body, request_of, requests_of, IsOneAtMost, IsQuietTxn, IsQuietBody, IsCovered, StandsAlone, IsSynchronousTxn, IsSynchronousBody, IsSynchronousOutput, is_begin}
 use Rattle.agent_model.specs.HandingOver.{asking_whom}
@@ -218,5 +219,5 @@ asks-quiet who sequence (suc count) outs quiet = ask-quiet who sequence (member_
 
 -- the asks of a leader, who may lead in its place
 pub whom-quiet : (who : Who) (candidate : Option MemberId) (sequence : ℕ) (outs : List Output) → All IsQuiet outs → All IsQuiet (asking_whom who candidate sequence outs)
-whom-quiet who None sequence outs quiet = asks-quiet who sequence most_answers outs quiet
+whom-quiet who None sequence outs quiet = asks-quiet who sequence MOST_MEMBERS outs quiet
 whom-quiet who (Some candidate) sequence outs quiet = ask-quiet who sequence (Some candidate) outs quiet

@@ -31,7 +31,8 @@ use Rattle.agent_model.specs.declared.heard.Heard.TheVariants.{Wake}
 use Rattle.agent_model.specs.declared.who.Who.{Who}
 use Rattle.agent_model.specs.Acting.{touching, waiting_no_more}
 use Rattle.agent_model.specs.Agents.{RoleFacts, Follower, Holder, Ready, Leader, Ending, Stray, Outcome}
-use Rattle.agent_model.specs.Answers.{is_other, with_answer, most_answers, asking_one, asking_first, all_answered}
+use Rattle.agent_model.specs.Answers.{is_other, with_answer, asking_one, asking_first, all_answered}
+use Rattle.pat_base.specs.declared.member_id.TheConstants.{MOST_MEMBERS}
 use Rattle.agent_model.specs.Before.{before}
 use Rattle.agent_model.specs.Decisions.{may_create}
 use Rattle.agent_law.specs.FreeKey.{HearsFree, StaysOut, AsksForKey, AsksOthers, HearsLast, RunsLate, LosesRace, LosesAndTurns}
@@ -143,7 +144,7 @@ free-asks now points sequence snapshot o hears is others = let x : Outcome = unh
       later = omega arith;
       until = refl;
       unheard = refl;
-      each = λ member other. each-asked o.knows.who (o.knows.sequence + 1) most_answers member o.outputs other member.below;
+      each = λ member other. each-asked o.knows.who (o.knows.sequence + 1) MOST_MEMBERS member o.outputs other member.below;
       outputs_are = refl;
     })
 

@@ -30,7 +30,8 @@ use Rattle.agent_model.specs.HandingOver.{asking_whom, checking, hands_over}
 use Rattle.agent_model.specs.Operators.{answering, learned}
 use Rattle.agent_model.specs.Racing.{unheard}
 use Rattle.agent_model.specs.Table.{granted_any}
-use Rattle.agent_model.specs.Answers.{is_other, most_answers, asking_one, asking_first}
+use Rattle.agent_model.specs.Answers.{is_other, asking_one, asking_first}
+use Rattle.pat_base.specs.declared.member_id.TheConstants.{MOST_MEMBERS}
 use Rattle.agent_model.specs.declared.who.Who.{Who}
 use Rattle.pat_base.specs.MemberId.{member_of}
 use Rattle.pat_base.specs.declared.member_id.MemberId.{MemberId}
@@ -95,7 +96,7 @@ asks-told who sequence zero outs told = told
 asks-told who sequence (suc count) outs told = ask-told who sequence (member_of count) (asking_first who sequence count outs) (asks-told who sequence count outs told)
 
 whom-told : (who : Who) (candidate : Option MemberId) (sequence : ℕ) (outs : List Output) → has_one is_feeding outs ≡ true → has_one is_feeding (asking_whom who candidate sequence outs) ≡ true
-whom-told who None sequence outs told = asks-told who sequence most_answers outs told
+whom-told who None sequence outs told = asks-told who sequence MOST_MEMBERS outs told
 whom-told who (Some candidate) sequence outs told = ask-told who sequence (Some candidate) outs told
 
 renewed-may : (now : Ticks) (sequence : ℕ) (grant : Granted) (snapshot : SnapshotFacts) (o : Outcome) (awaited : IsAwaitedLease sequence grant o.knows) → GrantMay now sequence grant snapshot o (leader_renewed now awaited.waited.ttl grant.revision (Told snapshot o))

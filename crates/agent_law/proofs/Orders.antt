@@ -43,7 +43,8 @@ use Rattle.agent_model.specs.Table.{step, granted_any, refused_any}
 use Rattle.pg_model.specs.Running.{is_primary}
 use Rattle.agent_model.specs.Wake.{overdue, turned, woken}
 use Rattle.agent_model.proofs.Rows.{HandoverRows, ReplyRows, ActRows, looked-by, given-up-by, granted-any-by, refused-any-by, operated-by, led_on, if-cases, renewed-by, passing-by, begins-or-claims-by, before-by, overdue-by, turn-by, wake-by, got-by, refused-by, follow-by, free-by, granted-by, repaired-by, judged-by, answered-by, DutyRows, duties-of, rested_on, takes-in-pause-by}
-use Rattle.agent_model.specs.Answers.{is_other, most_answers, asking_one, asking_first}
+use Rattle.agent_model.specs.Answers.{is_other, asking_one, asking_first}
+use Rattle.pat_base.specs.declared.member_id.TheConstants.{MOST_MEMBERS}
 use Rattle.agent_model.specs.Peers.{keeping, answered}
 use Rattle.agent_model.specs.declared.who.Who.{Who}
 use Rattle.agent_model.specs.Pausing.{may_start_behind, rest_told, resting, running_without_key}
@@ -173,7 +174,7 @@ asks-reach now start machine who sequence (suc count) outs r = ask-reaches now s
 
 -- so do those to a candidate, or to all
 whom-reach : (now : Ticks) (start machine : Machine) (who : Who) (candidate : Option MemberId) (sequence : ℕ) (outs : List Output) → Reached now start machine outs → Reached now start machine (asking_whom who candidate sequence outs)
-whom-reach now start machine who None sequence outs r = asks-reach now start machine who sequence most_answers outs r
+whom-reach now start machine who None sequence outs r = asks-reach now start machine who sequence MOST_MEMBERS outs r
 whom-reach now start machine who (Some candidate) sequence outs r = ask-reaches now start machine who sequence (Some candidate) outs r
 
 shut-reaches : (now : Ticks) (start : Machine) (o : Outcome) → Reaches now start o → Reaches now start (shutting_down now o)
@@ -229,7 +230,7 @@ free-reaches now start o r = let x : Outcome = record o { role = Follower } in
       touches = touch-reaches now start x r;
       bars = λ bar. touch-reaches now start (record x { outputs = listed (outputs.DoesNotRace bar) x.outputs }) (one-more now start o.machine o.outputs (outputs.DoesNotRace bar) tt r);
       judges = judged-reaches now start (unheard x) r;
-      asks = asks-reach now start o.machine o.knows.who (o.knows.sequence + 1) most_answers o.outputs r;
+      asks = asks-reach now start o.machine o.knows.who (o.knows.sequence + 1) MOST_MEMBERS o.outputs r;
     })
 
 answered-reaches : (now : Ticks) (start : Machine) (sequence : ℕ) (answer : PeerAnswer) (o : Outcome) → Reaches now start o → Reaches now start (answered now sequence answer o)

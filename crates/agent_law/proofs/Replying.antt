@@ -24,7 +24,8 @@ use Rattle.agent_model.specs.declared.why.Why.TheVariants.{HandOver, Lost}
 use Rattle.agent_model.specs.declared.who.Who.{Who}
 use Rattle.agent_model.specs.Acting.{arming, waiting_no_more, armed, fed_until, disarmed, deadline_after, is_refusing, touching}
 use Rattle.agent_model.specs.Agents.{RoleFacts, Follower, Outcome, made}
-use Rattle.agent_model.specs.Answers.{is_other, most_answers, asking_one, asking_first}
+use Rattle.agent_model.specs.Answers.{is_other, asking_one, asking_first}
+use Rattle.pat_base.specs.declared.member_id.TheConstants.{MOST_MEMBERS}
 use Rattle.agent_model.specs.Before.{has_ended, before}
 use Rattle.agent_model.specs.Claiming.{begins, begins_or_claims, passing, postpones}
 use Rattle.agent_model.specs.Decisions.{leader_renewed, takes_over, stray_renewed, may_take, gives_back, arms, takes_key, granted, refused}
@@ -118,7 +119,7 @@ asks-quiet f w who sequence zero outs all = all
 asks-quiet f w who sequence (suc count) outs all = ask-quiet f w who sequence (member_of count) (asking_first who sequence count outs) (asks-quiet f w who sequence count outs all)
 
 whom-quiet : (f : Outcome) (w : Option Operating) (who : Who) (candidate : Option MemberId) (sequence : ℕ) (outs : List Output) → Says f outs w → Says f (asking_whom who candidate sequence outs) w
-whom-quiet f w who None sequence outs all = asks-quiet f w who sequence most_answers outs all
+whom-quiet f w who None sequence outs all = asks-quiet f w who sequence MOST_MEMBERS outs all
 whom-quiet f w who (Some candidate) sequence outs all = ask-quiet f w who sequence (Some candidate) outs all
 
 handover-quiet : (f : Outcome) (now : Ticks) (revision : ℕ) (o : Outcome) → Quiet f o → HandoverRows (Quiet f) now revision o
@@ -155,7 +156,7 @@ free-quiet f now o all = let x : Outcome = record o { role = Follower } in free-
   touches = said o.outputs _ tt all;
   bars = λ bar. said _ _ tt (said o.outputs (outputs.DoesNotRace bar) tt all);
   judges = judged-quiet f now (unheard x) all;
-  asks = asks-quiet f o.knows.operating o.knows.who (o.knows.sequence + 1) most_answers o.outputs all;
+  asks = asks-quiet f o.knows.operating o.knows.who (o.knows.sequence + 1) MOST_MEMBERS o.outputs all;
 })
 
 pub got-quiet : (f : Outcome) (now : Ticks) (points : List HistoryPoint) (sequence : ℕ) (snapshot : SnapshotFacts) (o : Outcome) → Quiet f o → Quiet f (got now points sequence snapshot o)

@@ -47,7 +47,8 @@ use Rattle.lease_store.specs.declared.action.OperatorAction.{OperatorAction}
 use Rattle.pg_model.specs.Running.{is_primary}
 use Rattle.pg_model.specs.declared.status.ServerStatus.{ServerStatus}
 use Rattle.agent_model.specs.Racing.{finds_free, judged, asking_others, unheard}
-use Rattle.agent_model.specs.Answers.{is_other, most_answers, asking_one, asking_first}
+use Rattle.agent_model.specs.Answers.{is_other, asking_one, asking_first}
+use Rattle.pat_base.specs.declared.member_id.TheConstants.{MOST_MEMBERS}
 use Rattle.agent_law.specs.Orders.{IsAsk}
 use Rattle.agent_model.specs.Peers.{asked, keeping, answered}
 use Rattle.agent_model.specs.Wake.{reading, turn_noted, overdue, turned, woken}
@@ -236,7 +237,7 @@ asks-mild low high who sequence (suc count) outs later less all = ask-mild low h
 
 others-mild : (low : ℕ) (now : Ticks) (o : Outcome) → low ≤ o.knows.sequence → All IsSilent o.outputs → AllMild low (asking_others now o)
 others-mild low now o less silent = let high : ℕ = o.knows.sequence + 1 in
-    asks-mild low high o.knows.who high most_answers o.outputs (omega (arith, less)) (omega arith) (mild-front low high o.outputs silent)
+    asks-mild low high o.knows.who high MOST_MEMBERS o.outputs (omega (arith, less)) (omega arith) (mild-front low high o.outputs silent)
 
 -- a handover that is judged asks that the failover key be removed, or ends the server
 pub handover-mild : (low : ℕ) (now : Ticks) (held : ℕ) (o : Outcome) → low ≤ o.knows.sequence → All IsSilent o.outputs → HandoverRows (AllMild low) now held o
@@ -249,7 +250,7 @@ handover-mild low now held o less silent = let out : ℕ = o.knows.sequence in r
 
 -- so does who asks for whom it may hand over to
 whom-mild : (low high : ℕ) (who : Who) (candidate : Option MemberId) (sequence : ℕ) (outs : List Output) → low < sequence → sequence ≤ high → All (IsMild low high) outs → All (IsMild low high) (asking_whom who candidate sequence outs)
-whom-mild low high who None sequence outs later less all = asks-mild low high who sequence most_answers outs later less all
+whom-mild low high who None sequence outs later less all = asks-mild low high who sequence MOST_MEMBERS outs later less all
 whom-mild low high who (Some candidate) sequence outs later less all = ask-mild low high who sequence (Some candidate) outs later less all
 
 pub checking-mild : (low : ℕ) (now : Ticks) (candidate : Option MemberId) (o : Outcome) → low ≤ o.knows.sequence → All IsSilent o.outputs → AllMild low (checking now candidate o)

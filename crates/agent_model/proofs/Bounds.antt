@@ -37,7 +37,8 @@ use Rattle.agent_model.specs.Table.{granted_any, refused_any, step}
 use Rattle.agent_model.specs.Wake.{overdue, turned, woken}
 use Rattle.agent_model.specs.Bounds.{IsSmall}
 use Rattle.agent_model.proofs.Rows.{HandoverRows, ReplyRows, WritesSync, led_on, if-cases, begins-or-claims-by, passing-by, renewed-by, before-by, overdue-by, turn-by, wake-by, got-by, refused-by, granted-by, follow-by, repaired-by, free-by, judged-by, answered-by, given-up-by, looked-by, granted-any-by, refused-any-by, DutyRows, duties-of, rested_on, takes-in-pause-by}
-use Rattle.agent_model.specs.Answers.{is_other, most_answers, asking_one, asking_first}
+use Rattle.agent_model.specs.Answers.{is_other, asking_one, asking_first}
+use Rattle.pat_base.specs.declared.member_id.TheConstants.{MOST_MEMBERS}
 use Rattle.agent_model.specs.Peers.{keeping, answered}
 use Rattle.agent_model.specs.Asked.{AsksShortly}
 use Rattle.agent_model.specs.Pausing.{may_start_behind, rest_told, resting}
@@ -49,7 +50,7 @@ record Grows (most sequence later : ℕ) (before after : List Output) : Type 0 w
   short : All AsksShortly before → All AsksShortly after
 
 -- a race asks at most so many others
-more : (sequence later : ℕ) (before after : List Output) → Grows 9 sequence later before after → Grows 16 sequence later before after
+more : (sequence later : ℕ) (before after : List Output) → Grows 9 sequence later before after → Grows MOST_MEMBERS sequence later before after
 more sequence later before after one = record { numbers = omega (arith, one.numbers); few = omega (arith, one.few); short = one.short }
 
 kept : {sequence : ℕ} {outputs : List Output} → Grows 9 sequence sequence outputs outputs
@@ -228,32 +229,32 @@ asks-short : (who : Who) (sequence count : ℕ) (outs : List Output) → All Ask
 asks-short who sequence zero outs all = all
 asks-short who sequence (suc count) outs all = asked-short who sequence (member_of count) (asking_first who sequence count outs) (asks-short who sequence count outs all)
 
-asks-row : (who : Who) (sequence count : ℕ) (outs : List Output) → count ≤ 16 → Grows 16 sequence (sequence + 1) outs (asking_first who (sequence + 1) count outs)
+asks-row : (who : Who) (sequence count : ℕ) (outs : List Output) → count ≤ MOST_MEMBERS → Grows MOST_MEMBERS sequence (sequence + 1) outs (asking_first who (sequence + 1) count outs)
 asks-row who sequence count outs most = record { numbers = omega arith; few = omega (arith, most, asks-few who (sequence + 1) count outs); short = asks-short who (sequence + 1) count outs }
 
 -- those of a leader that is to hand over
-whom-row : (who : Who) (candidate : Option MemberId) (sequence : ℕ) (outs : List Output) → Grows 16 sequence (sequence + 1) outs (asking_whom who candidate (sequence + 1) outs)
-whom-row who None sequence outs = asks-row who sequence most_answers outs (omega arith)
+whom-row : (who : Who) (candidate : Option MemberId) (sequence : ℕ) (outs : List Output) → Grows MOST_MEMBERS sequence (sequence + 1) outs (asking_whom who candidate (sequence + 1) outs)
+whom-row who None sequence outs = asks-row who sequence MOST_MEMBERS outs (omega arith)
 whom-row who (Some candidate) sequence outs = record {
   numbers = omega arith;
   few = omega (arith, asked-few who (sequence + 1) (Some candidate) outs);
   short = asked-short who (sequence + 1) (Some candidate) outs;
 }
 
-free-row : (now : Ticks) (o : Outcome) → Brings 16 o (finds_free now o)
-free-row now o = free-by (Brings 16 o) now (record o { role = Follower }) (record {
+free-row : (now : Ticks) (o : Outcome) → Brings MOST_MEMBERS o (finds_free now o)
+free-row now o = free-by (Brings MOST_MEMBERS o) now (record o { role = Follower }) (record {
   starts = more _ _ _ _ (said-both o.knows.sequence o.outputs _ _ tt (omega (arith, o.knows.settings.ttl_range)));
   touches = more _ _ _ _ (said o.knows.sequence (o.knows.sequence + 1) o.outputs _ (omega arith) (omega (arith, o.knows.settings.ttl_range)));
   bars = λ bar. more _ _ _ _ (said-both o.knows.sequence o.outputs _ _ tt (omega (arith, o.knows.settings.ttl_range)));
   judges = more _ _ _ _ (judged-row now (unheard (record o { role = Follower })));
-  asks = asks-row o.knows.who o.knows.sequence most_answers o.outputs (omega arith);
+  asks = asks-row o.knows.who o.knows.sequence MOST_MEMBERS o.outputs (omega arith);
 })
 
-got-row : (now : Ticks) (points : List HistoryPoint) (sequence : ℕ) (snapshot : SnapshotFacts) (o : Outcome) → Brings 16 o (got now points sequence snapshot o)
+got-row : (now : Ticks) (points : List HistoryPoint) (sequence : ℕ) (snapshot : SnapshotFacts) (o : Outcome) → Brings MOST_MEMBERS o (got now points sequence snapshot o)
 got-row now points sequence snapshot o =
     let read : Outcome = record o { knows = read_noted now snapshot o.knows } in
-    let still : Grows 16 o.knows.sequence o.knows.sequence o.outputs o.outputs = more _ _ _ _ kept in
-    got-by (Brings 16 o) now points sequence snapshot o (record {
+    let still : Grows MOST_MEMBERS o.knows.sequence o.knows.sequence o.outputs o.outputs = more _ _ _ _ kept in
+    got-by (Brings MOST_MEMBERS o) now points sequence snapshot o (record {
       kept = still;
       quiet = still;
       other = still;
@@ -326,7 +327,7 @@ sync-short (txns.DropSync revision sync) writes = omega arith
 sync-short _ writes = absurd writes
 
 -- what a leader owes its cluster, behind what became of its watchdog
-duties-row : (most whole : ℕ) (now : Ticks) (held : ℕ) (start led : Outcome) → most + 16 ≤ whole → Brings most start led → DutyRows (Brings whole start) now held led
+duties-row : (most whole : ℕ) (now : Ticks) (held : ℕ) (start led : Outcome) → most + MOST_MEMBERS ≤ whole → Brings most start led → DutyRows (Brings whole start) now held led
 duties-row most whole now held start led h before =
     let and-one : (later : ℕ) (output : Output) → later ≤ led.knows.sequence + 1 → AsksShortly output → Grows whole start.knows.sequence later start.outputs (listed output led.outputs) =
     λ later output next asks. grows-then most 1 whole _ _ _ _ _ _ (omega (arith, h)) before (one led.knows.sequence later led.outputs output next asks) in

@@ -24,14 +24,15 @@ use Rattle.agent_model.specs.declared.output.Target.TheVariants as targets
 use Rattle.agent_model.specs.Agents.{Outcome}
 use Rattle.agent_model.specs.Info.{info_of}
 use Rattle.agent_model.specs.Outputs.{listed}
+use Rattle.pat_base.specs.declared.ticks.TheConstants.{TICKS_OF_SECOND}
 
--- so many ticks after a moment, of which a second has ten
+-- so many seconds after a moment
 abbrev pub seconds_after : Ticks → ℕ → Ticks
-seconds_after moment seconds = record { 0 = moment.0 + 10 * seconds }
+seconds_after moment seconds = record { 0 = moment.0 + TICKS_OF_SECOND * seconds }
 
 -- the span of the leases that an agent asks for
 abbrev pub lease_span : Config → Ticks
-lease_span settings = record { 0 = 10 * settings.ttl }
+lease_span settings = record { 0 = TICKS_OF_SECOND * settings.ttl }
 
 -- one more message of this run
 abbrev pub counted : Knowledge → Knowledge

@@ -13,6 +13,7 @@ use Rattle.agent_model.specs.declared.machine.Machine.{Machine}
 use Rattle.agent_model.specs.declared.output.Output.{Output}
 use Rattle.agent_model.specs.declared.why.Why.{Why}
 use Rattle.agent_model.specs.declared.who.Who.{Who}
+use Rattle.pat_base.specs.Moments.{latest}
 
 -- a role: in place of its values the revisions of the leader key that they were granted with
 pub data RoleFacts : Type 0 where
@@ -46,10 +47,6 @@ is_leader _ = false
 pub record AgentFacts : Type 0 where
   pub role : RoleFacts
   pub knows : Knowledge
-
--- moments that are reckoned with
-abbrev pub latest : ℕ
-latest = 2 ^ 61
 
 -- so many messages a run may send
 abbrev pub most_messages : ℕ

@@ -13,10 +13,7 @@ use Rattle.agent_model.specs.declared.output.Target.TheVariants as targets
 use Rattle.agent_model.specs.declared.who.Who.{Who}
 use Rattle.agent_model.specs.Info.{runs}
 use Rattle.agent_model.specs.Outputs.{listed}
-
--- so many answers are kept at most: one of each member that a cluster may have
-abbrev pub most_answers : ℕ
-most_answers = 16
+use Rattle.pat_base.specs.declared.member_id.TheConstants.{MOST_MEMBERS}
 
 -- this member gave the answer
 abbrev pub is_from : MemberId → PeerAnswer → Bool
@@ -28,7 +25,7 @@ has_answered member answers = list_any (is_from member) answers
 
 -- the answers with one more; a second one of a member counts for nothing
 abbrev pub with_answer : PeerAnswer → List PeerAnswer → List PeerAnswer
-with_answer answer answers = if not (has_answered answer.member answers) && nat_lt (length answers) most_answers then answers ++ answer ∷ [] else answers
+with_answer answer answers = if not (has_answered answer.member answers) && nat_lt (length answers) MOST_MEMBERS then answers ++ answer ∷ [] else answers
 
 -- so many outputs a grant brings at most: the feeding of a watchdog, or its rest with the note of that, and a question to each other member
 abbrev pub most_grant_outputs : ℕ
@@ -50,7 +47,7 @@ asking_first who sequence (suc count) out = asking_one who sequence (member_of c
 
 -- the asks to all other members
 abbrev pub asking_all : Who → ℕ → List Output → List Output
-asking_all who sequence out = asking_first who sequence most_answers out
+asking_all who sequence out = asking_first who sequence MOST_MEMBERS out
 
 -- nothing is open of this member: it is no other one, or answered
 abbrev pub is_settled : Who → List PeerAnswer → Option MemberId → Bool
@@ -64,7 +61,7 @@ first_answered who answers (suc count) = first_answered who answers count && is_
 
 -- each other member answered
 abbrev pub all_answered : Who → List PeerAnswer → Bool
-all_answered who answers = first_answered who answers most_answers
+all_answered who answers = first_answered who answers MOST_MEMBERS
 
 -- what a member answers that is asked how far its server is
 abbrev pub peer_answer_of : Who → ServerStatus → PeerAnswer

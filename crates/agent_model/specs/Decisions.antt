@@ -24,6 +24,7 @@ use Rattle.agent_model.specs.Planning.{settled}
 use Rattle.agent_model.specs.Synchronous.{may_lead_in_sync}
 use Rattle.agent_model.specs.Pausing.{is_paused, is_wanted, resting}
 use Rattle.agent_model.specs.Snapshots.{informed, is_active, leader_without_key, stray_without_key}
+use Rattle.pat_base.specs.declared.ticks.TheConstants.{TICKS_OF_SECOND}
 
 -- so many ticks have passed since this run began the server, or took it over
 abbrev pub has_lasted : Ticks → ℕ → Option Ticks → Bool
@@ -32,7 +33,7 @@ has_lasted now span (Some begun) = nat_le span (now.0 - begun.0)
 
 -- the start of a primary takes longer than it may
 abbrev pub is_start_too_long : Ticks → Knowledge → State → Bool
-is_start_too_long now knows (states.Starting as_primary at) = has_lasted now (10 * knows.settings.primary_start_timeout) knows.begun
+is_start_too_long now knows (states.Starting as_primary at) = has_lasted now (TICKS_OF_SECOND * knows.settings.primary_start_timeout) knows.begun
 is_start_too_long now knows _ = false
 
 -- then another member is to lead; else the leader does what it owes its cluster
@@ -62,7 +63,7 @@ since_crash now (Some crashed) = now.0 - crashed.0
 -- a server that is down may start as a primary again: its last run was one, and since its crash less time has passed than the start of a primary
 -- may take, by what this turn read
 abbrev pub may_start_again : Ticks → Knowledge → ServerStatus → Bool
-may_start_again now knows server = server.was_primary && nat_lt (since_crash now knows.crashed) (10 * knows.turn_settings.primary_start_timeout)
+may_start_again now knows server = server.was_primary && nat_lt (since_crash now knows.crashed) (TICKS_OF_SECOND * knows.turn_settings.primary_start_timeout)
 
 -- the server can begin to accept writes, by its state
 abbrev pub can_begin : Ticks → Knowledge → ServerStatus → State → Bool

@@ -1,32 +1,31 @@
 //! What other members answered.
 ghost use Rattle.std.specs.Prelude.{◌≡◌, ◌≤◌, [], length, take};
 ghost use Rattle.std.specs.List.{list_any};
-ghost use Rattle.agent_model.specs.Answers.{is_from, has_answered, most_answers, with_answer};
+ghost use Rattle.agent_model.specs.Answers.{is_from, has_answered, with_answer};
+ghost use Rattle.pat_base.specs.declared.member_id.TheConstants.{MOST_MEMBERS};
 
 use crate::Who;
-use pat_base::{MemberId, PeerAnswer};
+use pat_base::{MOST_MEMBERS, MemberId, PeerAnswer};
 use std::marker::Model;
 
-/// For how many answers there is room: one of each member that a cluster may have.
-const MOST: usize = 16;
-
-/// What other members answered, in the order in which that came. It takes no memory.
+/// What other members answered, in the order in which that came: one answer of each at most. It takes no memory.
 #[derive(Debug, Drop)]
 pub struct Answers {
     /// Those past the count are blanks.
-    places: [PeerAnswer; 16],
+    places: [PeerAnswer; MOST_MEMBERS],
     count: usize,
 }
 
 impl Model for Answers {
     ghost use Rattle.std.specs.Prelude.{◌≤◌, List, take};
+    ghost use Rattle.pat_base.specs.declared.member_id.TheConstants.{MOST_MEMBERS};
     ghost use Rattle.pat_base.specs.declared.peer_answer.PeerAnswer.{PeerAnswer};
 
     ghost Value = { List PeerAnswer };
 
     ghost view = { λ a. take a.count a.places };
 
-    ghost invariant = { λ a. a.count ≤ 16 };
+    ghost invariant = { λ a. a.count ≤ MOST_MEMBERS };
 }
 
 impl Answers {
@@ -41,7 +40,7 @@ impl Answers {
             tags: who.tags,
         };
         Answers {
-            places: [blank; 16],
+            places: [blank; MOST_MEMBERS],
             count: 0,
         }
     }
@@ -71,7 +70,7 @@ impl Answers {
     pub fn keep(&mut self, answer: PeerAnswer)
         ensures { self.new ≡ with_answer answer self.old }
     {
-        if !self.has(answer.member) && self.count < MOST {
+        if !self.has(answer.member) && self.count < MOST_MEMBERS {
             self.places[self.count] = answer;
             self.count += 1;
         }

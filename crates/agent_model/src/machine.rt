@@ -1,18 +1,15 @@
 //! The machine of a member.
 
 use leader_key::Watchdog;
-use pat_base::{Lsn, Required, Ticks};
+use pat_base::{Lsn, MOST_MEMBERS, Required, Ticks};
 use pg_model::ServerStatus;
-
-/// The most members that a cluster may have.
-const MEMBERS: usize = 16;
 
 /// What an agent sees of synchronous replication on its server: whom commits wait for, and by member number the confirmed
 /// position of each connected member: one that receives from this server.
 #[derive(Clone, Copy, Debug, PartialEq, Eq)]
 pub struct Replication {
     pub required: Required,
-    pub connected: [Option<Lsn>; MEMBERS],
+    pub connected: [Option<Lsn>; MOST_MEMBERS],
 }
 
 /// What an agent sees of its machine, and reckons with in one input: its server, synchronous replication on it, its watchdog,

@@ -3,6 +3,7 @@ use Rattle.std.specs.Prelude.{ℕ, ◌≤◌, ◌^◌, List, [], ◌∷◌, Opti
 use Rattle.cluster_config.specs.declared.setting.Setting.{Setting}
 use Rattle.cluster_config.specs.declared.setting.Setting.TheVariants as settings
 use Rattle.cluster_config.specs.declared.setting.SettingRange.{SettingRange}
+use Rattle.pat_base.specs.declared.member_id.TheConstants.{MOST_MEMBERS}
 
 -- the name of a setting in the text of a configuration, with that of the object that it stands in
 abbrev pub setting_name : Setting → List ℕ
@@ -48,7 +49,7 @@ primary_start_timeout_range = record { least = 0; greatest = longest }
 
 -- in standbys
 abbrev pub node_count_range : SettingRange
-node_count_range = record { least = 1; greatest = 16 }
+node_count_range = record { least = 1; greatest = MOST_MEMBERS }
 
 -- the range of a setting that is a number; nothing for one that is a truth value
 abbrev pub range_of : Setting → Option SettingRange

@@ -2,6 +2,7 @@
 ghost use Rattle.std.specs.Prelude.{◌≡◌};
 ghost use Rattle.cluster_config.specs.SettingTable.{setting_name, range_of};
 
+use pat_base::MOST_MEMBERS;
 use std::fmt;
 
 /// A setting that a configuration may hold, in the byte order of their names (Patroni's documentation, "Dynamic
@@ -74,7 +75,7 @@ pub(crate) const PRIMARY_START_TIMEOUT: SettingRange = SettingRange {
 
 pub(crate) const NODE_COUNT: SettingRange = SettingRange {
     least: 1,
-    greatest: 16,
+    greatest: MOST_MEMBERS as u64,
 };
 
 /// The name of a setting in the text of a configuration, with that of the object that it stands in.

@@ -1,7 +1,7 @@
 //! What agents show of themselves.
 
 use crate::Snapshot;
-use pat_base::{Lsn, MemberId, Name, Required, State, Tags, Ticks};
+use pat_base::{Lsn, MOST_MEMBERS, MemberId, Name, Required, State, Tags, Ticks};
 
 /// What an agent is to its cluster.
 #[derive(Clone, Copy, Debug, PartialEq, Eq)]
@@ -49,9 +49,6 @@ pub struct AgentView<'a> {
     pub waits: bool,
 }
 
-/// The most members that a cluster may have.
-const MEMBERS: usize = 16;
-
 /// What the agent of the leader knows besides of its server: on whom its commits wait, and who confirmed how much.
 #[derive(Clone, Copy)]
 pub struct LeaderView<'a> {
@@ -60,7 +57,7 @@ pub struct LeaderView<'a> {
     pub required: Required,
     /// By member number, the confirmed position of each connected member: one that receives from this server, and of which
     /// the server keeps a confirmed position.
-    pub connected: [Option<Lsn>; MEMBERS],
+    pub connected: [Option<Lsn>; MOST_MEMBERS],
     /// The position that was noted last, when the required list last changed.
     pub noted: Option<Lsn>,
 }

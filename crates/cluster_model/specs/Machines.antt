@@ -19,14 +19,12 @@ use Rattle.agent_model.specs.declared.machine.Machine.{Machine}
 use Rattle.agent_model.specs.declared.who.Who.{Who}
 use Rattle.cluster_model.specs.State.{Cluster}
 use Rattle.cluster_model.specs.Streaming.{source_of}
-
--- ticks of 100 ms in a second
-abbrev pub ticks_of_second : ℕ
-ticks_of_second = 10
+use Rattle.pat_base.specs.declared.member_id.TheConstants.{MOST_MEMBERS}
+use Rattle.pat_base.specs.declared.ticks.TheConstants.{TICKS_OF_SECOND}
 
 -- the watchdog of a member with these options and this deadline
 abbrev pub watchdog_of : MemberOptions → Option Ticks → WatchdogFacts
-watchdog_of options deadline = record { mode = options.watchdog; works = options.device_works; margin = Some (record { 0 = ticks_of_second * options.margin.seconds }); deadline = deadline }
+watchdog_of options deadline = record { mode = options.watchdog; works = options.device_works; margin = Some (record { 0 = TICKS_OF_SECOND * options.margin.seconds }); deadline = deadline }
 
 -- this member is the one from which another one receives, if there is such a one
 abbrev pub is_source : Member → Option Member → Bool
@@ -45,11 +43,11 @@ connected_end members servers cuts member confirmed number =
 
 -- by member number, how far each connected member has confirmed, where members confirmed these positions
 unfoldable pub connected_ends : List Member → List ServerFacts → CutLinks → Member → List (Option Lsn) → List (Option Lsn)
-connected_ends members servers cuts member confirmed = map (connected_end members servers cuts member confirmed) (range_with_len 0 16)
+connected_ends members servers cuts member confirmed = map (connected_end members servers cuts member confirmed) (range_with_len 0 MOST_MEMBERS)
 
 -- nobody has confirmed a position, by member number
 abbrev pub nothing_confirmed : List (Option Lsn)
-nothing_confirmed = replicate 16 None
+nothing_confirmed = replicate MOST_MEMBERS None
 
 -- synchronous replication on this server of a member: whom its commits wait for, and how far each connected member has confirmed. To a
 -- server that accepts no writes nobody is connected

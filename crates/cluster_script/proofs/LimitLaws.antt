@@ -7,7 +7,7 @@ use Rattle.pat_base.specs.declared.name.Name.{Name}
 use Rattle.script_words.specs.Lines.{lines_in, is_skipped, counted_lines}
 use Rattle.cluster_script.specs.Limits.{most_bytes, most_lines, most_ticks, member_line_count, ticks_or_none, ticks_in_line, ticks_in, limit_of_lines, limit_of}
 use Rattle.cluster_script.specs.Reading.{script_of}
-use Rattle.script_model.specs.Bounds.{most_members}
+use Rattle.pat_base.specs.declared.member_id.TheConstants.{MOST_MEMBERS}
 use Rattle.script_model.specs.Script.{ScriptText, names_of, IsLine, AllAreLines, line_text}
 use Rattle.script_model.specs.Spelling.{SpellsLine, OwnText, BlankBehind, SpellBody}
 use Rattle.script_model.specs.Steps.{ticks_of_line, total_ticks}
@@ -73,7 +73,7 @@ least n h = omega arith
 lines-within : (ls : List (List ℕ)) → limit_of_lines ls ≡ None → (length ls ≤ most_lines) × (sum_by ticks_in_line ls ≤ most_ticks)
 lines-within ls none =
     let l = none_passed (nat_lt most_lines (length ls)) limits.Lines _ none in
-    let m = none_passed (nat_lt most_members (member_line_count ls)) limits.Members _ l.1 in
+    let m = none_passed (nat_lt MOST_MEMBERS (member_line_count ls)) limits.Members _ l.1 in
     let t = none_passed (nat_lt most_ticks (ticks_in ls)) limits.Ticks None m.1 in
     (not-more most_lines (length ls) l.0, least (sum_by ticks_in_line ls) (not-more most_ticks (ticks_in ls) t.0))
 

@@ -8,7 +8,7 @@ use Rattle.indexmap.specs.IndexMap.{insert_entry}
 use Rattle.pat_base.specs.Name.{name_bytes}
 use Rattle.pat_base.specs.declared.name.Name.{Name}
 use Rattle.script_words.specs.Lines.{one_more}
-use Rattle.script_model.specs.Bounds.{most_members}
+use Rattle.pat_base.specs.declared.member_id.TheConstants.{MOST_MEMBERS}
 use Rattle.cluster_script.specs.Members.{place_of}
 use Rattle.script_model.specs.Script.{member_names, member_of_entry, members_in}
 use Rattle.member_options.specs.declared.member_option.MemberOptions.{MemberOptions}
@@ -39,7 +39,7 @@ pub keys-count : (es : List (Name × MemberOptions)) → length (keys_of es) ≡
 keys-count es = length-map es (λ x. x.0) ∙ sym (length-map es member_of_entry)
 
 -- what is new among keys is new among members
-pub among-members : (es : List (Name × MemberOptions)) (name : Name) → length (keys_of es) < most_members → place_of (keys_of es) name ≡ None → (length (members_in es) < most_members) × (place_of (member_names (members_in es)) name ≡ None)
+pub among-members : (es : List (Name × MemberOptions)) (name : Name) → length (keys_of es) < MOST_MEMBERS → place_of (keys_of es) name ≡ None → (length (members_in es) < MOST_MEMBERS) × (place_of (member_names (members_in es)) name ≡ None)
 among-members es name few none = (omega (arith, keys-count es), ap (λ names. place_of names name) (names-are-keys es) ∙ none)
 
 pub absent : {X : Type 0} (o : Option X) → is_some o ≡ false → o ≡ None

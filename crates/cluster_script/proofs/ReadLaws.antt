@@ -22,7 +22,8 @@ use Rattle.cluster_script.specs.Members.{place_of}
 use Rattle.member_options.specs.Options.{SayOnce, option_text, behind_blanks, options_or_default}
 use Rattle.member_options.specs.OptionReading.{options_in}
 use Rattle.cluster_script.specs.Reading.{name_in, declared_in_head, declared_once, named_member, new_member, next_member, ranged_base, base_in, head_end, base_end, next_base, addition_of, with_addition, config_if_read, next_config, is_config, with_config, with_other, with_line, alone, cluster_named, cluster_in, cluster_by_keyword, first_line, first_draft, after_counted, after_text, after_line, after_lines, at_line, with_some, finished, script_of}
-use Rattle.script_model.specs.Bounds.{most_members, longest_line, greatest_base}
+use Rattle.script_model.specs.Bounds.{longest_line, greatest_base}
+use Rattle.pat_base.specs.declared.member_id.TheConstants.{MOST_MEMBERS}
 use Rattle.script_model.specs.Script.{AreDifferent, MemberText, ScriptText, member_names, names_of, member_of_entry, IsScript, IsLine, AllAreLines, cluster_text, base_text, config_text, base_or_default, IsInForm}
 use Rattle.script_model.specs.Spelling.{MemberLine, member_of_line, member_line_text, HeadLine, ConfigLine, BaseLine, MembersLine, head_line_text, config_said, base_said, member_said, configs_said, bases_said, members_said, read_at_most_once, head_with, IsHeadLines, AllInForm, SpellsLine, SpellBody, Spells}
 use Rattle.cluster_script.specs.FirstWords.{keyword_of}
@@ -60,7 +61,7 @@ pub record DeclaredLine (line : List ℕ) (name : Name) (declared : MemberOption
 
 -- what a line adds, and how it is spelled
 abbrev IsAddition : Option ℕ → List Name → List Line → List ℕ → Addition → Type 0
-IsAddition base members body line (additions.Member name declared) = DeclaredLine line name declared × (length members < most_members) × (place_of members name ≡ None) × (body ≡ [])
+IsAddition base members body line (additions.Member name declared) = DeclaredLine line name declared × (length members < MOST_MEMBERS) × (place_of members name ≡ None) × (body ≡ [])
 IsAddition base members body line (additions.Base n) = (base_text n ≡ line) × (1 ≤ n) × (n ≤ greatest_base) × (base ≡ None) × (body ≡ [])
 IsAddition base members body line (additions.Body l) = SpellsLine members line l × IsLine members l
 
@@ -73,7 +74,7 @@ record DeclaresMember (members : List Name) (body : List Line) (rest : Option (L
   pub once : SayOnce os said
   pub declared : options_or_default said ≡ member.1
   pub text : name_bytes member.0 ++ behind_blanks (map option_text os) ≡ words
-  pub few : length members < most_members
+  pub few : length members < MOST_MEMBERS
   pub absent : place_of members member.0 ≡ None
   pub in_head : body ≡ []
 
@@ -85,15 +86,15 @@ once-Ok : (members : List Name) (member x : Name × MemberOptions) (body : List 
 once-Ok members member x body (Some place) is e = absurd (err_is _ x e)
 once-Ok members member x body None is e = let p = in_head-Ok member x body e in (p.0, is, p.1)
 
-not-many : (n : ℕ) → nat_le most_members n ≡ false → n < most_members
+not-many : (n : ℕ) → nat_le MOST_MEMBERS n ≡ false → n < MOST_MEMBERS
 not-many n e = grind (arith, nat_tests)
 
 next_member-Ok : (members : List Name) (body : List Line) (rest : Option (List ℕ)) (x : Name × MemberOptions) → next_member members body rest ≡ Ok x → DeclaresMember members body rest x
 next_member-Ok members body rest x e =
-    let p = cond-Err (nat_le most_members (length members)) (new_member members body rest) faults.BadWord x e in
+    let p = cond-Err (nat_le MOST_MEMBERS (length members)) (new_member members body rest) faults.BadWord x e in
     words-Ok rest (not-many (length members) p.0) p.1
   where
-    words-Ok : (rest : Option (List ℕ)) → length members < most_members → new_member members body rest ≡ Ok x → DeclaresMember members body rest x
+    words-Ok : (rest : Option (List ℕ)) → length members < MOST_MEMBERS → new_member members body rest ≡ Ok x → DeclaresMember members body rest x
     words-Ok None few e = absurd (err_is _ x e)
     words-Ok (Some words) few e =
         let p = on_ok-Ok (both (name_in (cut_word words).0) (options_in (cut_word words).1)) (named_member members body) x e in
@@ -227,7 +228,7 @@ IsBaseIfSaid (Some n) = (1 ≤ n) × (n ≤ greatest_base)
 -- what holds of the lines so far
 record IsBegun (d : DraftText) : Type 0 where
   pub base : IsBaseIfSaid d.base
-  pub few : length d.members ≤ most_members
+  pub few : length d.members ≤ MOST_MEMBERS
   pub different : AreDifferent (member_names d.members)
   pub body : AllAreLines (member_names d.members) d.body
 
@@ -301,7 +302,7 @@ body-line d l line ls is h = record {
   lines = ap (λ t. t ++ line ∷ []) h.lines ∙ append_assoc (head_with d.cluster h.said) h.body (line ∷ []);
 }
 
-member-Adds : (cluster : Name) (line : MemberLine) (config : Option Settings) (base : Option ℕ) (members : List MemberText) (body : List Line) (ls : List (List ℕ)) → body ≡ [] → length (member_names members) < most_members → place_of (member_names members) line.name ≡ None
+member-Adds : (cluster : Name) (line : MemberLine) (config : Option Settings) (base : Option ℕ) (members : List MemberText) (body : List Line) (ls : List (List ℕ)) → body ≡ [] → length (member_names members) < MOST_MEMBERS → place_of (member_names members) line.name ≡ None
     → Adds (record { cluster = cluster; config = config; base = base; members = members; body = body }) ls
     → Adds (record { cluster = cluster; config = config; base = base; members = members ++ member_of_line line ∷ []; body = body }) (ls ++ member_line_text line ∷ [])
 unfolding start

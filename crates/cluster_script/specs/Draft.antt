@@ -3,7 +3,7 @@ use Rattle.std.specs.Prelude.{ℕ, ◌≡◌, ◌≤◌, List, [], Option, Some,
 use Rattle.pat_base.specs.declared.name.Name.{Name}
 use Rattle.lease_store.specs.Settings.{Settings}
 use Rattle.cluster_config.specs.ConfigReading.{IsConfiguration}
-use Rattle.script_model.specs.Bounds.{most_members}
+use Rattle.pat_base.specs.declared.member_id.TheConstants.{MOST_MEMBERS}
 use Rattle.script_model.specs.Script.{MemberText, ScriptText, config_or_default, base_or_default}
 use Rattle.script_model.specs.declared.line.Line.{Line}
 
@@ -24,9 +24,9 @@ draft_of (Some cluster) config base members body = Some (record { cluster = clus
 abbrev pub script_so_far : DraftText → ScriptText
 script_so_far d = record { head = record { cluster = d.cluster; config = config_or_default d.config; base = base_or_default d.base; members = d.members }; body = d.body }
 
--- at most 16 members, a configuration that is what its text says, and nothing before the line of the cluster
+-- no more members than there may be, a configuration that is what its text says, and nothing before the line of the cluster
 pub record IsDraft (cluster : Option Name) (config : Option Settings) (base : Option ℕ) (members : List MemberText) (body : List Line) : Type 0 where
-  pub few : length members ≤ most_members
+  pub few : length members ≤ MOST_MEMBERS
   pub configured : IfSome config IsConfiguration
   pub no_config : cluster ≡ None → config ≡ None
   pub no_base : cluster ≡ None → base ≡ None

@@ -4,7 +4,7 @@ use Rattle.script_words.specs.Lines.{lines_in}
 use Rattle.script_words.specs.Numbers.{number}
 use Rattle.cluster_script.specs.FirstWords.{keyword_of}
 use Rattle.script_words.specs.Words.{cut_word}
-use Rattle.script_model.specs.Bounds.{most_members}
+use Rattle.pat_base.specs.declared.member_id.TheConstants.{MOST_MEMBERS}
 use Rattle.script_model.specs.declared.keyword.Keyword.{Keyword}
 use Rattle.script_model.specs.declared.keyword.Keyword.TheVariants as words
 use Rattle.cluster_script.specs.declared.limits.Limit.{Limit}
@@ -68,7 +68,7 @@ ticks_in lines = min (sum_by ticks_in_line lines) (2 ^ 64 - 1)
 
 -- the first limit that lines pass, if they pass any
 abbrev pub limit_of_lines : List (List ℕ) → Option Limit
-limit_of_lines lines = if nat_lt most_lines (length lines) then Some limits.Lines else if nat_lt most_members (member_line_count lines) then Some limits.Members else if nat_lt most_ticks (ticks_in lines) then Some limits.Ticks else None
+limit_of_lines lines = if nat_lt most_lines (length lines) then Some limits.Lines else if nat_lt MOST_MEMBERS (member_line_count lines) then Some limits.Members else if nat_lt most_ticks (ticks_in lines) then Some limits.Ticks else None
 
 -- the first limit that the bytes pass, if they pass any
 abbrev pub limit_of : List ℕ → Option Limit

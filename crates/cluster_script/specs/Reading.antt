@@ -13,7 +13,8 @@ use Rattle.script_words.specs.Faults.{on_ok, both}
 use Rattle.script_words.specs.Lines.{lines_in, is_skipped}
 use Rattle.cluster_script.specs.Members.{place_of}
 use Rattle.member_options.specs.OptionReading.{options_in}
-use Rattle.script_model.specs.Bounds.{most_members, longest_line, greatest_base}
+use Rattle.script_model.specs.Bounds.{longest_line, greatest_base}
+use Rattle.pat_base.specs.declared.member_id.TheConstants.{MOST_MEMBERS}
 use Rattle.script_model.specs.Script.{MemberText, ScriptText, member_names, member_of_entry}
 use Rattle.cluster_script.specs.FirstWords.{keyword_of}
 use Rattle.script_words.specs.Words.{cut_word}
@@ -58,7 +59,7 @@ new_member members body (Some words) = on_ok (both (name_in (cut_word words).0) 
 
 -- the seventeenth line 'member' is unknown
 abbrev pub next_member : List Name → List Line → Option (List ℕ) → Result (Name × MemberOptions) Fault
-next_member members body rest = if nat_le most_members (length members) then Err faults.BadWord else new_member members body rest
+next_member members body rest = if nat_le MOST_MEMBERS (length members) then Err faults.BadWord else new_member members body rest
 
 -- how many bytes a log may begin with: 1 to 2 ^ 40
 abbrev pub ranged_base : ℕ → Result ℕ Fault
@@ -227,9 +228,9 @@ after_text d line = if is_skipped line then Ok d else after_counted d line
 abbrev pub after_line : Option DraftText → List ℕ → Result (Option DraftText) Fault
 after_line d line = if is_utf8 line then (if nat_le (length line) longest_line then after_text d line else Err faults.TooLong) else Err faults.NotUtf8
 
--- a member that a line adds is one of at most 16, and no other has its name
+-- a member that a line adds is one of no more than there may be, and no other has its name
 abbrev pub IsNew : List MemberText → Addition → Type 0
-IsNew members (additions.Member name options) = (length members < most_members) × (place_of (member_names members) name ≡ None)
+IsNew members (additions.Member name options) = (length members < MOST_MEMBERS) × (place_of (member_names members) name ≡ None)
 IsNew members (additions.Base n) = Unit {0}
 IsNew members (additions.Body line) = Unit {0}
 

@@ -4,7 +4,7 @@ ghost use Rattle.std.specs.Option.{option_copied};
 ghost use Rattle.indexmap.specs.IndexMap.{keys};
 ghost use Rattle.script_words.specs.Faults.{both};
 ghost use Rattle.cluster_script.specs.Arguments.{number_in, switch_in, slowed_call_in, commit_size_in, delay_in, member_in, end_in, missing_word, missing_behind, line_end, last_word, one_word, word_behind, words_behind, same_end, two_ends, commit_in, stream_in, slow_in, plain_line, line_of_words};
-ghost use Rattle.script_model.specs.Bounds.{most_members};
+ghost use Rattle.pat_base.specs.declared.member_id.TheConstants.{MOST_MEMBERS};
 
 use crate::members::{Members, member_named};
 use crate::rest_line::rest_line;
@@ -69,7 +69,7 @@ fn delay_in(word: &[u8]) -> Result<Delay, Fault>
 
 /// The member of a name.
 pub fn member_in(members: &Members, word: &[u8]) -> Result<MemberId, Fault>
-    requires { length (keys members.now) ≤ most_members }
+    requires { length (keys members.now) ≤ MOST_MEMBERS }
     ensures { result ≡ member_in (keys members.now) word.now }
 {
     let Some(name) = Name::read(word) else {
@@ -82,7 +82,7 @@ pub fn member_in(members: &Members, word: &[u8]) -> Result<MemberId, Fault>
 }
 
 fn end_in(members: &Members, word: &[u8]) -> Result<End, Fault>
-    requires { length (keys members.now) ≤ most_members }
+    requires { length (keys members.now) ≤ MOST_MEMBERS }
     ensures { result ≡ end_in (keys members.now) word.now }
 {
     if word == b"store".as_slice() {
@@ -141,7 +141,7 @@ fn one_number(members: &Members, rest: Option<&[u8]>) -> Result<u64, Fault>
 }
 
 fn one_member(members: &Members, rest: Option<&[u8]>) -> Result<MemberId, Fault>
-    requires { length (keys members.now) ≤ most_members }
+    requires { length (keys members.now) ≤ MOST_MEMBERS }
     ensures { result ≡ one_word (keys members.now) (member_in (keys members.now)) (option_copied rest.entry) }
 {
     let Some(words) = rest else {
@@ -194,7 +194,7 @@ fn end_behind(
     before: Result<End, Fault>,
     rest: Option<&[u8]>,
 ) -> Result<(End, End), Fault>
-    requires { length (keys members.now) ≤ most_members }
+    requires { length (keys members.now) ≤ MOST_MEMBERS }
     ensures { result ≡ word_behind (keys members.now) before (end_in (keys members.now)) (option_copied rest.entry) }
 {
     let Some(words) = rest else {
@@ -261,7 +261,7 @@ fn slowed_call_behind(
 }
 
 fn two_ends(members: &Members, rest: Option<&[u8]>) -> Result<(End, End), Fault>
-    requires { length (keys members.now) ≤ most_members }
+    requires { length (keys members.now) ≤ MOST_MEMBERS }
     ensures { result ≡ two_ends (keys members.now) (option_copied rest.entry) }
 {
     let Some(words) = rest else {
@@ -277,7 +277,7 @@ fn two_ends(members: &Members, rest: Option<&[u8]>) -> Result<(End, End), Fault>
 }
 
 fn commit_in(members: &Members, rest: Option<&[u8]>) -> Result<Command, Fault>
-    requires { length (keys members.now) ≤ most_members }
+    requires { length (keys members.now) ≤ MOST_MEMBERS }
     ensures { result ≡ commit_in (keys members.now) (option_copied rest.entry) }
 {
     let Some(words) = rest else {
@@ -289,7 +289,7 @@ fn commit_in(members: &Members, rest: Option<&[u8]>) -> Result<Command, Fault>
 }
 
 fn stream_in(members: &Members, rest: Option<&[u8]>) -> Result<Command, Fault>
-    requires { length (keys members.now) ≤ most_members }
+    requires { length (keys members.now) ≤ MOST_MEMBERS }
     ensures { result ≡ stream_in (keys members.now) (option_copied rest.entry) }
 {
     let Some(words) = rest else {
@@ -301,7 +301,7 @@ fn stream_in(members: &Members, rest: Option<&[u8]>) -> Result<Command, Fault>
 }
 
 fn slow_in(members: &Members, rest: Option<&[u8]>) -> Result<Command, Fault>
-    requires { length (keys members.now) ≤ most_members }
+    requires { length (keys members.now) ≤ MOST_MEMBERS }
     ensures { result ≡ slow_in (keys members.now) (option_copied rest.entry) }
 {
     let Some(words) = rest else {
@@ -314,7 +314,7 @@ fn slow_in(members: &Members, rest: Option<&[u8]>) -> Result<Command, Fault>
 
 /// The line of the body with this first word, other than a request's, and these words behind it.
 fn plain_line(members: &Members, keyword: Keyword, rest: Option<&[u8]>) -> Result<Line, Fault>
-    requires { length (keys members.now) ≤ most_members }
+    requires { length (keys members.now) ≤ MOST_MEMBERS }
     ensures { result ≡ plain_line (keys members.now) keyword (option_copied rest.entry) }
 {
     let command = match keyword {
@@ -355,7 +355,7 @@ pub fn line_of_words(
     keyword: Keyword,
     rest: Option<&[u8]>,
 ) -> Result<Result<Line, Fault>, AllocError>
-    requires { length (keys members.now) ≤ most_members }
+    requires { length (keys members.now) ≤ MOST_MEMBERS }
     ensures { IfOk result (λ outcome. outcome ≡ line_of_words (keys members.now) keyword (option_copied rest.entry)) }
 {
     match keyword {

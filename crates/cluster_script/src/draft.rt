@@ -3,7 +3,7 @@ ghost use Rattle.std.specs.Prelude.{◌≡◌, ◌≤◌, ◌+◌, length, map, 
 ghost use Rattle.std.specs.Option.{option_copied};
 ghost use Rattle.indexmap.specs.IndexMap.{keys};
 ghost use Rattle.cluster_config.specs.ConfigReading.{IsConfiguration};
-ghost use Rattle.script_model.specs.Bounds.{most_members};
+ghost use Rattle.pat_base.specs.declared.member_id.TheConstants.{MOST_MEMBERS};
 ghost use Rattle.script_model.specs.Script.{ScriptText, IsScript, config_or_default, base_or_default, member_names, members_in};
 ghost use Rattle.cluster_script.specs.Reading.{Gives, IsNew, base_addition, member_addition, body_addition, addition_of, known_addition, is_config, base_after, members_after, body_after, after_counted, after_line, after_lines, at_line, finished};
 
@@ -71,7 +71,7 @@ fn body_addition(
     keyword: Keyword,
     rest: Option<&[u8]>,
 ) -> Result<Result<Addition, Fault>, AllocError>
-    requires { length (keys members.now) ≤ most_members }
+    requires { length (keys members.now) ≤ MOST_MEMBERS }
     ensures value { IfOk result (λ outcome. outcome ≡ body_addition (keys members.now) keyword (option_copied rest.entry)) }
     ensures new { IfOk result (λ outcome. IfOk outcome (IsNew (members_in members.now.entries))) }
 {
@@ -91,7 +91,7 @@ fn addition_of(
     keyword: Keyword,
     rest: Option<&[u8]>,
 ) -> Result<Result<Addition, Fault>, AllocError>
-    requires { length (keys members.now) ≤ most_members }
+    requires { length (keys members.now) ≤ MOST_MEMBERS }
     ensures value { IfOk result (λ outcome. outcome ≡ addition_of base (keys members.now) body.now keyword (option_copied rest.entry)) }
     ensures new { IfOk result (λ outcome. IfOk outcome (IsNew (members_in members.now.entries))) }
 {
@@ -112,7 +112,7 @@ fn known_addition(
     keyword: Option<Keyword>,
     rest: Option<&[u8]>,
 ) -> Result<Result<Addition, Fault>, AllocError>
-    requires { length (members_in members.now.entries) ≤ most_members }
+    requires { length (members_in members.now.entries) ≤ MOST_MEMBERS }
     ensures value { IfOk result (λ outcome. outcome ≡ known_addition base (member_names (members_in members.now.entries)) body.now keyword (option_copied rest.entry)) }
     ensures new { IfOk result (λ outcome. IfOk outcome (IsNew (members_in members.now.entries))) }
 {

@@ -4,14 +4,14 @@ ghost use Rattle.std.specs.Option.{option_copied};
 ghost use Rattle.indexmap.specs.IndexMap.{keys};
 ghost use Rattle.cluster_script.specs.Members.{place_of};
 ghost use Rattle.cluster_script.specs.Reading.{in_head, declared_in_head, named_member, name_in, new_member, next_member, base_in, head_end, base_end, base_missing, next_base, second_cluster, cluster_in, first_line};
-ghost use Rattle.script_model.specs.Bounds.{most_members};
+ghost use Rattle.pat_base.specs.declared.member_id.TheConstants.{MOST_MEMBERS};
 
 use crate::arguments::number_in;
 use crate::first_words::keyword_of;
 use crate::members::{Members, place_of};
 use member_options::{MemberOptions, options_in};
-use pat_base::Name;
-use script_model::{Keyword, Line, MOST_MEMBERS};
+use pat_base::{MOST_MEMBERS, Name};
+use script_model::{Keyword, Line};
 use script_words::{Fault, both, cut_word};
 
 /// The greatest base of a script, in bytes.
@@ -89,7 +89,7 @@ pub fn next_member(
 ) -> Result<(Name, MemberOptions), Fault>
     ensures value { result ≡ next_member (keys members.now) body.now (option_copied rest.entry) }
     ensures new { IfOk result (λ member. place_of (keys members.now) member.0 ≡ None) }
-    ensures few { IfOk result (λ _. length (keys members.now) < most_members) }
+    ensures few { IfOk result (λ _. length (keys members.now) < MOST_MEMBERS) }
 {
     if members.len() >= MOST_MEMBERS {
         return Err(Fault::BadWord);

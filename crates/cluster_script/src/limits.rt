@@ -8,7 +8,8 @@ ghost use Rattle.script_model.specs.Steps.{total_ticks};
 
 use crate::ScriptLines;
 use crate::first_words::keyword_of;
-use script_model::{Keyword, MOST_MEMBERS};
+use pat_base::MOST_MEMBERS;
+use script_model::Keyword;
 use script_words::{cut_word, number};
 use std::alloc::{AllocError, Global};
 use std::fmt;
@@ -29,7 +30,7 @@ pub enum Limit {
     Bytes,
     /// 100,000 lines: the line feeds, and one for an unended last line.
     Lines,
-    /// 16 lines whose first word is `member`, whatever follows it.
+    /// As many lines as there may be members, whose first word is `member`, whatever follows it.
     Members,
     /// 1,000,000 ticks of 100 ms, in all lines that are `tick N` or `run N` and nothing else.
     Ticks,

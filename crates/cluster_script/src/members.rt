@@ -2,7 +2,7 @@
 ghost use Rattle.std.specs.Prelude.{◌≡◌, ◌<◌, ◌≤◌, length, IfSome};
 ghost use Rattle.indexmap.specs.IndexMap.{keys};
 ghost use Rattle.cluster_script.specs.Members.{place_of, member_named};
-ghost use Rattle.script_model.specs.Bounds.{most_members};
+ghost use Rattle.pat_base.specs.declared.member_id.TheConstants.{MOST_MEMBERS};
 
 use indexmap::IndexMap;
 use member_options::MemberOptions;
@@ -21,7 +21,7 @@ pub fn place_of(members: &Members, name: Name) -> Option<usize>
 
 /// The member of this name.
 pub fn member_named(members: &Members, name: Name) -> Option<MemberId>
-    requires { length (keys members.now) ≤ most_members }
+    requires { length (keys members.now) ≤ MOST_MEMBERS }
     ensures { result ≡ member_named (keys members.now) name }
 {
     let place = place_of(members, name)?;

@@ -3,7 +3,7 @@ ghost use Rattle.std.specs.Prelude.{◌≡◌, ◌≤◌, length, IfOk};
 ghost use Rattle.std.specs.Option.{option_copied};
 ghost use Rattle.indexmap.specs.IndexMap.{keys};
 ghost use Rattle.cluster_script.specs.Arguments.{method_in, call_in, target_in, target_behind, method_behind, call_words, behind_word, body_in, rest_line};
-ghost use Rattle.script_model.specs.Bounds.{most_members};
+ghost use Rattle.pat_base.specs.declared.member_id.TheConstants.{MOST_MEMBERS};
 
 use crate::arguments::{member_in, missing_behind, missing_word};
 use crate::members::Members;
@@ -80,7 +80,7 @@ fn method_behind(
 
 /// The member and the call of a request.
 fn call_words(members: &Members, rest: Option<&[u8]>) -> Result<((MemberId, ()), RestCall), Fault>
-    requires { length (keys members.now) ≤ most_members }
+    requires { length (keys members.now) ≤ MOST_MEMBERS }
     ensures { result ≡ call_words (keys members.now) (option_copied rest.entry) }
 {
     let Some(words) = rest else {
@@ -118,7 +118,7 @@ pub fn rest_line(
     members: &Members,
     rest: Option<&[u8]>,
 ) -> Result<Result<Line, Fault>, AllocError>
-    requires { length (keys members.now) ≤ most_members }
+    requires { length (keys members.now) ≤ MOST_MEMBERS }
     ensures { IfOk result (λ outcome. outcome ≡ rest_line (keys members.now) (option_copied rest.entry)) }
 {
     match call_words(members, rest) {

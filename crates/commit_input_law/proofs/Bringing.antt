@@ -39,6 +39,7 @@ use Rattle.commit_input_law.proofs.Inputs.{front-aside, Acting, After, Before, E
 use Rattle.commit_step_law.proofs.Moving.{moves-then}
 use Rattle.commit_step_law.specs.Moving.{Moves}
 use Rattle.commit_output_law.proofs.Page.{BeginsNone, PassesNone, RequiresNone, Sets, alone-begins, alone-passes, alone-requires, carried-begins, covered-passes, none-begins, none-passes, required-set, sets}
+use Rattle.pat_base.specs.declared.member_id.TheConstants.{MOST_MEMBERS}
 
 -- what comes of some, and then of others
 pub each-both : {X : Type 0} (part : Cluster → X → List Event) (cluster : Cluster) (xs ys : List X) → each part cluster (xs ++ ys) ≡ each part cluster xs ++ each part (cluster_over cluster (each part cluster xs)) ys
@@ -72,7 +73,7 @@ carried-unasking _ is = tt
 pub sent-none : (m run : ℕ) (outs : List Output) → All IsUnasking outs → IsSent (requests_of m run outs) None
 sent-none m run outs all = subst (λ (l : List SyncRequest). IsSent l None) (sym (asks-none m run outs all)) refl
 
-module _ (head : HeadText) (book : List Event) (cluster : Cluster) (good : CommitsBridged head book cluster) (few : member_count head ≤ 16) (a : Acting head book cluster) where
+module _ (head : HeadText) (book : List Event) (cluster : Cluster) (good : CommitsBridged head book cluster) (few : member_count head ≤ MOST_MEMBERS) (a : Acting head book cluster) where
   abbrev M : ℕ
   M = a.member.id.number
 

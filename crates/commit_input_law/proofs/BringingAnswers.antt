@@ -44,6 +44,7 @@ use Rattle.commit_step_law.proofs.Numbers.{numbered-by}
 use Rattle.commit_output_law.proofs.Page.{BeginsNone, PassesNone, RequiresNone, carried-begins, carried-requires, covered-passes, none-begins}
 use Rattle.commit_output_law.proofs.Sending.{answer-moves}
 use Rattle.commit_output_law.specs.Answering.{LogEndsAt}
+use Rattle.pat_base.specs.declared.member_id.TheConstants.{MOST_MEMBERS}
 
 if-some : (test : Bool) (found : Option Lsn) (end : Lsn) → (if test then found else None) ≡ Some end → found ≡ Some end
 if-some true found end is = is
@@ -60,7 +61,7 @@ members-over : (cluster : Cluster) (events : List Event) → (cluster_over clust
 members-over cluster [] = refl
 members-over cluster (event ∷ events) = members-over (cluster_after cluster event.kind) events
 
-module _ (head : HeadText) (book : List Event) (cluster : Cluster) (good : CommitsBridged head book cluster) (few : member_count head ≤ 16) (a : Acting head book cluster)
+module _ (head : HeadText) (book : List Event) (cluster : Cluster) (good : CommitsBridged head book cluster) (few : member_count head ≤ MOST_MEMBERS) (a : Acting head book cluster)
     (from : MemberId) (run sequence : ℕ) (asked : a.heard ≡ Asked from run sequence) where
   abbrev M : ℕ
   M = a.member.id.number

@@ -73,6 +73,7 @@ use Rattle.commit_step_law.proofs.Moving.{moves-then}
 use Rattle.commit_step_law.specs.Moving.{Moves}
 use Rattle.commit_output_law.proofs.Page.{BeginsNone, RequiresNone, carried-begins, carried-requires, none-begins}
 use Rattle.commit_output_law.proofs.Sending.{lost-moves}
+use Rattle.pat_base.specs.declared.member_id.TheConstants.{MOST_MEMBERS}
 
 -- ---- what the law knows of a question
 query-flying : (query : Query) → query_in_flight_of query ≡ option_map Requested (request_in query)
@@ -129,7 +130,7 @@ lost-leave : (cluster : Cluster) (test : Bool) (number : ℕ) → AllLeaveCommit
 lost-leave cluster true number = (tt, tt)
 lost-leave cluster false number = tt
 
-module _ (head : HeadText) (book : List Event) (cluster : Cluster) (good : CommitsBridged head book cluster) (few : member_count head ≤ 16) (a : Acting head book cluster)
+module _ (head : HeadText) (book : List Event) (cluster : Cluster) (good : CommitsBridged head book cluster) (few : member_count head ≤ MOST_MEMBERS) (a : Acting head book cluster)
     (front : List Output) (sequence : ℕ) (body : Body) (all : All IsCarried front) (whole : front ++ outputs.Send targets.Store sequence body ∷ [] ≡ (After head book cluster good a).outputs) where
   abbrev M : ℕ
   M = a.member.id.number

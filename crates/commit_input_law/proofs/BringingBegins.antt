@@ -45,6 +45,7 @@ use Rattle.commit_input_law.proofs.Inputs.{Acting, After, Ahead, Before, Events,
 use Rattle.commit_step_law.specs.Moving.{Moves, MovesFrom}
 use Rattle.commit_output_law.proofs.Page.{PassesNone, RequiresNone, covered-passes, none-passes}
 use Rattle.pg_model.specs.Running.{moment_after}
+use Rattle.pat_base.specs.declared.member_id.TheConstants.{MOST_MEMBERS}
 
 -- ---- the server of the machine, by the outputs
 kept-by : (now : Ticks) (machine : Machine) (output : Output) → IsCovered output → (machine_after_output now machine output).server ≡ machine.server
@@ -104,7 +105,7 @@ one-begins (output ∷ front) required = ap (λ (b : Bool). is_begin output || b
     or-true true = refl
     or-true false = refl
 
-module _ (head : HeadText) (book : List Event) (cluster : Cluster) (good : CommitsBridged head book cluster) (few : member_count head ≤ 16) (a : Acting head book cluster)
+module _ (head : HeadText) (book : List Event) (cluster : Cluster) (good : CommitsBridged head book cluster) (few : member_count head ≤ MOST_MEMBERS) (a : Acting head book cluster)
     (front : List Output) (required : Required) (covered : All IsCovered front) (whole : front ++ outputs.Require required ∷ outputs.Begin ∷ [] ≡ (After head book cluster good a).outputs) where
   abbrev M : ℕ
   M = a.member.id.number

@@ -27,6 +27,7 @@ use Rattle.run_step_law.proofs.Members.{counted}
 use Rattle.commit_step_law.specs.Bridged.{CommitsBridged}
 use Rattle.commit_step_law.specs.Reading.{past_of, state_of_run}
 use Rattle.commit_step_law.proofs.Standing.{at-number, made-of, none-confirmed}
+use Rattle.pat_base.specs.declared.member_id.TheConstants.{MOST_MEMBERS}
 
 -- who is connected is a member
 within-by : (members : List Member) (servers : List ServerFacts) (cuts : CutLinks) (member : Member) (n : ℕ) (found : Option Member) (position : Option Lsn) (end : Lsn) → slice_get members n ≡ found
@@ -40,7 +41,7 @@ unfolding connected_ends
 within-if members servers cuts member s true n end is = within-by members servers cuts member n (slice_get members n) (slice_index_or s.confirmed n None) end refl (at-number (connected_end members servers cuts member s.confirmed) n end is)
 within-if members servers cuts member s false n end is = absurd (none-confirmed 16 n end is)
 
-module _ (head : HeadText) (book : List Event) (cluster : Cluster) (good : CommitsBridged head book cluster) (few : member_count head ≤ 16) (member : Member) (machine : Machine) (machine_is : machine_of cluster member ≡ Some machine) where
+module _ (head : HeadText) (book : List Event) (cluster : Cluster) (good : CommitsBridged head book cluster) (few : member_count head ≤ MOST_MEMBERS) (member : Member) (machine : Machine) (machine_is : machine_of cluster member ≡ Some machine) where
   count-is : length cluster.facts.members ≡ member_count head
   count-is = ap (λ (l : List Member). length l) good.lease.matched.members ∙ counted head few
 
@@ -56,7 +57,7 @@ module _ (head : HeadText) (book : List Event) (cluster : Cluster) (good : Commi
   pub connected-member : (n : ℕ) (end : Lsn) → slice_get machine.replication.connected n ≡ Some (Some end) → n < member_count head
   connected-member n end e = subst (λ (k : ℕ). n < k) count-is (connected-by _ (slice_get cluster.facts.servers member.id.number) machine_is n end e)
 
-  below-few : (n : ℕ) → n < member_count head → n < 16
+  below-few : (n : ℕ) → n < member_count head → n < MOST_MEMBERS
   below-few n small = omega (arith, small, few)
 
   -- ---- whom its commits come to wait for
@@ -66,13 +67,13 @@ module _ (head : HeadText) (book : List Event) (cluster : Cluster) (good : Commi
   is-one : (k : ℕ) → (k == 1) ≡ true → k ≡ 1
   is-one k e = grind (arith, nat_tests)
 
-  needs-few : (required : Required) → WaitsForMembers required → (n : ℕ) → NeedsOne (need_in required) n → n < 16
+  needs-few : (required : Required) → WaitsForMembers required → (n : ℕ) → NeedsOne (need_in required) n → n < MOST_MEMBERS
   needs-few requireds.Nobody waits n needs = absurd needs
   needs-few requireds.AnyOne waits n needs = absurd needs
   needs-few (requireds.All set) waits n needs = waits n (is-one (bit_at set.bits n) needs)
 
   module _ (agent : AgentFacts) (s : ServerFacts) (found : slice_get cluster.facts.servers member.id.number ≡ Some s) where
-    grown-few : (required : Required) → GrowsByConnected (made agent.role agent.knows machine []) ((state_of_run head book cluster).members member.id.number).required (need_in required) → (n : ℕ) → NeedsOne (need_in required) n → n < 16
+    grown-few : (required : Required) → GrowsByConnected (made agent.role agent.knows machine []) ((state_of_run head book cluster).members member.id.number).required (need_in required) → (n : ℕ) → NeedsOne (need_in required) n → n < MOST_MEMBERS
     grown-few required grows n needs = elim (grows n needs) [
       | inl before ↦ needs-few s.required (good.fits.servers.sound.each member.id.number s found).required n
           (subst (λ need. NeedsOne need n) (ap need_of (required-at (past_of head book) cluster.facts good.fits.servers.same member.id.number s found)) before)

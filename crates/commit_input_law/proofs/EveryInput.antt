@@ -58,6 +58,7 @@ use Rattle.commit_input_law.proofs.Hearing.{hears-below, hears-commits, hears-on
 use Rattle.commit_step_law.proofs.Moving.{moves-one, upheld-moves}
 use Rattle.commit_step_law.proofs.Still.{volatile-same}
 use Rattle.commit_input_law.proofs.Upheld.{MayAnswer, input-upheld}
+use Rattle.pat_base.specs.declared.member_id.TheConstants.{MOST_MEMBERS}
 
 -- ---- nobody acts
 states-same : (before later : Cluster) → later.facts.servers ≡ before.facts.servers → later.agents ≡ before.agents → volatile_of before ≡ volatile_of later
@@ -107,7 +108,7 @@ record IsByItself (head : HeadText) (book : List Event) (cluster : Cluster) (mem
       → Hears (lease_past.state_of (declared_of head) (lease_past.past_of book) (run_volatile.volatile_of cluster)) member.id.number None (moment_of cluster) heard (made agent.role agent.knows machine [])
   may : MayAnswer head book cluster heard
 
-module _ (head : HeadText) (few : member_count head ≤ 16) (book : List Event) (cluster : Cluster) (member : Member) (good : CommitsBridged head book cluster) where
+module _ (head : HeadText) (few : member_count head ≤ MOST_MEMBERS) (book : List Event) (cluster : Cluster) (member : Member) (good : CommitsBridged head book cluster) where
   module _ (heard : Heard) (happening : AgentEvent) (itself : IsByItself head book cluster member heard happening) where
     abbrev Opening : EventKind
     Opening = kinds.Agent happening
@@ -156,7 +157,7 @@ module _ (head : HeadText) (few : member_count head ≤ 16) (book : List Event) 
       (kept-operated head book cluster member action good.lease)
 
 -- ---- a message comes to an agent
-module _ (head : HeadText) (few : member_count head ≤ 16) (book : List Event) (cluster : Cluster) (number : ℕ) (message : InFlightFacts) (member : Member) (good : CommitsBridged head book cluster)
+module _ (head : HeadText) (few : member_count head ≤ MOST_MEMBERS) (book : List Event) (cluster : Cluster) (number : ℕ) (message : InFlightFacts) (member : Member) (good : CommitsBridged head book cluster)
     (found : in_flight cluster.facts.flight number ≡ Some message) (to : message.message.to ≡ ends.Member member) (open_is : delivery_of cluster.facts.cuts cluster.facts.processes message.message ≡ deliveries.Open) where
   abbrev Arrived : EventKind
   Arrived = kinds.Message (Delivered number)
@@ -252,7 +253,7 @@ module _ (head : HeadText) (few : member_count head ≤ 16) (book : List Event) 
   upheld-hearing = heard-by (heard_from cluster message) refl (kept-hearing head book cluster number message member good.lease found to open_is)
 
 -- all of them do
-pub inputs-uphold : (head : HeadText) → member_count head ≤ 16 → InputsUphold head (kept_commits head)
+pub inputs-uphold : (head : HeadText) → member_count head ≤ MOST_MEMBERS → InputsUphold head (kept_commits head)
 inputs-uphold head few = record {
   wakes = λ book cluster member process good declared found acts. upheld-wake head few book cluster member good;
   operates = λ book cluster member process action good declared found acts. upheld-operated head few book cluster member good action;

@@ -91,6 +91,7 @@ use Rattle.commit_input_law.proofs.Quietly.{AsksQuietly, covered-quietly, quietl
 use Rattle.commit_output_law.proofs.Covering.{IsCarried, carried}
 use Rattle.commit_output_law.proofs.Page.{PassesNone, covered-passes, none-passes}
 use Rattle.summary.specs.Claims.{KeepMode}
+use Rattle.pat_base.specs.declared.member_id.TheConstants.{MOST_MEMBERS}
 
 -- ---- events of which none changes what commits being kept speaks of, nor the order
 pub upheld-aside : (head : HeadText) (book : List Event) (cluster : Cluster) (events : List Event) → CommitsBridged head book cluster → AllLeaveCommits events → AllLeaveOrder events → AllInOrder (past_of head book) cluster events
@@ -184,7 +185,7 @@ passing-breaks member message cluster (output ∷ front) behind mode =
     let events : List Event = output_events member message cluster output in
     passing-breaks member message (cluster_over cluster events) front behind (mode-back events (each (output_events member message) (cluster_over cluster events) (front ++ outputs.Passes ∷ behind)) mode)
 
-module _ (head : HeadText) (book : List Event) (cluster : Cluster) (good : CommitsBridged head book cluster) (few : member_count head ≤ 16) (a : Acting head book cluster) where
+module _ (head : HeadText) (book : List Event) (cluster : Cluster) (good : CommitsBridged head book cluster) (few : member_count head ≤ MOST_MEMBERS) (a : Acting head book cluster) where
   abbrev M : ℕ
   M = a.member.id.number
 

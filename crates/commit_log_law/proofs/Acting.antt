@@ -48,6 +48,7 @@ use Rattle.commit_log_law.proofs.Fronts.{front-prefix, front-entry}
 use Rattle.commit_log_law.proofs.Keeping.{leaves-sound, live-data, sound-by, writes-live}
 use Rattle.commit_log_law.proofs.Live.{live-after}
 use Rattle.commit_log_law.proofs.Matching.{same-by}
+use Rattle.pat_base.specs.declared.member_id.TheConstants.{MOST_MEMBERS}
 
 -- ---- what the past has of a server that is there
 module _ (past : Past) (facts : Facts) (same : IsSameServers past facts) (k : ℕ) (s : ServerFacts) (found : slice_get facts.servers k ≡ Some s) where
@@ -80,7 +81,7 @@ reached : (end : Lsn) (position : ℕ) (found : Option Lsn) → position ≡ end
 reached end position None is reaches = absurd reaches
 reached end position (Some confirmed) is reaches = omega (arith, is, reaches)
 
-met-by : (member_count : ℕ) (required : Required) (end : Lsn) (position : ℕ) (confirmed : List (Option Lsn)) → length confirmed ≡ 16 → WaitsForMembers required → position ≡ end.position → is_met required end confirmed ≡ true
+met-by : (member_count : ℕ) (required : Required) (end : Lsn) (position : ℕ) (confirmed : List (Option Lsn)) → length confirmed ≡ MOST_MEMBERS → WaitsForMembers required → position ≡ end.position → is_met required end confirmed ≡ true
     → Meets member_count (need_in required) (λ n. Reaches position (position_in (slice_get confirmed n)))
 met-by member_count requireds.Nobody end position confirmed long members is met = tt
 met-by member_count requireds.AnyOne end position confirmed long members is met = tt
@@ -91,7 +92,7 @@ met-by member_count (requireds.All set) end position confirmed long members is m
     (reached end position (get_or confirmed n None) is (is_met-to (requireds.All set) end confirmed met n few bit))
 
 -- in a book's words
-pub met-in : (member_count : ℕ) (required : Required) (end : Lsn) (confirmed : List (Option Lsn)) → length confirmed ≡ 16 → WaitsForMembers required → is_met required end confirmed ≡ true
+pub met-in : (member_count : ℕ) (required : Required) (end : Lsn) (confirmed : List (Option Lsn)) → length confirmed ≡ MOST_MEMBERS → WaitsForMembers required → is_met required end confirmed ≡ true
     → Meets member_count (need_in required) (λ n. Reaches end.position (position_of (Some confirmed) n))
 met-in member_count required end confirmed long members met = met-by member_count required end end.position confirmed long members refl met
 

@@ -26,6 +26,7 @@ use Rattle.commit_log_law.specs.Sound.{IsServerSound, AreServersSound, WaitsForM
 use Rattle.commit_log_law.specs.Happening.{AreInPlace}
 use Rattle.commit_log_law.specs.Acting.{Fits}
 use Rattle.commit_log_law.proofs.Matching.{same-first}
+use Rattle.pat_base.specs.declared.member_id.TheConstants.{MOST_MEMBERS}
 
 -- ---- servers
 replicated : {A : Type 0} (n : ℕ) (x : A) (m : ℕ) (s : A) → slice_get (replicate n x) m ≡ Some s → x ≡ s
@@ -70,15 +71,15 @@ pub fits-first : (first : Settings) (names : List Name) (base : ℕ) → base �
 fits-first first names base most = record { same = same-first first names base; live = live-first first names base; sound = sound-first first names base most }
 
 -- ---- members
-bit-within : (bits m : ℕ) → bits < 2 ^ 16 → bit_at bits m ≡ 1 → (m < 16) ⊎ (16 ≤ m) → m < 16
+bit-within : (bits m : ℕ) → bits < 2 ^ MOST_MEMBERS → bit_at bits m ≡ 1 → (m < MOST_MEMBERS) ⊎ (MOST_MEMBERS ≤ m) → m < MOST_MEMBERS
 bit-within bits m few is (inl less) = less
 bit-within bits m few is (inr past) = absurd (omega (arith, is, bit_at_above bits 16 m few past))
 
 -- a set of sixteen bits is of members
-pub set-within : (set : MemberSet) → set.bits < 2 ^ 16 → WaitsForMembers (requireds.All set)
+pub set-within : (set : MemberSet) → set.bits < 2 ^ MOST_MEMBERS → WaitsForMembers (requireds.All set)
 set-within set few = λ m is. bit-within set.bits m few is (cases_lt m 16)
 
-not-small : (n : ℕ) → nat_lt n 16 ≡ false → n < 16 → ⊥
+not-small : (n : ℕ) → nat_lt n MOST_MEMBERS ≡ false → n < MOST_MEMBERS → ⊥
 not-small n is small = grind (arith, nat_tests)
 
 -- a member of this number stands first
@@ -87,14 +88,14 @@ record StandsFirst (n : ℕ) (members all : List Member) : Type 0 where
   number : member.id.number ≡ n
   is : all ≡ member ∷ members
 
-first-by : (n : ℕ) (test : Bool) (is : nat_lt n 16 ≡ test) (name : Name) (members : List Member) → n < 16 → StandsFirst n members (put_first (member_by n test is) name members)
+first-by : (n : ℕ) (test : Bool) (is : nat_lt n MOST_MEMBERS ≡ test) (name : Name) (members : List Member) → n < MOST_MEMBERS → StandsFirst n members (put_first (member_by n test is) name members)
 first-by n true is name members small = record { member = record { id = record { number = n; below = _ }; name = name }; number = refl; is = refl }
 first-by n false is name members small = absurd (not-small n is small)
 
-small-first : (n more : ℕ) → n + suc more ≤ 16 → n < 16
+small-first : (n more : ℕ) → n + suc more ≤ MOST_MEMBERS → n < MOST_MEMBERS
 small-first n more few = omega (arith, few)
 
-small-next : (n more : ℕ) → n + suc more ≤ 16 → (n + 1) + more ≤ 16
+small-next : (n more : ℕ) → n + suc more ≤ MOST_MEMBERS → (n + 1) + more ≤ MOST_MEMBERS
 small-next n more few = omega (arith, few)
 
 next-number : (k n i : ℕ) → k ≡ (n + 1) + i → k ≡ n + suc i
@@ -108,18 +109,18 @@ numbered-behind : (n : ℕ) (member m : Member) (members : List Member) → memb
 numbered-behind n member m members number rest zero is = at-first n m.id.number (ap (λ (z : Member). z.id.number) (sym (some-is member m is)) ∙ number)
 numbered-behind n member m members number rest (suc i) is = next-number m.id.number n i (rest i is)
 
-numbered-from : (n : ℕ) (names : List Name) → n + length names ≤ 16 → (i : ℕ) (m : Member) → slice_get (members_from n names) i ≡ Some m → m.id.number ≡ n + i
+numbered-from : (n : ℕ) (names : List Name) → n + length names ≤ MOST_MEMBERS → (i : ℕ) (m : Member) → slice_get (members_from n names) i ≡ Some m → m.id.number ≡ n + i
 numbered-from n [] few i m is = absurd (none-some m is)
 numbered-from n (name ∷ names) few i m is =
-    let first = first-by n (nat_lt n 16) refl name (members_from (n + 1) names) (small-first n (length names) few) in
+    let first = first-by n (nat_lt n MOST_MEMBERS) refl name (members_from (n + 1) names) (small-first n (length names) few) in
     numbered-behind n first.member m (members_from (n + 1) names) first.number (λ i is. numbered-from (n + 1) names (small-next n (length names) few) i m is) i
     (sym (ap (λ (ms : List Member). slice_get ms i) first.is) ∙ is)
 
-from-few : (count : ℕ) → count ≤ 16 → 0 + count ≤ 16
+from-few : (count : ℕ) → count ≤ MOST_MEMBERS → 0 + count ≤ MOST_MEMBERS
 from-few count few = omega (arith, few)
 
 from-none : (i : ℕ) → 0 + i ≡ i
 from-none i = omega arith
 
-pub in-place : (first : Settings) (names : List Name) (base : ℕ) → length names ≤ 16 → AreInPlace (start_of first names base).members
+pub in-place : (first : Settings) (names : List Name) (base : ℕ) → length names ≤ MOST_MEMBERS → AreInPlace (start_of first names base).members
 in-place first names base few = record { number = λ n member is. numbered-from 0 names (from-few (length names) few) n member is ∙ from-none n }

@@ -27,6 +27,7 @@ use Rattle.commit_law.specs.States.{HasLog}
 use Rattle.commit_law.proofs.Prefixes.{end-append, end-le, received-prefix}
 use Rattle.commit_log_law.specs.Sound.{AreUpTo, StandsIn, AllStandIn, WaitsForMembers, IsServerSound}
 use Rattle.commit_log_law.proofs.Fronts.{front-append, front-whole, entry-append, up-append, up-more, up-prefix}
+use Rattle.pat_base.specs.declared.member_id.TheConstants.{MOST_MEMBERS}
 
 -- ---- what it rests on
 module _ (commits : ℕ) where
@@ -44,7 +45,7 @@ module _ (commits : ℕ) where
   }
 
   -- in another state that accepts writes where the first does, with the same commits that wait
-  pub sound-going : (s t : ServerFacts) → t.log ≡ s.log → length t.confirmed ≡ 16 → t.required ≡ s.required → t.waiting ≡ s.waiting → (has_data t.state ≡ true → has_data s.state ≡ true)
+  pub sound-going : (s t : ServerFacts) → t.log ≡ s.log → length t.confirmed ≡ MOST_MEMBERS → t.required ≡ s.required → t.waiting ≡ s.waiting → (has_data t.state ≡ true → has_data s.state ≡ true)
       → (writes t.state ≡ false → writes s.state ≡ false) → IsServerSound commits s → IsServerSound commits t
   sound-going s t log confirmed required waiting with_data writing is = record {
     end = subst (λ (l : Option (List Entry)). end_of (entries_of l) ≤ 2 ^ 63) (sym log) is.end;

@@ -11,6 +11,7 @@ use Rattle.pg_model.specs.Facts.{ServerFacts, entries_of, has_data}
 use Rattle.event_book.specs.Facts.{Facts}
 use Rattle.commit_law.specs.Past.{front_to}
 use Rattle.commit_law.specs.States.{HasLog, HasEntryOf}
+use Rattle.pat_base.specs.declared.member_id.TheConstants.{MOST_MEMBERS}
 
 -- these entries are of commits up to this number, or of the data before the first commit
 abbrev pub AreUpTo : ℕ → List Entry → Type 0
@@ -29,7 +30,7 @@ AllStandIn log (first ∷ more) = StandsIn log first × AllStandIn log more
 
 -- commits that wait for a set wait for members only
 abbrev pub WaitsForMembers : Required → Type 0
-WaitsForMembers (requireds.All set) = (m : ℕ) → bit_at set.bits m ≡ 1 → m < 16
+WaitsForMembers (requireds.All set) = (m : ℕ) → bit_at set.bits m ≡ 1 → m < MOST_MEMBERS
 WaitsForMembers _ = Unit {0}
 
 -- what holds of a server where the last commit has this number
@@ -42,7 +43,7 @@ pub record IsServerSound (commits : ℕ) (s : ServerFacts) : Type 0 where
   -- none waits at a server that accepts no writes
   pub none_waits : writes s.state ≡ false → s.waiting ≡ []
   -- there is a place for what each member may confirm
-  pub places : length s.confirmed ≡ 16
+  pub places : length s.confirmed ≡ MOST_MEMBERS
   pub required : WaitsForMembers s.required
 
 -- it holds of each server that a book leaves

@@ -29,6 +29,7 @@ ghost use Rattle.commit_log_law.specs.Matching.{IsSameServers, live_in, volatile
 ghost use Rattle.commit_log_law.specs.Sound.{AreServersSound, IsServerSound, WaitsForMembers};
 ghost use Rattle.commit_log_law.specs.Happening.{MayHappen, MayFollow, MovesOnly, LeavesSound, AreInPlace};
 ghost use Rattle.commit_log_law.specs.Acting.{Fits, Leads, AreActions, IsAside};
+ghost use Rattle.pat_base.specs.declared.member_id.TheConstants.{MOST_MEMBERS};
 
 /// A book leaves the same logs, required lists, confirmed positions, writers and acknowledged commits by the law's definitions as by its
 /// own: each event keeps it, if only the server of a member begins.
@@ -47,9 +48,9 @@ pub fn servers_are_sound()
     ensures may { (facts : Facts) (kind : EventKind) → MayHappen facts kind → LeavesSound facts kind }
     // What the law of commits asks of logs before the first event, and what is needed of members.
     ensures bytes { (first : Settings) (names : List Name) (base : ℕ) → 1 ≤ base → AllHaveBytes (logs_in (start_of first names base).servers) }
-    ensures members { (first : Settings) (names : List Name) (base : ℕ) → length names ≤ 16 → AreInPlace (start_of first names base).members }
+    ensures members { (first : Settings) (names : List Name) (base : ℕ) → length names ≤ MOST_MEMBERS → AreInPlace (start_of first names base).members }
     // A required list of sixteen bits is of members.
-    ensures sets { (set : MemberSet) → set.bits < 2 ^ 16 → WaitsForMembers (requireds.All set) }
+    ensures sets { (set : MemberSet) → set.bits < 2 ^ MOST_MEMBERS → WaitsForMembers (requireds.All set) }
     // Who accepts writes is live, and who is live has a log.
     ensures writers { (state : State) → writes state ≡ true → live state ≡ true }
     ensures logs { (commits : ℕ) (s : ServerFacts) → IsServerSound commits s → live s.state ≡ true → HasLog s.log }
@@ -58,7 +59,7 @@ pub fn servers_are_sound()
 /// The server's test that a commit's end is confirmed says, where the commit waits for a set, that each member of it has confirmed that end
 /// in the law's words; where it waits for any one, the law counts nobody.
 pub fn required_is_met()
-    ensures met { (member_count : ℕ) (required : Required) (end : Lsn) (confirmed : List (Option Lsn)) → length confirmed ≡ 16 → WaitsForMembers required
+    ensures met { (member_count : ℕ) (required : Required) (end : Lsn) (confirmed : List (Option Lsn)) → length confirmed ≡ MOST_MEMBERS → WaitsForMembers required
         → is_met required end confirmed ≡ true → Meets member_count (need_in required) (λ n. Reaches end.position (position_of (Some confirmed) n)) }
     ensures sets { (member_count : ℕ) (set : MemberSet) (end : Lsn) (confirmed : List (Option Lsn))
         → Meets member_count (need_in (requireds.All set)) (λ n. Reaches end.position (position_of (Some confirmed) n)) → is_met (requireds.All set) end confirmed ≡ true }

@@ -52,6 +52,7 @@ use Rattle.commit_run_law.specs.Runs.{first_logs}
 use Rattle.commit_run_law.proofs.Holding.{HoldsIn, book-acknowledged, book-logs, book-writes, held-by-book, held-by-past}
 use Rattle.commit_run_law.proofs.Losses.{Tells, TellsSoFar, losses_told, lost-tells, none-lost, some-lost, upheld-tells}
 use Rattle.commit_step_law.proofs.Transitions.{past-more}
+use Rattle.pat_base.specs.declared.member_id.TheConstants.{MOST_MEMBERS}
 
 -- the event of this kind at its moment
 abbrev event_now : Cluster → EventKind → Event
@@ -225,7 +226,7 @@ all-quiet-begin : (P : ℕ → Type 0) (events : List Event) → AllAre IsQuiet 
 all-quiet-begin P [] all = tt
 all-quiet-begin P (event ∷ events) all = (quiet-begins P event.kind all.0, all-quiet-begin P events all.1)
 
-pub upheld-acknowledge : (head : HeadText) → length (names_of head) ≤ 16 → (member : Member) → UpholdsAlways (losses_told head) (λ cluster. acknowledge_events cluster member)
+pub upheld-acknowledge : (head : HeadText) → length (names_of head) ≤ MOST_MEMBERS → (member : Member) → UpholdsAlways (losses_told head) (λ cluster. acknowledge_events cluster member)
 upheld-acknowledge head few member book cluster good =
     let found : Option ServerFacts = slice_get cluster.facts.servers member.id.number in
     let list : List EventKind = acknowledge_kinds cluster.facts.servers cluster.facts.members member found in

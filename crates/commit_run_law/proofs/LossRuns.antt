@@ -59,6 +59,7 @@ use Rattle.run_step_law.proofs.Members.{few-names}
 use Rattle.commit_run_law.proofs.Losses.{LosesNone, TellsSoFar, composable, losses_told, upheld-loseless}
 use Rattle.commit_run_law.proofs.LossGroups.{IsRepair, upheld-acknowledge, upheld-begun, upheld-repair}
 use Rattle.commit_run_law.proofs.LossParts.{holds-cond, holds-mapped, kind-cond, none-if, sends-none, upheld-arrival, upholds-command, upholds-promote, upholds-receive, upholds-restart, upholds-tick}
+use Rattle.pat_base.specs.declared.member_id.TheConstants.{MOST_MEMBERS}
 
 not-or : (a b : Bool) → (a || b) ≡ false → b ≡ false
 not-or true b e = absurd (both (sym e))
@@ -179,7 +180,7 @@ module _ (head : HeadText) where
       upheld-then (losses_told head) (composable head) book cluster (event_of cluster kind) (input_events (cluster_after cluster kind) member heard outcome) (upheld-loseless head book cluster _ good (none, tt))
       (upholds-all (losses_told head) (composable head) (output_events member heard) (upholds-output member heard) (outputs_of outcome) (book ++ event_of cluster kind) (cluster_after cluster kind))
 
-  parts : length (names_of head) ≤ 16 → PartsUphold head (losses_told head)
+  parts : length (names_of head) ≤ MOST_MEMBERS → PartsUphold head (losses_told head)
   parts few = record {
     members = λ book cluster good. good.members;
     inputs = record {

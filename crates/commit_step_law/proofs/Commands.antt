@@ -48,6 +48,7 @@ use Rattle.commit_step_law.proofs.Going.{GoesFrom, upheld-goes}
 use Rattle.commit_step_law.proofs.Servers.{upheld-quiet-if, upholds-crash}
 use Rattle.commit_step_law.proofs.Starting.{upheld-restart}
 use Rattle.commit_step_law.proofs.Transitions.{composable, kept-now}
+use Rattle.pat_base.specs.declared.member_id.TheConstants.{MOST_MEMBERS}
 
 -- ---- a message is lost
 pub goes-loss : (setup : Setup) (cluster : Cluster) (number : ℕ) → GoesFrom setup cluster (event_of cluster (kinds.Message (Lost number)))
@@ -113,7 +114,7 @@ command-may cluster (commands.Join first second) is =
 command-may cluster _ is = tt
 
 -- ---- commands that bring one event at most
-module _ (head : HeadText) (few : length (names_of head) ≤ 16) (book : List Event) (cluster : Cluster) (good : CommitsBridged head book cluster) where
+module _ (head : HeadText) (few : length (names_of head) ≤ MOST_MEMBERS) (book : List Event) (cluster : Cluster) (good : CommitsBridged head book cluster) where
   none : Upholds (kept_commits head) book cluster []
   none = upheld-none (kept_commits head) (composable head) book cluster good
 

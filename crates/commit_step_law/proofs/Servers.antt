@@ -48,6 +48,7 @@ use Rattle.commit_step_law.specs.Moving.{Moves}
 use Rattle.commit_step_law.proofs.Over.{AskAsOn}
 use Rattle.commit_step_law.proofs.Still.{IsStill, leaves-still, moves-still}
 use Rattle.commit_step_law.proofs.Transitions.{composable, state_behind}
+use Rattle.pat_base.specs.declared.member_id.TheConstants.{MOST_MEMBERS}
 
 -- ---- events one after another
 module _ (setup : Setup) where
@@ -120,10 +121,10 @@ still-from cluster most member None = tt
 still-from cluster most member (Some from) = still-receive cluster member from (news_at cluster.facts.servers member.id.number from.id.number most)
 
 -- ---- the parts
-in-place-now : (head : HeadText) → length (names_of head) ≤ 16 → (book : List Event) (cluster : Cluster) → CommitsBridged head book cluster → AreInPlace cluster.facts.members
+in-place-now : (head : HeadText) → length (names_of head) ≤ MOST_MEMBERS → (book : List Event) (cluster : Cluster) → CommitsBridged head book cluster → AreInPlace cluster.facts.members
 in-place-now head few book cluster good = subst AreInPlace (sym good.lease.matched.members) (in-place head.config (names_of head) head.base few)
 
-pub upholds-receive : (head : HeadText) → length (names_of head) ≤ 16 → (most : ℕ) (member : Member) → UpholdsAlways (kept_commits head) (λ cluster. receive_events_at_most cluster most member)
+pub upholds-receive : (head : HeadText) → length (names_of head) ≤ MOST_MEMBERS → (most : ℕ) (member : Member) → UpholdsAlways (kept_commits head) (λ cluster. receive_events_at_most cluster most member)
 upholds-receive head few most member book cluster good =
     upheld-follow head book cluster (receive_events_at_most cluster most member) good (still-from cluster most member (source_of cluster.facts.members cluster.facts.servers cluster.facts.cuts member))
     (receive-at-most cluster most member (in-place-now head few book cluster good) good.fits.servers.sound) (keeps-receive-at-most head most member book cluster good.lease)

@@ -31,6 +31,7 @@ use Rattle.commit_log_law.proofs.Acting.{confirmed-at, log-at, required-at, writ
 use Rattle.run_step_law.specs.Declaring.{member_count}
 use Rattle.commit_step_law.specs.Bridged.{CommitsBridged}
 use Rattle.commit_step_law.specs.Reading.{agent_now, past_of, state_of_run}
+use Rattle.pat_base.specs.declared.member_id.TheConstants.{MOST_MEMBERS}
 
 -- what a machine has of the server that it is made of
 pub record IsMadeOf (s : ServerFacts) (replication : Replication) (machine : Machine) : Type 0 where
@@ -68,11 +69,11 @@ cond-some false found end is = absurd (none-some end is)
 from-none : (n : ℕ) → 0 + n ≡ n
 from-none n = omega arith
 
-pub at-number : (f : ℕ → Option Lsn) (n : ℕ) (end : Lsn) → slice_get (map f (range_with_len 0 16)) n ≡ Some (Some end) → f n ≡ Some end
+pub at-number : (f : ℕ → Option Lsn) (n : ℕ) (end : Lsn) → slice_get (map f (range_with_len 0 MOST_MEMBERS)) n ≡ Some (Some end) → f n ≡ Some end
 at-number f n end is =
-    let ends : List (Option Lsn) = map f (range_with_len 0 16) in
+    let ends : List (Option Lsn) = map f (range_with_len 0 MOST_MEMBERS) in
     let few : n < length ends = slice_get_within ends n (Some end) is in
-    let small : n < 16 = subst (λ (k : ℕ). n < k) (length-map-range_with_len f 0 16) few in
+    let small : n < MOST_MEMBERS = subst (λ (k : ℕ). n < k) (length-map-range_with_len f 0 16) few in
     sym (get_or-map-range_with_len f 0 16 n n None small (from-none n)) ∙ some-is (get_or ends n None) (Some end) (sym (slice_get-get_or ends n None few) ∙ is)
 
 connected-end : (members : List Member) (servers : List ServerFacts) (cuts : CutLinks) (member : Member) (s : ServerFacts) (writing : Bool) (n : ℕ) (end : Lsn)

@@ -55,6 +55,7 @@ use Rattle.commit_step_law.proofs.Going.{GoesFrom, goes-follow, goes-none, goes-
 use Rattle.commit_step_law.specs.Moving.{Moves}
 use Rattle.sync_order_law.specs.Changes.{ChangeOrderOnce}
 use Rattle.commit_step_law.proofs.Still.{IsStill, agent-stays, volatile-same}
+use Rattle.pat_base.specs.declared.member_id.TheConstants.{MOST_MEMBERS}
 
 -- ---- the clock
 kept-or-gone : (test : Bool) (key : LeaderKey) → (kept_if test key ≡ Some key) ⊎ (kept_if test key ≡ None)
@@ -214,7 +215,7 @@ module _ (setup : Setup) where
       (goes-completions members (cluster_over cluster (completion_events cluster m)))
 
 -- ---- the whole tick
-pub upholds-tick : (head : HeadText) → length (names_of head) ≤ 16 → UpholdsAlways (kept_commits head) tick_events
+pub upholds-tick : (head : HeadText) → length (names_of head) ≤ MOST_MEMBERS → UpholdsAlways (kept_commits head) tick_events
 upholds-tick head few book cluster good =
     let setup : Setup = setup_of head in
     let ticked : Cluster = cluster_after cluster kinds.Tick in

@@ -5,13 +5,14 @@ use Rattle.pat_base.specs.declared.server_id.ServerId.{ServerId}
 use Rattle.event_book.specs.declared.member.Member.{Member}
 use Rattle.event_book.specs.declared.member.ServerOf.{ServerOf}
 use Rattle.event_book.specs.Members.{server_of, server_id_of}
+use Rattle.pat_base.specs.declared.member_id.TheConstants.{MOST_MEMBERS}
 
-with-within : (number : ℕ) (within upper : number ≤ 16) → ◌≡◌ {A = ServerId} (record { number = number; within = within }) (record { number = number; within = upper })
-with-within number within upper = ap (λ (w : number ≤ 16). let id : ServerId = record { number = number; within = w } in id) (le_prop within upper)
+with-within : (number : ℕ) (within upper : number ≤ MOST_MEMBERS) → ◌≡◌ {A = ServerId} (record { number = number; within = within }) (record { number = number; within = upper })
+with-within number within upper = ap (λ (w : number ≤ MOST_MEMBERS). let id : ServerId = record { number = number; within = w } in id) (le_prop within upper)
 
-id-from : (number other : ℕ) (within : number ≤ 16) (upper : other ≤ 16) → number ≡ other → ◌≡◌ {A = ServerId} (record { number = number; within = within }) (record { number = other; within = upper })
+id-from : (number other : ℕ) (within : number ≤ MOST_MEMBERS) (upper : other ≤ MOST_MEMBERS) → number ≡ other → ◌≡◌ {A = ServerId} (record { number = number; within = within }) (record { number = other; within = upper })
 id-from number other within upper e =
-    subst (λ (n : ℕ). (u : n ≤ 16) → ◌≡◌ {A = ServerId} (record { number = number; within = within }) (record { number = n; within = u })) e (with-within number within) upper
+    subst (λ (n : ℕ). (u : n ≤ MOST_MEMBERS) → ◌≡◌ {A = ServerId} (record { number = number; within = within }) (record { number = n; within = u })) e (with-within number within) upper
 
 -- servers with one number are one
 pub id-same : (a b : ServerId) → a.number ≡ b.number → a ≡ b

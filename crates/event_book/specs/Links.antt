@@ -7,10 +7,11 @@ use Rattle.event_book.specs.declared.link.LinkEnd.TheVariants.{Store, Member}
 use Rattle.event_book.specs.declared.event.EventKind.{EventKind}
 use Rattle.event_book.specs.declared.event.EventKind.TheVariants as kinds
 use Rattle.event_book.specs.declared.event.LinkEvent.TheVariants as links
+use Rattle.pat_base.specs.declared.member_id.TheConstants.{MOST_MEMBERS}
 
--- the number of a member, or 16 for the key store
+-- the number of a member, or the first that no member has, for the key store
 abbrev pub end_number : LinkEnd → ℕ
-end_number Store = 16
+end_number Store = MOST_MEMBERS
 end_number (Member member) = member.id.number
 
 -- how lines name an end of a link: as the store, or by the member's name
@@ -24,9 +25,9 @@ is_same_link a b =
     ((end_number a.first == end_number b.first) && (end_number a.second == end_number b.second))
     || ((end_number a.first == end_number b.second) && (end_number a.second == end_number b.first))
 
--- how many ends links may have: 16 members and the key store
+-- how many ends links may have: the members and the key store
 abbrev pub end_count : ℕ
-end_count = 17
+end_count = MOST_MEMBERS + 1
 
 -- how many places a table has that has one for each two ends
 abbrev pub place_count : ℕ

@@ -7,6 +7,7 @@ use Rattle.pat_base.specs.MemberId.{member_of}
 use Rattle.pat_base.specs.declared.server_id.ServerId.{ServerId}
 use Rattle.event_book.specs.declared.member.Member.{Member}
 use Rattle.event_book.specs.declared.member.ServerOf.{ServerOf}
+use Rattle.pat_base.specs.declared.member_id.TheConstants.{MOST_MEMBERS}
 
 -- these members behind one of this number and name; a number that no member may have adds none
 abbrev pub put_first : Option MemberId → Name → List Member → List Member
@@ -18,7 +19,7 @@ abbrev pub members_from : ℕ → List Name → List Member
 members_from number [] = []
 members_from number (name ∷ names) = put_first (member_of number) name (members_from (number + 1) names)
 
-pub within-below : (n : ℕ) → n < 16 → n ≤ 16
+pub within-below : (n : ℕ) → n < MOST_MEMBERS → n ≤ MOST_MEMBERS
 within-below n below = omega (arith, below)
 
 -- the number of a member's server

@@ -1,10 +1,11 @@
 //! Links between members and the key store.
 
 use crate::Member;
+use pat_base::MOST_MEMBERS;
 use std::fmt;
 
-/// How many ends links may have: 16 members and the key store.
-const ENDS: usize = 17;
+/// How many ends links may have: the members and the key store.
+const ENDS: usize = MOST_MEMBERS + 1;
 
 /// One end of a link.
 #[derive(Clone, Copy, Debug, PartialEq, Eq)]
@@ -24,13 +25,13 @@ impl LinkEnd {
     ghost use Rattle.std.specs.Prelude.{◌≡◌, ◌<◌};
     ghost use Rattle.event_book.specs.Links.{end_count, end_number};
 
-    /// The number of a member, or 16 for the key store.
+    /// The number of a member, or the first that no member has, for the key store.
     pub fn number(self) -> u8
         ensures number { result ≡ end_number self }
         ensures within { result < end_count }
     {
         match self {
-            LinkEnd::Store => 16,
+            LinkEnd::Store => MOST_MEMBERS as u8,
             LinkEnd::Member(member) => member.id.number,
         }
     }

@@ -11,7 +11,8 @@ ghost use Rattle.agent_model.specs.declared.output.Output.TheVariants as outputs
 ghost use Rattle.agent_model.specs.declared.output.Target.TheVariants as targets;
 ghost use Rattle.agent_model.specs.declared.why.Why.TheVariants as whys;
 ghost use Rattle.agent_model.specs.Acting.{with_required, counted, waiting, lease_span, without_deadline, disarmed, deadline_after, with_feed, is_refusing, armed, fed_until, is_hold_active};
-ghost use Rattle.agent_model.specs.Agents.{IsSound, IsWithin, Ending, latest};
+ghost use Rattle.agent_model.specs.Agents.{IsSound, IsWithin, Ending};
+ghost use Rattle.pat_base.specs.Moments.{latest};
 ghost use Rattle.ha_loop.specs.Roles.{role_of};
 ghost use Rattle.agent_model.specs.Info.{info_of};
 ghost use Rattle.agent_model.specs.Outputs.{listed};

@@ -8,7 +8,8 @@ ghost use Rattle.agent_model.specs.declared.knowledge.Question.TheVariants as qu
 ghost use Rattle.agent_model.specs.declared.output.Output.TheVariants as outputs;
 ghost use Rattle.agent_model.specs.declared.output.Target.TheVariants as targets;
 ghost use Rattle.agent_model.specs.Acting.{seconds_after, waiting, counted, without_deadline, disarmed};
-ghost use Rattle.agent_model.specs.Agents.{IsSound, IsWithin, Follower, Holder, Ready, made, latest};
+ghost use Rattle.agent_model.specs.Agents.{IsSound, IsWithin, Follower, Holder, Ready, made};
+ghost use Rattle.pat_base.specs.Moments.{latest};
 ghost use Rattle.ha_loop.specs.Roles.{role_of};
 ghost use Rattle.agent_model.specs.Outputs.{listed};
 ghost use Rattle.agent_model.specs.Synchronous.{expected_of, is_named_if};

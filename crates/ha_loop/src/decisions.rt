@@ -5,7 +5,8 @@ ghost use Rattle.leader_key.specs.Watchdog.{IsLeaseSpan};
 ghost use Rattle.agent_model.specs.declared.knowledge.Knowledge.{Knowledge};
 ghost use Rattle.agent_model.specs.Answers.{most_grant_outputs};
 ghost use Rattle.agent_model.specs.Acting.{is_refusing, is_hold_active, waiting_no_more};
-ghost use Rattle.agent_model.specs.Agents.{IsSound, IsWithin, Follower, Leader, Stray, made, latest};
+ghost use Rattle.agent_model.specs.Agents.{IsSound, IsWithin, Follower, Leader, Stray, made};
+ghost use Rattle.pat_base.specs.Moments.{latest};
 ghost use Rattle.ha_loop.specs.Roles.{role_of};
 ghost use Rattle.agent_model.specs.Decisions.{has_lasted, is_start_too_long, judges_start, leader_renewed, takes_over, stray_renewed, may_take, gives_back, arms, takes_key, takes_key_in_pause, granted_in_pause, lease_granted, may_create, belongs, asks_in_pause, uses_lease, asks_renewal, lease_used, accepted_grant, asks_lease, is_decision, is_lease_of, is_sync_decision, asks_sync, is_write_of, accepted_sync, awaits_decision, granted_for, granted, follower_for, create_refused, renewal_refused, refused_as, refused_for, refused};
 

@@ -9,9 +9,10 @@ ghost use Rattle.agent_model.specs.declared.knowledge.Question.TheVariants as qu
 ghost use Rattle.agent_model.specs.declared.output.Output.TheVariants as outputs;
 ghost use Rattle.agent_model.specs.declared.why.Why.TheVariants as whys;
 ghost use Rattle.agent_model.specs.Acting.{counted, waiting};
-ghost use Rattle.agent_model.specs.Agents.{IsSound, IsWithin, Leader, Ending, RoleFacts, made, latest};
+ghost use Rattle.agent_model.specs.Agents.{IsSound, IsWithin, Leader, Ending, RoleFacts, made};
+ghost use Rattle.pat_base.specs.Moments.{latest};
 ghost use Rattle.ha_loop.specs.Roles.{role_of};
-ghost use Rattle.agent_model.specs.Answers.{most_answers};
+ghost use Rattle.pat_base.specs.declared.member_id.TheConstants.{MOST_MEMBERS};
 ghost use Rattle.agent_model.specs.HandingOver.{names_another, is_done, leader_revision, clearing_under, clearing, position_of, is_near, is_standby_in, may_follow_in_sync, is_successor, successor_by, hands_over, hands_over_to, handover_judged, judged_if_leading, asking_whom, whom_answered, checking, checks, checks_unless_paused, failover_duty, plans_unless_paused, duty_on, duties, judged_if_whom, check_answered};
 ghost use Rattle.agent_model.specs.Outputs.{listed};
 ghost use Rattle.agent_model.specs.Racing.{answers_until, unheard};
@@ -44,11 +45,11 @@ pub(crate) fn do_duties(
     requires sound { IsSound knows.old }
     requires server { IsWithin machine.old.server }
     requires numbers { knows.old.sequence < 2 ^ 60 }
-    requires room { most_answers ≤ out.old.spare }
+    requires room { MOST_MEMBERS ≤ out.old.spare }
     ensures outcome { made (role_of result) knows.new machine.new out.new.outputs ≡ duties now (writer_revision writer) (made (Leader (writer_revision writer)) knows.old machine.old out.old.outputs) }
     ensures sound { IsSound knows.new }
     ensures numbers { knows.new.sequence ≤ knows.old.sequence + 1 }
-    ensures room { out.old.spare ≤ out.new.spare + most_answers }
+    ensures room { out.old.spare ≤ out.new.spare + MOST_MEMBERS }
 {
     match knows.turn_failover {
         None => {
@@ -75,11 +76,11 @@ fn do_failover_duty(
     requires sound { IsSound knows.old }
     requires server { IsWithin machine.old.server }
     requires numbers { knows.old.sequence < 2 ^ 60 }
-    requires room { most_answers ≤ out.old.spare }
+    requires room { MOST_MEMBERS ≤ out.old.spare }
     ensures outcome { made (role_of result) knows.new machine.new out.new.outputs ≡ failover_duty now (writer_revision writer) failover (made (Leader (writer_revision writer)) knows.old machine.old out.old.outputs) }
     ensures sound { IsSound knows.new }
     ensures numbers { knows.new.sequence ≤ knows.old.sequence + 1 }
-    ensures room { out.old.spare ≤ out.new.spare + most_answers }
+    ensures room { out.old.spare ≤ out.new.spare + MOST_MEMBERS }
 {
     if is_done(knows.who.me, failover) {
         clear(knows, out);
@@ -156,11 +157,11 @@ fn check(
     requires sound { IsSound knows.old }
     requires server { IsWithin machine.old.server }
     requires numbers { knows.old.sequence < 2 ^ 60 }
-    requires room { most_answers ≤ out.old.spare }
+    requires room { MOST_MEMBERS ≤ out.old.spare }
     ensures outcome { made (role_of result) knows.new machine.new out.new.outputs ≡ checks now (writer_revision writer) candidate (made (Leader (writer_revision writer)) knows.old machine.old out.old.outputs) }
     ensures sound { IsSound knows.new }
     ensures numbers { knows.new.sequence ≤ knows.old.sequence + 1 }
-    ensures room { out.old.spare ≤ out.new.spare + most_answers }
+    ensures room { out.old.spare ≤ out.new.spare + MOST_MEMBERS }
 {
     if whom_answered(&knows.who, candidate, &knows.answers) {
         return judge_handover(writer, knows, machine, out, now);
@@ -183,11 +184,11 @@ fn ask_successors(candidate: Option<MemberId>, knows: &mut Knowledge, out: &mut 
     requires moment { now.0 ≤ latest }
     requires sound { IsSound knows.old }
     requires numbers { knows.old.sequence < 2 ^ 60 }
-    requires room { most_answers ≤ out.old.spare }
+    requires room { MOST_MEMBERS ≤ out.old.spare }
     ensures knows { knows.new ≡ waiting now questions.Checking (answers_until now) (counted knows.old) }
     ensures out { out.new.outputs ≡ asking_whom knows.old.who candidate (knows.old.sequence + 1) out.old.outputs }
     ensures sound { IsSound knows.new }
-    ensures room { out.old.spare ≤ out.new.spare + most_answers }
+    ensures room { out.old.spare ≤ out.new.spare + MOST_MEMBERS }
 {
     knows.sequence += 1;
     match candidate {

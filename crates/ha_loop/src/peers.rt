@@ -8,9 +8,11 @@ ghost use Rattle.agent_model.specs.declared.knowledge.Question.TheVariants as qu
 ghost use Rattle.agent_model.specs.declared.output.Output.TheVariants as outputs;
 ghost use Rattle.agent_model.specs.declared.output.Target.TheVariants as targets;
 ghost use Rattle.agent_model.specs.Acting.{seconds_after, lease_span, counted, waiting, waiting_no_more};
-ghost use Rattle.agent_model.specs.Agents.{RoleFacts, IsSound, IsWithin, word_of, made, latest};
+ghost use Rattle.agent_model.specs.Agents.{RoleFacts, IsSound, IsWithin, word_of, made};
+ghost use Rattle.pat_base.specs.Moments.{latest};
 ghost use Rattle.ha_loop.specs.Roles.{role_of};
-ghost use Rattle.agent_model.specs.Answers.{most_answers, is_other, has_answered, with_answer, asking_one, asking_first, asking_all, is_settled, first_answered, all_answered, peer_answer_of};
+ghost use Rattle.agent_model.specs.Answers.{is_other, has_answered, with_answer, asking_one, asking_first, asking_all, is_settled, first_answered, all_answered, peer_answer_of};
+ghost use Rattle.pat_base.specs.declared.member_id.TheConstants.{MOST_MEMBERS};
 ghost use Rattle.agent_model.specs.Decisions.{may_create};
 ghost use Rattle.agent_model.specs.Info.{info_of, runs};
 ghost use Rattle.agent_model.specs.Outputs.{listed};
@@ -30,7 +32,7 @@ use cluster_config::RoleWord;
 use event_book::Body;
 use leader_race::wins;
 use lease_store::{Bar, Txn};
-use pat_base::{MemberId, PeerAnswer, Ticks};
+use pat_base::{MOST_MEMBERS, MemberId, PeerAnswer, Ticks};
 use pg_model::ServerStatus;
 
 /// For so many ticks a member waits for the answers of the others.
@@ -261,11 +263,11 @@ pub(crate) fn ask_others(knows: &mut Knowledge, out: &mut Outputs, now: Ticks)
     requires moment { now.0 ≤ latest }
     requires sound { IsSound knows.old }
     requires numbers { knows.old.sequence < 2 ^ 60 }
-    requires room { most_answers ≤ out.old.spare }
+    requires room { MOST_MEMBERS ≤ out.old.spare }
     ensures knows { knows.new ≡ waiting now questions.Asking (answers_until now) (counted knows.old) }
     ensures out { out.new.outputs ≡ asking_all knows.old.who (knows.old.sequence + 1) out.old.outputs }
     ensures sound { IsSound knows.new }
-    ensures room { out.old.spare ≤ out.new.spare + most_answers }
+    ensures room { out.old.spare ≤ out.new.spare + MOST_MEMBERS }
 {
     knows.sequence += 1;
     ask_all(&knows.who, knows.sequence, out);
@@ -288,11 +290,11 @@ pub(crate) fn answers_until(now: Ticks) -> Ticks
 
 /// The asks to all other members, in the order in which the script declares them.
 pub(crate) fn ask_all(who: &Who, sequence: u64, out: &mut Outputs)
-    requires { most_answers ≤ out.old.spare }
+    requires { MOST_MEMBERS ≤ out.old.spare }
     ensures out { out.new.outputs ≡ asking_all who.now sequence out.old.outputs }
-    ensures room { out.old.spare ≤ out.new.spare + most_answers }
+    ensures room { out.old.spare ≤ out.new.spare + MOST_MEMBERS }
 {
-    for number in 0..16u8 {
+    for number in 0..MOST_MEMBERS as u8 {
         ask_one(who, sequence, MemberId::new(number), out);
     }
 }
@@ -326,7 +328,7 @@ pub(crate) fn all_answered(who: &Who, answers: &Answers) -> bool
     ensures { result ≡ all_answered who.now answers.now }
 {
     let mut all = true;
-    for number in 0..16u8 {
+    for number in 0..MOST_MEMBERS as u8 {
         all = all && is_settled(who, answers, MemberId::new(number));
     }
     all

@@ -6,7 +6,8 @@ ghost use Rattle.agent_model.specs.declared.knowledge.Question.TheVariants as qu
 ghost use Rattle.agent_model.specs.declared.output.Output.TheVariants as outputs;
 ghost use Rattle.agent_model.specs.declared.output.Target.TheVariants as targets;
 ghost use Rattle.agent_model.specs.Acting.{seconds_after, waiting, counted};
-ghost use Rattle.agent_model.specs.Agents.{RoleFacts, IsSound, Leader, made, latest};
+ghost use Rattle.agent_model.specs.Agents.{RoleFacts, IsSound, Leader, made};
+ghost use Rattle.pat_base.specs.Moments.{latest};
 ghost use Rattle.agent_model.specs.Outputs.{listed};
 ghost use Rattle.agent_model.specs.Planning.{leader_view, switching_off, planned_as, planned, settled};
 ghost use Rattle.agent_model.specs.Synchronous.{expected_of, sync_read_if};

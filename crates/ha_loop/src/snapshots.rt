@@ -8,9 +8,10 @@ ghost use Rattle.agent_model.specs.declared.knowledge.Question.TheVariants as qu
 ghost use Rattle.agent_model.specs.declared.output.Output.TheVariants as outputs;
 ghost use Rattle.agent_model.specs.declared.output.Target.TheVariants as targets;
 ghost use Rattle.agent_model.specs.Acting.{seconds_after, lease_span, counted, waiting, upstream_of, is_hold_active};
-ghost use Rattle.agent_model.specs.Agents.{IsSound, IsWithin, Follower, Leader, Stray, made, latest};
+ghost use Rattle.agent_model.specs.Agents.{IsSound, IsWithin, Follower, Leader, Stray, made};
+ghost use Rattle.pat_base.specs.Moments.{latest};
 ghost use Rattle.ha_loop.specs.Roles.{role_of};
-ghost use Rattle.agent_model.specs.Answers.{most_answers};
+ghost use Rattle.pat_base.specs.declared.member_id.TheConstants.{MOST_MEMBERS};
 ghost use Rattle.agent_model.specs.Info.{info_of};
 ghost use Rattle.agent_model.specs.Outputs.{listed};
 ghost use Rattle.agent_model.specs.Snapshots.{known_with, informed, status_told, row_at, missing_point, missing_row, row_told, renewal, turn_start, renewing, finds_own_key, own_key, leader_without_key, stray_without_key, asks_as_stray, leader_finds_free, stray_finds_free, starts_behind, ends_fork, follows_anew, follow_row, led_by_another, follows, others_key, no_key, led_by, led, is_active, is_read, awaits_read, read_noted, accepted, got};
@@ -54,11 +55,11 @@ pub(crate) fn got(
     requires sound { IsSound knows.old }
     requires server { IsWithin machine.old.server }
     requires numbers { knows.old.sequence < 2 ^ 60 }
-    requires room { most_answers ≤ out.old.spare }
+    requires room { MOST_MEMBERS ≤ out.old.spare }
     ensures outcome { made (role_of result) knows.new machine.new out.new.outputs ≡ got now history.now.points sequence snapshot (made (role_of role) knows.old machine.old out.old.outputs) }
     ensures sound { IsSound knows.new }
     ensures numbers { knows.new.sequence ≤ knows.old.sequence + 1 }
-    ensures room { out.old.spare ≤ out.new.spare + most_answers }
+    ensures room { out.old.spare ≤ out.new.spare + MOST_MEMBERS }
 {
     if !awaits_read(knows.waited, sequence) {
         return role;
@@ -139,11 +140,11 @@ fn led(
     requires sound { IsSound knows.old }
     requires server { IsWithin machine.old.server }
     requires numbers { knows.old.sequence < 2 ^ 60 }
-    requires room { most_answers ≤ out.old.spare }
+    requires room { MOST_MEMBERS ≤ out.old.spare }
     ensures outcome { made (role_of result) knows.new machine.new out.new.outputs ≡ led now history.now.points leader (made (role_of role) knows.old machine.old out.old.outputs) }
     ensures sound { IsSound knows.new }
     ensures numbers { knows.new.sequence ≤ knows.old.sequence + 1 }
-    ensures room { out.old.spare ≤ out.new.spare + most_answers }
+    ensures room { out.old.spare ≤ out.new.spare + MOST_MEMBERS }
 {
     match leader {
         None => no_key(role, knows, machine, out, now),
@@ -388,11 +389,11 @@ fn no_key(
     requires sound { IsSound knows.old }
     requires server { IsWithin machine.old.server }
     requires numbers { knows.old.sequence < 2 ^ 60 }
-    requires room { most_answers ≤ out.old.spare }
+    requires room { MOST_MEMBERS ≤ out.old.spare }
     ensures outcome { made (role_of result) knows.new machine.new out.new.outputs ≡ no_key now (role_of role) (made (role_of role) knows.old machine.old out.old.outputs) }
     ensures sound { IsSound knows.new }
     ensures numbers { knows.new.sequence ≤ knows.old.sequence + 1 }
-    ensures room { out.old.spare ≤ out.new.spare + most_answers }
+    ensures room { out.old.spare ≤ out.new.spare + MOST_MEMBERS }
 {
     match role {
         Role::Leader(writer) => leader_finds_free(writer, knows, machine, out, now),

@@ -9,7 +9,8 @@ ghost use Rattle.agent_model.specs.declared.output.Output.TheVariants as outputs
 ghost use Rattle.agent_model.specs.declared.output.Target.TheVariants as targets;
 ghost use Rattle.agent_model.specs.declared.why.Why.TheVariants as whys;
 ghost use Rattle.agent_model.specs.Acting.{seconds_after, counted, waiting};
-ghost use Rattle.agent_model.specs.Agents.{IsSound, IsWithin, Ending, made, latest};
+ghost use Rattle.agent_model.specs.Agents.{IsSound, IsWithin, Ending, made};
+ghost use Rattle.pat_base.specs.Moments.{latest};
 ghost use Rattle.ha_loop.specs.Roles.{role_of};
 ghost use Rattle.agent_model.specs.Outputs.{listed};
 ghost use Rattle.agent_model.specs.Wake.{finds_ended, is_overdue, has_turn, is_due, due_from, waits_until, leader_out_of_reach, stray_out_of_reach, out_of_reach_as, out_of_reach, unanswered, overdue_for, overdue, reading, is_stopping, turn_as, turn_noted, turn_begins, turned, roused, woken};

@@ -16,10 +16,6 @@ pub record WatchdogFacts : Type 0 where
 abbrev pub greatest_margin : ℕ
 greatest_margin = 150
 
--- moments that are reckoned with
-abbrev pub latest_moment : ℕ
-latest_moment = 2 ^ 62
-
 -- the span of a lease: 20 seconds to a day
 pub record IsLeaseSpan (ttl : ℕ) : Type 0 where
   pub least : 200 ≤ ttl

@@ -4,7 +4,8 @@ ghost use Rattle.std.specs.Prelude.{◌≡◌, ◌↔◌, ◌≤◌, IsErr, IfOk
 ghost use Rattle.lease_store.specs.declared.txn.Txn.{Txn};
 ghost use Rattle.pat_base.specs.ServerState.{live};
 ghost use Rattle.leader_key.specs.Lease.{lease_revision, armed_revision, writer_revision};
-ghost use Rattle.leader_key.specs.Watchdog.{IsLeaseSpan, IsRefusing, latest_moment, fed};
+ghost use Rattle.leader_key.specs.Watchdog.{IsLeaseSpan, IsRefusing, fed};
+ghost use Rattle.pat_base.specs.Moments.{latest};
 
 use crate::Watchdog;
 use lease_store::{Granted, Txn};
@@ -47,7 +48,7 @@ impl Lease {
     /// is used and its device works. It is refused exactly where the watchdog is required and its device doesn't work; then the
     /// lease is handed back, and the watchdog stays as it was.
     pub fn arm(self, watchdog: &mut Watchdog, now: Ticks, ttl: Ticks) -> Result<Armed, NotArmed>
-        requires moment { now.0 ≤ latest_moment }
+        requires moment { now.0 ≤ latest }
         requires span { IsLeaseSpan ttl.0 }
         ensures refused { IsErr result ↔ IsRefusing watchdog.old }
         ensures ok { IfOk result (λ armed. (armed_revision armed ≡ lease_revision self) × (watchdog.new ≡ fed now.0 ttl.0 watchdog.old)) }
@@ -134,7 +135,7 @@ impl Writer {
         ttl: Ticks,
     ) -> Writer
         requires leased { IsTrue granted.leased }
-        requires moment { now.0 ≤ latest_moment }
+        requires moment { now.0 ≤ latest }
         requires span { IsLeaseSpan ttl.0 }
         ensures revision { writer_revision result ≡ granted.revision }
         ensures watchdog { watchdog.new ≡ fed now.0 ttl.0 watchdog.old }

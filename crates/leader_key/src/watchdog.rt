@@ -36,7 +36,8 @@ impl Model for Watchdog {
 
 impl Watchdog {
     ghost use Rattle.std.specs.Prelude.{◌≡◌, ◌+◌, ◌≤◌, ◌↔◌, ◌^◌, None, IfSome, IsTrue};
-    ghost use Rattle.leader_key.specs.Watchdog.{WatchdogFacts, HasMargin, IsLeaseSpan, IsRefusing, greatest_margin, latest_moment, fed, is_armable, is_due_at, timeout_of};
+    ghost use Rattle.leader_key.specs.Watchdog.{WatchdogFacts, HasMargin, IsLeaseSpan, IsRefusing, greatest_margin, fed, is_armable, is_due_at, timeout_of};
+    ghost use Rattle.pat_base.specs.Moments.{latest};
 
     /// A watchdog without a deadline. `works` tells whether its device works. `margin` is the span between its deadline and
     /// the end of the lease on which it is fed, 0 to 150 ticks of 100 ms; without one the deadline lies half a lease ahead, as
@@ -107,7 +108,7 @@ impl Watchdog {
     /// The deadline moves to its timeout after this moment, over leases of the span `ttl`, where the watchdog is used and its
     /// device works.
     pub(crate) fn feed(&mut self, now: Ticks, ttl: Ticks)
-        requires moment { now.0 ≤ latest_moment }
+        requires moment { now.0 ≤ latest }
         requires span { IsLeaseSpan ttl.0 }
         ensures { self.new ≡ fed now.0 ttl.0 self.old }
     {

@@ -9,13 +9,14 @@ use Rattle.pat_base.specs.declared.member_id.MemberId.{MemberId}
 use Rattle.lease_store.specs.declared.key.Key.{Key}
 use Rattle.lease_store.specs.declared.key.Key.TheVariants.{Leader, Config, Member, Failover, Sync, Status, History, Failsafe}
 use Rattle.lease_store.specs.KeyOrder.{key_rank_of, key_number_of, key_cmp}
+use Rattle.pat_base.specs.declared.member_id.TheConstants.{MOST_MEMBERS}
 
-alike : (k : ℕ) (p q : k < 16) → ◌≡◌ {A = MemberId} (record { number = k; below = p }) (record { number = k; below = q })
-alike k p q = ap (λ (x : k < 16). record { number = k; below = x }) (le_prop p q)
+alike : (k : ℕ) (p q : k < MOST_MEMBERS) → ◌≡◌ {A = MemberId} (record { number = k; below = p }) (record { number = k; below = q })
+alike k p q = ap (λ (x : k < MOST_MEMBERS). record { number = k; below = x }) (le_prop p q)
 
 -- members of one number are one
 pub same_member : (m n : MemberId) → m.number ≡ n.number → m ≡ n
-same_member m n e = subst (λ (k : ℕ). (q : k < 16) → ◌≡◌ {A = MemberId} m (record { number = k; below = q })) e (λ q. alike m.number m.below q) n.below
+same_member m n e = subst (λ (k : ℕ). (q : k < MOST_MEMBERS) → ◌≡◌ {A = MemberId} m (record { number = k; below = q })) e (λ q. alike m.number m.below q) n.below
 
 same_parts : (a b : Key) → key_rank_of a ≡ key_rank_of b → key_number_of a ≡ key_number_of b → a ≡ b
 same_parts Leader Leader p q = refl

@@ -1,10 +1,11 @@
 //! What a configuration sets.
 ghost use Rattle.std.specs.Prelude.{◌≡◌, ◌≤◌, ◌*◌, ◌^◌};
+ghost use Rattle.pat_base.specs.declared.member_id.TheConstants.{MOST_MEMBERS};
 
-use pat_base::Ticks;
+use pat_base::{TICKS_OF_SECOND, Ticks};
 
-/// The settings of a cluster, by Patroni's documentation, "Dynamic Configuration Settings". Times are in seconds, of which
-/// each is ten ticks, and the lag is in bytes. Each is within its range, so a setting outside it can't be made.
+/// The settings of a cluster, by Patroni's documentation, "Dynamic Configuration Settings". Times are in seconds, and
+/// the lag is in bytes. Each is within its range, so a setting outside it can't be made.
 #[derive(Clone, Copy, Debug, PartialEq, Eq)]
 pub struct Config {
     /// The time between two turns of an agent, from 1 to 86,400 seconds.
@@ -18,7 +19,7 @@ pub struct Config {
     /// How long the start of a primary may take before another member takes over, from 0 to 86,400 seconds. At 0 a
     /// crashed primary isn't started again where another can take over.
     pub primary_start_timeout: u64,
-    /// How many standbys replicate synchronously, from 1 to 16.
+    /// How many standbys replicate synchronously, from 1 to that of all members.
     pub synchronous_node_count: u64,
     /// Whether commits wait for synchronous standbys (Patroni's documentation, "Replication modes").
     pub synchronous_mode: bool,
@@ -36,11 +37,12 @@ pub struct Config {
     ghost ttl_range: { (20 ≤ ttl) × (ttl ≤ 86400) },
     ghost maximum_lag_on_failover_range: { maximum_lag_on_failover ≤ 2 ^ 62 },
     ghost primary_start_timeout_range: { primary_start_timeout ≤ 86400 },
-    ghost synchronous_node_count_range: { (1 ≤ synchronous_node_count) × (synchronous_node_count ≤ 16) },
+    ghost synchronous_node_count_range: { (1 ≤ synchronous_node_count) × (synchronous_node_count ≤ MOST_MEMBERS) },
 }
 
 impl Config {
     ghost use Rattle.std.specs.Prelude.{◌≡◌, ◌≤◌, ◌*◌};
+    ghost use Rattle.pat_base.specs.declared.ticks.TheConstants.{TICKS_OF_SECOND};
     ghost use Rattle.lease_store.specs.Defaults.{default_config};
 
     /// The settings where a configuration sets nothing: Patroni's defaults.
@@ -64,29 +66,29 @@ impl Config {
 
     /// The time between two turns of an agent, in ticks.
     pub fn loop_wait_ticks(&self) -> Ticks
-        ensures { result.0 ≡ 10 * self.now.loop_wait }
+        ensures { result.0 ≡ TICKS_OF_SECOND * self.now.loop_wait }
     {
-        Ticks(10 * self.loop_wait)
+        Ticks(TICKS_OF_SECOND * self.loop_wait)
     }
 
     /// How long an agent waits for an answer of the store, in ticks.
     pub fn retry_timeout_ticks(&self) -> Ticks
-        ensures { result.0 ≡ 10 * self.now.retry_timeout }
+        ensures { result.0 ≡ TICKS_OF_SECOND * self.now.retry_timeout }
     {
-        Ticks(10 * self.retry_timeout)
+        Ticks(TICKS_OF_SECOND * self.retry_timeout)
     }
 
     /// How long a lease lasts, in ticks.
     pub fn ttl_ticks(&self) -> Ticks
-        ensures { result.0 ≡ 10 * self.now.ttl }
+        ensures { result.0 ≡ TICKS_OF_SECOND * self.now.ttl }
     {
-        Ticks(10 * self.ttl)
+        Ticks(TICKS_OF_SECOND * self.ttl)
     }
 
     /// How long the start of a primary may take, in ticks.
     pub fn primary_start_timeout_ticks(&self) -> Ticks
-        ensures { result.0 ≡ 10 * self.now.primary_start_timeout }
+        ensures { result.0 ≡ TICKS_OF_SECOND * self.now.primary_start_timeout }
     {
-        Ticks(10 * self.primary_start_timeout)
+        Ticks(TICKS_OF_SECOND * self.primary_start_timeout)
     }
 }

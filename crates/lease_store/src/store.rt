@@ -9,6 +9,7 @@ ghost use Rattle.lease_store.specs.Keys.{Keys, key_at, first_keys};
 ghost use Rattle.lease_store.specs.Kept.{AreOfKind};
 ghost use Rattle.lease_store.specs.Kinds.{IsOfKind};
 ghost use Rattle.lease_store.specs.Writes.{keys_after_grant, is_lease, ttl_of};
+ghost use Rattle.pat_base.specs.Moments.{latest};
 
 use crate::compares::{check, is_present, key_entry_at, present_at};
 use crate::expiries::first_expiry;
@@ -78,7 +79,7 @@ impl Store {
     /// at most 2^40 ticks.
     pub fn apply(&mut self, now: Ticks, by: MemberId, txn: &Txn) -> Result<Granted, StoreRefusal>
         requires revision { self.old.revision < 2 ^ 60 }
-        requires moment { now.0 ≤ 2 ^ 62 }
+        requires moment { now.0 ≤ latest }
         requires span { ttl_of txn.now ≤ 2 ^ 40 }
         ensures granted { OnOk result (decision_on self.old now.0 txn.now ≡ Grant) }
         ensures written { OnOk result (self.new ≡ keys_after_grant self.old now.0 by txn.now) }

@@ -4,6 +4,7 @@ ghost use Rattle.std.specs.FinMap.{put, is_sorted};
 ghost use Rattle.lease_store.specs.Kept.{IsKept};
 ghost use Rattle.lease_store.specs.KeyOrder.{key_cmp};
 ghost use Rattle.lease_store.specs.Writes.{Leases, Extends, Sets, writes_of, pairs_after, pairs_over, ttl_of, is_lease, status_writes, row_writes, failsafe_writes, sync_value};
+ghost use Rattle.pat_base.specs.Moments.{latest};
 
 use crate::pairs::{delete, extend, put};
 use crate::{HistoryRow, Key, KeyEntry, SyncKey, Txn, Value};
@@ -37,7 +38,7 @@ pub fn grant(
 ) -> Result<(), AllocError>
     requires room { vec_len pairs.old + 5 ≤ vec_capacity pairs.old }
     requires kept { IsKept pairs.old.items }
-    requires moment { stamp.at.0 ≤ 2 ^ 62 }
+    requires moment { stamp.at.0 ≤ latest }
     requires span { ttl_of txn.now ≤ 2 ^ 40 }
     ensures pairs { OnOk result (pairs.new.items ≡ pairs_over stamp.revision stamp.at.0 pairs.old.items (writes_of by txn.now)) }
     ensures kept { IsKept pairs.new.items }
@@ -56,7 +57,7 @@ fn write(
 ) -> Result<(), AllocError>
     requires room { vec_len pairs.old + 5 ≤ vec_capacity pairs.old }
     requires order { IsTrue (is_sorted key_cmp pairs.old.items) }
-    requires moment { stamp.at.0 ≤ 2 ^ 62 }
+    requires moment { stamp.at.0 ≤ latest }
     requires span { ttl_of txn.now ≤ 2 ^ 40 }
     ensures pairs { OnOk result (pairs.new.items ≡ pairs_over stamp.revision stamp.at.0 pairs.old.items (writes_of by txn.now)) }
     ensures err { OnErr result (pairs.new.items ≡ pairs.old.items) }

@@ -6,6 +6,7 @@ pub mod Lsn
 pub mod LsnText
 pub mod MemberId
 pub mod Memory
+pub mod Moments
 pub mod Name
 pub mod NameText
 pub mod Outside

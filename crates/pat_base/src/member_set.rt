@@ -35,7 +35,7 @@ impl MemberSet {
         (self.bits >> member.number) & 1 == 1
     }
 
-    /// How many members are in it: at most 16.
+    /// How many members are in it.
     pub fn len(self) -> u32
         ensures { result ≡ count_ones self.bits }
     {

@@ -1,27 +1,25 @@
 //! Servers by number.
 ghost use Rattle.std.specs.Prelude.{◌≡◌, ◌≤◌, ◌<◌, ◌↔◌, IsSome, IfSome};
+ghost use Rattle.pat_base.specs.declared.member_id.TheConstants.{MOST_MEMBERS};
 
-use crate::MemberId;
+use crate::{MOST_MEMBERS, MemberId};
 
-/// The number of the remote primary.
-const REMOTE: u8 = 16;
-
-/// A server, by its number: below 16 that of the member whose server it is, and 16 for the remote primary that a
-/// replica cluster follows (Patroni, "Standby cluster").
+/// A server, by its number: that of the member whose server it is, or the first that no member has, for the remote
+/// primary that a replica cluster follows (Patroni, "Standby cluster").
 #[derive(Clone, Copy, Debug, PartialEq, Eq, PartialOrd, Ord)]
 pub struct ServerId {
-    /// From 0, and at most 16.
+    /// From 0, and at most the number of members that there may be.
     pub number: u8,
-    ghost within: { number ≤ 16 },
+    ghost within: { number ≤ MOST_MEMBERS },
 }
 
 impl ServerId {
-    /// The server of this number. `None` exactly where the number is above 16.
+    /// The server of this number. `None` exactly where the number is above that of the remote primary.
     pub fn new(number: u8) -> Option<ServerId>
-        ensures found { IsSome result ↔ (number ≤ 16) }
+        ensures found { IsSome result ↔ (number ≤ MOST_MEMBERS) }
         ensures value { IfSome result (λ server. server.number ≡ number) }
     {
-        if number <= REMOTE {
+        if usize::from(number) <= MOST_MEMBERS {
             Some(ServerId { number })
         } else {
             None
@@ -39,7 +37,7 @@ impl ServerId {
 
     /// The member whose server this is. `None` exactly for the remote primary.
     pub fn member(self) -> Option<MemberId>
-        ensures found { IsSome result ↔ (self.number < 16) }
+        ensures found { IsSome result ↔ (self.number < MOST_MEMBERS) }
         ensures value { IfSome result (λ member. member.number ≡ self.number) }
     {
         MemberId::new(self.number)

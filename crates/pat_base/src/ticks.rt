@@ -4,7 +4,10 @@ ghost use Rattle.std.specs.Prelude.{◌≡◌, ◌+◌, ◌^◌, ◌<◌};
 use std::fmt;
 use std::ops::Add;
 
-/// A moment, counted from the start of the run, or a span. One tick is 100 ms.
+/// How many ticks a second has: one tick is 100 ms.
+pub const TICKS_OF_SECOND: u64 = 10;
+
+/// A moment, counted from the start of the run, or a span.
 #[derive(Clone, Copy, Debug, PartialEq, Eq, PartialOrd, Ord)]
 pub struct Ticks(pub u64);
 

@@ -24,6 +24,7 @@ use Rattle.world_model.specs.Running.{agent_runs, runs_now}
 use Rattle.world_model.proofs.Running.{Alike, alike-after, alike-start, member-runs}
 use Rattle.world_stage.specs.AgentViews.{IsViewOf, agent_of}
 use Rattle.pat_world.specs.Book.{StandsFor}
+use Rattle.pat_base.specs.declared.member_id.TheConstants.{MOST_MEMBERS}
 
 -- what every book keeps of a cluster: how many members there are, and which of them have an agent
 record IsWhole (head : HeadText) (cluster : Cluster) : Type 0 where
@@ -58,7 +59,7 @@ whole-first head is = record {
 options-sized : (head : HeadText) → length (options_of head) ≡ member_count head
 options-sized head = length-map head.members _ ∙ sym (length-map head.members _)
 
-module _ (head : HeadText) (few : length (names_of head) ≤ 16) (cluster : Cluster) (whole : IsWhole head cluster) where
+module _ (head : HeadText) (few : length (names_of head) ≤ MOST_MEMBERS) (cluster : Cluster) (whole : IsWhole head cluster) where
   runs-by : (id : MemberId) (found : Option Member) → declared cluster id ≡ found → is_some (option_and_then (standing_of cluster) found) ≡ agent_runs cluster id
   runs-by id (Some member) is =
       let at : slice_get (declared_members head) id.number ≡ Some member = ap (λ (ms : List Member). slice_get ms id.number) (sym whole.members) ∙ is in

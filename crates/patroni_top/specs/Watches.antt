@@ -3,7 +3,7 @@ use Rattle.std.specs.Prelude.{◌*◌, Bool, true, false, List, Some, map}
 use Rattle.leader_key.specs.declared.watchdog.Mode.{Mode}
 use Rattle.leader_key.specs.declared.watchdog.Mode.TheVariants as modes
 use Rattle.script_model.specs.Script.{HeadText, MemberText}
-use Rattle.cluster_model.specs.Machines.{ticks_of_second}
+use Rattle.pat_base.specs.declared.ticks.TheConstants.{TICKS_OF_SECOND}
 use Rattle.summary.specs.declared.answers.WatchOf.{WatchOf}
 use Rattle.summary.specs.Sights.{SummaryFacts, summary_of}
 
@@ -18,7 +18,7 @@ declared_watch member = record {
   name = member.name;
   mode_off = is_off member.options.watchdog;
   device_works = member.options.device_works;
-  margin = Some (record { 0 = ticks_of_second * member.options.margin.seconds });
+  margin = Some (record { 0 = TICKS_OF_SECOND * member.options.margin.seconds });
 }
 
 -- the watchdogs of a head's members, in order

@@ -1,6 +1,6 @@
 //! What a script says of the watchdogs of its members, as the summary of a run reads it.
 ghost use Rattle.std.specs.Prelude.{◌≡◌, ◌<◌, ◌≤◌, length, IfOk, slice_get, Some};
-ghost use Rattle.summary.specs.declared.answers.TheConstants.{MEMBERS};
+ghost use Rattle.pat_base.specs.declared.member_id.TheConstants.{MOST_MEMBERS};
 ghost use Rattle.patroni_top.specs.Watches.{is_off, first_summary, declared_watch, watches_of};
 
 use leader_key::Mode;
@@ -24,7 +24,7 @@ pub fn first_summary(alloc: Global, head: &Head) -> Result<Summary, AllocError>
 /// The watchdogs of a head's members, in order.
 fn watches_of(alloc: Global, head: &Head) -> Result<Vec<WatchOf>, AllocError>
     ensures value { IfOk result (λ watches. watches.items ≡ watches_of head.now) }
-    ensures few { IfOk result (λ watches. length watches.items ≤ MEMBERS) }
+    ensures few { IfOk result (λ watches. length watches.items ≤ MOST_MEMBERS) }
 {
     let mut watches = Vec::new(alloc);
     for place in 0..head.member_count() {

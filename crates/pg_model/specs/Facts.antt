@@ -11,6 +11,7 @@ use Rattle.pat_base.specs.declared.server_state.Required.TheVariants as required
 use Rattle.wal_model.specs.declared.entry.Entry.{Entry}
 use Rattle.wal_model.specs.declared.entry.HistoryPoint.{HistoryPoint}
 use Rattle.pg_model.specs.declared.waiting.Waiting.{Waiting}
+use Rattle.pat_base.specs.declared.member_id.TheConstants.{MOST_MEMBERS}
 
 -- all that a server keeps
 pub record ServerFacts : Type 0 where
@@ -41,7 +42,7 @@ pub record ServerFacts : Type 0 where
 
 -- no member confirmed a position
 abbrev pub none_confirmed : List (Option Lsn)
-none_confirmed = replicate 16 None
+none_confirmed = replicate MOST_MEMBERS None
 
 -- a new server: a running replica on timeline 1, whose log has so many bytes and no commit
 abbrev pub fresh : ℕ → ServerFacts

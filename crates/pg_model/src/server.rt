@@ -10,21 +10,20 @@ ghost use Rattle.pg_model.specs.Running.{reserved, promoted, started, starting, 
 ghost use Rattle.pg_model.specs.Replication.{following, committed, stream_of, streamed, confirming, is_met, all_reach, next_acknowledged, acknowledged, may_acknowledge, reaches, is_free};
 ghost use Rattle.pg_model.specs.declared.answers.CommitFault.TheVariants as commit_faults;
 ghost use Rattle.pg_model.specs.declared.answers.StreamFault.TheVariants as stream_faults;
+ghost use Rattle.pat_base.specs.declared.member_id.TheConstants.{MOST_MEMBERS};
+ghost use Rattle.pat_base.specs.Moments.{latest};
 
 mod catching_up;
 mod rewinding;
 
 use crate::{CommitFault, InState, StreamFault, Streamed, Waiting};
 pub(crate) use catching_up::CaughtUp;
-use pat_base::{Lsn, MemberId, MemberSet, Required, ServerId, State, Ticks};
+use pat_base::{Lsn, MOST_MEMBERS, MemberId, MemberSet, Required, ServerId, State, Ticks};
 pub(crate) use rewinding::is_rewindable;
 use std::alloc::{AllocError, Global};
 use std::collections::VecDeque;
 use std::marker::Model;
 use wal_model::{Entry, History, HistoryPoint, Wal, WalFault};
-
-/// How many members may confirm positions.
-const MEMBERS: usize = 16;
 
 /// A PostgreSQL server: its state, its log, its timeline with its history, whom it follows, and what its commits wait for.
 ///
@@ -40,7 +39,7 @@ pub struct Server {
     diverged: bool,
     was_primary: bool,
     required: Required,
-    confirmed: [Option<Lsn>; MEMBERS],
+    confirmed: [Option<Lsn>; MOST_MEMBERS],
     waiting: VecDeque<Waiting>,
     stop_delay: Ticks,
     start_delay: Ticks,
@@ -91,7 +90,7 @@ impl Server {
             diverged: false,
             was_primary: false,
             required: Required::Nobody,
-            confirmed: [None; MEMBERS],
+            confirmed: [None; MOST_MEMBERS],
             waiting: VecDeque::new(alloc),
             stop_delay: Ticks(0),
             start_delay: Ticks(0),
@@ -274,7 +273,7 @@ impl Server {
             at: log.end(),
         };
         self.history.add(left).unwrap();
-        self.confirmed = [None; MEMBERS];
+        self.confirmed = [None; MOST_MEMBERS];
         self.timeline += 1;
         self.was_primary = true;
         self.state = State::Primary;
@@ -284,7 +283,7 @@ impl Server {
     /// Starts as a replica of a server, or of none: it runs at once, or after its start delay. Refused exactly unless it is
     /// stopped or crashed, and then it stays as it was. The moment is at most 2^62 ticks.
     pub fn start_replica(&mut self, now: Ticks, upstream: Option<ServerId>) -> Result<(), InState>
-        requires { now.0 ≤ 2 ^ 62 }
+        requires { now.0 ≤ latest }
         ensures when { IsOk result ↔ IsTrue (is_down self.old.state) }
         ensures state { IfErr result (λ refusal. refusal.0 ≡ self.old.state) }
         ensures ok { OnOk result (self.new ≡ replica_started now upstream self.old) }
@@ -303,7 +302,7 @@ impl Server {
     /// confirmed to it before is forgotten. Refused exactly unless it is stopped or crashed and its last run was a
     /// primary, and then it stays as it was. The moment is at most 2^62 ticks.
     pub fn start_primary(&mut self, now: Ticks) -> Result<(), InState>
-        requires { now.0 ≤ 2 ^ 62 }
+        requires { now.0 ≤ latest }
         ensures when { IsOk result ↔ IsTrue (is_down self.old.state && self.old.was_primary) }
         ensures state { IfErr result (λ refusal. refusal.0 ≡ self.old.state) }
         ensures ok { OnOk result (self.new ≡ primary_started now self.old) }
@@ -319,7 +318,7 @@ impl Server {
     /// Starts, at once or after the delay.
     fn start(&mut self, as_primary: bool, now: Ticks)
         requires log { IsTrue (has_data self.old.state) }
-        requires moment { now.0 ≤ 2 ^ 62 }
+        requires moment { now.0 ≤ latest }
         ensures { self.new ≡ starting as_primary now self.old }
     {
         if self.start_delay == Ticks(0) {
@@ -340,7 +339,7 @@ impl Server {
         if as_primary {
             self.state = State::Primary;
             self.was_primary = true;
-            self.confirmed = [None; MEMBERS];
+            self.confirmed = [None; MOST_MEMBERS];
         } else {
             self.state = State::Replica;
         }
@@ -350,7 +349,7 @@ impl Server {
     /// commit waits any more; they stay in the log. Refused exactly unless it runs or starts, and then it stays as it was.
     /// The moment is at most 2^62 ticks.
     pub fn stop(&mut self, now: Ticks) -> Result<(), InState>
-        requires { now.0 ≤ 2 ^ 62 }
+        requires { now.0 ≤ latest }
         ensures when { IsOk result ↔ IsTrue (is_up self.old.state) }
         ensures state { IfErr result (λ refusal. refusal.0 ≡ self.old.state) }
         ensures ok { OnOk result (self.new ≡ stopping now self.old) }
@@ -406,7 +405,7 @@ impl Server {
     /// was confirmed to it before is forgotten. Refused exactly unless it runs, and then it stays as it was. The moment is
     /// at most 2^62 ticks.
     pub fn restart(&mut self, now: Ticks) -> Result<(), InState>
-        requires { now.0 ≤ 2 ^ 62 }
+        requires { now.0 ≤ latest }
         ensures when { IsOk result ↔ IsTrue (is_running self.old.state) }
         ensures state { IfErr result (λ refusal. refusal.0 ≡ self.old.state) }
         ensures ok { OnOk result (self.new ≡ restarted now self.old) }
@@ -594,7 +593,7 @@ fn append(log: &mut Option<Wal>, entry: Entry) -> Result<Lsn, AllocError>
 }
 
 /// The position that a member confirmed.
-fn position_by(confirmed: &[Option<Lsn>; MEMBERS], by: MemberId) -> Option<Lsn>
+fn position_by(confirmed: &[Option<Lsn>; MOST_MEMBERS], by: MemberId) -> Option<Lsn>
     ensures { result ≡ slice_index_or confirmed.now by.number None }
 {
     confirmed[by.number as usize]
@@ -627,7 +626,7 @@ pub(crate) fn is_up(state: State) -> bool
 
 /// Whether the end of a commit is confirmed by whom it waits for.
 fn is_met(required: Required, end: Lsn, confirmed: &[Option<Lsn>]) -> bool
-    requires { length confirmed.now ≡ 16 }
+    requires { length confirmed.now ≡ MOST_MEMBERS }
     ensures { result ≡ is_met required end confirmed.now }
 {
     match required {
@@ -646,10 +645,10 @@ fn any_reaches(end: Lsn, confirmed: &[Option<Lsn>]) -> bool
 
 /// Whether each member of the set confirmed the end of a commit.
 fn all_reach(members: MemberSet, end: Lsn, confirmed: &[Option<Lsn>]) -> bool
-    requires { length confirmed.now ≡ 16 }
+    requires { length confirmed.now ≡ MOST_MEMBERS }
     ensures { result ≡ all_reach 0 members end confirmed.now }
 {
-    for number in 0..16u8 {
+    for number in 0..MOST_MEMBERS as u8 {
         if !is_free(
             members,
             MemberId { number },

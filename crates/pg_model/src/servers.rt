@@ -9,6 +9,7 @@ ghost use Rattle.pg_model.specs.Running.{promoted, replica_started, primary_star
 ghost use Rattle.pg_model.specs.Replication.{following, confirming, next_acknowledged, acknowledged};
 ghost use Rattle.pg_model.specs.InStep.{Forgets, Renews, CatchesUpAt, AreInStep, log_position_of, upstream_number_of, is_place};
 ghost use Rattle.pg_model.specs.Servers.{without_spare, requiring, ticked_unless_live, entry_at, entry_for, after_entry, committed_at, news_at, streamed_at};
+ghost use Rattle.pat_base.specs.Moments.{latest};
 
 mod rewinding;
 
@@ -123,7 +124,7 @@ impl Servers {
     /// Starts the server at a place, if there is one there, as a replica of a server, or of none, as `Server::start_replica`
     /// does. That server is stopped or crashed. The moment is at most 2^62 ticks.
     pub fn start_replica(&mut self, place: usize, now: Ticks, upstream: Option<ServerId>)
-        requires moment { now.0 ≤ 2 ^ 62 }
+        requires moment { now.0 ≤ latest }
         requires down { IfSome (slice_get self.old place) (λ s. IsTrue (is_down s.state)) }
         ensures { self.new ≡ with_changed self.old place (replica_started now upstream) }
     {
@@ -142,7 +143,7 @@ impl Servers {
     /// Starts the server at a place, if there is one there, as a primary again, as `Server::start_primary` does. That server
     /// is stopped or crashed, and its last run was a primary. The moment is at most 2^62 ticks.
     pub fn start_primary(&mut self, place: usize, now: Ticks)
-        requires moment { now.0 ≤ 2 ^ 62 }
+        requires moment { now.0 ≤ latest }
         requires down { IfSome (slice_get self.old place) (λ s. IsTrue (is_down s.state && s.was_primary)) }
         ensures { self.new ≡ with_changed self.old place (primary_started now) }
     {
@@ -156,7 +157,7 @@ impl Servers {
     /// Shuts down the server at a place, if there is one there, as `Server::stop` does. That server runs or starts. The
     /// moment is at most 2^62 ticks.
     pub fn stop(&mut self, place: usize, now: Ticks)
-        requires moment { now.0 ≤ 2 ^ 62 }
+        requires moment { now.0 ≤ latest }
         requires up { IfSome (slice_get self.old place) (λ s. IsTrue (is_up s.state)) }
         ensures { self.new ≡ with_changed self.old place (stopping now) }
     {
@@ -184,7 +185,7 @@ impl Servers {
     /// Restarts the server at a place, if there is one there, as `Server::restart` does. That server runs. The moment is at
     /// most 2^62 ticks.
     pub fn restart(&mut self, place: usize, now: Ticks)
-        requires moment { now.0 ≤ 2 ^ 62 }
+        requires moment { now.0 ≤ latest }
         requires running { IfSome (slice_get self.old place) (λ s. IsTrue (is_running s.state)) }
         ensures { self.new ≡ with_changed self.old place (restarted now) }
     {

@@ -2,6 +2,7 @@
 ghost use Rattle.std.specs.Prelude.{◌≡◌, ◌≤◌, ◌<◌, ◌^◌, ◌==◌};
 ghost use Rattle.pg_model.specs.Facts.{is_down, is_up, is_replica};
 ghost use Rattle.pg_model.specs.Status.{status_of, status_promoted, status_started, status_starting, status_replica_started, status_primary_started, status_ending, status_stopping, status_wiped, status_restarted, status_following};
+ghost use Rattle.pat_base.specs.Moments.{latest};
 
 use crate::Server;
 use crate::server::{is_down, is_up};
@@ -59,7 +60,7 @@ impl ServerStatus {
 
     /// What `Server::start_replica` makes of it.
     pub fn start_replica(&mut self, now: Ticks, upstream: Option<ServerId>)
-        requires moment { now.0 ≤ 2 ^ 62 }
+        requires moment { now.0 ≤ latest }
         requires delay { self.old.start_delay.0 ≤ 2 ^ 40 }
         ensures { self.new ≡ status_replica_started now upstream self.old }
     {
@@ -72,7 +73,7 @@ impl ServerStatus {
 
     /// What `Server::start_primary` makes of it.
     pub fn start_primary(&mut self, now: Ticks)
-        requires moment { now.0 ≤ 2 ^ 62 }
+        requires moment { now.0 ≤ latest }
         requires delay { self.old.start_delay.0 ≤ 2 ^ 40 }
         ensures { self.new ≡ status_primary_started now self.old }
     {
@@ -83,7 +84,7 @@ impl ServerStatus {
 
     /// What `Server::stop` makes of it.
     pub fn stop(&mut self, now: Ticks)
-        requires moment { now.0 ≤ 2 ^ 62 }
+        requires moment { now.0 ≤ latest }
         requires delay { self.old.stop_delay.0 ≤ 2 ^ 40 }
         ensures { self.new ≡ status_stopping now self.old }
     {
@@ -105,7 +106,7 @@ impl ServerStatus {
 
     /// What `Server::restart` makes of it.
     pub fn restart(&mut self, now: Ticks)
-        requires moment { now.0 ≤ 2 ^ 62 }
+        requires moment { now.0 ≤ latest }
         requires delay { self.old.start_delay.0 ≤ 2 ^ 40 }
         ensures { self.new ≡ status_restarted now self.old }
     {
@@ -131,7 +132,7 @@ impl ServerStatus {
 
     /// It starts, at once or after the delay.
     fn start(&mut self, as_primary: bool, now: Ticks)
-        requires moment { now.0 ≤ 2 ^ 62 }
+        requires moment { now.0 ≤ latest }
         requires delay { self.old.start_delay.0 ≤ 2 ^ 40 }
         ensures { self.new ≡ status_starting as_primary now self.old }
     {
@@ -159,7 +160,7 @@ impl ServerStatus {
 
     /// It shuts down, at once or after the delay.
     fn end(&mut self, now: Ticks)
-        requires moment { now.0 ≤ 2 ^ 62 }
+        requires moment { now.0 ≤ latest }
         requires delay { self.old.stop_delay.0 ≤ 2 ^ 40 }
         ensures { self.new ≡ status_ending now self.old }
     {

@@ -12,7 +12,8 @@ use Rattle.agent_model.specs.Agents.{AgentFacts}
 use Rattle.agent_lease_law.specs.Lawful.{IsYoung}
 use Rattle.agent_law.specs.Seen.{moment_seen, hold_seen, machine_seen}
 use Rattle.agent_model.specs.declared.knowledge.Waited.{Waited}
-use Rattle.cluster_model.specs.Machines.{machine_from, machine_of, replication_of, ticks_of_second}
+use Rattle.cluster_model.specs.Machines.{machine_from, machine_of, replication_of}
+use Rattle.pat_base.specs.declared.ticks.TheConstants.{TICKS_OF_SECOND}
 use Rattle.agent_model.specs.declared.machine.Replication.{Replication}
 use Rattle.cluster_model.specs.State.{Cluster}
 use Rattle.cluster_model.specs.Streaming.{source_of}
@@ -32,7 +33,7 @@ pub record IsFound (cluster : Cluster) (member : Member) (machine : Machine) : T
   pub mirrors : Mirrors cluster member.id.number machine
   pub mode : machine.watchdog.mode ≡ options.watchdog
   pub works : machine.watchdog.works ≡ options.device_works
-  pub margin : machine.watchdog.margin ≡ Some (record { 0 = ticks_of_second * options.margin.seconds })
+  pub margin : machine.watchdog.margin ≡ Some (record { 0 = TICKS_OF_SECOND * options.margin.seconds })
 
 found-by : (cluster : Cluster) (member : Member) (receives : Bool) (replication : Option Replication) (machine : Machine) (options : Option MemberOptions) (deadline hold : Option (Option Ticks)) (s : Option ServerFacts)
     → slice_get cluster.options member.id.number ≡ options → slice_get cluster.facts.deadlines member.id.number ≡ deadline → slice_get cluster.facts.holds member.id.number ≡ hold → slice_get cluster.facts.servers member.id.number ≡ s
@@ -80,14 +81,14 @@ seen-of cluster m agent machine resembles is =
 
 -- ---- what its member declares
 declared-by : (found : Option MemberText) (options : MemberOptions) → option_map (λ (member : MemberText). member.options) found ≡ Some options
-    → (margin_said found ≡ Some (ticks_of_second * options.margin.seconds)) × (works_said found ≡ is_armable options.watchdog options.device_works)
+    → (margin_said found ≡ Some (TICKS_OF_SECOND * options.margin.seconds)) × (works_said found ≡ is_armable options.watchdog options.device_works)
 declared-by None options e = absurd (none-some options e)
 declared-by (Some member) options e =
     let same = some-is member.options options e in
-    (ap (λ (o : MemberOptions). Some (ticks_of_second * o.margin.seconds)) same, ap (λ (o : MemberOptions). is_armable o.watchdog o.device_works) same)
+    (ap (λ (o : MemberOptions). Some (TICKS_OF_SECOND * o.margin.seconds)) same, ap (λ (o : MemberOptions). is_armable o.watchdog o.device_works) same)
 
 declared-of : (head : HeadText) (past : Past) (cluster : Cluster) (member : Member) (machine : Machine) → IsMatched head past cluster → (found : IsFound cluster member machine)
-    → (margin_said (slice_get head.members member.id.number) ≡ Some (ticks_of_second * found.options.margin.seconds)) × (works_of head member.id.number ≡ is_armable found.options.watchdog found.options.device_works)
+    → (margin_said (slice_get head.members member.id.number) ≡ Some (TICKS_OF_SECOND * found.options.margin.seconds)) × (works_of head member.id.number ≡ is_armable found.options.watchdog found.options.device_works)
 declared-of head past cluster member machine matched found =
     declared-by (slice_get head.members member.id.number) found.options
     (sym (slice_get-map (λ (member : MemberText). member.options) head.members member.id.number) ∙ ap (λ (l : List MemberOptions). slice_get l member.id.number) (sym matched.options) ∙ found.options_is)

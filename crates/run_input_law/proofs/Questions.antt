@@ -55,7 +55,8 @@ use Rattle.agent_model.specs.Table.{granted_any, refused_any, step}
 use Rattle.agent_model.specs.Wake.{turn_noted, overdue, turned, woken}
 use Rattle.agent_model.proofs.Rows.{HandoverRows, IsOperatorTxn, ReplyRows, dropping, led_on, if-cases, begins-or-claims-by, passing-by, before-by, duties-by, given-up-by, granted-any-by, looked-by, operated-by, overdue-by, refused-any-by, turn-by, wake-by, got-by, refused-by, follow-by, repaired-by, free-by, granted-by, judged-by, answered-by, rested_on, takes-in-pause-by}
 use Rattle.agent_model.specs.declared.who.Who.{Who}
-use Rattle.agent_model.specs.Answers.{is_other, most_answers, asking_all, asking_one, asking_first}
+use Rattle.agent_model.specs.Answers.{is_other, asking_all, asking_one, asking_first}
+use Rattle.pat_base.specs.declared.member_id.TheConstants.{MOST_MEMBERS}
 use Rattle.agent_model.specs.Peers.{keeping, answered}
 use Rattle.lease_law.proofs.Tools.{both}
 use Rattle.run_input_law.specs.Questions.{IsPutBy, IsPutByBody, span_asked, SendsBetween, AsksFor, WaitsOn, Same, Nothing, New, AsksAnew}
@@ -249,11 +250,11 @@ peers-reach now known question o outs lease write more r =
 others-reach : (now : Ticks) (known : Knowledge) (o : Outcome) → Reaches now known o → Reaches now known (asking_others now o)
 others-reach now known o r =
     peers-reach now known Asking o (asking_all o.knows.who (o.knows.sequence + 1) o.outputs) refl refl
-    (asks-send known.sequence (o.knows.sequence + 1) o.knows.who (o.knows.sequence + 1) most_answers o.outputs (omega (arith, r.last)) (omega arith)) r
+    (asks-send known.sequence (o.knows.sequence + 1) o.knows.who (o.knows.sequence + 1) MOST_MEMBERS o.outputs (omega (arith, r.last)) (omega arith)) r
 
 -- the same of a leader that is to hand over
 whom-send : (low high : ℕ) (who : Who) (candidate : Option MemberId) (sequence : ℕ) (outs : List Output) → low < sequence → sequence ≤ high → All (SendsBetween low high) outs → All (SendsBetween low high) (asking_whom who candidate sequence outs)
-whom-send low high who None sequence outs later less all = asks-send low high who sequence most_answers outs later less all
+whom-send low high who None sequence outs later less all = asks-send low high who sequence MOST_MEMBERS outs later less all
 whom-send low high who (Some candidate) sequence outs later less all = ask-sends low high who sequence (Some candidate) outs later less all
 
 check-reaches : (now : Ticks) (known : Knowledge) (candidate : Option MemberId) (o : Outcome) → Reaches now known o → Reaches now known (checking now candidate o)

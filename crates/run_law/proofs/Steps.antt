@@ -15,8 +15,9 @@ use Rattle.run_step_law.proofs.StoreArrivals.{kept-store-arrival}
 use Rattle.run_step_law.proofs.Streams.{keeps-acknowledge, keeps-receive-at-most}
 use Rattle.run_step_law.proofs.Ticks.{keeps-tick}
 use Rattle.run_step_law.proofs.Walking.{upholds-run}
+use Rattle.pat_base.specs.declared.member_id.TheConstants.{MOST_MEMBERS}
 
-parts : (head : HeadText) → length (names_of head) ≤ 16 → PartsUphold head (one_writer head)
+parts : (head : HeadText) → length (names_of head) ≤ MOST_MEMBERS → PartsUphold head (one_writer head)
 parts head few = record {
   members = λ book cluster good. good.matched.members;
   inputs = inputs-keep head;
@@ -31,5 +32,5 @@ parts head few = record {
   commands = λ command book cluster good. kept-command-kind head few book cluster command good;
 }
 
-pub keeps-run : (head : HeadText) → length (names_of head) ≤ 16 → (steps : List Step) → Keeps head (λ cluster. run_events cluster steps)
+pub keeps-run : (head : HeadText) → length (names_of head) ≤ MOST_MEMBERS → (steps : List Step) → Keeps head (λ cluster. run_events cluster steps)
 keeps-run head few steps = upholds-run head few (one_writer head) (composable head) (parts head few) steps

@@ -35,6 +35,7 @@ use Rattle.run_step_law.proofs.Members.{declared-now, declared-within}
 use Rattle.run_step_law.proofs.Promoting.{kept-breach}
 use Rattle.run_step_law.proofs.Starting.{kept-restart}
 use Rattle.run_step_law.proofs.Streams.{IsQuietIf, kept-quiet-if}
+use Rattle.pat_base.specs.declared.member_id.TheConstants.{MOST_MEMBERS}
 
 -- what is found is quiet
 quiet-cond : (test : Bool) (first second : Option EventKind) → IsQuietIf first → IsQuietIf second → IsQuietIf (cond test first second)
@@ -134,7 +135,7 @@ crash-declared : (head : HeadText) (book : List Event) (cluster : Cluster) (foun
 crash-declared head book cluster None good = kept-none head book cluster good
 crash-declared head book cluster (Some m) good = crash-found head book cluster m (slice_get cluster.facts.servers m.id.number) good
 
-pub kept-command-kind : (head : HeadText) → length (names_of head) ≤ 16 → (book : List Event) (cluster : Cluster) (command : Command) → Bridged head book cluster
+pub kept-command-kind : (head : HeadText) → length (names_of head) ≤ MOST_MEMBERS → (book : List Event) (cluster : Cluster) (command : Command) → Bridged head book cluster
     → IsKept head book cluster (events_of cluster (kinds_of (command_kind cluster command)))
 kept-command-kind head few book cluster (commands.Kill id) good =
     kill-declared head book cluster (declared cluster id) (λ m is. declared-within head few m (declared-now head few cluster good.matched.members id m is)) good
@@ -151,6 +152,6 @@ pub kept-promote : (head : HeadText) (book : List Event) (cluster : Cluster) (m 
 kept-promote head book cluster m good =
     kept-for_some head book cluster (slice_get cluster.facts.servers m.id.number) _ good (λ s is. promote-by head book cluster m _ (is_replica s.state) good)
 
-pub kept-restarts : (head : HeadText) → length (names_of head) ≤ 16 → (book : List Event) (cluster : Cluster) (id : MemberId) → Bridged head book cluster → IsKept head book cluster (for_some (declared cluster id) (agent_start_events cluster))
+pub kept-restarts : (head : HeadText) → length (names_of head) ≤ MOST_MEMBERS → (book : List Event) (cluster : Cluster) (id : MemberId) → Bridged head book cluster → IsKept head book cluster (for_some (declared cluster id) (agent_start_events cluster))
 kept-restarts head few book cluster id good =
     kept-for_some head book cluster (declared cluster id) (agent_start_events cluster) good (λ m is. kept-restart head book cluster m (declared-within head few m (declared-now head few cluster good.matched.members id m is)) good)

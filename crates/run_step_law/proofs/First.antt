@@ -32,6 +32,7 @@ use Rattle.run_step_law.proofs.Fresh.{fresh-seen}
 use Rattle.run_step_law.proofs.Members.{counted, numbered}
 use Rattle.run_step_law.proofs.Waiting.{waiting-first}
 use Rattle.agent_model.specs.Pausing.{is_paused}
+use Rattle.pat_base.specs.declared.member_id.TheConstants.{MOST_MEMBERS}
 
 -- at each place of a list of one thing stands that thing, or none
 module _ {A B : Type 0} (x : A) (see : Option A → B) (y : B) (none : see None ≡ y) (some : see (Some x) ≡ y) where
@@ -95,14 +96,14 @@ knows-first scope options members count m (Some member) agent is small number th
       unpaused = ap (λ (a : AgentFacts). is_paused a.knows) (sym same);
     }
 
-first-knows : (head : HeadText) → length (names_of head) ≤ 16 → KnowThemselves (first_processes (member_count head)) (cluster_of head).agents
+first-knows : (head : HeadText) → length (names_of head) ≤ MOST_MEMBERS → KnowThemselves (first_processes (member_count head)) (cluster_of head).agents
 first-knows head few m agent is =
     let members : List Member = declared_members head in
     let there : option_map (first_agent head.cluster (options_of head) members) (slice_get members m) ≡ Some (Some agent) = sym (slice_get-map (first_agent head.cluster (options_of head) members) members m) ∙ is in
     let sized : length (cluster_of head).agents ≡ member_count head = length-map members (first_agent head.cluster (options_of head) members) ∙ counted head few in
     knows-first head.cluster (options_of head) members (member_count head) m (slice_get members m) agent refl (subst (λ (n : ℕ). m < n) sized (slice_get_within (cluster_of head).agents m (Some agent) is)) (numbered head few m) there
 
-pub bridged-first : (head : HeadText) → length (names_of head) ≤ 16 → head.config.config.pause ≡ false → Bridged head [] (cluster_of head)
+pub bridged-first : (head : HeadText) → length (names_of head) ≤ MOST_MEMBERS → head.config.config.pause ≡ false → Bridged head [] (cluster_of head)
 bridged-first head few unpaused = record {
   matched = record {
     members = refl;

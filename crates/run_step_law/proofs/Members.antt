@@ -16,12 +16,13 @@ use Rattle.run_step_law.specs.Declaring.{declared_members, member_count}
 use Rattle.run_step_law.specs.Members.{IsDeclared, is_listed}
 use Rattle.run_step_law.proofs.Upholding.{Each}
 use Rattle.cluster_model.proofs.Places.{eq-self, there}
+use Rattle.pat_base.specs.declared.member_id.TheConstants.{MOST_MEMBERS}
 
 -- there are few of them
-pub few-names : (head : HeadText) → IsHead head → length (names_of head) ≤ 16
+pub few-names : (head : HeadText) → IsHead head → length (names_of head) ≤ MOST_MEMBERS
 few-names head is = rw (length-map head.members _) is.few
 
-not-small : (n : ℕ) → nat_lt n 16 ≡ false → n < 16 → ⊥
+not-small : (n : ℕ) → nat_lt n MOST_MEMBERS ≡ false → n < MOST_MEMBERS → ⊥
 not-small n is small = grind (arith, nat_tests)
 
 -- a member of this name stands first
@@ -30,14 +31,14 @@ record StandsFirst (n : ℕ) (name : Name) (members : List Member) (all : List M
   number : member.id.number ≡ n
   is : all ≡ member ∷ members
 
-first-by : (n : ℕ) (test : Bool) (is : nat_lt n 16 ≡ test) (name : Name) (members : List Member) → n < 16 → StandsFirst n name members (put_first (member_by n test is) name members)
+first-by : (n : ℕ) (test : Bool) (is : nat_lt n MOST_MEMBERS ≡ test) (name : Name) (members : List Member) → n < MOST_MEMBERS → StandsFirst n name members (put_first (member_by n test is) name members)
 first-by n true is name members small = record { member = record { id = record { number = n; below = _ }; name = name }; number = refl; is = refl }
 first-by n false is name members small = absurd (not-small n is small)
 
-small-first : (n more : ℕ) → n + suc more ≤ 16 → n < 16
+small-first : (n more : ℕ) → n + suc more ≤ MOST_MEMBERS → n < MOST_MEMBERS
 small-first n more few = omega (arith, few)
 
-small-next : (n more : ℕ) → n + suc more ≤ 16 → (n + 1) + more ≤ 16
+small-next : (n more : ℕ) → n + suc more ≤ MOST_MEMBERS → (n + 1) + more ≤ MOST_MEMBERS
 small-next n more few = omega (arith, few)
 
 next-number : (k n i : ℕ) → k ≡ (n + 1) + i → k ≡ n + suc i
@@ -55,39 +56,39 @@ numbered-behind : (n : ℕ) (member m : Member) (members : List Member) → memb
 numbered-behind n member m members number rest zero is = at-first n m.id.number (ap (λ (z : Member). z.id.number) (sym (some-is member m is)) ∙ number)
 numbered-behind n member m members number rest (suc i) is = next-number m.id.number n i (rest i is)
 
-numbered-from : (n : ℕ) (names : List Name) → n + length names ≤ 16 → (i : ℕ) (m : Member) → slice_get (members_from n names) i ≡ Some m → m.id.number ≡ n + i
+numbered-from : (n : ℕ) (names : List Name) → n + length names ≤ MOST_MEMBERS → (i : ℕ) (m : Member) → slice_get (members_from n names) i ≡ Some m → m.id.number ≡ n + i
 numbered-from n [] few i m is = absurd (none-at i m is)
 numbered-from n (name ∷ names) few i m is =
-    let first = first-by n (nat_lt n 16) refl name (members_from (n + 1) names) (small-first n (length names) few) in
+    let first = first-by n (nat_lt n MOST_MEMBERS) refl name (members_from (n + 1) names) (small-first n (length names) few) in
     numbered-behind n first.member m (members_from (n + 1) names) first.number (λ i is. numbered-from (n + 1) names (small-next n (length names) few) i m is) i
     (sym (ap (λ (ms : List Member). slice_get ms i) first.is) ∙ is)
 
-from-few : (count : ℕ) → count ≤ 16 → 0 + count ≤ 16
+from-few : (count : ℕ) → count ≤ MOST_MEMBERS → 0 + count ≤ MOST_MEMBERS
 from-few count few = omega (arith, few)
 
-counted-from : (n : ℕ) (names : List Name) → n + length names ≤ 16 → length (members_from n names) ≡ length names
+counted-from : (n : ℕ) (names : List Name) → n + length names ≤ MOST_MEMBERS → length (members_from n names) ≡ length names
 counted-from n [] few = refl
 counted-from n (name ∷ names) few =
-    let first = first-by n (nat_lt n 16) refl name (members_from (n + 1) names) (small-first n (length names) few) in
+    let first = first-by n (nat_lt n MOST_MEMBERS) refl name (members_from (n + 1) names) (small-first n (length names) few) in
     ap (λ (ms : List Member). length ms) first.is ∙ ap suc (counted-from (n + 1) names (small-next n (length names) few))
 
 -- there are as many as the head names
-pub counted : (head : HeadText) → length (names_of head) ≤ 16 → length (declared_members head) ≡ member_count head
+pub counted : (head : HeadText) → length (names_of head) ≤ MOST_MEMBERS → length (declared_members head) ≡ member_count head
 counted head few = counted-from 0 (names_of head) (from-few (length (names_of head)) few)
 
 from-none : (i : ℕ) → 0 + i ≡ i
 from-none i = omega arith
 
 -- the one at a place has that number
-pub numbered : (head : HeadText) → length (names_of head) ≤ 16 → (i : ℕ) (m : Member) → slice_get (declared_members head) i ≡ Some m → m.id.number ≡ i
+pub numbered : (head : HeadText) → length (names_of head) ≤ MOST_MEMBERS → (i : ℕ) (m : Member) → slice_get (declared_members head) i ≡ Some m → m.id.number ≡ i
 numbered head few i m is = numbered-from 0 (names_of head) (from-few (length (names_of head)) few) i m is ∙ from-none i
 
 -- who stands at some place is declared
-pub declared-at : (head : HeadText) → length (names_of head) ≤ 16 → (i : ℕ) (m : Member) → slice_get (declared_members head) i ≡ Some m → IsDeclared head m
+pub declared-at : (head : HeadText) → length (names_of head) ≤ MOST_MEMBERS → (i : ℕ) (m : Member) → slice_get (declared_members head) i ≡ Some m → IsDeclared head m
 declared-at head few i m is = ap (slice_get (declared_members head)) (numbered head few i m is) ∙ is
 
 -- and has a number below how many there are
-pub declared-within : (head : HeadText) → length (names_of head) ≤ 16 → (m : Member) → IsDeclared head m → m.id.number < member_count head
+pub declared-within : (head : HeadText) → length (names_of head) ≤ MOST_MEMBERS → (m : Member) → IsDeclared head m → m.id.number < member_count head
 declared-within head few m is = subst (λ (n : ℕ). m.id.number < n) (counted head few) (slice_get_within (declared_members head) m.id.number m is)
 
 each-at : (P : Member → Type 0) (members : List Member) → ((i : ℕ) (m : Member) → slice_get members i ≡ Some m → P m) → Each P members
@@ -95,7 +96,7 @@ each-at P [] all = tt
 each-at P (m ∷ members) all = (all 0 m refl, each-at P members (λ i n is. all (suc i) n is))
 
 -- what holds of declared members holds of each in the list
-pub each-declared : (head : HeadText) → length (names_of head) ≤ 16 → (P : Member → Type 0) → ((m : Member) → IsDeclared head m → P m) → Each P (declared_members head)
+pub each-declared : (head : HeadText) → length (names_of head) ≤ MOST_MEMBERS → (P : Member → Type 0) → ((m : Member) → IsDeclared head m → P m) → Each P (declared_members head)
 each-declared head few P all = each-at P (declared_members head) (λ i m is. all m (declared-at head few i m is))
 
 or-second : (a b : Bool) → b ≡ true → (a || b) ≡ true
@@ -109,12 +110,12 @@ listed-at m (first ∷ members) zero member is number =
 listed-at m (first ∷ members) (suc i) member is number = or-second (m == first.id.number) (is_listed m members) (listed-at m members i member is number)
 
 -- each number below that is listed
-pub listed : (head : HeadText) → length (names_of head) ≤ 16 → (m : ℕ) → m < member_count head → is_listed m (declared_members head) ≡ true
+pub listed : (head : HeadText) → length (names_of head) ≤ MOST_MEMBERS → (m : ℕ) → m < member_count head → is_listed m (declared_members head) ≡ true
 listed head few m small =
     let found = there (declared_members head) m (subst (λ (n : ℕ). m < n) (sym (counted head few)) small) in
     listed-at m (declared_members head) m found.0 found.1 (numbered head few m found.0 found.1)
 
 -- who is found by a number among the declared members is declared
-pub declared-now : (head : HeadText) → length (names_of head) ≤ 16 → (cluster : Cluster) → cluster.facts.members ≡ declared_members head
+pub declared-now : (head : HeadText) → length (names_of head) ≤ MOST_MEMBERS → (cluster : Cluster) → cluster.facts.members ≡ declared_members head
     → (id : MemberId) (m : Member) → declared cluster id ≡ Some m → IsDeclared head m
 declared-now head few cluster members id m is = declared-at head few id.number m (sym (ap (λ (ms : List Member). slice_get ms id.number) members) ∙ is)

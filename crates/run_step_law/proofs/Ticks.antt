@@ -50,6 +50,7 @@ use Rattle.run_step_law.proofs.Upholding.{Each, over-append}
 use Rattle.run_step_law.proofs.Members.{declared-within, each-declared, listed}
 use Rattle.run_step_law.proofs.Quiet.{quiet-aside, quiet-local}
 use Rattle.run_step_law.proofs.TickMachines.{end-one, ends, quiet-machines, resets, stops_seen, ticked-machine}
+use Rattle.pat_base.specs.declared.member_id.TheConstants.{MOST_MEMBERS}
 
 -- events of a tick beside the clock's; whose server begins in one meets a premise
 abbrev pub IsBeside : (ℕ → Type 0) → EventKind → Type 0
@@ -242,7 +243,7 @@ listed-due count m now deadlines is sized listed = elim (slice_get_cases deadlin
     and-none true = refl
     and-none false = refl
 
-pub keeps-tick : (head : HeadText) → length (names_of head) ≤ 16 → Keeps head tick_events
+pub keeps-tick : (head : HeadText) → length (names_of head) ≤ MOST_MEMBERS → Keeps head tick_events
 keeps-tick head few book cluster good =
     let tick : Ticks = record { 0 = cluster.facts.clock + 1 } in
     let events : List Event = record { tick = tick; kind = kinds.Tick } ∷ Rest cluster in

@@ -37,8 +37,9 @@ use Rattle.run_step_law.specs.Parts.{PartsUphold}
 use Rattle.run_step_law.specs.Promise.{IsComposable, Promise, Upholds, UpholdsAlways}
 use Rattle.run_step_law.proofs.Members.{declared-now, each-declared}
 use Rattle.run_step_law.proofs.Upholding.{upheld-for_some, upheld-if, upheld-none, upholds-all, upholds-each, upholds-then}
+use Rattle.pat_base.specs.declared.member_id.TheConstants.{MOST_MEMBERS}
 
-module _ (head : HeadText) (few : length (names_of head) ≤ 16) (promise : Promise) (composable : IsComposable promise) (parts : PartsUphold head promise) where
+module _ (head : HeadText) (few : length (names_of head) ≤ MOST_MEMBERS) (promise : Promise) (composable : IsComposable promise) (parts : PartsUphold head promise) where
   upheld-wake : (member : Member) → IsDeclared head member → UpholdsAlways promise (λ cluster. wake_events cluster member)
   upheld-wake member is book cluster good =
       upheld-for_some promise composable book cluster (slice_get cluster.facts.processes member.id.number) (wake_events_if cluster member) good

@@ -5,12 +5,12 @@ use Rattle.event_book.specs.declared.member.Member.{Member}
 use Rattle.event_book.specs.Members.{members_from}
 use Rattle.leader_key.specs.Watchdog.{is_armable}
 use Rattle.lease_law.specs.States.{Declared}
-use Rattle.cluster_model.specs.Machines.{ticks_of_second}
+use Rattle.pat_base.specs.declared.ticks.TheConstants.{TICKS_OF_SECOND}
 
 -- the margin that a member declares, in ticks; none past the members
 abbrev pub margin_said : Option MemberText → Option ℕ
 margin_said None = None
-margin_said (Some member) = Some (ticks_of_second * member.options.margin.seconds)
+margin_said (Some member) = Some (TICKS_OF_SECOND * member.options.margin.seconds)
 
 -- the member's watchdog is on and its device works; so it counts past the members
 abbrev pub works_said : Option MemberText → Bool

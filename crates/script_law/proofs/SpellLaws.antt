@@ -20,7 +20,8 @@ use Rattle.cluster_config.specs.ConfigReading.{config_read}
 use Rattle.cluster_config.specs.declared.config_fault.ConfigFault.{ConfigFault}
 use Rattle.script_words.specs.Numbers.{number}
 use Rattle.script_words.specs.Lines.{first_at}
-use Rattle.script_model.specs.Bounds.{most_members, longest_line, greatest_base}
+use Rattle.script_model.specs.Bounds.{longest_line, greatest_base}
+use Rattle.pat_base.specs.declared.member_id.TheConstants.{MOST_MEMBERS}
 use Rattle.script_model.specs.Ranges.{commit_size_of, delay_of}
 use Rattle.cluster_script.specs.Arguments.{number_in, switch_in, slowed_call_in, commit_size_in, delay_in, known_member, member_in, end_in, line_end, last_word, one_word, word_behind, two_words, words_behind, same_end, apart, two_ends, commit_in, stream_in, slow_in, command}
 use Rattle.cluster_script.specs.Draft.{DraftText, script_so_far}
@@ -325,10 +326,10 @@ line_text-again d text line some h is (BlankBehind m call request blank) =
     ∙ ap (λ (l : Line). Ok (record d { body = d.body ++ l ∷ [] })) (sym request)
 
 -- a member's line is read again
-few : (n : ℕ) → n < most_members → nat_le most_members n ≡ false
+few : (n : ℕ) → n < MOST_MEMBERS → nat_le MOST_MEMBERS n ≡ false
 few n h = grind (arith, nat_tests)
 
-new-again : (members : List Name) (line : MemberLine) → length members < most_members → place_of members line.name ≡ None
+new-again : (members : List Name) (line : MemberLine) → length members < MOST_MEMBERS → place_of members line.name ≡ None
     → next_member members [] (Some (name_bytes line.name ++ behind_blanks (map option_text line.words))) ≡ Ok (line.name, options_or_default line.said)
 new-again members line small absent =
     let text : List ℕ = name_bytes line.name ++ behind_blanks (map option_text line.words) in
@@ -357,7 +358,7 @@ next_base-again n least most =
 start : Name → Option Settings → Option ℕ → List MemberText → DraftText
 start cluster config base members = record { cluster = cluster; config = config; base = base; members = members; body = [] }
 
-member_line-again : (cluster : Name) (line : MemberLine) (config : Option Settings) (base : Option ℕ) (members : List MemberText) → length (member_names members) < most_members → place_of (member_names members) line.name ≡ None
+member_line-again : (cluster : Name) (line : MemberLine) (config : Option Settings) (base : Option ℕ) (members : List MemberText) → length (member_names members) < MOST_MEMBERS → place_of (member_names members) line.name ≡ None
     → with_line (start cluster config base members) (member_line_text line) ≡ Ok (start cluster config base (members ++ member_of_line line ∷ []))
 unfolding start
 member_line-again cluster line config base members small absent =
@@ -453,7 +454,7 @@ record IsLeft (config : Option Settings) (base : Option ℕ) (members : List Mem
   pub configs : read_at_most_once config ++ configs_said back ≡ read_at_most_once all_config
   pub bases : option_to_list base ++ bases_said back ≡ option_to_list all_base
   pub different : AreDifferent (member_names (members ++ members_said back))
-  pub few : length (members ++ members_said back) ≤ most_members
+  pub few : length (members ++ members_said back) ≤ MOST_MEMBERS
 
 module _ (cluster : Name) (all_config : Option Settings) (all_base : Option ℕ) (least : 1 ≤ base_or_default all_base) (most : base_or_default all_base ≤ greatest_base) where
   said-again : (config : Option Settings) (base : Option ℕ) (members : List MemberText) (back : List HeadLine) → IsLeft config base members back all_config all_base
@@ -490,7 +491,7 @@ module _ (cluster : Name) (all_config : Option Settings) (all_base : Option ℕ)
       )
   said-again config base members (MembersLine line ∷ back) h =
       let next : (members ++ member_of_line line ∷ []) ++ members_said back ≡ members ++ member_of_line line ∷ members_said back = append_assoc members (member_of_line line ∷ []) (members_said back) in
-      let fits : length (member_names members) < most_members = omega (arith, h.few, length-append members (member_of_line line ∷ members_said back), count-names members) in
+      let fits : length (member_names members) < MOST_MEMBERS = omega (arith, h.few, length-append members (member_of_line line ∷ members_said back), count-names members) in
       let apart : AreDifferent (member_names members ++ line.name ∷ member_names (members_said back)) = subst AreDifferent (member_names-append members (member_of_line line ∷ members_said back)) h.different in
       let left : IsLeft config base (members ++ member_of_line line ∷ []) back all_config all_base = record {
         configs = h.configs;

@@ -1,10 +1,6 @@
 -- How many there may be of what a script has, and how long it may be.
 use Rattle.std.specs.Prelude.{ℕ, ◌^◌}
 
--- so many members may be declared
-abbrev pub most_members : ℕ
-most_members = 16
-
 -- so many bytes a line may have
 abbrev pub longest_line : ℕ
 longest_line = 8192

@@ -10,7 +10,8 @@ use Rattle.lease_store.specs.Settings.{Settings}
 use Rattle.script_words.specs.Lines.{ended, is_one_line}
 use Rattle.member_options.specs.Options.{option_text, behind_blanks, options_to_say}
 use Rattle.rest_api.specs.Calls.{request_words}
-use Rattle.script_model.specs.Bounds.{most_members, longest_line, greatest_base}
+use Rattle.script_model.specs.Bounds.{longest_line, greatest_base}
+use Rattle.pat_base.specs.declared.member_id.TheConstants.{MOST_MEMBERS}
 use Rattle.script_model.specs.Keywords.{spelled}
 use Rattle.member_options.specs.declared.member_option.MemberOptions.{MemberOptions}
 use Rattle.script_model.specs.declared.keyword.Keyword.TheVariants as words
@@ -212,7 +213,7 @@ pub record IsHead (head : HeadText) : Type 0 where
   pub base_least : 1 ≤ head.base
   pub base_most : head.base ≤ greatest_base
   pub some : 0 < length head.members
-  pub few : length head.members ≤ most_members
+  pub few : length head.members ≤ MOST_MEMBERS
   pub different : AreDifferent (names_of head)
 
 -- a member that is declared

@@ -10,11 +10,8 @@ use std::marker::Model;
 /// The base of a script that says none: five files of 16 MiB.
 pub const DEFAULT_BASE: u64 = 83_886_080;
 
-/// The most members that a script may have.
-pub const MOST_MEMBERS: usize = 16;
-
-/// The head of a script: the name of its cluster, its configuration, its base, and its 1 to 16 members, in the order of
-/// their lines.
+/// The head of a script: the name of its cluster, its configuration, its base, and its members, one at least, in the order
+/// of their lines.
 #[derive(Drop)]
 pub struct Head {
     cluster: Name,
@@ -37,7 +34,8 @@ impl Model for Head {
 impl Head {
     ghost use Rattle.std.specs.Prelude.{◌≡◌, ◌≤◌, ◌↔◌, length, option_map, slice_get, IsNone};
     ghost use Rattle.cluster_config.specs.ConfigReading.{IsConfiguration};
-    ghost use Rattle.script_model.specs.Bounds.{greatest_base, most_members};
+    ghost use Rattle.script_model.specs.Bounds.{greatest_base};
+    ghost use Rattle.pat_base.specs.declared.member_id.TheConstants.{MOST_MEMBERS};
     ghost use Rattle.script_model.specs.Script.{IsHead, members_in, names_of};
 
     /// The head of this cluster with this configuration, this base and these members.
@@ -83,11 +81,11 @@ impl Head {
         self.base
     }
 
-    /// How many members there are: 1 to 16.
+    /// How many members there are: one at least.
     pub fn member_count(&self) -> usize
         ensures value { result ≡ length self.now.members }
         ensures some { 1 ≤ result }
-        ensures few { result ≤ most_members }
+        ensures few { result ≤ MOST_MEMBERS }
         ensures head { IsHead self.now }
     {
         self.members.len()

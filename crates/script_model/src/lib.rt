@@ -7,7 +7,7 @@ mod line;
 mod ranges;
 mod script;
 
-pub use head::{DEFAULT_BASE, Head, MOST_MEMBERS};
+pub use head::{DEFAULT_BASE, Head};
 pub use keyword::Keyword;
 pub use line::{Command, End, Line, SlowedCall, Step};
 pub use ranges::{CommitSize, Delay};

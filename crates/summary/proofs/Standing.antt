@@ -24,6 +24,7 @@ use Rattle.summary.proofs.Fronts.{now-more, fronts-start}
 use Rattle.summary.proofs.Losing.{lost-more}
 use Rattle.summary.proofs.Modes.{mode-more, mode-first}
 use Rattle.summary.proofs.Writing.{writers-more, long-more, over-more, two-more}
+use Rattle.pat_base.specs.declared.member_id.TheConstants.{MOST_MEMBERS}
 
 -- commits are counted
 pub acknowledged-more : (xs ys : List Event) → acknowledged_in (xs ++ ys) ≡ acknowledged_in xs ++ acknowledged_in ys
@@ -60,7 +61,7 @@ none-writes (suc n) zero = refl
 none-writes (suc n) (suc m) = none-writes n m
 
 -- before the first event
-pub stands-first : (members : List WatchOf) (first : Settings) (logs : Logs) → length members ≤ 16 → WatchStandsFor members first logs [] (watch_of members first.config)
+pub stands-first : (members : List WatchOf) (first : Settings) (logs : Logs) → length members ≤ MOST_MEMBERS → WatchStandsFor members first logs [] (watch_of members first.config)
 stands-first members first logs within = record {
   margins = λ m. ap margin_ticks (filled-at 16 members m within);
   places = refl;
@@ -104,5 +105,5 @@ stands-over members first logs book facts (s ∷ ss) stands right =
     subst (λ (l : List Event). WatchStandsFor members first logs l (noted_over (noted facts s.event.kind s.seen) ss)) (assoc book (s.event ∷ []) (events_in ss))
     (stands-over members first logs (book ++ s.event ∷ []) (noted facts s.event.kind s.seen) ss (stands-more members first logs book facts s.event s.seen stands right.0) right.1)
 
-pub stands-all : (members : List WatchOf) (first : Settings) (logs : Logs) (sightings : List Sighting) → length members ≤ 16 → AreSeen logs [] (watch_of members first.config) sightings → IsSummaryOf members first logs (events_in sightings) (noted_over (watch_of members first.config) sightings).closing
+pub stands-all : (members : List WatchOf) (first : Settings) (logs : Logs) (sightings : List Sighting) → length members ≤ MOST_MEMBERS → AreSeen logs [] (watch_of members first.config) sightings → IsSummaryOf members first logs (events_in sightings) (noted_over (watch_of members first.config) sightings).closing
 stands-all members first logs sightings within right = (stands-over members first logs [] (watch_of members first.config) sightings (stands-first members first logs within) right).closing

@@ -22,6 +22,7 @@ use Rattle.summary.proofs.Measuring.{clock-over, measured-behind, measured-front
 use Rattle.summary.proofs.Modes.{mode-more}
 use Rattle.summary.proofs.Standing.{count-more, stands-first, stands-more, stands-over}
 use Rattle.summary.proofs.Writing.{writers-more, long-more, over-more, two-more}
+use Rattle.pat_base.specs.declared.member_id.TheConstants.{MOST_MEMBERS}
 
 -- the events of sightings
 events-sighted : (clock since : Ticks) (events : List Event) → events_in (sightings_of clock since events) ≡ events
@@ -67,13 +68,13 @@ steps-stand members first logs book facts (step ∷ steps) stands measured told 
     (step-stands members first logs book facts step stands (measured-front moments facts.since step (book_of steps) measured) told.0)
     (measured-behind first_moments (noted_step facts step).since book step (book_of steps) (measured-rest moments facts.since step (book_of steps) measured)) told.1)
 
-pub steps-told : (members : List WatchOf) (first : Settings) (logs : Logs) (steps : List (List Event)) → length members ≤ 16 → AreMeasured first_moments first_since (book_of steps) → EachTellsLosses logs [] steps
+pub steps-told : (members : List WatchOf) (first : Settings) (logs : Logs) (steps : List (List Event)) → length members ≤ MOST_MEMBERS → AreMeasured first_moments first_since (book_of steps) → EachTellsLosses logs [] steps
     → IsSummaryOf members first logs (book_of steps) (noted_steps (summary_of members first.config) steps).watch.closing
 steps-told members first logs steps within measured told =
     (steps-stand members first logs [] (summary_of members first.config) steps (stands-first members first logs within) measured told).closing
 
 -- the same without what is told of losses
-pub watches-first : (members : List WatchOf) (first : Settings) → length members ≤ 16 → WatchStandsButForLosses members first [] (summary_of members first.config).watch
+pub watches-first : (members : List WatchOf) (first : Settings) → length members ≤ MOST_MEMBERS → WatchStandsButForLosses members first [] (summary_of members first.config).watch
 watches-first members first within =
     let stands = stands-first members first [] within in
     let is = stands.closing in
@@ -129,7 +130,7 @@ steps-watch members first book facts (step ∷ steps) watches measured =
     (step-watches members first book facts step watches (measured-front moments facts.since step (book_of steps) measured))
     (measured-behind first_moments (noted_step facts step).since book step (book_of steps) (measured-rest moments facts.since step (book_of steps) measured)))
 
-pub steps-watched : (members : List WatchOf) (first : Settings) (steps : List (List Event)) → length members ≤ 16 → AreMeasured first_moments first_since (book_of steps)
+pub steps-watched : (members : List WatchOf) (first : Settings) (steps : List (List Event)) → length members ≤ MOST_MEMBERS → AreMeasured first_moments first_since (book_of steps)
     → WatchStandsButForLosses members first (book_of steps) (noted_steps (summary_of members first.config) steps).watch
 steps-watched members first steps within measured = steps-watch members first [] (summary_of members first.config) steps (watches-first members first within) measured
 
@@ -138,7 +139,7 @@ pub watched-guarded : (members : List WatchOf) (first : Settings) (book : List E
     → ((front rest : List Event) → front ++ rest ≡ book → ArePremisesMet members first front → HasOneWriter front) → IsGuarded facts.closing.premises facts.closing.two_writers
 watched-guarded members first book facts watches guards = guarded-at members first book facts.closing.premises facts.closing.two_writers watches.closing.premises watches.closing.two_writers guards
 
-pub steps-guarded : (members : List WatchOf) (first : Settings) (steps : List (List Event)) → length members ≤ 16 → AreMeasured first_moments first_since (book_of steps)
+pub steps-guarded : (members : List WatchOf) (first : Settings) (steps : List (List Event)) → length members ≤ MOST_MEMBERS → AreMeasured first_moments first_since (book_of steps)
     → ((front rest : List Event) → front ++ rest ≡ book_of steps → ArePremisesMet members first front → HasOneWriter front)
     → IsGuarded (noted_steps (summary_of members first.config) steps).watch.closing.premises (noted_steps (summary_of members first.config) steps).watch.closing.two_writers
 steps-guarded members first steps within measured guards =

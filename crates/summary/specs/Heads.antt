@@ -3,7 +3,8 @@ use Rattle.std.specs.Prelude.{Bool, true, false, not, ◌&&◌, List, [], ◌∷
 use Rattle.pat_base.specs.declared.name.Name.{Name}
 use Rattle.pat_base.specs.declared.ticks.Ticks.{Ticks}
 use Rattle.lease_store.specs.declared.config.Config.{Config}
-use Rattle.summary.specs.declared.answers.TheConstants.{MEMBERS, SERVERS}
+use Rattle.summary.specs.declared.answers.TheConstants.{SERVERS}
+use Rattle.pat_base.specs.declared.member_id.TheConstants.{MOST_MEMBERS}
 use Rattle.summary.specs.declared.answers.Breach.{Breach}
 use Rattle.summary.specs.declared.answers.Breach.TheVariants as breaches
 use Rattle.summary.specs.declared.answers.Closing.{Closing}
@@ -57,4 +58,4 @@ closing_of members first = record {
 
 -- what the summary keeps before the first event, over these members and the first configuration
 abbrev pub watch_of : List WatchOf → Config → WatchFacts
-watch_of members first = record { margins = filled (replicate MEMBERS None) members; closing = closing_of members first }
+watch_of members first = record { margins = filled (replicate MOST_MEMBERS None) members; closing = closing_of members first }

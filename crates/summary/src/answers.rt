@@ -1,12 +1,9 @@
 //! What the summary is told, and what it answers.
 
-use pat_base::{Name, Ticks};
+use pat_base::{MOST_MEMBERS, Name, Ticks};
 
-/// How many members there may be.
-pub const MEMBERS: usize = 16;
-
-/// How many servers there may be: those of sixteen members, and the remote primary.
-pub const SERVERS: usize = 17;
+/// How many servers there may be: those of the members, and the remote primary.
+pub const SERVERS: usize = MOST_MEMBERS + 1;
 
 /// What a script declares of the watchdog of a member.
 #[derive(Clone, Copy, Debug)]

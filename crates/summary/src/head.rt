@@ -1,17 +1,17 @@
 //! What the head of a script makes of the summary, before the first event.
 ghost use Rattle.std.specs.Prelude.{◌≡◌, ◌≤◌, length, replicate, None};
-ghost use Rattle.summary.specs.declared.answers.TheConstants.{MEMBERS};
+ghost use Rattle.pat_base.specs.declared.member_id.TheConstants.{MOST_MEMBERS};
 ghost use Rattle.summary.specs.Heads.{filled, is_watching, first_unwatched, head_breach, declared_mode};
 
-use crate::{Breach, MEMBERS, Synchronous, WatchOf};
-use pat_base::{Name, Ticks};
+use crate::{Breach, Synchronous, WatchOf};
+use pat_base::{MOST_MEMBERS, Name, Ticks};
 
 /// The margins of the watchdogs of these members, by the numbers of the members.
-pub fn margins_of(members: &[WatchOf]) -> [Option<Ticks>; MEMBERS]
-    requires { length members.now ≤ MEMBERS }
-    ensures { result ≡ filled (replicate MEMBERS None) members.now }
+pub fn margins_of(members: &[WatchOf]) -> [Option<Ticks>; MOST_MEMBERS]
+    requires { length members.now ≤ MOST_MEMBERS }
+    ensures { result ≡ filled (replicate MOST_MEMBERS None) members.now }
 {
-    let mut margins = [None; MEMBERS];
+    let mut margins = [None; MOST_MEMBERS];
     for (place, member) in members.iter().enumerate() {
         margins[place] = member.margin;
     }

@@ -13,7 +13,8 @@ ghost use Rattle.event_book.specs.declared.member.ServerOf.{ServerOf};
 ghost use Rattle.lease_law.specs.Premises.{Moments};
 ghost use Rattle.summary.specs.declared.answers.Closing.{Closing};
 ghost use Rattle.summary.specs.declared.answers.Seen.{Seen};
-ghost use Rattle.summary.specs.declared.answers.TheConstants.{MEMBERS, SERVERS};
+ghost use Rattle.summary.specs.declared.answers.TheConstants.{SERVERS};
+ghost use Rattle.pat_base.specs.declared.member_id.TheConstants.{MOST_MEMBERS};
 ghost use Rattle.summary.specs.declared.answers.WatchOf.{WatchOf};
 ghost use Rattle.summary.specs.Claims.{AreCommitsGuarded, ArePremisesMet, IsGuarded, IsSummaryOf, KeepMode, WatchStandsFor};
 ghost use Rattle.summary.specs.Heads.{watch_of};
@@ -26,14 +27,14 @@ ghost use Rattle.summary.specs.Seeing.{AreSeen, IsLateness, IsSeen, LacksOne, Si
 /// Each answer of the summary is so of the book whose events were noted, where what was seen beside each was right.
 pub fn summary_tells_the_book()
     // Before the first event it stands for the book without one.
-    ensures first { (members : List WatchOf) (first : Settings) (logs : Logs) → length members ≤ MEMBERS → WatchStandsFor members first logs [] (watch_of members first.config) }
+    ensures first { (members : List WatchOf) (first : Settings) (logs : Logs) → length members ≤ MOST_MEMBERS → WatchStandsFor members first logs [] (watch_of members first.config) }
     // Noting an event keeps that, for who keeps no list of them.
     ensures each { (members : List WatchOf) (first : Settings) (logs : Logs) (book : List Event) (facts : WatchFacts) (event : Event) (seen : Seen)
         → WatchStandsFor members first logs book facts → IsSeen logs book facts.closing.lost event seen
         → WatchStandsFor members first logs (book ++ event ∷ []) (noted facts event.kind seen) }
     // So it is after all of them.
     ensures all { (members : List WatchOf) (first : Settings) (logs : Logs) (sightings : List Sighting)
-        → length members ≤ MEMBERS → AreSeen logs [] (watch_of members first.config) sightings
+        → length members ≤ MOST_MEMBERS → AreSeen logs [] (watch_of members first.config) sightings
         → IsSummaryOf members first logs (events_in sightings) (noted_over (watch_of members first.config) sightings).closing }
 {}
 

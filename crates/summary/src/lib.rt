@@ -13,9 +13,7 @@ mod summary;
 mod watch;
 mod writers;
 
-pub use answers::{
-    Breach, Closing, FirstMoment, MEMBERS, Premises, SERVERS, Seen, Synchronous, WatchOf,
-};
+pub use answers::{Breach, Closing, FirstMoment, Premises, SERVERS, Seen, Synchronous, WatchOf};
 pub use laws::{
     few_events_lose, lateness_is_determined, premises_guard_commits, premises_guard_writers,
     summary_tells_the_book, writers_are_listed,

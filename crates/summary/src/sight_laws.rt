@@ -5,7 +5,7 @@ ghost use Rattle.event_book.specs.Logs.{Logs};
 ghost use Rattle.event_book.specs.Writers.{HasOneWriter};
 ghost use Rattle.event_book.specs.declared.event.Event.{Event};
 ghost use Rattle.lease_law.specs.Premises.{first_moments};
-ghost use Rattle.summary.specs.declared.answers.TheConstants.{MEMBERS};
+ghost use Rattle.pat_base.specs.declared.member_id.TheConstants.{MOST_MEMBERS};
 ghost use Rattle.summary.specs.declared.answers.WatchOf.{WatchOf};
 ghost use Rattle.summary.specs.Claims.{ArePremisesMet, IsGuarded, IsSummaryOf, IsToldOfPremises, WatchStandsFor};
 ghost use Rattle.summary.specs.Moments.{IsToldFirst, moments_over};
@@ -29,7 +29,7 @@ pub fn sights_are_right()
         → WatchStandsFor members first logs (book ++ events) (noted_step facts events).watch }
     // After all steps the answers are so.
     ensures all { (members : List WatchOf) (first : Settings) (logs : Logs) (steps : List (List Event))
-        → length members ≤ MEMBERS → AreMeasured first_moments first_since (book_of steps) → EachTellsLosses logs [] steps
+        → length members ≤ MOST_MEMBERS → AreMeasured first_moments first_since (book_of steps) → EachTellsLosses logs [] steps
         → IsSummaryOf members first logs (book_of steps) (noted_steps (summary_of members first.config) steps).watch.closing }
 {}
 
@@ -37,13 +37,13 @@ pub fn sights_are_right()
 /// from when each feed is measured.
 pub fn measured_sights_suffice()
     // Before the first event, and step by step.
-    ensures first { (members : List WatchOf) (first : Settings) → length members ≤ MEMBERS → WatchStandsButForLosses members first [] (summary_of members first.config).watch }
+    ensures first { (members : List WatchOf) (first : Settings) → length members ≤ MOST_MEMBERS → WatchStandsButForLosses members first [] (summary_of members first.config).watch }
     ensures each { (members : List WatchOf) (first : Settings) (book : List Event) (facts : SummaryFacts) (events : List Event)
         → WatchStandsButForLosses members first book facts.watch → AreMeasured (moments_over first_moments book) facts.since events
         → WatchStandsButForLosses members first (book ++ events) (noted_step facts events).watch }
     // After all steps.
     ensures all { (members : List WatchOf) (first : Settings) (steps : List (List Event))
-        → length members ≤ MEMBERS → AreMeasured first_moments first_since (book_of steps)
+        → length members ≤ MOST_MEMBERS → AreMeasured first_moments first_since (book_of steps)
         → WatchStandsButForLosses members first (book_of steps) (noted_steps (summary_of members first.config) steps).watch }
     // With one writer at each front that meets the premises: with the premises met two servers never accepted writes, and with
     // the premises broken they didn't before.
@@ -52,7 +52,7 @@ pub fn measured_sights_suffice()
         → ((front rest : List Event) → front ++ rest ≡ book → ArePremisesMet members first front → HasOneWriter front)
         → IsGuarded facts.closing.premises facts.closing.two_writers }
     ensures guard { (members : List WatchOf) (first : Settings) (steps : List (List Event))
-        → length members ≤ MEMBERS → AreMeasured first_moments first_since (book_of steps)
+        → length members ≤ MOST_MEMBERS → AreMeasured first_moments first_since (book_of steps)
         → ((front rest : List Event) → front ++ rest ≡ book_of steps → ArePremisesMet members first front → HasOneWriter front)
         → let closing = (noted_steps (summary_of members first.config) steps).watch.closing in IsGuarded closing.premises closing.two_writers }
 {}

@@ -1,13 +1,13 @@
 //! The summary of a run, from its events alone.
 ghost use Rattle.std.specs.Prelude.{◌≡◌, ◌+◌, ◌^◌, ◌<◌, ◌≤◌, All, List, length};
-ghost use Rattle.summary.specs.declared.answers.TheConstants.{MEMBERS};
+ghost use Rattle.pat_base.specs.declared.member_id.TheConstants.{MOST_MEMBERS};
 ghost use Rattle.event_book.specs.declared.event.Event.{Event};
 ghost use Rattle.summary.specs.Passing.{IsTickAlone, summary_later};
 ghost use Rattle.summary.specs.Sights.{summary_of, noted_before, noted_step, noted_steps};
 
 use crate::noting::ticks_after;
 use crate::sighting::{seen_beside, since_after};
-use crate::{Closing, MEMBERS, Watch, WatchOf};
+use crate::{Closing, Watch, WatchOf};
 use event_book::Event;
 use lease_store::Config;
 use pat_base::Ticks;
@@ -30,10 +30,10 @@ impl Model for Summary {
 }
 
 impl Summary {
-    /// The summary before the first event, over the declared members in the order of the script, at most sixteen, and the
-    /// first configuration. This takes no memory.
+    /// The summary before the first event, over the declared members in the order of the script and the first
+    /// configuration. This takes no memory.
     pub fn new(members: &[WatchOf], first: &Config) -> Summary
-        requires { length members.now ≤ MEMBERS }
+        requires { length members.now ≤ MOST_MEMBERS }
         ensures { result ≡ summary_of members.now first.now }
     {
         Summary {

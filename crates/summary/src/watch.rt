@@ -9,16 +9,16 @@ use crate::noting::{
     broken_by, count_after, first_if, premises_after, synchronous_after, ticks_after,
 };
 use crate::writers::{note_writers, two_after};
-use crate::{Closing, FirstMoment, MEMBERS, SERVERS, Seen, WatchOf};
+use crate::{Closing, FirstMoment, SERVERS, Seen, WatchOf};
 use event_book::Event;
 use lease_store::Config;
-use pat_base::Ticks;
+use pat_base::{MOST_MEMBERS, Ticks};
 use std::marker::Model;
 
 /// The summary of the events noted so far. It is of fixed size, and keeps none of them.
 #[derive(Drop)]
 pub struct Watch {
-    margins: [Option<Ticks>; MEMBERS],
+    margins: [Option<Ticks>; MOST_MEMBERS],
     closing: Closing,
 }
 
@@ -31,10 +31,10 @@ impl Model for Watch {
 }
 
 impl Watch {
-    /// The summary before the first event, over the declared members in the order of the script, at most sixteen, and the
-    /// first configuration. This takes no memory.
+    /// The summary before the first event, over the declared members in the order of the script and the first
+    /// configuration. This takes no memory.
     pub fn new(members: &[WatchOf], first: &Config) -> Watch
-        requires { length members.now ≤ MEMBERS }
+        requires { length members.now ≤ MOST_MEMBERS }
         ensures { result ≡ watch_of members.now first.now }
     {
         let breach = head_breach(first_unwatched(members), first.pause);

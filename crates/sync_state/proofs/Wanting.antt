@@ -25,6 +25,7 @@ use Rattle.sync_state.specs.Published.{published_in}
 use Rattle.sync_state.proofs.Ordering.{candidates-total, before-before, before-itself, tied-names}
 use Rattle.sync_state.proofs.Ranking.{count-lt, count-either, count-none, count-single}
 use Rattle.sync_state.proofs.SetBits.{same-numbers, numbers-same, chosen-from, chosen-to}
+use Rattle.pat_base.specs.declared.member_id.TheConstants.{MOST_MEMBERS}
 
 no-candidate : {X : Type 0} (x : X) → None ≡ Some x → ⊥
 no-candidate x e = cc
@@ -59,13 +60,13 @@ pub candidate-made : (view : LeaderView) (seen : SnapshotFacts) (member : Member
 candidate-made view seen member candidate e = made (may_sync member seen) (is_one_of member (published_in seen)) (connected_end member view) (name_in member seen) candidate e
 
 -- ---- candidates by their numbers
-pub length-candidates : (view : LeaderView) (seen : SnapshotFacts) → length (candidates_in view seen) ≡ 16
+pub length-candidates : (view : LeaderView) (seen : SnapshotFacts) → length (candidates_in view seen) ≡ MOST_MEMBERS
 unfolding candidates_in
-length-candidates view seen = length-map-range_with_len (candidate_numbered view seen) 0 16
+length-candidates view seen = length-map-range_with_len (candidate_numbered view seen) 0 MOST_MEMBERS
 
-candidate-at : (view : LeaderView) (seen : SnapshotFacts) (k : ℕ) → k < 16 → get_or (candidates_in view seen) k None ≡ candidate_numbered view seen k
+candidate-at : (view : LeaderView) (seen : SnapshotFacts) (k : ℕ) → k < MOST_MEMBERS → get_or (candidates_in view seen) k None ≡ candidate_numbered view seen k
 unfolding candidates_in
-candidate-at view seen k below = get_or-map-range_with_len (candidate_numbered view seen) 0 16 k k None below (omega arith)
+candidate-at view seen k below = get_or-map-range_with_len (candidate_numbered view seen) 0 MOST_MEMBERS k k None below (omega arith)
 
 pub candidate-of : (view : LeaderView) (seen : SnapshotFacts) (member : MemberId) → get_or (candidates_in view seen) member.number None ≡ candidate_in view seen member
 candidate-of view seen member = candidate-at view seen member.number member.below ∙ ap (option_and_then (candidate_in view seen)) (member_of-number member)
@@ -79,7 +80,7 @@ numbered-by : (view : LeaderView) (seen : SnapshotFacts) (k : ℕ) (candidate : 
 numbered-by view seen k candidate None is e = absurd (no-candidate candidate e)
 numbered-by view seen k candidate (Some member) is e = record { member = member; number = number-member_of k member is; is = e }
 
-numbered : (view : LeaderView) (seen : SnapshotFacts) (k : ℕ) (candidate : Candidate) → k < 16 → get_or (candidates_in view seen) k None ≡ Some candidate → Numbered view seen k candidate
+numbered : (view : LeaderView) (seen : SnapshotFacts) (k : ℕ) (candidate : Candidate) → k < MOST_MEMBERS → get_or (candidates_in view seen) k None ≡ Some candidate → Numbered view seen k candidate
 numbered view seen k candidate below e = numbered-by view seen k candidate (member_of k) refl (sym (candidate-at view seen k below) ∙ e)
 
 -- ---- ranks

@@ -22,6 +22,7 @@ use Rattle.cluster_config.specs.Snapshots.{SnapshotFacts, entry_in}
 use Rattle.sync_state.specs.declared.candidates.Candidate.{Candidate}
 use Rattle.sync_state.specs.Published.{published_in}
 use Rattle.sync_state.specs.Sets.{set_of}
+use Rattle.pat_base.specs.declared.member_id.TheConstants.{MOST_MEMBERS}
 
 -- a value of a member key doesn't say `nosync`
 abbrev pub may_sync_by : Value → Bool
@@ -73,7 +74,7 @@ candidate_numbered view seen number = option_and_then (candidate_in view seen) (
 
 -- the candidates among all members that there may be, by their numbers
 unfoldable pub candidates_in : LeaderView → SnapshotFacts → List (Option Candidate)
-candidates_in view seen = map (candidate_numbered view seen) (range_with_len 0 16)
+candidates_in view seen = map (candidate_numbered view seen) (range_with_len 0 MOST_MEMBERS)
 
 -- which of two candidates comes first: the one that is published, else the one that confirmed more, else the one whose name is
 -- earlier in byte order

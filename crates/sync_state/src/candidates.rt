@@ -6,11 +6,8 @@ use crate::member_sets::nobody;
 use crate::naming::published;
 use cluster_config::{LeaderView, Snapshot};
 use lease_store::{Key, KeyEntry, Value};
-use pat_base::{Host, Lsn, MemberId, MemberSet, Name};
+use pat_base::{Host, Lsn, MOST_MEMBERS, MemberId, MemberSet, Name};
 use std::cmp::Ordering;
-
-/// The most members that a cluster may have.
-pub(crate) const MEMBERS: usize = 16;
 
 /// A member that may be a synchronous standby, and what decides which of several is.
 #[derive(Clone, Copy, Debug, PartialEq, Eq)]
@@ -23,11 +20,14 @@ pub(crate) struct Candidate {
 }
 
 /// By member number, the candidates.
-pub(crate) fn candidates(view: &LeaderView<'_>, seen: &Snapshot) -> [Option<Candidate>; MEMBERS]
+pub(crate) fn candidates(
+    view: &LeaderView<'_>,
+    seen: &Snapshot,
+) -> [Option<Candidate>; MOST_MEMBERS]
     ensures { result ≡ candidates_in view.now seen.now }
 {
-    let mut candidates = [None; MEMBERS];
-    for number in 0..16u8 {
+    let mut candidates = [None; MOST_MEMBERS];
+    for number in 0..MOST_MEMBERS as u8 {
         candidates[number as usize] = candidate_numbered(view, seen, number);
     }
     candidates
@@ -103,7 +103,7 @@ fn connected_end(view: &LeaderView<'_>, member: MemberId) -> Option<Lsn>
     position_of(&view.connected, member)
 }
 
-fn position_of(connected: &[Option<Lsn>; MEMBERS], member: MemberId) -> Option<Lsn>
+fn position_of(connected: &[Option<Lsn>; MOST_MEMBERS], member: MemberId) -> Option<Lsn>
     ensures { result ≡ slice_index_or connected.now member.number None }
 {
     connected[member.number as usize]
@@ -126,11 +126,11 @@ fn name_by(member: Option<&(Name, Host)>) -> Option<Name>
 }
 
 /// The wanted: of the candidates the first so many.
-pub(crate) fn wanted(most: u64, candidates: &[Option<Candidate>; MEMBERS]) -> MemberSet
+pub(crate) fn wanted(most: u64, candidates: &[Option<Candidate>; MOST_MEMBERS]) -> MemberSet
     ensures { result ≡ wanted_of most candidates.now }
 {
     let mut members = nobody();
-    for number in 0..16u8 {
+    for number in 0..MOST_MEMBERS as u8 {
         if is_wanted(most, candidates, candidates[number as usize]) {
             members = members.with(MemberId { number });
         }

@@ -3,12 +3,12 @@ ghost use Rattle.std.specs.Prelude.{◌≡◌, map};
 ghost use Rattle.sync_state.specs.Sets.{set_of};
 ghost use Rattle.sync_state.specs.Standbys.{required_members, noted_position, has_confirmed, standbys_in};
 
-use crate::candidates::{MEMBERS, candidates, wanted};
+use crate::candidates::{candidates, wanted};
 use crate::member_sets::nobody;
 use crate::naming::published;
 use crate::steps::Standbys;
 use cluster_config::{LeaderView, Snapshot};
-use pat_base::{Lsn, MemberId, MemberSet, Required};
+use pat_base::{Lsn, MOST_MEMBERS, MemberId, MemberSet, Required};
 
 /// The standbys of the leader, by its view and a snapshot.
 pub(crate) fn standbys_of(view: &LeaderView<'_>, seen: &Snapshot) -> Standbys
@@ -36,11 +36,11 @@ fn required_members(required: Required) -> MemberSet
 }
 
 /// Who has confirmed the noted position.
-fn confirmed(noted: Option<Lsn>, connected: &[Option<Lsn>; MEMBERS]) -> MemberSet
+fn confirmed(noted: Option<Lsn>, connected: &[Option<Lsn>; MOST_MEMBERS]) -> MemberSet
     ensures { result ≡ set_of (map (has_confirmed noted) connected.now) }
 {
     let mut members = nobody();
-    for number in 0..16u8 {
+    for number in 0..MOST_MEMBERS as u8 {
         if has_confirmed(noted, connected[number as usize]) {
             members = members.with(MemberId { number });
         }

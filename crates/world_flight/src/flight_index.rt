@@ -5,12 +5,13 @@ ghost use Rattle.event_book.specs.Links.{end_count, end_number, place_count};
 ghost use Rattle.world_flight.specs.FlightIndex.{IsLooser, IsLooserBut, Concerns, ConcernsLink, ConcernsMachine, ConcernsReceiver, Takes, is_among, is_kept, kept_on, may_move, message_way, way_of};
 
 use event_book::{AgentEvent, EventKind, Link, LinkEnd, LinkEvent, Member, Message, WatchdogEvent};
+use pat_base::MOST_MEMBERS;
 use std::alloc::{AllocError, Global};
 use std::collections::BTreeSet;
 use std::marker::Model;
 
-/// How many ends links may have: 16 members and the key store.
-const ENDS: usize = 17;
+/// How many ends links may have: the members and the key store.
+const ENDS: usize = MOST_MEMBERS + 1;
 
 /// Numbers of messages.
 #[derive(Drop)]

@@ -38,6 +38,7 @@ use Rattle.cluster_model.proofs.Places.{get-changed, there}
 use Rattle.script_model.specs.Script.{HeadText, names_of}
 use Rattle.world_model.specs.Running.{runs_now}
 use Rattle.world_model.proofs.Declaring.{names-start}
+use Rattle.pat_base.specs.declared.member_id.TheConstants.{MOST_MEMBERS}
 
 -- an agent is there exactly where its process runs
 abbrev pub IsAlike : Option AgentProcess → Option (Option AgentFacts) → Type 0
@@ -158,7 +159,7 @@ alike-first scope options all [] = λ m. tt
 alike-first scope options all (member ∷ members) = alike-one (running_in 1) (first_agent scope options all member) (first_processes (length members)) (map (first_agent scope options all) members) refl (alike-first scope options all members)
 
 -- so it is before the first event
-pub alike-start : (head : HeadText) → length head.members ≤ 16 → Alike (cluster_of head)
+pub alike-start : (head : HeadText) → length head.members ≤ MOST_MEMBERS → Alike (cluster_of head)
 alike-start head few =
     let start : Cluster = cluster_of head in
     let many : length start.facts.members ≡ length (names_of head) = sym (length-map start.facts.members (λ (member : Member). member.name)) ∙ ap (λ (names : List Name). length names) (names-start head few) in

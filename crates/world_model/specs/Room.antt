@@ -9,7 +9,7 @@ use Rattle.event_book.specs.declared.event.MessageEvent.TheVariants as messages
 use Rattle.agent_model.specs.Agents.{AgentFacts, most_messages}
 use Rattle.agent_model.specs.Outputs.{most_outputs}
 use Rattle.cluster_model.specs.Limits.{most_in_flight, most_rounds}
-use Rattle.script_model.specs.Bounds.{most_members}
+use Rattle.pat_base.specs.declared.member_id.TheConstants.{MOST_MEMBERS}
 use Rattle.cluster_model.specs.State.{Cluster}
 
 -- an agent that runs has so many more numbers for messages
@@ -115,7 +115,7 @@ command_cost = input_cost
 
 -- each agent is woken
 abbrev pub wakes_cost : ℕ
-wakes_cost = input_cost * most_members
+wakes_cost = input_cost * MOST_MEMBERS
 
 -- and then each message in flight moves
 abbrev pub round_cost : ℕ
@@ -127,7 +127,7 @@ rounds_cost = round_cost * most_rounds
 
 -- each replica receives
 abbrev pub receiving_cost : ℕ
-receiving_cost = streaming_cost * most_members
+receiving_cost = streaming_cost * MOST_MEMBERS
 
 -- and then come the rounds
 abbrev pub schedule_cost : ℕ
@@ -135,11 +135,11 @@ schedule_cost = receiving_cost + rounds_cost
 
 -- each machine is reset
 abbrev pub resets_cost : ℕ
-resets_cost = 1 * most_members
+resets_cost = 1 * MOST_MEMBERS
 
 -- the start or the stop of each server is complete
 abbrev pub completions_cost : ℕ
-completions_cost = beginning_cost * most_members
+completions_cost = beginning_cost * MOST_MEMBERS
 
 -- the clock grows by one, machines are reset, and starts and stops are complete; expiries take no room
 abbrev pub tick_cost : ℕ

@@ -9,8 +9,8 @@ ghost use Rattle.event_book.specs.Frozen.{frozen_after};
 ghost use Rattle.event_book.specs.Keys.{keys_after};
 ghost use Rattle.event_book.specs.Links.{cuts_after};
 ghost use Rattle.event_book.specs.Watchdogs.{deadlines_after, holds_after};
-ghost use Rattle.agent_model.specs.Agents.{latest};
-ghost use Rattle.script_model.specs.Bounds.{most_members};
+ghost use Rattle.pat_base.specs.Moments.{latest};
+ghost use Rattle.pat_base.specs.declared.member_id.TheConstants.{MOST_MEMBERS};
 ghost use Rattle.world_model.specs.Apart.{agents_apart};
 ghost use Rattle.world_model.specs.Comes.{IsBare};
 
@@ -30,7 +30,7 @@ use std::alloc::AllocError;
 
 /// The moment after a happening.
 pub fn now_after(now: Ticks, kind: &EventKind) -> Ticks
-    requires { now.0 < 2 ^ 61 }
+    requires { now.0 ≤ latest }
     ensures { result.0 ≡ now_after now.0 kind.now }
 {
     match kind {
@@ -69,7 +69,7 @@ pub fn change_agents(
     now: Ticks,
     kind: &EventKind,
 )
-    requires few { length members.now ≤ most_members }
+    requires few { length members.now ≤ MOST_MEMBERS }
     requires moment { now.0 ≤ latest }
     ensures { agents.new.items ≡ agents_apart scope options.now members.now now.0 agents.old.items kind.now }
 {

@@ -4,7 +4,7 @@ ghost use Rattle.pat_base.specs.MemberId.{member_of};
 ghost use Rattle.script_model.specs.Script.{names_of};
 ghost use Rattle.event_book.specs.Processes.{first_processes};
 ghost use Rattle.event_book.specs.Members.{members_from};
-ghost use Rattle.script_model.specs.Bounds.{most_members};
+ghost use Rattle.pat_base.specs.declared.member_id.TheConstants.{MOST_MEMBERS};
 ghost use Rattle.cluster_model.specs.Machines.{hosts_of};
 ghost use Rattle.cluster_model.specs.Starting.{options_of};
 
@@ -18,7 +18,7 @@ use std::alloc::{AllocError, Global};
 /// The declared members, numbered in order.
 pub fn members_of(alloc: Global, head: &Head) -> Result<Vec<Member>, AllocError>
     ensures members { IfOk result (λ members. members.items ≡ members_from 0 (names_of head.now)) }
-    ensures few { IfOk result (λ members. length members.items ≤ most_members) }
+    ensures few { IfOk result (λ members. length members.items ≤ MOST_MEMBERS) }
 {
     let mut members = Vec::new(alloc);
     for place in 0..head.member_count() {
@@ -29,7 +29,7 @@ pub fn members_of(alloc: Global, head: &Head) -> Result<Vec<Member>, AllocError>
 
 /// The member at a place of the head.
 fn declared_at(head: &Head, place: usize) -> Member
-    requires few { place < 16 }
+    requires few { place < MOST_MEMBERS }
     requires declared { place < length head.now.members }
     ensures id { member_of place ≡ Some result.id }
     ensures name { slice_get (names_of head.now) place ≡ Some result.name }

@@ -2,18 +2,15 @@
 ghost use Rattle.std.specs.Prelude.{◌≡◌, ◌≤◌, ◌<◌, ◌^◌, IfSome, option_map, option_copied, length, slice_get};
 ghost use Rattle.pg_model.specs.Servers.{without_spare};
 ghost use Rattle.agent_model.specs.Agents.{IsWithin};
-ghost use Rattle.script_model.specs.Bounds.{most_members};
+ghost use Rattle.pat_base.specs.declared.member_id.TheConstants.{MOST_MEMBERS};
 ghost use Rattle.cluster_model.specs.Machines.{watchdog_of, machine_from, declared_options, who_of};
 
 use agent_model::{Machine, Replication, Who};
 use event_book::Member;
 use leader_key::Watchdog;
 use member_options::MemberOptions;
-use pat_base::{Name, Ticks};
+use pat_base::{Name, TICKS_OF_SECOND, Ticks};
 use pg_model::{Server, ServerStatus};
-
-/// Ticks of 100 ms in a second.
-const TICKS_OF_SECOND: u64 = 10;
 
 /// A machine of these parts. `None` exactly where one of them is absent.
 pub fn machine_from(
@@ -65,7 +62,7 @@ pub fn declared_options(options: &[MemberOptions], member: Member) -> MemberOpti
 
 /// Whose agent that of this member is, in a cluster of this name with these members, of whom these options are declared.
 pub fn who_of(scope: Name, options: &[MemberOptions], members: &[Member], member: Member) -> Who
-    requires { length members.now ≤ most_members }
+    requires { length members.now ≤ MOST_MEMBERS }
     ensures { result ≡ who_of scope options.now members.now member }
 {
     let declared = declared_options(options, member);

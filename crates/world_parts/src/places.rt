@@ -1,11 +1,12 @@
 //! The agents of members, each at the place of its member. An agent can't be dropped: one that ends is wrecked.
 ghost use Rattle.std.specs.Prelude.{ℕ, ◌≡◌, ◌≤◌, ◌<◌, ◌+◌, [], List, Option, Some, None, All, IfSome, IfOk, length, map, option_copied};
 ghost use Rattle.pat_base.specs.Changes.{with_changed};
-ghost use Rattle.agent_model.specs.Agents.{AgentFacts, IsWithin, latest, most_messages};
+ghost use Rattle.agent_model.specs.Agents.{AgentFacts, IsWithin, most_messages};
+ghost use Rattle.pat_base.specs.Moments.{latest};
 ghost use Rattle.agent_model.specs.Outputs.{most_outputs};
 ghost use Rattle.cluster_model.specs.Cluster.{agent_after, agent_facts_moved, agent_facts_by_watchdog, agent_facts_without};
 ghost use Rattle.cluster_model.specs.Inputs.{agent_at, outcome_at, outputs_of, standing, starting_agent};
-ghost use Rattle.script_model.specs.Bounds.{most_members};
+ghost use Rattle.pat_base.specs.declared.member_id.TheConstants.{MOST_MEMBERS};
 ghost use Rattle.cluster_model.specs.Starting.{first_agent};
 ghost use Rattle.world_model.specs.Room.{HasNumbers};
 
@@ -25,7 +26,7 @@ pub fn first_agents(
     options: &[MemberOptions],
     members: &[Member],
 ) -> Result<Vec<Option<Agent>>, AllocError>
-    requires { length members.now ≤ most_members }
+    requires { length members.now ≤ MOST_MEMBERS }
     ensures { IfOk result (λ agents. agents.items ≡ map (first_agent scope options.now members.now) members.now) }
 {
     let mut agents = Vec::with_capacity(alloc, members.len())?;
@@ -127,7 +128,7 @@ pub fn change_agents_by(
     now: Ticks,
     happening: &AgentEvent,
 )
-    requires few { length members.now ≤ most_members }
+    requires few { length members.now ≤ MOST_MEMBERS }
     requires moment { now.0 ≤ latest }
     ensures { agents.new.items ≡ agent_facts_moved scope options.now members.now now.0 agents.old.items happening.now }
 {

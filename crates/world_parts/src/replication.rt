@@ -7,11 +7,8 @@ use crate::links::CutLinks;
 use crate::sources::source_of;
 use agent_model::Replication;
 use event_book::Member;
-use pat_base::{Lsn, MemberId};
+use pat_base::{Lsn, MOST_MEMBERS, MemberId};
 use pg_model::{Server, Servers};
-
-/// The most members that a cluster may have.
-const MEMBERS: usize = 16;
 
 /// Whom the commits of a member's server wait for, and how far each connected member has confirmed. `None` exactly where there is
 /// no server.
@@ -38,13 +35,13 @@ fn confirmed_to(
     cuts: &CutLinks,
     member: Member,
     server: &Server,
-) -> [Option<Lsn>; MEMBERS]
+) -> [Option<Lsn>; MOST_MEMBERS]
     ensures { result ≡ (if writes server.now.state then connected_ends members.now servers.now cuts.now member server.now.confirmed else nothing_confirmed) }
 {
     if server.writes() {
         connected_ends(members, servers, cuts, member, server)
     } else {
-        [None; MEMBERS]
+        [None; MOST_MEMBERS]
     }
 }
 
@@ -55,11 +52,11 @@ fn connected_ends(
     cuts: &CutLinks,
     member: Member,
     server: &Server,
-) -> [Option<Lsn>; MEMBERS]
+) -> [Option<Lsn>; MOST_MEMBERS]
     ensures { result ≡ connected_ends members.now servers.now cuts.now member server.now.confirmed }
 {
-    let mut ends = [None; MEMBERS];
-    for number in 0..16u8 {
+    let mut ends = [None; MOST_MEMBERS];
+    for number in 0..MOST_MEMBERS as u8 {
         let by = MemberId { number };
         ends[number as usize] = connected_end(members, servers, cuts, member, server, by);
     }

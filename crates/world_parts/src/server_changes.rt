@@ -5,6 +5,7 @@ ghost use Rattle.event_book.specs.Servers.{begun_in, servers_after, servers_by, 
 ghost use Rattle.pg_model.specs.Facts.{is_down, is_up};
 ghost use Rattle.pg_model.specs.Running.{is_primary, stopped};
 ghost use Rattle.world_model.specs.Comes.{begins_in, ends_at, LogComes, ReplicationComes, ServerComes, ServesAt};
+ghost use Rattle.pat_base.specs.Moments.{latest};
 
 use event_book::{EventKind, LogEvent, ReplicationEvent, ServerEvent, WatchdogEvent};
 use pat_base::{State, Ticks};
@@ -13,7 +14,7 @@ use std::alloc::AllocError;
 
 /// The servers after a happening of this moment. It fails only for want of memory.
 pub fn change_servers(servers: &mut Servers, now: Ticks, kind: &EventKind) -> Result<(), AllocError>
-    requires moment { now.0 < 2 ^ 61 }
+    requires moment { now.0 ≤ latest }
     requires serves { ServesAt now.0 servers.old kind.now }
     ensures { OnOk result (servers.new ≡ servers_after now.0 servers.old kind.now) }
 {
@@ -41,7 +42,7 @@ fn change_server(
     now: Ticks,
     happening: &ServerEvent,
 ) -> Result<(), AllocError>
-    requires moment { now.0 < 2 ^ 61 }
+    requires moment { now.0 ≤ latest }
     requires comes { ServerComes now.0 servers.old happening.now }
     ensures { OnOk result (servers.new ≡ servers_by now.0 servers.old happening.now) }
 {
@@ -86,7 +87,7 @@ fn change_server(
 /// The server at a place begins to accept writes, which can: a replica is promoted, a start as a primary is complete, or one that is
 /// down starts as a primary at once. It fails only for want of memory.
 fn begin(servers: &mut Servers, now: Ticks, place: usize) -> Result<(), AllocError>
-    requires moment { now.0 < 2 ^ 61 }
+    requires moment { now.0 ≤ latest }
     requires begins { IfSome (slice_get servers.old place) (λ s. IsTrue (begins_in now.0 s s.state) × (s.timeline < 2 ^ 60)) }
     ensures { OnOk result (servers.new ≡ with_changed servers.old place (λ s. begun_in s.state s)) }
 {
@@ -108,7 +109,7 @@ fn begin(servers: &mut Servers, now: Ticks, place: usize) -> Result<(), AllocErr
 
 /// The server at a place, whose last run was a primary, starts as one, where it is down and its starts take time.
 fn start_primary(servers: &mut Servers, now: Ticks, place: usize)
-    requires moment { now.0 < 2 ^ 61 }
+    requires moment { now.0 ≤ latest }
     requires primary { IfSome (slice_get servers.old place) (λ s. IsTrue s.was_primary) }
     ensures { servers.new ≡ with_changed servers.old place (starts_as_primary now.0) }
 {
@@ -122,7 +123,7 @@ fn start_primary(servers: &mut Servers, now: Ticks, place: usize)
 
 /// The server at a place starts as a replica: of none where it is down, and where it runs as one again, of whom it follows.
 fn start_replica(servers: &mut Servers, now: Ticks, place: usize)
-    requires { now.0 < 2 ^ 61 }
+    requires { now.0 ≤ latest }
     ensures { servers.new ≡ with_changed servers.old place (starts_as_replica now.0) }
 {
     let Some(server) = servers.get(place) else {
@@ -137,7 +138,7 @@ fn start_replica(servers: &mut Servers, now: Ticks, place: usize)
 
 /// The server at a place ends, which can: it accepts writes, and stops take no time, or its stop is complete.
 fn end(servers: &mut Servers, now: Ticks, place: usize)
-    requires moment { now.0 < 2 ^ 61 }
+    requires moment { now.0 ≤ latest }
     requires ends { IfSome (slice_get servers.old place) (λ s. IsTrue (ends_at now.0 s.state s.stop_delay)) }
     ensures { servers.new ≡ with_changed servers.old place stopped }
 {
@@ -152,7 +153,7 @@ fn end(servers: &mut Servers, now: Ticks, place: usize)
 
 /// The shutdown of the server at a place begins, where that ends no writing at once.
 fn stop(servers: &mut Servers, now: Ticks, place: usize)
-    requires { now.0 < 2 ^ 61 }
+    requires { now.0 ≤ latest }
     ensures { servers.new ≡ with_changed servers.old place (stops now.0) }
 {
     let Some(server) = servers.get(place) else {

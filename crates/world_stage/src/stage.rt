@@ -3,7 +3,7 @@ ghost use Rattle.std.specs.Prelude.{◌≡◌, ◌<◌, ◌≤◌, ◌+◌, ◌^
 ghost use Rattle.script_model.specs.Script.{IsLink, IsMember};
 ghost use Rattle.event_book.specs.declared.event.Event.{Event};
 ghost use Rattle.cluster_model.specs.Commands.{link_of};
-ghost use Rattle.script_model.specs.Bounds.{most_members};
+ghost use Rattle.pat_base.specs.declared.member_id.TheConstants.{MOST_MEMBERS};
 ghost use Rattle.cluster_model.specs.Next.{declared};
 ghost use Rattle.cluster_model.specs.Starting.{cluster_of};
 ghost use Rattle.cluster_model.specs.State.{Cluster};
@@ -69,7 +69,7 @@ pub struct Stage {
 
 impl Model for Stage {
     ghost use Rattle.std.specs.Prelude.{◌≡◌, ◌≤◌, [], length};
-    ghost use Rattle.script_model.specs.Bounds.{most_members};
+    ghost use Rattle.pat_base.specs.declared.member_id.TheConstants.{MOST_MEMBERS};
     ghost use Rattle.cluster_model.specs.Machines.{hosts_of};
     ghost use Rattle.cluster_model.specs.State.{Cluster};
     ghost use Rattle.world_flight.specs.FlightIndex.{AreNumbered, AreTended};
@@ -97,7 +97,7 @@ impl Model for Stage {
       agents = w.agents.items;
     } };
 
-    ghost invariant = { λ w. (length w.members.items ≤ most_members) × AreNumbered w.sent w.flight × AreTended w.index w.flight w.processes.items w.cuts × (w.hosts.items ≡ hosts_of w.options.items w.members.items) × (w.outputs.outputs ≡ []) };
+    ghost invariant = { λ w. (length w.members.items ≤ MOST_MEMBERS) × AreNumbered w.sent w.flight × AreTended w.index w.flight w.processes.items w.cuts × (w.hosts.items ≡ hosts_of w.options.items w.members.items) × (w.outputs.outputs ≡ []) };
 }
 
 impl Stage {
@@ -198,10 +198,10 @@ impl Stage {
         self.members.as_slice()
     }
 
-    /// How many members there are: at most 16.
+    /// How many members there are.
     pub fn member_count(&self) -> usize
         ensures count { result ≡ length self.now.facts.members }
-        ensures few { result ≤ most_members }
+        ensures few { result ≤ MOST_MEMBERS }
     {
         self.members.len()
     }

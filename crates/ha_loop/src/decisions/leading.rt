@@ -3,8 +3,10 @@ ghost use Rattle.std.specs.Prelude.{◌≡◌, ◌≤◌, ◌<◌, ◌+◌, ◌*
 ghost use Rattle.leader_key.specs.Lease.{lease_revision, armed_revision, writer_revision};
 ghost use Rattle.leader_key.specs.Watchdog.{IsLeaseSpan};
 ghost use Rattle.agent_model.specs.Acting.{is_refusing, is_hold_active, arming, feeding};
-ghost use Rattle.agent_model.specs.Answers.{most_answers, most_grant_outputs};
-ghost use Rattle.agent_model.specs.Agents.{IsSound, IsWithin, Follower, Leader, Stray, made, latest};
+ghost use Rattle.agent_model.specs.Answers.{most_grant_outputs};
+ghost use Rattle.pat_base.specs.declared.member_id.TheConstants.{MOST_MEMBERS};
+ghost use Rattle.agent_model.specs.Agents.{IsSound, IsWithin, Follower, Leader, Stray, made};
+ghost use Rattle.pat_base.specs.Moments.{latest};
 ghost use Rattle.ha_loop.specs.Roles.{role_of};
 ghost use Rattle.agent_model.specs.Decisions.{has_lasted, is_start_too_long, judges_start, leader_renewed, takes_over, stray_renewed, since_crash, may_start_again, can_begin, may_take, gives_back, arms, takes_key, takes_key_in_pause, granted_in_pause};
 
@@ -61,11 +63,11 @@ fn judge_start(
     requires sound { IsSound knows.old }
     requires server { IsWithin machine.old.server }
     requires numbers { knows.old.sequence < 2 ^ 60 }
-    requires room { most_answers ≤ out.old.spare }
+    requires room { MOST_MEMBERS ≤ out.old.spare }
     ensures outcome { made (role_of result) knows.new machine.new out.new.outputs ≡ judges_start now (writer_revision writer) (made (Leader (writer_revision writer)) knows.old machine.old out.old.outputs) }
     ensures sound { IsSound knows.new }
     ensures numbers { knows.new.sequence ≤ knows.old.sequence + 1 }
-    ensures room { out.old.spare ≤ out.new.spare + most_answers }
+    ensures room { out.old.spare ≤ out.new.spare + MOST_MEMBERS }
 {
     if is_start_too_long(now, knows, machine.server.state) {
         end_server(machine, out, now, Reason::StartTooLong);

@@ -5,7 +5,8 @@ ghost use Rattle.event_book.specs.Members.{server_id_of};
 ghost use Rattle.agent_model.specs.declared.knowledge.Knowledge.{Knowledge};
 ghost use Rattle.agent_model.specs.declared.output.Output.TheVariants as outputs;
 ghost use Rattle.agent_model.specs.Acting.{upstream_of};
-ghost use Rattle.agent_model.specs.Agents.{IsWithin, Follower, made, latest};
+ghost use Rattle.agent_model.specs.Agents.{IsWithin, Follower, made};
+ghost use Rattle.pat_base.specs.Moments.{latest};
 ghost use Rattle.agent_model.specs.Outputs.{listed};
 ghost use Rattle.agent_model.specs.Snapshots.{starts_behind, starts_if, ends_fork, follows_anew, follow_row};
 

@@ -3,9 +3,10 @@ ghost use Rattle.std.specs.Prelude.{◌≡◌, ◌≤◌, ◌<◌, ◌+◌, ◌^
 ghost use Rattle.pg_model.specs.Facts.{is_down};
 ghost use Rattle.pg_model.specs.Status.{status_replica_started};
 ghost use Rattle.leader_race.specs.Eligibility.{eligibility_of};
-ghost use Rattle.agent_model.specs.Agents.{IsSound, IsWithin, Follower, made, latest};
+ghost use Rattle.agent_model.specs.Agents.{IsSound, IsWithin, Follower, made};
+ghost use Rattle.pat_base.specs.Moments.{latest};
 ghost use Rattle.ha_loop.specs.Roles.{role_of};
-ghost use Rattle.agent_model.specs.Answers.{most_answers};
+ghost use Rattle.pat_base.specs.declared.member_id.TheConstants.{MOST_MEMBERS};
 ghost use Rattle.agent_model.specs.Racing.{can_start, bar_by, bar_of, unheard, asks_or_judged, races, races_unless, starts_alone, free_key, finds_free};
 ghost use Rattle.agent_model.specs.Views.{view_of};
 
@@ -35,11 +36,11 @@ pub(super) fn finds_free(
     requires sound { IsSound knows.old }
     requires server { IsWithin machine.old.server }
     requires numbers { knows.old.sequence < 2 ^ 60 }
-    requires room { most_answers ≤ out.old.spare }
+    requires room { MOST_MEMBERS ≤ out.old.spare }
     ensures outcome { made (role_of result) knows.new machine.new out.new.outputs ≡ finds_free now (made Follower knows.old machine.old out.old.outputs) }
     ensures sound { IsSound knows.new }
     ensures numbers { knows.new.sequence ≤ knows.old.sequence + 1 }
-    ensures room { out.old.spare ≤ out.new.spare + most_answers }
+    ensures room { out.old.spare ≤ out.new.spare + MOST_MEMBERS }
 {
     if can_start(&machine.server) {
         start_alone(knows, machine, out, now);
@@ -90,11 +91,11 @@ fn race_unless(
     requires moment { now.0 ≤ latest }
     requires sound { IsSound knows.old }
     requires numbers { knows.old.sequence < 2 ^ 60 }
-    requires room { most_answers ≤ out.old.spare }
+    requires room { MOST_MEMBERS ≤ out.old.spare }
     ensures outcome { made Follower knows.new machine.now out.new.outputs ≡ races_unless now bar (made Follower knows.old machine.now out.old.outputs) }
     ensures sound { IsSound knows.new }
     ensures numbers { knows.new.sequence ≤ knows.old.sequence + 1 }
-    ensures room { out.old.spare ≤ out.new.spare + most_answers }
+    ensures room { out.old.spare ≤ out.new.spare + MOST_MEMBERS }
 {
     match bar {
         None => race(knows, machine, out, now),
@@ -107,11 +108,11 @@ fn race(knows: &mut Knowledge, machine: &Machine, out: &mut Outputs, now: Ticks)
     requires moment { now.0 ≤ latest }
     requires sound { IsSound knows.old }
     requires numbers { knows.old.sequence < 2 ^ 60 }
-    requires room { most_answers ≤ out.old.spare }
+    requires room { MOST_MEMBERS ≤ out.old.spare }
     ensures outcome { made Follower knows.new machine.now out.new.outputs ≡ races now (made Follower knows.old machine.now out.old.outputs) }
     ensures sound { IsSound knows.new }
     ensures numbers { knows.new.sequence ≤ knows.old.sequence + 1 }
-    ensures room { out.old.spare ≤ out.new.spare + most_answers }
+    ensures room { out.old.spare ≤ out.new.spare + MOST_MEMBERS }
 {
     knows.answers.forget();
     if all_answered(&knows.who, &knows.answers) {

@@ -5,7 +5,8 @@ ghost use Rattle.agent_model.specs.declared.knowledge.Question.TheVariants as qu
 ghost use Rattle.agent_model.specs.declared.output.Output.TheVariants as outputs;
 ghost use Rattle.agent_model.specs.declared.output.Target.TheVariants as targets;
 ghost use Rattle.agent_model.specs.Acting.{seconds_after, counted, waiting};
-ghost use Rattle.agent_model.specs.Agents.{IsSound, latest};
+ghost use Rattle.agent_model.specs.Agents.{IsSound};
+ghost use Rattle.pat_base.specs.Moments.{latest};
 ghost use Rattle.agent_model.specs.Outputs.{listed};
 ghost use Rattle.agent_model.specs.Snapshots.{status_told, row_at, missing_point, missing_row, row_told, renewal, turn_start};
 

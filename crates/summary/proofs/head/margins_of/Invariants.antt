@@ -1,8 +1,8 @@
 use Rattle.std.proofs.Common.{◌≡◌, take, None}
 use Rattle.std.specs.Prelude.{replicate}
-use Rattle.summary.specs.declared.answers.TheConstants.{MEMBERS}
+use Rattle.pat_base.specs.declared.member_id.TheConstants.{MOST_MEMBERS}
 use Rattle.summary.specs.Heads.{filled}
 use Rattle.summary.proofs.head.margins_of.Given as goal
 
 abbrev pub invariant-loop-place : goal.invariant-loop-place
-invariant-loop-place l = l.margins ≡ filled (replicate MEMBERS None) (take l.place l.members)
+invariant-loop-place l = l.margins ≡ filled (replicate MOST_MEMBERS None) (take l.place l.members)
