@@ -97,6 +97,12 @@ pub record IsHandsOff (first : Settings) (works : ℕ → Bool) (book : List Eve
   pub watched : (m : ℕ) → works m ≡ true
   pub events : AreHandsOff book
 
+-- the premises of one writer hold of this book, with these margins of the members, over those whose watchdog is on and works and the first
+-- configuration: each watchdog is armed and fed in time, is on and works, and nobody pauses or promotes by hand
+pub record ArePremisesMet (margin : ℕ → Option ℕ) (works : ℕ → Bool) (first : Settings) (book : List Event) : Type 0 where
+  pub timely : IsTimely margin book
+  pub hands_off : IsHandsOff first works book
+
 -- an event at which the clock and the runs stay as they are
 abbrev pub KeepsClockAndRuns : EventKind → Type 0
 KeepsClockAndRuns kinds.Tick = ⊥

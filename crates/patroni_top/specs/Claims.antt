@@ -12,7 +12,7 @@ use Rattle.patroni_top.specs.Watches.{watches_of}
 
 -- at most one server accepts writes at the end of each front of the script's book that meets the premises
 abbrev pub KeepsOneWriter : ScriptText → Type 0
-KeepsOneWriter script = (front rest : List Event) → front ++ rest ≡ run_of script → ArePremisesMet (watches_of script.head) script.head.config front → HasOneWriter front
+KeepsOneWriter script = (front rest : List Event) → front ++ rest ≡ run_of script → ArePremisesMet (margin_of (watches_of script.head)) (works_of (watches_of script.head)) script.head.config front → HasOneWriter front
 
 -- the closing summary of the script says that the premises are met only where it says that two servers never accepted writes; where
 -- it says when they were broken, two servers first did no earlier
@@ -22,7 +22,7 @@ GuardsWriters script = IsGuarded (closing_of_run script).premises (closing_of_ru
 -- where the head of a script has synchronous mode on, this is so of each front of its book that meets the premises, with the mode on in it
 abbrev pub InSynchronousMode : ScriptText → (List Event → Type 0) → Type 0
 InSynchronousMode script claim =
-    script.head.config.config.synchronous_mode ≡ true → (front rest : List Event) → front ++ rest ≡ run_of script → ArePremisesMet (watches_of script.head) script.head.config front → KeepMode true front → claim front
+    script.head.config.config.synchronous_mode ≡ true → (front rest : List Event) → front ++ rest ≡ run_of script → ArePremisesMet (margin_of (watches_of script.head)) (works_of (watches_of script.head)) script.head.config front → KeepMode true front → claim front
 
 -- at its end each server that accepts writes has each acknowledged commit
 abbrev pub KeepsCommits : ScriptText → Type 0

@@ -1,11 +1,11 @@
 -- Events that keep the law of one writer.
-use Rattle.std.specs.Prelude.{◌++◌, List}
+use Rattle.std.specs.Prelude.{◌≡◌, ◌++◌, List}
 use Rattle.script_model.specs.Script.{HeadText}
 use Rattle.event_book.specs.declared.event.Event.{Event}
 use Rattle.event_book.specs.Writers.{HasOneWriter}
 use Rattle.cluster_model.specs.Cluster.{cluster_over}
 use Rattle.cluster_model.specs.State.{Cluster}
-use Rattle.lease_law.specs.Premises.{IsTimely, IsHandsOff}
+use Rattle.lease_law.specs.Premises.{ArePremisesMet}
 use Rattle.lease_law.specs.Actions.{Action, IsLawfulAction}
 use Rattle.lease_law.specs.Books.{IsShown}
 use Rattle.lease_law.specs.Claims.{ShowsIt}
@@ -15,10 +15,13 @@ use Rattle.run_step_law.specs.Promise.{Promise, Upholds, UpholdsAlways}
 use Rattle.run_step_law.specs.Volatile.{volatile_of}
 use Rattle.run_step_law.specs.Declaring.{declared_of, works_of}
 
--- the premises of the law: feeds keep the margin, and nobody pauses or promotes by hand
-pub record MeetsPremises (head : HeadText) (book : List Event) : Type 0 where
-  pub timely : IsTimely (declared_of head).margin book
-  pub hands_off : IsHandsOff head.config (works_of head) book
+-- the premises of one writer, with the margins and the watchdogs that a head declares
+abbrev pub MeetsPremises : HeadText → List Event → Type 0
+MeetsPremises head book = ArePremisesMet (declared_of head).margin (works_of head) head.config book
+
+-- this is so of each front of the book that meets the premises
+abbrev pub WhereMet : HeadText → List Event → (List Event → Type 0) → Type 0
+WhereMet head book claim = (front rest : List Event) → front ++ rest ≡ book → MeetsPremises head front → claim front
 
 -- at most one server accepts writes, as long as the premises are met, over books and clusters that are bridged
 abbrev pub one_writer : HeadText → Promise

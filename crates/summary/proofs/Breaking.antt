@@ -18,14 +18,14 @@ use Rattle.event_book.specs.declared.event.WatchdogEvent.TheVariants as watchdog
 use Rattle.event_book.specs.declared.reason.Basis.{Basis}
 use Rattle.event_book.specs.declared.reason.Basis.TheVariants as bases
 use Rattle.lease_law.specs.Inputs.{IsOnTime}
-use Rattle.lease_law.specs.Premises.{Moments, moments_after, first_moments, IsSentInTime, IsFeedInTime, IsWatchdogInTime, IsKindInTime, AreInTime, IsHandsOffKind, AreHandsOff}
+use Rattle.lease_law.specs.Premises.{AreHandsOff, AreInTime, ArePremisesMet, IsFeedInTime, IsHandsOffKind, IsKindInTime, IsSentInTime, IsWatchdogInTime, Moments, first_moments, moments_after}
 use Rattle.lease_law.proofs.Tools.{both, none-some, some-is}
 use Rattle.summary.specs.declared.answers.Breach.{Breach}
 use Rattle.summary.specs.declared.answers.Breach.TheVariants as breaches
 use Rattle.summary.specs.declared.answers.Premises.{Premises}
 use Rattle.summary.specs.declared.answers.Premises.TheVariants as premises
 use Rattle.summary.specs.declared.answers.WatchOf.{WatchOf}
-use Rattle.summary.specs.Claims.{margin_ticks, margin_of, works_of, ArePremisesMet, IsBreachBy, IsToldOfPremises}
+use Rattle.summary.specs.Claims.{IsBreachBy, IsToldOfPremises, margin_of, margin_ticks, works_of}
 use Rattle.summary.specs.Heads.{is_watching, first_unwatched, name_unless, head_breach}
 use Rattle.summary.specs.Moments.{now_over, moments_over, AreAllFronts}
 use Rattle.summary.specs.Noting.{margin_at, is_late, late_if, pause_if, breach_by_watchdog, breach_by_store, breach_by_server, breach_of, broken_by, premises_after}
@@ -179,7 +179,7 @@ hands-last : (book : List Event) (event : Event) → AreHandsOff (book ++ event 
 hands-last [] event off = off.0
 hands-last (x ∷ book) event off = hands-last book event off.1
 
-met-more : (members : List WatchOf) (first : Settings) (book : List Event) (event : Event) → ArePremisesMet members first book → IsKindInTime (margin_of members) (moments_over first_moments book) event.kind × IsHandsOffKind event.kind → ArePremisesMet members first (book ++ event ∷ [])
+met-more : (members : List WatchOf) (first : Settings) (book : List Event) (event : Event) → ArePremisesMet (margin_of members) (works_of members) first book → IsKindInTime (margin_of members) (moments_over first_moments book) event.kind × IsHandsOffKind event.kind → ArePremisesMet (margin_of members) (works_of members) first (book ++ event ∷ [])
 met-more members first book event met one = record {
   timely = times-more (margin_of members) first_moments book event met.timely one.0;
   hands_off = record { unpaused = met.hands_off.unpaused; watched = met.hands_off.watched; events = hands-more book event met.hands_off.events one.1 };
@@ -187,16 +187,16 @@ met-more members first book event met one = record {
 
 -- what is told of the premises after one more event
 noted-breach : (members : List WatchOf) (first : Settings) (margins : List (Option Ticks)) (book : List Event) (event : Event) (lateness : ℕ) (now : Ticks) (breach : Option Breach) → breach_of margins lateness event.kind ≡ breach
-    → Same margins (margin_of members) → IsLateness (moments_over first_moments book) event.kind lateness → now.0 ≡ now_over 0 (book ++ event ∷ []) → AreAllFronts (ArePremisesMet members first) book
+    → Same margins (margin_of members) → IsLateness (moments_over first_moments book) event.kind lateness → now.0 ≡ now_over 0 (book ++ event ∷ []) → AreAllFronts (ArePremisesMet (margin_of members) (works_of members) first) book
     → IsToldOfPremises members first (book ++ event ∷ []) (broken_by breach now)
 unfolding breaks-now
 noted-breach members first margins book event lateness now None is same span end all =
-    fronts-more (ArePremisesMet members first) book event all
-    (met-more members first book event (whole-front (ArePremisesMet members first) book all) (kind-right margins (margin_of members) (moments_over first_moments book) lateness event.kind same is span))
+    fronts-more (ArePremisesMet (margin_of members) (works_of members) first) book event all
+    (met-more members first book event (whole-front (ArePremisesMet (margin_of members) (works_of members) first) book all) (kind-right margins (margin_of members) (moments_over first_moments book) lateness event.kind same is span))
 noted-breach members first margins book event lateness now (Some why) is same span end all =
     let wrong = kind-wrong margins (margin_of members) (moments_over first_moments book) lateness event.kind why same is span in
     record {
-      break = breaks-now (ArePremisesMet members first) book event now.0 all
+      break = breaks-now (ArePremisesMet (margin_of members) (works_of members) first) book event now.0 all
           (λ met. wrong.fails (times-last (margin_of members) first_moments book event met.timely) (hands-last book event met.hands_off.events)) end;
       why_is = inr (book, event, refl, wrong.told);
     }
@@ -208,7 +208,7 @@ unfolding breaks-more
 premises-more members first margins book event lateness now premises.Met same span end told =
     noted-breach members first margins book event lateness now (breach_of margins lateness event.kind) refl same span end told
 premises-more members first margins book event lateness now (premises.Broken tick why) same span end told = record {
-  break = breaks-more (ArePremisesMet members first) book event tick.0 told.break;
+  break = breaks-more (ArePremisesMet (margin_of members) (works_of members) first) book event tick.0 told.break;
   why_is = told.why_is;
 }
 
@@ -234,12 +234,12 @@ pub premises-first : (members : List WatchOf) (first : Settings) (pauses : Bool)
     → IsToldOfPremises members first [] (broken_by (head_breach unwatched pauses) (record { 0 = 0 }))
 unfolding breaks-first
 premises-first members first pauses (Some name) is paused = record {
-  break = breaks-first (ArePremisesMet members first) (λ met. not-working members name is met.hands_off.watched);
+  break = breaks-first (ArePremisesMet (margin_of members) (works_of members) first) (λ met. not-working members name is met.hands_off.watched);
   why_is = inl (refl, ap (λ (o : Option Name). head_breach o first.config.pause) is);
 }
 premises-first members first true None is paused = record {
-  break = breaks-first (ArePremisesMet members first) (λ met. both (sym met.hands_off.unpaused ∙ paused));
+  break = breaks-first (ArePremisesMet (margin_of members) (works_of members) first) (λ met. both (sym met.hands_off.unpaused ∙ paused));
   why_is = inl (refl, ap (λ (o : Option Name). head_breach o first.config.pause) is ∙ ap pause_if paused);
 }
 premises-first members first false None is paused =
-    fronts-start (ArePremisesMet members first) (record { timely = tt; hands_off = record { unpaused = paused; watched = all-working members is; events = tt } })
+    fronts-start (ArePremisesMet (margin_of members) (works_of members) first) (record { timely = tt; hands_off = record { unpaused = paused; watched = all-working members is; events = tt } })

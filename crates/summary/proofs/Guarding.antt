@@ -16,7 +16,8 @@ use Rattle.summary.specs.declared.answers.Premises.TheVariants as premises
 use Rattle.summary.specs.declared.answers.Synchronous.{Synchronous}
 use Rattle.summary.specs.declared.answers.Synchronous.TheVariants as synchronous
 use Rattle.summary.specs.declared.answers.WatchOf.{WatchOf}
-use Rattle.summary.specs.Claims.{ArePremisesMet, IsToldOfPremises, KeepMode, IsToldOfMode, IsSummaryOf, IsGuarded, AreCommitsGuarded}
+use Rattle.lease_law.specs.Premises.{ArePremisesMet}
+use Rattle.summary.specs.Claims.{AreCommitsGuarded, IsGuarded, IsSummaryOf, IsToldOfMode, IsToldOfPremises, KeepMode, margin_of, works_of}
 use Rattle.summary.specs.Moments.{now_over, IsFirstBreak, IsToldFirst}
 use Rattle.summary.specs.Seeing.{WritersHold}
 
@@ -59,20 +60,20 @@ no-later P Q book tick moment a b broken =
     ]
 
 pub guarded-at : (members : List WatchOf) (first : Settings) (book : List Event) (told : Premises) (two : FirstMoment) → IsToldOfPremises members first book told → IsToldFirst HasOneWriter book two
-    → ((front rest : List Event) → front ++ rest ≡ book → ArePremisesMet members first front → HasOneWriter front) → IsGuarded told two
+    → ((front rest : List Event) → front ++ rest ≡ book → ArePremisesMet (margin_of members) (works_of members) first front → HasOneWriter front) → IsGuarded told two
 guarded-at members first book premises.Met firsts.Never all one guards = refl
 guarded-at members first book premises.Met (firsts.At moment) all b guards = absurd (b.broken (guards b.front b.rest b.whole (all.each b.front b.rest b.whole)))
 guarded-at members first book (premises.Broken tick why) firsts.Never a one guards = tt
 guarded-at members first book (premises.Broken tick why) (firsts.At moment) a b guards =
-    no-later (ArePremisesMet members first) HasOneWriter book tick.0 moment.0 a.break b (λ met. b.broken (guards b.front b.rest b.whole met))
+    no-later (ArePremisesMet (margin_of members) (works_of members) first) HasOneWriter book tick.0 moment.0 a.break b (λ met. b.broken (guards b.front b.rest b.whole met))
 
 pub guarded : (members : List WatchOf) (first : Settings) (logs : Logs) (book : List Event) (closing : Closing) → IsSummaryOf members first logs book closing
-    → ((front rest : List Event) → front ++ rest ≡ book → ArePremisesMet members first front → HasOneWriter front) → IsGuarded closing.premises closing.two_writers
+    → ((front rest : List Event) → front ++ rest ≡ book → ArePremisesMet (margin_of members) (works_of members) first front → HasOneWriter front) → IsGuarded closing.premises closing.two_writers
 guarded members first logs book closing is guards = guarded-at members first book closing.premises closing.two_writers is.premises is.two_writers guards
 
 -- each front that meets the premises and keeps the mode holds all commits
 abbrev Guards : List WatchOf → Settings → Logs → List Event → Type 0
-Guards members first logs book = (front rest : List Event) → front ++ rest ≡ book → ArePremisesMet members first front → KeepMode true front → WritersHold logs front
+Guards members first logs book = (front rest : List Event) → front ++ rest ≡ book → ArePremisesMet (margin_of members) (works_of members) first front → KeepMode true front → WritersHold logs front
 
 -- one of two breaks comes no later than the third
 either : (P M Q : List Event → Type 0) (book : List Event) (tick other moment : ℕ) → IsFirstBreak P book tick → IsFirstBreak M book other → (b : IsFirstBreak Q book moment) → (P b.front → M b.front → ⊥) → (tick ≤ moment) ⊎ (other ≤ moment)
@@ -92,13 +93,13 @@ commits-at members first logs book premises.Met (synchronous.Broken other) (firs
     no-later (KeepMode first.config.synchronous_mode) (WritersHold logs) book other.0 moment.0 m b (λ keep. b.broken (guards b.front b.rest b.whole (a.each b.front b.rest b.whole) (subst (λ (mode : Bool). KeepMode mode b.front) on keep)))
 commits-at members first logs book (premises.Broken tick why) synchronous.On firsts.Never a m b on guards = tt
 commits-at members first logs book (premises.Broken tick why) synchronous.On (firsts.At moment) a m b on guards =
-    no-later (ArePremisesMet members first) (WritersHold logs) book tick.0 moment.0 a.break b (λ met. b.broken (guards b.front b.rest b.whole met (m.1.each b.front b.rest b.whole)))
+    no-later (ArePremisesMet (margin_of members) (works_of members) first) (WritersHold logs) book tick.0 moment.0 a.break b (λ met. b.broken (guards b.front b.rest b.whole met (m.1.each b.front b.rest b.whole)))
 commits-at members first logs book (premises.Broken tick why) synchronous.Off lost a m b on guards = tt
 commits-at members first logs book (premises.Broken tick why) (synchronous.Broken other) firsts.Never a m b on guards = inl tt
 commits-at members first logs book (premises.Broken tick why) (synchronous.Broken other) (firsts.At moment) a m b on guards =
-    either (ArePremisesMet members first) (KeepMode first.config.synchronous_mode) (WritersHold logs) book tick.0 other.0 moment.0 a.break m b
+    either (ArePremisesMet (margin_of members) (works_of members) first) (KeepMode first.config.synchronous_mode) (WritersHold logs) book tick.0 other.0 moment.0 a.break m b
     (λ met keep. b.broken (guards b.front b.rest b.whole met (subst (λ (mode : Bool). KeepMode mode b.front) on keep)))
 
 pub commits-guarded : (members : List WatchOf) (first : Settings) (logs : Logs) (book : List Event) (closing : Closing) → IsSummaryOf members first logs book closing → first.config.synchronous_mode ≡ true
-    → ((front rest : List Event) → front ++ rest ≡ book → ArePremisesMet members first front → KeepMode true front → WritersHold logs front) → AreCommitsGuarded closing.premises closing.synchronous closing.lost
+    → ((front rest : List Event) → front ++ rest ≡ book → ArePremisesMet (margin_of members) (works_of members) first front → KeepMode true front → WritersHold logs front) → AreCommitsGuarded closing.premises closing.synchronous closing.lost
 commits-guarded members first logs book closing is on guards = commits-at members first logs book closing.premises closing.synchronous closing.lost is.premises is.synchronous is.lost on guards

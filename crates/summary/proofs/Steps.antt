@@ -5,11 +5,11 @@ use Rattle.lease_store.specs.Settings.{Settings}
 use Rattle.event_book.specs.declared.event.Event.{Event}
 use Rattle.event_book.specs.Logs.{Logs}
 use Rattle.event_book.specs.Writers.{HasOneWriter, writes_over}
-use Rattle.lease_law.specs.Premises.{first_moments}
+use Rattle.lease_law.specs.Premises.{ArePremisesMet, first_moments}
 use Rattle.lease_law.proofs.Runs.{cons-eq, assoc, none-more}
 use Rattle.summary.specs.declared.answers.FirstMoment.{FirstMoment}
 use Rattle.summary.specs.declared.answers.WatchOf.{WatchOf}
-use Rattle.summary.specs.Claims.{IsSummaryOf, WatchStandsFor, ArePremisesMet, IsGuarded}
+use Rattle.summary.specs.Claims.{IsGuarded, IsSummaryOf, WatchStandsFor, margin_of, works_of}
 use Rattle.summary.specs.Moments.{now_over, moments_over, IsToldFirst}
 use Rattle.summary.specs.Noting.{WatchFacts, ticks_after, writers_after, noted}
 use Rattle.summary.specs.Seeing.{WritersHold, IsSeen, events_in, noted_over, AreSeen}
@@ -136,11 +136,11 @@ steps-watched members first steps within measured = steps-watch members first []
 
 -- what is watched is guarded
 pub watched-guarded : (members : List WatchOf) (first : Settings) (book : List Event) (facts : WatchFacts) → WatchStandsButForLosses members first book facts
-    → ((front rest : List Event) → front ++ rest ≡ book → ArePremisesMet members first front → HasOneWriter front) → IsGuarded facts.closing.premises facts.closing.two_writers
+    → ((front rest : List Event) → front ++ rest ≡ book → ArePremisesMet (margin_of members) (works_of members) first front → HasOneWriter front) → IsGuarded facts.closing.premises facts.closing.two_writers
 watched-guarded members first book facts watches guards = guarded-at members first book facts.closing.premises facts.closing.two_writers watches.closing.premises watches.closing.two_writers guards
 
 pub steps-guarded : (members : List WatchOf) (first : Settings) (steps : List (List Event)) → length members ≤ MOST_MEMBERS → AreMeasured first_moments first_since (book_of steps)
-    → ((front rest : List Event) → front ++ rest ≡ book_of steps → ArePremisesMet members first front → HasOneWriter front)
+    → ((front rest : List Event) → front ++ rest ≡ book_of steps → ArePremisesMet (margin_of members) (works_of members) first front → HasOneWriter front)
     → IsGuarded (noted_steps (summary_of members first.config) steps).watch.closing.premises (noted_steps (summary_of members first.config) steps).watch.closing.two_writers
 steps-guarded members first steps within measured guards =
     watched-guarded members first (book_of steps) (noted_steps (summary_of members first.config) steps).watch (steps-watched members first steps within measured) guards

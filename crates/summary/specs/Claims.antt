@@ -15,7 +15,7 @@ use Rattle.event_book.specs.declared.event.WatchdogEvent.TheVariants as watchdog
 use Rattle.event_book.specs.Acknowledged.{acknowledged_in}
 use Rattle.event_book.specs.Logs.{Logs}
 use Rattle.event_book.specs.Writers.{HasOneWriter, writes_over}
-use Rattle.lease_law.specs.Premises.{IsTimely, IsHandsOff}
+use Rattle.lease_law.specs.Premises.{ArePremisesMet}
 use Rattle.summary.specs.declared.answers.TheConstants.{SERVERS}
 use Rattle.summary.specs.declared.answers.Breach.{Breach}
 use Rattle.summary.specs.declared.answers.Breach.TheVariants as breaches
@@ -55,12 +55,6 @@ is_working (Some watchdog) = is_watching watchdog
 abbrev pub works_of : List WatchOf → ℕ → Bool
 works_of members m = is_working (slice_get members m)
 
--- the premises of the claim of one writer hold of this book, over the declared members and the first configuration: each
--- watchdog is armed and fed in time, is on and works, and nobody pauses or promotes by hand
-pub record ArePremisesMet (members : List WatchOf) (first : Settings) (book : List Event) : Type 0 where
-  pub timely : IsTimely (margin_of members) book
-  pub hands_off : IsHandsOff first (works_of members) book
-
 -- this granted transaction pauses the cluster
 abbrev pub PausesBy : Txn → Type 0
 PausesBy (txns.SetConfig revision config) = config.config.pause ≡ true
@@ -81,12 +75,12 @@ IsWhy members first front why =
 
 -- the premises were broken first at this moment, by this breach
 pub record IsFirstBreach (members : List WatchOf) (first : Settings) (book : List Event) (moment : ℕ) (why : Breach) : Type 0 where
-  pub break : IsFirstBreak (ArePremisesMet members first) book moment
+  pub break : IsFirstBreak (ArePremisesMet (margin_of members) (works_of members) first) book moment
   pub why_is : IsWhy members first break.front why
 
 -- what is told of the premises is so: they are met by each front, or broken first at that moment
 abbrev pub IsToldOfPremises : List WatchOf → Settings → List Event → Premises → Type 0
-IsToldOfPremises members first book premises.Met = AreAllFronts (ArePremisesMet members first) book
+IsToldOfPremises members first book premises.Met = AreAllFronts (ArePremisesMet (margin_of members) (works_of members) first) book
 IsToldOfPremises members first book (premises.Broken tick why) = IsFirstBreach members first book tick.0 why
 
 -- a granted configuration has this mode

@@ -10,13 +10,13 @@ ghost use Rattle.event_book.specs.declared.event.EventKind.TheVariants.{Server, 
 ghost use Rattle.event_book.specs.declared.event.ReplicationEvent.TheVariants.{Acknowledged};
 ghost use Rattle.event_book.specs.declared.event.ServerEvent.TheVariants.{Began};
 ghost use Rattle.event_book.specs.declared.member.ServerOf.{ServerOf};
-ghost use Rattle.lease_law.specs.Premises.{Moments};
+ghost use Rattle.lease_law.specs.Premises.{ArePremisesMet, Moments};
 ghost use Rattle.summary.specs.declared.answers.Closing.{Closing};
 ghost use Rattle.summary.specs.declared.answers.Seen.{Seen};
 ghost use Rattle.summary.specs.declared.answers.TheConstants.{SERVERS};
 ghost use Rattle.pat_base.specs.declared.member_id.TheConstants.{MOST_MEMBERS};
 ghost use Rattle.summary.specs.declared.answers.WatchOf.{WatchOf};
-ghost use Rattle.summary.specs.Claims.{AreCommitsGuarded, ArePremisesMet, IsGuarded, IsSummaryOf, KeepMode, WatchStandsFor};
+ghost use Rattle.summary.specs.Claims.{AreCommitsGuarded, IsGuarded, IsSummaryOf, KeepMode, WatchStandsFor, margin_of, works_of};
 ghost use Rattle.summary.specs.Heads.{watch_of};
 ghost use Rattle.summary.specs.Noting.{WatchFacts, noted, writers_after};
 ghost use Rattle.summary.specs.Lateness.{lateness_of};
@@ -43,7 +43,7 @@ pub fn summary_tells_the_book()
 pub fn premises_guard_writers()
     ensures { (members : List WatchOf) (first : Settings) (logs : Logs) (book : List Event) (closing : Closing)
         → IsSummaryOf members first logs book closing
-        → ((front rest : List Event) → front ++ rest ≡ book → ArePremisesMet members first front → HasOneWriter front)
+        → ((front rest : List Event) → front ++ rest ≡ book → ArePremisesMet (margin_of members) (works_of members) first front → HasOneWriter front)
         → IsGuarded closing.premises closing.two_writers }
 {}
 
@@ -52,7 +52,7 @@ pub fn premises_guard_writers()
 pub fn premises_guard_commits()
     ensures { (members : List WatchOf) (first : Settings) (logs : Logs) (book : List Event) (closing : Closing)
         → IsSummaryOf members first logs book closing → first.config.synchronous_mode ≡ true
-        → ((front rest : List Event) → front ++ rest ≡ book → ArePremisesMet members first front → KeepMode true front → WritersHold logs front)
+        → ((front rest : List Event) → front ++ rest ≡ book → ArePremisesMet (margin_of members) (works_of members) first front → KeepMode true front → WritersHold logs front)
         → AreCommitsGuarded closing.premises closing.synchronous closing.lost }
 {}
 

@@ -4,10 +4,10 @@ ghost use Rattle.lease_store.specs.Settings.{Settings};
 ghost use Rattle.event_book.specs.Logs.{Logs};
 ghost use Rattle.event_book.specs.Writers.{HasOneWriter};
 ghost use Rattle.event_book.specs.declared.event.Event.{Event};
-ghost use Rattle.lease_law.specs.Premises.{first_moments};
+ghost use Rattle.lease_law.specs.Premises.{ArePremisesMet, first_moments};
 ghost use Rattle.pat_base.specs.declared.member_id.TheConstants.{MOST_MEMBERS};
 ghost use Rattle.summary.specs.declared.answers.WatchOf.{WatchOf};
-ghost use Rattle.summary.specs.Claims.{ArePremisesMet, IsGuarded, IsSummaryOf, IsToldOfPremises, WatchStandsFor};
+ghost use Rattle.summary.specs.Claims.{IsGuarded, IsSummaryOf, IsToldOfPremises, WatchStandsFor, margin_of, works_of};
 ghost use Rattle.summary.specs.Moments.{IsToldFirst, moments_over};
 ghost use Rattle.summary.specs.Noting.{WatchFacts};
 ghost use Rattle.summary.specs.Seeing.{AreSeen};
@@ -49,10 +49,10 @@ pub fn measured_sights_suffice()
     // the premises broken they didn't before.
     ensures watched { (members : List WatchOf) (first : Settings) (book : List Event) (facts : WatchFacts)
         → WatchStandsButForLosses members first book facts
-        → ((front rest : List Event) → front ++ rest ≡ book → ArePremisesMet members first front → HasOneWriter front)
+        → ((front rest : List Event) → front ++ rest ≡ book → ArePremisesMet (margin_of members) (works_of members) first front → HasOneWriter front)
         → IsGuarded facts.closing.premises facts.closing.two_writers }
     ensures guard { (members : List WatchOf) (first : Settings) (steps : List (List Event))
         → length members ≤ MOST_MEMBERS → AreMeasured first_moments first_since (book_of steps)
-        → ((front rest : List Event) → front ++ rest ≡ book_of steps → ArePremisesMet members first front → HasOneWriter front)
+        → ((front rest : List Event) → front ++ rest ≡ book_of steps → ArePremisesMet (margin_of members) (works_of members) first front → HasOneWriter front)
         → let closing = (noted_steps (summary_of members first.config) steps).watch.closing in IsGuarded closing.premises closing.two_writers }
 {}
