@@ -1,10 +1,10 @@
 -- Runs in synchronous mode that keep commits, and the order of required lists and sync key.
-use Rattle.std.specs.Prelude.{◌≡◌, ◌++◌, true, List}
+use Rattle.std.specs.Prelude.{◌≡◌, true, List}
 use Rattle.script_model.specs.Script.{HeadText, names_of}
 use Rattle.event_book.specs.declared.event.Event.{Event}
 use Rattle.event_book.specs.Facts.{start_of}
 use Rattle.event_book.specs.Logs.{Logs, logs_in}
-use Rattle.run_step_law.specs.Kept.{MeetsPremises}
+use Rattle.run_step_law.specs.Kept.{WhereMet}
 use Rattle.summary.specs.Claims.{KeepMode}
 use Rattle.summary.specs.Seeing.{WritersHold}
 use Rattle.commit_step_law.specs.Ordered.{KeepsOrder}
@@ -16,7 +16,7 @@ first_logs head = logs_in (start_of head.config (names_of head) head.base).serve
 -- where the head has synchronous mode on, this is so of each front of the book that meets the premises of one writer and in which the mode stays on
 abbrev pub InSynchronousMode : HeadText → List Event → (List Event → Type 0) → Type 0
 InSynchronousMode head book claim =
-    head.config.config.synchronous_mode ≡ true → (front rest : List Event) → front ++ rest ≡ book → MeetsPremises head front → KeepMode true front → claim front
+    head.config.config.synchronous_mode ≡ true → WhereMet head book (λ front. KeepMode true front → claim front)
 
 -- at its end each server that accepts writes has each acknowledged commit
 abbrev pub KeepsCommitsIn : HeadText → List Event → Type 0

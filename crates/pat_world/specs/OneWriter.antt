@@ -1,5 +1,5 @@
 -- What a step keeps.
-use Rattle.std.specs.Prelude.{◌≡◌, ◌++◌, List}
+use Rattle.std.specs.Prelude.{◌++◌, List}
 use Rattle.script_model.specs.declared.line.Step.{Step}
 use Rattle.script_model.specs.Script.{HeadText, IsHead}
 use Rattle.event_book.specs.declared.event.Event.{Event}
@@ -7,11 +7,11 @@ use Rattle.event_book.specs.Writers.{HasOneWriter}
 use Rattle.cluster_model.specs.Next.{run_events}
 use Rattle.cluster_model.specs.Starting.{cluster_of}
 use Rattle.cluster_model.specs.State.{Cluster}
-use Rattle.run_step_law.specs.Kept.{MeetsPremises}
+use Rattle.run_step_law.specs.Kept.{WhereMet}
 use Rattle.pat_world.specs.Book.{StandsFor}
 
 -- whichever steps brought a world here from a head: at each moment of their book, and inside the events that come next, at most one
 -- server accepts writes, as long as the premises are met
 pub record KeepsOneWriter (world : Cluster) (events : List Event) : Type 0 where
   pub sole : (head : HeadText) (steps : List Step) → IsHead head → StandsFor (cluster_of head) (run_events (cluster_of head) steps) world
-      → (front rest : List Event) → front ++ rest ≡ run_events (cluster_of head) steps ++ events → MeetsPremises head front → HasOneWriter front
+      → WhereMet head (run_events (cluster_of head) steps ++ events) HasOneWriter

@@ -1,5 +1,5 @@
 -- Events that keep the law of one writer.
-use Rattle.std.specs.Prelude.{◌++◌, List}
+use Rattle.std.specs.Prelude.{◌≡◌, ◌++◌, List}
 use Rattle.script_model.specs.Script.{HeadText}
 use Rattle.event_book.specs.declared.event.Event.{Event}
 use Rattle.event_book.specs.Writers.{HasOneWriter}
@@ -19,6 +19,10 @@ use Rattle.run_step_law.specs.Declaring.{declared_of, works_of}
 pub record MeetsPremises (head : HeadText) (book : List Event) : Type 0 where
   pub timely : IsTimely (declared_of head).margin book
   pub hands_off : IsHandsOff head.config (works_of head) book
+
+-- this is so of each front of the book that meets the premises
+abbrev pub WhereMet : HeadText → List Event → (List Event → Type 0) → Type 0
+WhereMet head book claim = (front rest : List Event) → front ++ rest ≡ book → MeetsPremises head front → claim front
 
 -- at most one server accepts writes, as long as the premises are met, over books and clusters that are bridged
 abbrev pub one_writer : HeadText → Promise
