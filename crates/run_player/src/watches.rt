@@ -5,13 +5,10 @@ ghost use Rattle.run_player.specs.Watches.{is_off, first_summary, declared_watch
 
 use leader_key::Mode;
 use member_options::MemberOptions;
-use pat_base::{Name, Ticks};
+use pat_base::{Name, TICKS_OF_SECOND, Ticks};
 use script_model::Head;
 use std::alloc::{AllocError, Global};
 use summary::{Summary, WatchOf};
-
-/// Ticks of 100 ms in a second.
-const TICKS_OF_SECOND: u64 = 10;
 
 /// The summary of a script of this head before the first event. It fails only for want of memory.
 pub fn first_summary(alloc: Global, head: &Head) -> Result<Summary, AllocError>
