@@ -19,6 +19,7 @@ use Rattle.lease_law.proofs.Tools.{none-some, some-is}
 use Rattle.summary.specs.Listed.{IsWriterNamed, AreListed, NamesServer, AreNamed}
 use Rattle.summary.specs.Noting.{writers_by_server, writers_by_watchdog, writers_after}
 use Rattle.summary.specs.SummaryText.{sorted_from}
+use Rattle.summary.specs.declared.answers.TheConstants.{SERVERS}
 
 sorted-rises : (names : List Name) (writers : List (Option Name)) → IsStrictlySortedBy name_cmp names → IsStrictlySortedBy name_cmp (sorted_from names writers)
 sorted-rises names [] rises = rises
@@ -91,5 +92,5 @@ none-named zero n name is = none-some (Some name) is
 none-named (suc count) zero name is = no-writer name is
 none-named (suc count) (suc n) name is = none-named count n name is
 
-pub named-first : (names : ℕ → Name) → AreNamed names (replicate 17 None)
+pub named-first : (names : ℕ → Name) → AreNamed names (replicate SERVERS None)
 named-first names = record { each = λ n name is. absurd (none-named 17 n name is) }

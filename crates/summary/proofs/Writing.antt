@@ -22,6 +22,7 @@ use Rattle.summary.specs.Claims.{is_named, is_writer}
 use Rattle.summary.specs.Moments.{now_over, IsToldFirst}
 use Rattle.summary.specs.Noting.{writers_by_server, writers_by_watchdog, writers_after, has_two, two_after}
 use Rattle.summary.proofs.Fronts.{told-kept, told-tested}
+use Rattle.summary.specs.declared.answers.TheConstants.{SERVERS}
 
 -- the list has the names of those that accept writes
 pub record AreWriters (writers : List (Option Name)) (writes : ℕ → Bool) : Type 0 where
@@ -34,18 +35,18 @@ set-writers writers writes k name within are = record {
       (λ n other. ap is_named (got-set_other writers k n name other) ∙ are.same n);
 }
 
-writers-server : (writers : List (Option Name)) (writes : ℕ → Bool) (happening : ServerEvent) → length writers ≡ 17 → AreWriters writers writes → AreWriters (writers_by_server writers happening) (writes_by_server writes happening)
+writers-server : (writers : List (Option Name)) (writes : ℕ → Bool) (happening : ServerEvent) → length writers ≡ SERVERS → AreWriters writers writes → AreWriters (writers_by_server writers happening) (writes_by_server writes happening)
 writers-server writers writes (servers.Began server timeline) long are = set-writers writers writes server.id.number (Some server.name) (omega (arith, long, server.id.within)) are
 writers-server writers writes (servers.Ended server) long are = set-writers writers writes server.id.number None (omega (arith, long, server.id.within)) are
 writers-server writers writes (servers.Crashed server) long are = set-writers writers writes server.id.number None (omega (arith, long, server.id.within)) are
 writers-server writers writes _ long are = are
 
-writers-watchdog : (writers : List (Option Name)) (writes : ℕ → Bool) (happening : WatchdogEvent) → length writers ≡ 17 → AreWriters writers writes → AreWriters (writers_by_watchdog writers happening) (writes_by_watchdog writes happening)
+writers-watchdog : (writers : List (Option Name)) (writes : ℕ → Bool) (happening : WatchdogEvent) → length writers ≡ SERVERS → AreWriters writers writes → AreWriters (writers_by_watchdog writers happening) (writes_by_watchdog writes happening)
 writers-watchdog writers writes (watchdogs.Reset member) long are = set-writers writers writes member.id.number None (omega (arith, long, member.id.below)) are
 writers-watchdog writers writes _ long are = are
 
 -- one more event
-pub writers-more : (writers : List (Option Name)) (writes : ℕ → Bool) (kind : EventKind) → length writers ≡ 17 → AreWriters writers writes → AreWriters (writers_after writers kind) (writes_after writes kind)
+pub writers-more : (writers : List (Option Name)) (writes : ℕ → Bool) (kind : EventKind) → length writers ≡ SERVERS → AreWriters writers writes → AreWriters (writers_after writers kind) (writes_after writes kind)
 writers-more writers writes (kinds.Server happening) long are = writers-server writers writes happening long are
 writers-more writers writes (kinds.Watchdog happening) long are = writers-watchdog writers writes happening long are
 writers-more writers writes _ long are = are
