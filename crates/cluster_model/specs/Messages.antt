@@ -12,16 +12,14 @@ use Rattle.lease_store.specs.Writes.{is_lease}
 use Rattle.pg_model.specs.Facts.{ServerFacts}
 use Rattle.event_book.specs.declared.agent_process.AgentProcess.{AgentProcess}
 use Rattle.event_book.specs.declared.event.AgentEvent.{AgentEvent}
-use Rattle.event_book.specs.declared.event.AgentEvent.TheVariants as agents
-use Rattle.event_book.specs.declared.event.AgentEvent.TheVariants.{Woken, Operated}
+use Rattle.event_book.specs.declared.event.AgentEvent.TheVariants.{Operated, Passed, Woken}
 use Rattle.event_book.specs.declared.event.Event.{Event}
 use Rattle.event_book.specs.declared.event.EventKind.{EventKind}
 use Rattle.event_book.specs.declared.event.EventKind.TheVariants as kinds
 use Rattle.event_book.specs.declared.event.MessageEvent.TheVariants.{Sent, Delivered, Lost}
-use Rattle.event_book.specs.declared.event.Note.TheVariants as notes
-use Rattle.event_book.specs.declared.event.Note.TheVariants.{NoAnswer, NoMessage, Undeliverable}
+use Rattle.event_book.specs.declared.event.Note.TheVariants.{CannotArm, DisablesWatchdog, NoAnswer, NoMessage, PostponesPromotion, RunsWithoutKey, Undeliverable}
 use Rattle.event_book.specs.declared.event.StoreEvent.TheVariants as stores
-use Rattle.event_book.specs.declared.event.WatchdogEvent.TheVariants as watchdogs
+use Rattle.event_book.specs.declared.event.WatchdogEvent.TheVariants.{Disarmed}
 use Rattle.event_book.specs.declared.link.LinkEnd.{LinkEnd}
 use Rattle.event_book.specs.declared.link.LinkEnd.TheVariants as link_ends
 use Rattle.event_book.specs.declared.member.Member.{Member}
@@ -122,12 +120,12 @@ output_events member heard cluster (outputs.Repair leader repair) = repair_event
 output_events member heard cluster (outputs.Require required) = server_order_events cluster member (require_of cluster.facts.members member required)
 output_events member heard cluster (outputs.Armed until) = events_of cluster (feed_kinds member heard (arming member until heard))
 output_events member heard cluster (outputs.Fed until) = events_of cluster (feed_kinds member heard (feeding member until heard))
-output_events member heard cluster outputs.Disarmed = event_of cluster (kinds.Watchdog (watchdogs.Disarmed member))
-output_events member heard cluster outputs.CannotArm = event_of cluster (kinds.Note (notes.CannotArm member))
-output_events member heard cluster outputs.Passes = event_of cluster (kinds.Agent (agents.Passed member))
-output_events member heard cluster outputs.PostponesPromotion = event_of cluster (kinds.Note (notes.PostponesPromotion member))
-output_events member heard cluster outputs.DisablesWatchdog = event_of cluster (kinds.Note (notes.DisablesWatchdog member))
-output_events member heard cluster outputs.RunsWithoutKey = event_of cluster (kinds.Note (notes.RunsWithoutKey member))
+output_events member heard cluster outputs.Disarmed = event_of cluster (kinds.Watchdog (Disarmed member))
+output_events member heard cluster outputs.CannotArm = event_of cluster (kinds.Note (CannotArm member))
+output_events member heard cluster outputs.Passes = event_of cluster (kinds.Agent (Passed member))
+output_events member heard cluster outputs.PostponesPromotion = event_of cluster (kinds.Note (PostponesPromotion member))
+output_events member heard cluster outputs.DisablesWatchdog = event_of cluster (kinds.Note (DisablesWatchdog member))
+output_events member heard cluster outputs.RunsWithoutKey = event_of cluster (kinds.Note (RunsWithoutKey member))
 output_events member heard cluster (outputs.DoesNotRace bar) = event_of cluster (not_racing cluster.facts.members member bar)
 output_events member heard cluster (outputs.HandsOver candidate) = events_of cluster (kinds_of (option_map (handing_over member) (slice_get cluster.facts.members candidate.number)))
 output_events member heard cluster (outputs.Told request told) = events_of cluster (kinds_of (told_kind member (agent_at cluster.agents member.id.number) told))
