@@ -35,9 +35,9 @@ delivery_to_agent message (Some state) = if state.suspended then deliveries.Susp
 
 -- what stands between a message and this receiver, where their link is joined; the store always takes it
 abbrev pub delivery_to : List AgentProcess → Message → LinkEnd → Delivery
-delivery_to agents message link_ends.Store = deliveries.Open
-delivery_to agents message (link_ends.Member member) = delivery_to_agent message (slice_get agents member.id.number)
+delivery_to processes message link_ends.Store = deliveries.Open
+delivery_to processes message (link_ends.Member member) = delivery_to_agent message (slice_get processes member.id.number)
 
 -- what stands between a message and its receiver, the first that applies
 abbrev pub delivery_of : CutLinks → List AgentProcess → Message → Delivery
-delivery_of cuts agents message = if is_cut cuts (link_of_message message) then deliveries.Cut else delivery_to agents message message.to
+delivery_of cuts processes message = if is_cut cuts (link_of_message message) then deliveries.Cut else delivery_to processes message message.to

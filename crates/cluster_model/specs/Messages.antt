@@ -9,15 +9,17 @@ use Rattle.lease_store.specs.TxnKinds.{txn_kind_of}
 use Rattle.pat_base.specs.declared.name.Name.{Name}
 use Rattle.event_book.specs.NameLists.{names_of}
 use Rattle.lease_store.specs.Writes.{is_lease}
+use Rattle.pg_model.specs.Facts.{ServerFacts}
 use Rattle.event_book.specs.declared.agent_process.AgentProcess.{AgentProcess}
 use Rattle.event_book.specs.declared.event.AgentEvent.{AgentEvent}
-use Rattle.event_book.specs.declared.event.AgentEvent.TheVariants.{Woken, Operated}
+use Rattle.event_book.specs.declared.event.AgentEvent.TheVariants.{Operated, Passed, Woken}
 use Rattle.event_book.specs.declared.event.Event.{Event}
 use Rattle.event_book.specs.declared.event.EventKind.{EventKind}
 use Rattle.event_book.specs.declared.event.EventKind.TheVariants as kinds
 use Rattle.event_book.specs.declared.event.MessageEvent.TheVariants.{Sent, Delivered, Lost}
-use Rattle.event_book.specs.declared.event.Note.TheVariants.{NoAnswer, NoMessage, Undeliverable}
+use Rattle.event_book.specs.declared.event.Note.TheVariants.{CannotArm, DisablesWatchdog, NoAnswer, NoMessage, PostponesPromotion, RunsWithoutKey, Undeliverable}
 use Rattle.event_book.specs.declared.event.StoreEvent.TheVariants as stores
+use Rattle.event_book.specs.declared.event.WatchdogEvent.TheVariants.{Disarmed}
 use Rattle.event_book.specs.declared.link.LinkEnd.{LinkEnd}
 use Rattle.event_book.specs.declared.link.LinkEnd.TheVariants as link_ends
 use Rattle.event_book.specs.declared.member.Member.{Member}
@@ -43,11 +45,11 @@ use Rattle.cluster_model.specs.Deliveries.{delivery_of}
 use Rattle.cluster_model.specs.Hearing.{heard_from}
 use Rattle.cluster_model.specs.Beginnings.{begin_kinds, server_restart_kinds}
 use Rattle.cluster_model.specs.Commands.{kinds_of}
-use Rattle.cluster_model.specs.Inputs.{moment_of, outcome_of, outcome_of_heard, may_act, outputs_of, standing_of, is_to_wake}
+use Rattle.cluster_model.specs.Inputs.{agent_at, moment_of, outcome_of, outcome_of_heard, may_act, outputs_of, standing_of, is_to_wake}
 use Rattle.cluster_model.specs.Limits.{most_in_flight}
-use Rattle.cluster_model.specs.Orders.{declared_member, order_kind, repair_over, replica_start_kinds, server_at, stop_kinds, feed_kinds, arming, feeding}
+use Rattle.cluster_model.specs.Orders.{arming, declared_member, feed_kinds, feeding, handing_over, hold_taken, not_racing, repair_over, replica_start_kinds, require_of, server_at, stop_kinds, stop_of, upstream_of, wipe_of}
 use Rattle.cluster_model.specs.Parts.{event_of, events_of, events_then, for_some, each}
-use Rattle.cluster_model.specs.Requests.{action_of, decision_at, refusing}
+use Rattle.cluster_model.specs.Requests.{action_of, decision_at, refusing, told_kind}
 use Rattle.cluster_model.specs.State.{Cluster}
 
 -- the loss of the message of this number, where as many are in flight as may be
@@ -99,18 +101,35 @@ server_restart_events cluster member = for_some (server_at cluster member) (λ s
 abbrev pub repair_events : Cluster → Member → Repair → Option Member → List Event
 repair_events cluster member repair leader = events_of cluster (kinds_of (option_and_then (repair_over cluster.facts.cuts cluster.facts.servers member repair) leader))
 
+-- what the agent of a member orders its server to do, where that can be done there
+abbrev pub server_order_events : Cluster → Member → (ServerFacts → Option EventKind) → List Event
+server_order_events cluster member order = events_of cluster (kinds_of (option_and_then order (server_at cluster member)))
+
 -- what an output of the agent of a member comes to, on the message that it heard
 abbrev pub output_events : Member → HeardMessage → Cluster → Output → List Event
 output_events member heard cluster (outputs.Send to sequence body) = sending_events cluster member (slice_get cluster.facts.processes member.id.number) (receiver_of cluster.facts.members to) sequence body
 output_events member heard cluster (outputs.Answer to run sequence answer) = replying_events cluster member (receiver_of cluster.facts.members (targets.Member to)) run sequence (bodies.Answer answer)
 output_events member heard cluster outputs.Begin = begin_events cluster member
-output_events member heard cluster (outputs.Armed until) = events_of cluster (feed_kinds member heard (arming member until heard))
-output_events member heard cluster (outputs.Fed until) = events_of cluster (feed_kinds member heard (feeding member until heard))
 output_events member heard cluster (outputs.StartReplica leader) = replica_start_events cluster member (declared_member cluster.facts.members leader)
 output_events member heard cluster (outputs.Stop reason) = stop_events cluster member reason
+output_events member heard cluster outputs.ShutDown = server_order_events cluster member (stop_of member)
 output_events member heard cluster (outputs.Restart as_primary) = server_restart_events cluster member
+output_events member heard cluster outputs.Wipe = server_order_events cluster member (wipe_of member)
+output_events member heard cluster (outputs.Follow leader) = server_order_events cluster member (upstream_of member (slice_get cluster.facts.members leader.number))
 output_events member heard cluster (outputs.Repair leader repair) = repair_events cluster member repair (slice_get cluster.facts.members leader.number)
-output_events member heard cluster output = events_of cluster (kinds_of (order_kind cluster member heard output))
+output_events member heard cluster (outputs.Require required) = server_order_events cluster member (require_of cluster.facts.members member required)
+output_events member heard cluster (outputs.Armed until) = events_of cluster (feed_kinds member heard (arming member until heard))
+output_events member heard cluster (outputs.Fed until) = events_of cluster (feed_kinds member heard (feeding member until heard))
+output_events member heard cluster outputs.Disarmed = event_of cluster (kinds.Watchdog (Disarmed member))
+output_events member heard cluster outputs.CannotArm = event_of cluster (kinds.Note (CannotArm member))
+output_events member heard cluster outputs.Passes = event_of cluster (kinds.Agent (Passed member))
+output_events member heard cluster outputs.PostponesPromotion = event_of cluster (kinds.Note (PostponesPromotion member))
+output_events member heard cluster outputs.DisablesWatchdog = event_of cluster (kinds.Note (DisablesWatchdog member))
+output_events member heard cluster outputs.RunsWithoutKey = event_of cluster (kinds.Note (RunsWithoutKey member))
+output_events member heard cluster (outputs.DoesNotRace bar) = event_of cluster (not_racing cluster.facts.members member bar)
+output_events member heard cluster (outputs.HandsOver candidate) = events_of cluster (kinds_of (option_map (handing_over member) (slice_get cluster.facts.members candidate.number)))
+output_events member heard cluster (outputs.Told request told) = events_of cluster (kinds_of (told_kind member (agent_at cluster.agents member.id.number) told))
+output_events member heard cluster (outputs.HoldTaken until from sequence) = events_of cluster (kinds_of (option_map (hold_taken member until heard.run sequence) (slice_get cluster.facts.members from.number)))
 
 -- what the outputs of an input come to, one after another
 abbrev pub input_events : Cluster → Member → HeardMessage → Option Outcome → List Event

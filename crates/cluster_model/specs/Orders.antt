@@ -13,7 +13,6 @@ use Rattle.pg_model.specs.declared.answers.Rewound.{Rewound}
 use Rattle.pg_model.specs.Rewinding.{may_clone_at, rewind_at}
 use Rattle.pg_model.specs.Facts.{ServerFacts, is_creating, is_down, is_replica, is_up}
 use Rattle.pg_model.specs.Running.{is_primary}
-use Rattle.event_book.specs.declared.event.AgentEvent.TheVariants as agents
 use Rattle.event_book.specs.declared.event.EventKind.{EventKind}
 use Rattle.event_book.specs.declared.event.EventKind.TheVariants as kinds
 use Rattle.event_book.specs.declared.event.LogEvent.TheVariants as logs
@@ -27,14 +26,10 @@ use Rattle.event_book.specs.declared.reason.Reason.{Reason}
 use Rattle.event_book.specs.Links.{CutLinks, is_cut}
 use Rattle.event_book.specs.Members.{server_of}
 use Rattle.event_book.specs.NameLists.{names_of}
-use Rattle.agent_model.specs.declared.output.Output.{Output}
-use Rattle.agent_model.specs.declared.output.Output.TheVariants as outputs
 use Rattle.agent_model.specs.declared.output.Repair.{Repair}
 use Rattle.agent_model.specs.declared.output.Repair.TheVariants as repairs
 use Rattle.cluster_model.specs.declared.heard_message.HeardMessage.{HeardMessage}
 use Rattle.cluster_model.specs.Commands.{kinds_of}
-use Rattle.cluster_model.specs.Inputs.{agent_at}
-use Rattle.cluster_model.specs.Requests.{told_kind}
 use Rattle.cluster_model.specs.State.{Cluster}
 use Rattle.cluster_model.specs.Streaming.{link_of_members}
 
@@ -51,11 +46,11 @@ declared_member members (Some id) = slice_get members id.number
 abbrev pub arming : Member → Ticks → HeardMessage → EventKind
 arming member until heard = kinds.Watchdog (watchdogs.Armed member until heard.number)
 
--- it gets a new one
+-- the watchdog of a member gets a new deadline, on the message that was heard
 abbrev pub feeding : Member → Ticks → HeardMessage → EventKind
 feeding member until heard = kinds.Watchdog (watchdogs.Fed member until (bases.Grant heard.number))
 
--- that is measured from the moment at which the message was sent
+-- a watchdog is fed: the deadline is measured from the moment at which the message was sent that was heard
 abbrev pub feed_kinds : Member → HeardMessage → EventKind → List EventKind
 feed_kinds member heard feed = kinds.Watchdog (watchdogs.Measured member heard.sent) ∷ feed ∷ []
 
@@ -123,7 +118,7 @@ abbrev pub repair_by : List ServerFacts → Member → Repair → Member → Opt
 repair_by known member repairs.Rewind leader = option_map (rewinding member leader) (rewind_at known member.id.number leader.id.number)
 repair_by known member repairs.Clone leader = if may_clone_at known member.id.number leader.id.number then Some (copying member leader) else None
 
--- the same, where the link between the two is joined
+-- how the log of a member's server is repaired by this leader's, where it can be and the link between the two is joined
 abbrev pub repair_over : CutLinks → List ServerFacts → Member → Repair → Member → Option EventKind
 repair_over cuts known member repair leader = if is_cut cuts (link_of_members member leader) then None else repair_by known member repair leader
 
@@ -146,25 +141,3 @@ not_racing members member bar = kinds.Note (notes.DoesNotRace member bar (declar
 -- a member hands over to this one
 abbrev pub handing_over : Member → Member → EventKind
 handing_over member candidate = kinds.Note (notes.HandsOver member candidate)
-
--- what an agent tells of its watchdog, but for its feeds, and of its promotion, and that it leads past the sync key
-abbrev pub told_of : Member → Output → Option EventKind
-told_of member outputs.Disarmed = Some (kinds.Watchdog (watchdogs.Disarmed member))
-told_of member outputs.CannotArm = Some (kinds.Note (notes.CannotArm member))
-told_of member outputs.DisablesWatchdog = Some (kinds.Note (notes.DisablesWatchdog member))
-told_of member outputs.RunsWithoutKey = Some (kinds.Note (notes.RunsWithoutKey member))
-told_of member outputs.PostponesPromotion = Some (kinds.Note (notes.PostponesPromotion member))
-told_of member outputs.Passes = Some (kinds.Agent (agents.Passed member))
-told_of member _ = None
-
--- what an order comes to that brings one event at most, at the member's server, on the message that was heard
-abbrev pub order_kind : Cluster → Member → HeardMessage → Output → Option EventKind
-order_kind cluster member heard (outputs.Follow leader) = option_and_then (upstream_of member (slice_get cluster.facts.members leader.number)) (server_at cluster member)
-order_kind cluster member heard outputs.ShutDown = option_and_then (stop_of member) (server_at cluster member)
-order_kind cluster member heard (outputs.Require required) = option_and_then (require_of cluster.facts.members member required) (server_at cluster member)
-order_kind cluster member heard (outputs.HoldTaken until from sequence) = option_map (hold_taken member until heard.run sequence) (slice_get cluster.facts.members from.number)
-order_kind cluster member heard outputs.Wipe = option_and_then (wipe_of member) (server_at cluster member)
-order_kind cluster member heard (outputs.HandsOver candidate) = option_map (handing_over member) (slice_get cluster.facts.members candidate.number)
-order_kind cluster member heard (outputs.Told request told) = told_kind member (agent_at cluster.agents member.id.number) told
-order_kind cluster member heard (outputs.DoesNotRace bar) = Some (not_racing cluster.facts.members member bar)
-order_kind cluster member heard output = told_of member output

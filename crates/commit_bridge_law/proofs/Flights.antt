@@ -46,7 +46,7 @@ flight-first logs required confirmed first names base = record {
   answers = λ i carried e. absurd (none-some carried e);
 }
 
--- ---- what commits read of a message as it is sent: the same of two pasts that agree on these parts
+-- ---- what commits read of a message as it is sent: two pasts that agree on these parts tell it alike
 record ReadsSame (p q : Past) : Type 0 where
   sync : p.sync ≡ q.sync
   leader : p.leader ≡ q.leader

@@ -34,7 +34,7 @@ past_at_sending asked carried = record (first_past [] [] []) {
 abbrev pub flying_carried : (ℕ → Query) → InFlightFacts → Option Flying
 flying_carried asked carried = flying_of (past_at_sending asked carried) carried.message.from carried.message.to carried.message.run carried.message.sequence carried.message.body
 
--- the same of a message that may be in flight
+-- what commits read of a message that is in flight, if there is one
 abbrev pub flying_if : (ℕ → Query) → Option InFlightFacts → Option Flying
 flying_if asked None = None
 flying_if asked (Some carried) = flying_carried asked carried
@@ -64,7 +64,7 @@ HasWritten past request CreateLeader = leader_revision past.leader ≡ Some past
 HasWritten past request ClaimSync = past.sync ≡ Some (sync_key_by request.member past.revision ClaimSync)
 HasWritten past request (PublishStandbys standbys quorum) = past.sync ≡ Some (sync_key_by request.member past.revision (PublishStandbys standbys quorum))
 
--- the same of any request, as far as commits read what it writes
+-- what any request writes, as far as commits read it, is there under the last granted revision: the leader key, or the sync key
 abbrev pub IsWritten : Past → Query → Type 0
 IsWritten past LeaseQuery = leader_revision past.leader ≡ Some past.revision
 IsWritten past (CarryQuery member revision) = leader_revision past.leader ≡ Some past.revision

@@ -38,7 +38,7 @@ Each commits known = (m : ℕ) (s : ServerFacts) → slice_get known m ≡ Some 
 one-sound : (commits : ℕ) (known : List ServerFacts) (k : ℕ) (change : ServerFacts → ServerFacts) → ((s : ServerFacts) → IsServerSound commits s → IsServerSound commits (change s)) → Each commits known → Each commits (with_changed known k change)
 one-sound commits known k change here all = each-changed (IsServerSound commits) (IsServerSound commits) known k change (λ s at is. here s is) (λ s is. is) all
 
--- the same of a server of which it is known what it is
+-- each server stays sound where one is changed of which it is known what it is
 this-sound : (commits : ℕ) (known : List ServerFacts) (k : ℕ) (change : ServerFacts → ServerFacts) (server : ServerFacts) → slice_get known k ≡ Some server → (IsServerSound commits server → IsServerSound commits (change server))
     → Each commits known → Each commits (with_changed known k change)
 this-sound commits known k change server found here all =

@@ -40,7 +40,7 @@ live-said (Some s) = refl
 live-at : (known : List ServerFacts) (m : ℕ) → live_in known m ≡ said (slice_get (map (λ s. live s.state) known) m)
 live-at known m = live-said (slice_get known m) ∙ ap said (sym (slice_get-map (λ s. live s.state) known m))
 
--- where all states say the same, so it is of each server
+-- where the states say of all servers alike whether they are live, each is live exactly where it was
 pub live-kept : (before known : List ServerFacts) (m : ℕ) → map (λ s. live s.state) known ≡ map (λ s. live s.state) before → live_in known m ≡ live_in before m
 live-kept before known m same = live-at known m ∙ ap (λ xs. said (slice_get xs m)) same ∙ sym (live-at before m)
 

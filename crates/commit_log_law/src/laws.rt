@@ -44,7 +44,7 @@ pub fn same_servers()
 pub fn servers_are_sound()
     ensures first { (first : Settings) (names : List Name) (base : ℕ) → base ≤ 2 ^ 40 → AreServersSound (start_of first names base) }
     ensures each { (facts : Facts) (kind : EventKind) → LeavesSound facts kind → AreServersSound facts → AreServersSound (facts_after facts kind) }
-    // So is what may happen beside inputs of agents.
+    // An event that may happen beside inputs of agents leaves servers sound.
     ensures may { (facts : Facts) (kind : EventKind) → MayHappen facts kind → LeavesSound facts kind }
     // What the law of commits asks of logs before the first event, and what is needed of members.
     ensures bytes { (first : Settings) (names : List Name) (base : ℕ) → 1 ≤ base → AllHaveBytes (logs_in (start_of first names base).servers) }

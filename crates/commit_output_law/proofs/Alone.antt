@@ -30,7 +30,7 @@ use Rattle.cluster_model.specs.Cluster.{cluster_after, cluster_over}
 use Rattle.cluster_model.specs.Commands.{kinds_of}
 use Rattle.cluster_model.specs.Inputs.{agent_at}
 use Rattle.cluster_model.specs.Messages.{output_events, repair_events}
-use Rattle.cluster_model.specs.Orders.{arming, declared_member, feed_kinds, feeding, following_of, handing_over, order_kind, repair_over, replica_start_kinds, server_at, stop_kinds, stop_of, upstream_of, wipe_of}
+use Rattle.cluster_model.specs.Orders.{arming, declared_member, feed_kinds, feeding, following_of, handing_over, not_racing, repair_over, replica_start_kinds, server_at, stop_kinds, stop_of, upstream_of, wipe_of}
 use Rattle.cluster_model.specs.Parts.{each, event_of, events_of, for_some}
 use Rattle.cluster_model.specs.Requests.{config_text_of, told_kind}
 use Rattle.cluster_model.specs.State.{Cluster}
@@ -173,13 +173,13 @@ module _ (setup : Setup) (member : Member) where
     output-moves past cluster (outputs.Require required) fits table alone answers = absurd alone
     output-moves past cluster (outputs.Armed until) fits table alone answers = free-moves past cluster (feed_kinds member message (arming member until message)) fits (tt, (tt, tt))
     output-moves past cluster (outputs.Fed until) fits table alone answers = free-moves past cluster (feed_kinds member message (feeding member until message)) fits (tt, (tt, tt))
-    output-moves past cluster outputs.Disarmed fits table alone answers = free-moves past cluster (kinds_of (order_kind cluster member message outputs.Disarmed)) fits (tt, tt)
-    output-moves past cluster outputs.CannotArm fits table alone answers = free-moves past cluster (kinds_of (order_kind cluster member message outputs.CannotArm)) fits (tt, tt)
-    output-moves past cluster outputs.DisablesWatchdog fits table alone answers = free-moves past cluster (kinds_of (order_kind cluster member message outputs.DisablesWatchdog)) fits (tt, tt)
-    output-moves past cluster outputs.RunsWithoutKey fits table alone answers = free-moves past cluster (kinds_of (order_kind cluster member message outputs.RunsWithoutKey)) fits (tt, tt)
+    output-moves past cluster outputs.Disarmed fits table alone answers = free-moves past cluster (kinds.Watchdog (watchdogs.Disarmed member) ∷ []) fits (tt, tt)
+    output-moves past cluster outputs.CannotArm fits table alone answers = free-moves past cluster (kinds.Note (notes.CannotArm member) ∷ []) fits (tt, tt)
+    output-moves past cluster outputs.DisablesWatchdog fits table alone answers = free-moves past cluster (kinds.Note (notes.DisablesWatchdog member) ∷ []) fits (tt, tt)
+    output-moves past cluster outputs.RunsWithoutKey fits table alone answers = free-moves past cluster (kinds.Note (notes.RunsWithoutKey member) ∷ []) fits (tt, tt)
     output-moves past cluster outputs.Passes fits table alone answers = absurd alone
-    output-moves past cluster outputs.PostponesPromotion fits table alone answers = free-moves past cluster (kinds_of (order_kind cluster member message outputs.PostponesPromotion)) fits (tt, tt)
-    output-moves past cluster (outputs.DoesNotRace bar) fits table alone answers = free-moves past cluster (kinds_of (order_kind cluster member message (outputs.DoesNotRace bar))) fits (tt, tt)
+    output-moves past cluster outputs.PostponesPromotion fits table alone answers = free-moves past cluster (kinds.Note (notes.PostponesPromotion member) ∷ []) fits (tt, tt)
+    output-moves past cluster (outputs.DoesNotRace bar) fits table alone answers = free-moves past cluster (not_racing cluster.facts.members member bar ∷ []) fits (tt, tt)
     output-moves past cluster outputs.ShutDown fits table alone answers = shuts-moves past cluster (server_at cluster member) refl fits
     output-moves past cluster (outputs.Repair leader repair) fits table alone answers = repair-moves past cluster repair (slice_get cluster.facts.members leader.number) fits
     output-moves past cluster (outputs.HoldTaken until from sequence) fits table alone answers = absurd table

@@ -16,7 +16,7 @@ use Rattle.commit_run_law.specs.Runs.{first_logs}
 abbrev Hold : (ℕ → Bool) → Logs → List ℕ → Type 0
 Hold writes logs acknowledged = (server : ℕ) → writes server ≡ true → (commit : ℕ) → Contains acknowledged commit → has_serial (entries_at logs server) commit ≡ true
 
--- the same of what a book determines
+-- each server that accepts writes has each acknowledged commit in its log, by what a book determines
 abbrev pub HoldsIn : Past → Type 0
 HoldsIn past = Hold past.writes past.logs past.acknowledged
 

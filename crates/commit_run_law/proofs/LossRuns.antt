@@ -1,5 +1,5 @@
 -- Each run tells the first loss of an acknowledged commit behind the event that brings it.
-use Rattle.std.proofs.Common.{ℕ, ◌≡◌, ◌≤◌, ◌++◌, ◌==◌, ◌&&◌, ◌||◌, Bool, true, false, cond, if◌then◌else◌, List, [], ◌∷◌, length, slice_get, Option, Some, None, option_and_then, refl, sym}
+use Rattle.std.proofs.Common.{ℕ, ◌≡◌, ◌≤◌, ◌++◌, ◌==◌, ◌&&◌, ◌||◌, Bool, true, false, cond, if◌then◌else◌, List, [], ◌∷◌, length, slice_get, Option, Some, None, option_and_then, option_map, refl, sym}
 use Rattle.std.proofs.lemmas.List.{length-replicate}
 use Rattle.pat_base.specs.declared.server_state.State.{State}
 use Rattle.pat_base.specs.declared.server_state.State.TheVariants as states
@@ -35,11 +35,12 @@ use Rattle.cluster_model.specs.Cluster.{cluster_after}
 use Rattle.cluster_model.specs.Commands.{kinds_of}
 use Rattle.cluster_model.specs.Hearing.{heard_from}
 use Rattle.cluster_model.specs.Inputs.{agent_at, outcome_of, outcome_of_heard, outputs_of}
-use Rattle.cluster_model.specs.Messages.{agent_message, heard_message, input_events, no_message, output_events, receiver_of, replying_events, sending_events}
+use Rattle.cluster_model.specs.Messages.{agent_message, heard_message, input_events, no_message, output_events, receiver_of, replying_events, sending_events, server_order_events}
 use Rattle.cluster_model.specs.Next.{run_events}
-use Rattle.cluster_model.specs.Orders.{declared_member, following_of, is_same_required, order_kind, repair_over, replica_start_kinds, server_at, stop_kind, stop_kinds, stop_of, wipe_of}
+use Rattle.cluster_model.specs.Orders.{declared_member, following_of, handing_over, hold_taken, is_same_required, repair_over, replica_start_kinds, require_of, server_at, stop_kind, stop_kinds, stop_of, upstream_of, wipe_of}
 use Rattle.cluster_model.specs.Parts.{event_of, events_of}
 use Rattle.cluster_model.specs.Starting.{cluster_of}
+use Rattle.cluster_model.specs.Requests.{told_kind}
 use Rattle.cluster_model.specs.State.{Cluster}
 use Rattle.event_book.specs.Kinds.{AllAre}
 use Rattle.commit_log_law.specs.Happening.{MayFollow}
@@ -74,28 +75,8 @@ stop-none : (member : Member) (s : ServerFacts) → HoldsIf LosesNone (stop_of m
 stop-none member s =
     holds-if LosesNone (is_up s.state) (stop_kind member s.state s.stop_delay) (kind-cond (is_primary s.state && s.stop_delay.0 == 0) (kinds.Server (servers.Ended (server_of member))) (kinds.Server (servers.Stops (server_of member))) tt tt)
 
--- an output by which no server is wiped
-abbrev WipesNone : Output → Type 0
-WipesNone outputs.Wipe = ⊥
-WipesNone _ = Unit {0}
-
-order-none : (cluster : Cluster) (member : Member) (heard : HeardMessage) (output : Output) → WipesNone output → HoldsIf LosesNone (order_kind cluster member heard output)
-order-none cluster member heard outputs.Wipe none = absurd none
-order-none cluster member heard (outputs.Follow leader) none =
-    holds-then LosesNone _ (server_at cluster member) (λ s. holds-cond (is_replica s.state) (following_of member (slice_get cluster.facts.members leader.number)) None (follow-none member (slice_get cluster.facts.members leader.number)) tt)
-order-none cluster member heard outputs.ShutDown none = holds-then LosesNone (stop_of member) (server_at cluster member) (stop-none member)
-order-none cluster member heard (outputs.Require required) none = holds-then LosesNone _ (server_at cluster member) (λ s. holds-cond (is_same_required s.required required) None _ tt tt)
-order-none cluster member heard (outputs.HoldTaken until from sequence) none = holds-mapped (slice_get cluster.facts.members from.number) _ (λ m. tt)
-order-none cluster member heard (outputs.HandsOver candidate) none = holds-mapped (slice_get cluster.facts.members candidate.number) _ (λ m. tt)
-order-none cluster member heard (outputs.Told request told) none = told-holds LosesNone member (agent_at cluster.agents member.id.number) told (λ status body. tt)
-order-none cluster member heard (outputs.DoesNotRace bar) none = tt
-order-none cluster member heard outputs.Disarmed none = tt
-order-none cluster member heard outputs.CannotArm none = tt
-order-none cluster member heard outputs.DisablesWatchdog none = tt
-order-none cluster member heard outputs.RunsWithoutKey none = tt
-order-none cluster member heard outputs.Passes none = tt
-order-none cluster member heard outputs.PostponesPromotion none = tt
-order-none cluster member heard _ none = tt
+order-none : (cluster : Cluster) (member : Member) (order : ServerFacts → Option EventKind) → ((s : ServerFacts) → HoldsIf LosesNone (order s)) → AllAre LosesNone (server_order_events cluster member order)
+order-none cluster member order all = none-if cluster (option_and_then order (server_at cluster member)) (holds-then LosesNone order (server_at cluster member) all)
 
 sending-none : (cluster : Cluster) (member : Member) (found : Option AgentProcess) (to : Option LinkEnd) (sequence : ℕ) (body : Body) → AllAre LosesNone (sending_events cluster member found to sequence body)
 sending-none cluster member None to sequence body = tt
@@ -156,22 +137,45 @@ module _ (head : HeadText) where
       upheld-loseless head book cluster _ good (replying-none cluster member (receiver_of cluster.facts.members (targets.Member to)) run sequence (bodies.Answer answer))
   upholds-output member heard outputs.Begin book cluster good =
       upheld-for_some (losses_told head) (composable head) book cluster (server_at cluster member) _ good (λ s is. begins-upheld book cluster member s (beginning_of s) good is)
-  upholds-output member heard (outputs.Restart as_primary) book cluster good =
-      upheld-for_some (losses_told head) (composable head) book cluster (server_at cluster member) _ good (λ s is. again-upheld book cluster member s s.state good is)
-  upholds-output member heard outputs.Wipe book cluster good = wiped-upheld book cluster member (server_at cluster member) good refl
-  upholds-output member heard (outputs.Armed until) book cluster good = upheld-loseless head book cluster _ good (tt, (tt, tt))
-  upholds-output member heard (outputs.Fed until) book cluster good = upheld-loseless head book cluster _ good (tt, (tt, tt))
   upholds-output member heard (outputs.StartReplica leader) book cluster good =
       upheld-for_some (losses_told head) (composable head) book cluster (server_at cluster member) (λ s. events_of cluster (replica_start_kinds member (declared_member cluster.facts.members leader) s)) good
       (λ s is. upheld-loseless head book cluster _ good (started-none cluster member (declared_member cluster.facts.members leader) (is_down s.state)))
   upholds-output member heard (outputs.Stop reason) book cluster good =
       upheld-for_some (losses_told head) (composable head) book cluster (server_at cluster member) (λ s. events_of cluster (stop_kinds member reason s)) good
       (λ s is. upheld-loseless head book cluster _ good (tt, none-if _ (stop_of member s) (stop-none member s)))
+  upholds-output member heard outputs.ShutDown book cluster good = upheld-loseless head book cluster _ good (order-none cluster member (stop_of member) (stop-none member))
+  upholds-output member heard (outputs.Restart as_primary) book cluster good =
+      upheld-for_some (losses_told head) (composable head) book cluster (server_at cluster member) _ good (λ s is. again-upheld book cluster member s s.state good is)
+  upholds-output member heard outputs.Wipe book cluster good = wiped-upheld book cluster member (server_at cluster member) good refl
+  upholds-output member heard (outputs.Follow leader) book cluster good =
+      let found = slice_get cluster.facts.members leader.number in
+      upheld-loseless head book cluster _ good
+      (order-none cluster member (upstream_of member found) (λ s. holds-cond (is_replica s.state) (following_of member found) None (follow-none member found) tt))
   upholds-output member heard (outputs.Repair leader repair) book cluster good =
       let found = slice_get cluster.facts.members leader.number in
       repaired-upheld book cluster (option_and_then (repair_over cluster.facts.cuts cluster.facts.servers member repair) found) good
       (repaired-holds IsRepair cluster.facts.cuts cluster.facts.servers member repair found (λ other r. tt) (λ other. tt)) (repair-follow cluster member repair found)
-  upholds-output member heard output book cluster good = upheld-loseless head book cluster _ good (none-if cluster (order_kind cluster member heard output) (order-none cluster member heard output tt))
+  upholds-output member heard (outputs.Require required) book cluster good =
+      upheld-loseless head book cluster _ good (order-none cluster member (require_of cluster.facts.members member required) (λ s. holds-cond (is_same_required s.required required) None _ tt tt))
+  upholds-output member heard (outputs.Armed until) book cluster good = upheld-loseless head book cluster _ good (tt, (tt, tt))
+  upholds-output member heard (outputs.Fed until) book cluster good = upheld-loseless head book cluster _ good (tt, (tt, tt))
+  upholds-output member heard outputs.Disarmed book cluster good = upheld-loseless head book cluster _ good (tt, tt)
+  upholds-output member heard outputs.CannotArm book cluster good = upheld-loseless head book cluster _ good (tt, tt)
+  upholds-output member heard outputs.Passes book cluster good = upheld-loseless head book cluster _ good (tt, tt)
+  upholds-output member heard outputs.PostponesPromotion book cluster good = upheld-loseless head book cluster _ good (tt, tt)
+  upholds-output member heard outputs.DisablesWatchdog book cluster good = upheld-loseless head book cluster _ good (tt, tt)
+  upholds-output member heard outputs.RunsWithoutKey book cluster good = upheld-loseless head book cluster _ good (tt, tt)
+  upholds-output member heard (outputs.DoesNotRace bar) book cluster good = upheld-loseless head book cluster _ good (tt, tt)
+  upholds-output member heard (outputs.HandsOver candidate) book cluster good =
+      let found = slice_get cluster.facts.members candidate.number in
+      upheld-loseless head book cluster _ good (none-if cluster (option_map (handing_over member) found) (holds-mapped found (handing_over member) (λ m. tt)))
+  upholds-output member heard (outputs.Told request told) book cluster good =
+      let agent = agent_at cluster.agents member.id.number in
+      upheld-loseless head book cluster _ good (none-if cluster (told_kind member agent told) (told-holds LosesNone member agent told (λ status body. tt)))
+  upholds-output member heard (outputs.HoldTaken until from sequence) book cluster good =
+      let found = slice_get cluster.facts.members from.number in
+      let hold = hold_taken member until heard.run sequence in
+      upheld-loseless head book cluster _ good (none-if cluster (option_map hold found) (holds-mapped found hold (λ m. tt)))
 
   -- what an agent does behind an event
   input-upheld : (book : List Event) (cluster : Cluster) (kind : EventKind) (member : Member) (heard : HeardMessage) (outcome : Option Outcome) → TellsSoFar head book cluster → LosesNone kind

@@ -20,7 +20,7 @@ use Rattle.commit_step_law.specs.Moving.{volatile_last}
 abbrev StaysNumbered : Machine → Machine → Type 0
 StaysNumbered x y = (run sequence : ℕ) → IsNumbered x run sequence → IsNumbered y run sequence
 
--- the same of each member
+-- whatever is numbered by the first machine of a member is so by its second, at each member
 abbrev pub StayNumbered : (ℕ → Machine) → (ℕ → Machine) → Type 0
 StayNumbered members later = (m : ℕ) → StaysNumbered (members m) (later m)
 

@@ -44,7 +44,8 @@ AsksAsOn s count (kinds.Message (Sent number message)) = IsSynchronousBody count
 AsksAsOn s count (kinds.Store (stores.Granted number by txn standbys)) = IsSynchronousTxn count txn
 AsksAsOn s count _ = Unit {0}
 
--- the same of each of these events
+-- what each of these events sends, or grants, is asked as synchronous mode has it; and what one member asks another has a run and a number
+-- that its agents have given in this state
 abbrev pub AskAsOn : State → ℕ → List Event → Type 0
 AskAsOn s count [] = Unit {0}
 AskAsOn s count (event ∷ events) = AsksAsOn s count event.kind × AskAsOn s count events

@@ -118,7 +118,7 @@ module _ (head : HeadText) (book : List Event) (cluster : Cluster) (good : Commi
         strict = good.fits.strict;
       }
 
--- the same of the machine that it finds
+-- a member's agent stands to commit with the machine that it finds
 module _ (head : HeadText) (book : List Event) (cluster : Cluster) (good : CommitsBridged head book cluster) (member : Member) (agent : AgentFacts)
     (there : slice_get cluster.agents member.id.number ≡ Some (Some agent)) (small : member.id.number < member_count head) where
   stands-by : (machine : Machine) (receives : Bool) (found : Option ServerFacts) → slice_get cluster.facts.servers member.id.number ≡ found

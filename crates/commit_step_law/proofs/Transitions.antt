@@ -52,7 +52,7 @@ keeps-inside setup past volatile_states (t ∷ ts) front back all sound e = elim
       (keeps-inside setup (past_over past t.events) t.volatile_states ts cut.0 back all.3 (kept-after setup past volatile_states t sound all.0 all.1) cut.2))
 ]
 
--- so is the order
+-- the order holds inside each transition
 order-inside-all : (setup : Setup) (past : Past) (volatile_states : ℕ → VolatileState) (transitions : List Transition) (front back : List Event) → AreAllowed setup past volatile_states transitions → EachChangesOnce transitions
     → IsSound (state_of setup past volatile_states) → front ++ back ≡ book_of transitions → NamesMembers setup.member_count (past_over past front).sync → IsInOrder (past_over past front)
 order-inside-all setup past volatile_states [] front back all once sound e members =

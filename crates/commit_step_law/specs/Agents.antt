@@ -56,6 +56,6 @@ abbrev pub IsAskNumbered : State → LinkEnd → ℕ → ℕ → Body → Type 0
 IsAskNumbered s (ends.Member by) run sequence bodies.Ask = IsNumbered (s.members by.id.number) run sequence
 IsAskNumbered s _ run sequence _ = Unit {0}
 
--- so has each such question in flight
+-- each ask of one member to another in flight has a run and a number that its agents gave
 abbrev pub AsksAreNumbered : State → Flight → Type 0
 AsksAreNumbered s flight = (i : ℕ) (carried : InFlightFacts) → in_flight flight i ≡ Some carried → IsAskNumbered s carried.message.from carried.message.run carried.message.sequence carried.message.body

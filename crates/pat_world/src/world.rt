@@ -132,7 +132,7 @@ impl World {
         ensures acknowledged { OnOk result (AreAcknowledged self.new.cluster.facts.members self.new.cluster.facts.servers) }
         ensures refused { OnErr result (events.new.items ≡ events.old.items) }
     {
-        let taken = self.play(step, events);
+        let taken = self.tick_or_take(step, events);
         if taken.is_err() {
             events.clear();
         }
@@ -161,7 +161,7 @@ impl World {
     }
 
     /// A step: a tick that is known to bring nothing else, or any other one.
-    fn play(&mut self, step: &Step, events: &mut Vec<Event>) -> Result<(), AllocError>
+    fn tick_or_take(&mut self, step: &Step, events: &mut Vec<Event>) -> Result<(), AllocError>
         requires room { HasStepsLeft self.old 1 }
         requires declared { IsStep self.old.cluster.facts.members step.now }
         requires empty { events.old.items ≡ [] }

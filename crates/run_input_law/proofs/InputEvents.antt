@@ -35,8 +35,8 @@ use Rattle.cluster_model.specs.Limits.{most_in_flight}
 use Rattle.wal_model.specs.Lacking.{lacks_in}
 use Rattle.cluster_model.specs.Losing.{loss_if}
 use Rattle.wal_model.specs.declared.entry.Entry.{Entry}
-use Rattle.cluster_model.specs.Messages.{agent_message, lost_at_once, sending_events, output_events, replying_events}
-use Rattle.cluster_model.specs.Orders.{declared_member, following_of, handing_over, is_same_required, order_kind, arming, feeding, feed_kinds, replica_start_kinds, require_of, required_names, server_at, stop_kind, stop_kinds, stop_of, upstream_of, repair_over, wipe_of}
+use Rattle.cluster_model.specs.Messages.{agent_message, lost_at_once, sending_events, output_events, replying_events, server_order_events}
+use Rattle.cluster_model.specs.Orders.{declared_member, following_of, handing_over, is_same_required, arming, feeding, feed_kinds, replica_start_kinds, require_of, required_names, server_at, stop_kind, stop_kinds, stop_of, upstream_of, repair_over, wipe_of}
 use Rattle.cluster_model.specs.Parts.{events_of, for_some}
 use Rattle.cluster_model.specs.State.{Cluster}
 use Rattle.event_book.specs.Kinds.{AllAre}
@@ -132,38 +132,11 @@ module _ (member : Member) (run heard : ℕ) (Q : Output → Type 0) where
   member-mine cluster id sequence bodies.Ask found peer ask runs is = asks-mine cluster id sequence found peer runs is
   member-mine cluster id sequence _ found peer ask runs is = absurd ask
 
-  order-mine : (cluster : Cluster) (message : HeardMessage) → message.number ≡ heard → (output : Output) → IsOfTable output → Q output → HoldsIf Mine (order_kind cluster member message output)
-  order-mine cluster message at (outputs.Send to sequence body) table is = tt
-  order-mine cluster message at (outputs.Answer to asked sequence answer) table is = tt
-  order-mine cluster message at outputs.Begin table is = tt
-  order-mine cluster message at (outputs.StartReplica leader) table is = tt
-  order-mine cluster message at (outputs.Stop reason) table is = tt
-  order-mine cluster message at (outputs.Follow leader) table is = holds-then Mine (upstream_of member (slice_get cluster.facts.members leader.number)) (server_at cluster member) (λ s. upstream-mine (slice_get cluster.facts.members leader.number) (is_replica s.state))
-  order-mine cluster message at (outputs.Require required) table is =
-      holds-then Mine (require_of cluster.facts.members member required) (server_at cluster member)
-      (λ s. unless-mine (kinds.Replication (replications.RequiredSet (server_of member) required (required_names cluster.facts.members required))) (is_same_required s.required required) refl)
-  order-mine cluster message at (outputs.Armed until) table is = tt
-  order-mine cluster message at (outputs.Fed until) table is = tt
-  order-mine cluster message at outputs.Disarmed table is = refl
-  order-mine cluster message at outputs.CannotArm table is = tt
-  order-mine cluster message at outputs.DisablesWatchdog table is = tt
-  order-mine cluster message at outputs.RunsWithoutKey table is = tt
-  order-mine cluster message at outputs.Passes table is = refl
-  order-mine cluster message at outputs.PostponesPromotion table is = tt
-  order-mine cluster message at (outputs.DoesNotRace bar) table is = tt
-  order-mine cluster message at outputs.ShutDown table is = holds-then Mine (stop_of member) (server_at cluster member)
-      (λ s. holds-if Mine (is_up s.state) (stop_kind member s.state s.stop_delay) (stop-mine (is_primary s.state && s.stop_delay.0 == 0)))
-  order-mine cluster message at (outputs.Repair leader repair) table is = tt
-  order-mine cluster message at (outputs.Restart as_primary) table is = tt
-  order-mine cluster message at outputs.Wipe table is =
-      holds-then Mine (wipe_of member) (server_at cluster member) (λ s. unless-mine (kinds.Log (logs.Wiped (server_of member))) (is_creating s.state || live s.state) refl)
-  order-mine cluster message at (outputs.HandsOver candidate) table is = holds-mapped Mine (handing_over member) (slice_get cluster.facts.members candidate.number) (λ other. tt)
-  order-mine cluster message at (outputs.Told request told) table is = told-holds Mine member (agent_at cluster.agents member.id.number) told (λ status body. tt)
-  order-mine cluster message at (outputs.HoldTaken until from sequence) table is = absurd table
+  kinds-mine : (cluster : Cluster) (kind : Option EventKind) → HoldsIf Mine kind → AllAre Mine (events_of cluster (kinds_of kind))
+  kinds-mine cluster kind is = all-kinds Mine cluster (kinds_of kind) (one-kind Mine kind is)
 
-  ordered-mine : (cluster : Cluster) (message : HeardMessage) → message.number ≡ heard → (output : Output) → IsOfTable output → Q output → AllAre Mine (events_of cluster (kinds_of (order_kind cluster member message output)))
-  ordered-mine cluster message at output table is =
-      all-kinds Mine cluster (kinds_of (order_kind cluster member message output)) (one-kind Mine (order_kind cluster member message output) (order-mine cluster message at output table is))
+  server-order-mine : (cluster : Cluster) (order : ServerFacts → Option EventKind) → ((s : ServerFacts) → HoldsIf Mine (order s)) → AllAre Mine (server_order_events cluster member order)
+  server-order-mine cluster order all = kinds-mine cluster (option_and_then order (server_at cluster member)) (holds-then Mine order (server_at cluster member) all)
 
   pub output-mine : (cluster : Cluster) (message : HeardMessage) → message.number ≡ heard → ((process : AgentProcess) → slice_get cluster.facts.processes member.id.number ≡ Some process → process.run ≡ run)
       → (output : Output) → IsOfTable output → Q output → AllAre Mine (output_events member message cluster output)
@@ -171,13 +144,36 @@ module _ (member : Member) (run heard : ℕ) (Q : Output → Type 0) where
   output-mine cluster message at runs (outputs.Send (targets.Member id) sequence body) table is = member-mine cluster id sequence body (slice_get cluster.facts.processes member.id.number) (slice_get cluster.facts.members id.number) table runs is
   output-mine cluster message at runs (outputs.Answer to asked sequence answer) table is = replies-mine cluster to asked sequence answer (slice_get cluster.facts.members to.number) is
   output-mine cluster message at runs outputs.Begin table is = begins-mine cluster (server_at cluster member) (inl is)
-  output-mine cluster message at runs (outputs.Restart as_primary) table is = restarts-mine cluster (server_at cluster member) (inr (as_primary, is))
-  output-mine cluster message at runs (outputs.Armed until) table is = all-kinds Mine cluster (feed_kinds member message (arming member until message)) (refl, ((refl, at, is), tt))
-  output-mine cluster message at runs (outputs.Fed until) table is = all-kinds Mine cluster (feed_kinds member message (feeding member until message)) (refl, ((refl, ap (λ (n : ℕ). bases.Grant n) at, is), tt))
   output-mine cluster message at runs (outputs.StartReplica leader) table is = starts-mine cluster (declared_member cluster.facts.members leader) (server_at cluster member)
   output-mine cluster message at runs (outputs.Stop reason) table is = stops-mine cluster reason (server_at cluster member)
+  output-mine cluster message at runs outputs.ShutDown table is =
+      server-order-mine cluster (stop_of member) (λ s. holds-if Mine (is_up s.state) (stop_kind member s.state s.stop_delay) (stop-mine (is_primary s.state && s.stop_delay.0 == 0)))
+  output-mine cluster message at runs (outputs.Restart as_primary) table is = restarts-mine cluster (server_at cluster member) (inr (as_primary, is))
+  output-mine cluster message at runs outputs.Wipe table is =
+      server-order-mine cluster (wipe_of member) (λ s. unless-mine (kinds.Log (logs.Wiped (server_of member))) (is_creating s.state || live s.state) refl)
+  output-mine cluster message at runs (outputs.Follow leader) table is =
+      let found = slice_get cluster.facts.members leader.number in
+      server-order-mine cluster (upstream_of member found) (λ s. upstream-mine found (is_replica s.state))
   output-mine cluster message at runs (outputs.Repair leader repair) table is =
-      let kind = option_and_then (repair_over cluster.facts.cuts cluster.facts.servers member repair) (slice_get cluster.facts.members leader.number) in
-      all-kinds Mine cluster (kinds_of kind) (one-kind Mine kind
-      (repaired-holds Mine cluster.facts.cuts cluster.facts.servers member repair (slice_get cluster.facts.members leader.number) (λ other r. refl) (λ other. refl)))
-  output-mine cluster message at runs output table is = ordered-mine cluster message at output table is
+      let found = slice_get cluster.facts.members leader.number in
+      kinds-mine cluster (option_and_then (repair_over cluster.facts.cuts cluster.facts.servers member repair) found)
+      (repaired-holds Mine cluster.facts.cuts cluster.facts.servers member repair found (λ other r. refl) (λ other. refl))
+  output-mine cluster message at runs (outputs.Require required) table is =
+      server-order-mine cluster (require_of cluster.facts.members member required)
+      (λ s. unless-mine (kinds.Replication (replications.RequiredSet (server_of member) required (required_names cluster.facts.members required))) (is_same_required s.required required) refl)
+  output-mine cluster message at runs (outputs.Armed until) table is = all-kinds Mine cluster (feed_kinds member message (arming member until message)) (refl, ((refl, at, is), tt))
+  output-mine cluster message at runs (outputs.Fed until) table is = all-kinds Mine cluster (feed_kinds member message (feeding member until message)) (refl, ((refl, ap (λ (n : ℕ). bases.Grant n) at, is), tt))
+  output-mine cluster message at runs outputs.Disarmed table is = (refl, tt)
+  output-mine cluster message at runs outputs.CannotArm table is = (tt, tt)
+  output-mine cluster message at runs outputs.Passes table is = (refl, tt)
+  output-mine cluster message at runs outputs.PostponesPromotion table is = (tt, tt)
+  output-mine cluster message at runs outputs.DisablesWatchdog table is = (tt, tt)
+  output-mine cluster message at runs outputs.RunsWithoutKey table is = (tt, tt)
+  output-mine cluster message at runs (outputs.DoesNotRace bar) table is = (tt, tt)
+  output-mine cluster message at runs (outputs.HandsOver candidate) table is =
+      let found = slice_get cluster.facts.members candidate.number in
+      kinds-mine cluster (option_map (handing_over member) found) (holds-mapped Mine (handing_over member) found (λ other. tt))
+  output-mine cluster message at runs (outputs.Told request told) table is =
+      let agent = agent_at cluster.agents member.id.number in
+      kinds-mine cluster (told_kind member agent told) (told-holds Mine member agent told (λ status body. tt))
+  output-mine cluster message at runs (outputs.HoldTaken until from sequence) table is = absurd table

@@ -252,7 +252,7 @@ others-reach now known o r =
     peers-reach now known Asking o (asking_all o.knows.who (o.knows.sequence + 1) o.outputs) refl refl
     (asks-send known.sequence (o.knows.sequence + 1) o.knows.who (o.knows.sequence + 1) MOST_MEMBERS o.outputs (omega (arith, r.last)) (omega arith)) r
 
--- the same of a leader that is to hand over
+-- the asks of a leader that is to hand over have numbers in this span: to the candidate alone, or to all others
 whom-send : (low high : ℕ) (who : Who) (candidate : Option MemberId) (sequence : ℕ) (outs : List Output) → low < sequence → sequence ≤ high → All (SendsBetween low high) outs → All (SendsBetween low high) (asking_whom who candidate sequence outs)
 whom-send low high who None sequence outs later less all = asks-send low high who sequence MOST_MEMBERS outs later less all
 whom-send low high who (Some candidate) sequence outs later less all = ask-sends low high who sequence (Some candidate) outs later less all

@@ -43,7 +43,7 @@ IsPutBy (Syncing (Lists set)) (txns.SetSync revision sync standbys) = standbys �
 IsPutBy (Syncing Empties) (txns.DropSync revision sync) = Unit {0}
 IsPutBy _ _ = ⊥
 
--- the same of what a message says
+-- the question is put by what a message says: by the request in it
 abbrev pub IsPutByBody : Question → Body → Type 0
 IsPutByBody question (bodies.Request txn) = IsPutBy question txn
 IsPutByBody question _ = ⊥

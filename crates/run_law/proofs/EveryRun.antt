@@ -19,7 +19,7 @@ runs-one head is steps front rest whole timely hands_off =
     let few = few-names head is in
     (keeps-run head few steps [] (cluster_of head) (bridged-first head few hands_off.unpaused)).inside front rest whole (record { timely = timely; hands_off = hands_off })
 
--- the premises by other functions that say the same of each member
+-- at most one accepts writes also where the premises are read with other functions, which answer alike at each member
 pub runs-one-by : (head : HeadText) → IsHead head → (steps : List Step) (front rest : List Event) (margin : ℕ → Option ℕ) (works : ℕ → Bool) → front ++ rest ≡ run_events (cluster_of head) steps
     → ((m : ℕ) → margin m ≡ (declared_of head).margin m) → ((m : ℕ) → works m ≡ works_of head m) → IsTimely margin front → IsHandsOff head.config works front → HasOneWriter front
 runs-one-by head is steps front rest margin works whole margins watched timely hands_off =

@@ -17,7 +17,7 @@ pub fn runs_have_one_writer()
     ensures declared { (head : HeadText) (steps : List Step) (front rest : List Event)
         → IsHead head → front ++ rest ≡ run_events (cluster_of head) steps
         → IsTimely (declared_of head).margin front → IsHandsOff head.config (works_of head) front → HasOneWriter front }
-    // The same where the premises are read with other functions, which say the same of each member.
+    // At most one accepts writes also where the premises are read with other functions, which answer alike at each member.
     ensures alike { (head : HeadText) (steps : List Step) (front rest : List Event) (margin : ℕ → Option ℕ) (works : ℕ → Bool)
         → IsHead head → front ++ rest ≡ run_events (cluster_of head) steps
         → ((m : ℕ) → margin m ≡ (declared_of head).margin m) → ((m : ℕ) → works m ≡ works_of head m)

@@ -7,8 +7,8 @@ use cluster_model::Delivery;
 use event_book::{AgentProcess, Body, Link, LinkEnd, Message};
 
 /// What stands between a message and its receiver.
-pub fn delivery_of(cuts: &CutLinks, agents: &[AgentProcess], message: &Message) -> Delivery
-    ensures { result ≡ delivery_of cuts.now agents.now message.now }
+pub fn delivery_of(cuts: &CutLinks, processes: &[AgentProcess], message: &Message) -> Delivery
+    ensures { result ≡ delivery_of cuts.now processes.now message.now }
 {
     let link = Link {
         first: message.from,
@@ -17,17 +17,17 @@ pub fn delivery_of(cuts: &CutLinks, agents: &[AgentProcess], message: &Message) 
     if cuts.is_cut(link) {
         Delivery::Cut
     } else {
-        delivery_to(agents, message, message.to)
+        delivery_to(processes, message, message.to)
     }
 }
 
-fn delivery_to(agents: &[AgentProcess], message: &Message, receiver: LinkEnd) -> Delivery
-    ensures { result ≡ delivery_to agents.now message.now receiver }
+fn delivery_to(processes: &[AgentProcess], message: &Message, receiver: LinkEnd) -> Delivery
+    ensures { result ≡ delivery_to processes.now message.now receiver }
 {
     match receiver {
         LinkEnd::Store => Delivery::Open,
         LinkEnd::Member(member) => {
-            delivery_to_agent(message, agents.get(member.id.number as usize).copied())
+            delivery_to_agent(message, processes.get(member.id.number as usize).copied())
         }
     }
 }

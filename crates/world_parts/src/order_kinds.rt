@@ -2,16 +2,16 @@
 ghost use Rattle.std.specs.Prelude.{ℕ, ◌≡◌, ◌<◌, ◌+◌, ◌^◌, IfSome, IfOk, Some, None, option_and_then, option_map, slice_get};
 ghost use Rattle.event_book.specs.Members.{server_of};
 ghost use Rattle.cluster_model.specs.Messages.{receiver_of};
-ghost use Rattle.cluster_model.specs.Orders.{arming, barring, declared_member, declared_name, feeding, following_of, handing_over, hold_taken, is_same_required, not_racing, require_of, stop_kind, stop_of, told_of, upstream_of, wipe_of};
+ghost use Rattle.cluster_model.specs.Orders.{arming, barring, declared_member, declared_name, feeding, following_of, handing_over, hold_taken, is_same_required, not_racing, require_of, stop_kind, stop_of, upstream_of, wipe_of};
 ghost use Rattle.cluster_model.specs.State.{Cluster};
 ghost use Rattle.world_model.specs.Comes.{MayCome};
 
 use crate::naming::required_names;
-use agent_model::{Output, Target};
+use agent_model::Target;
 use cluster_model::HeardMessage;
 use event_book::{
-    AgentEvent, Basis, EventKind, LinkEnd, LogEvent, Member, Note, ReplicationEvent, ServerEvent,
-    ServerOf, WatchdogEvent,
+    Basis, EventKind, LinkEnd, LogEvent, Member, Note, ReplicationEvent, ServerEvent, ServerOf,
+    WatchdogEvent,
 };
 use lease_store::Bar;
 use pat_base::{MemberId, Name, Required, State, Ticks};
@@ -55,7 +55,7 @@ pub fn following_of(member: Member, leader: Option<Member>) -> Option<EventKind>
     }))
 }
 
-/// The same, where the server is a replica.
+/// A server that is a replica follows this leader's: what happens where there is such a member.
 pub fn upstream_of(servers: &Servers, member: Member, leader: Option<Member>) -> Option<EventKind>
     ensures kind { result ≡ option_and_then (upstream_of member leader) (slice_get servers.now member.id.number) }
     ensures comes { (cluster : Cluster) → IfSome result (MayCome cluster) }
@@ -188,7 +188,7 @@ pub fn arming(member: Member, until: Ticks, heard: HeardMessage) -> EventKind
     })
 }
 
-/// A new deadline of one, on the message that was heard.
+/// A new deadline of a watchdog, on the message that was heard.
 pub fn feeding(member: Member, until: Ticks, heard: HeardMessage) -> EventKind
     ensures kind { result ≡ feeding member until heard }
     ensures comes { (cluster : Cluster) → MayCome cluster result }
@@ -200,22 +200,6 @@ pub fn feeding(member: Member, until: Ticks, heard: HeardMessage) -> EventKind
             answer: heard.number,
         },
     })
-}
-
-/// What an agent tells of its watchdog, but for its feeds, and of its promotion, and that it leads past the sync key.
-pub fn told_of(member: Member, output: &Output) -> Option<EventKind>
-    ensures kind { result ≡ told_of member output.now }
-    ensures comes { (cluster : Cluster) → IfSome result (MayCome cluster) }
-{
-    match output {
-        Output::Disarmed => Some(EventKind::Watchdog(WatchdogEvent::Disarmed { member })),
-        Output::CannotArm => Some(EventKind::Note(Note::CannotArm { member })),
-        Output::DisablesWatchdog => Some(EventKind::Note(Note::DisablesWatchdog { member })),
-        Output::RunsWithoutKey => Some(EventKind::Note(Note::RunsWithoutKey { member })),
-        Output::PostponesPromotion => Some(EventKind::Note(Note::PostponesPromotion { member })),
-        Output::Passes => Some(EventKind::Agent(AgentEvent::Passed { agent: member })),
-        _ => None,
-    }
 }
 
 /// A member that doesn't race for the free leader key, with the name of the member that bars it, if one does.

@@ -53,8 +53,8 @@ use Rattle.cluster_model.specs.Hearing.{heard_from}
 use Rattle.cluster_model.specs.Inputs.{agent_at, outcome_of_heard, outputs_of}
 use Rattle.cluster_model.specs.Limits.{most_in_flight}
 use Rattle.cluster_model.specs.Losing.{loss_if}
-use Rattle.cluster_model.specs.Messages.{answer_events_by, answer_message, arrival_events_at, decision_body, decision_events, heard_message, lost_at_once, message_events, message_events_by, output_events, receiver_of, send_events, sending_events, replying_events}
-use Rattle.cluster_model.specs.Orders.{arming, declared_member, feed_kinds, feeding, following_of, handing_over, hold_taken, is_same_required, order_kind, replica_start_kinds, require_of, required_names, server_at, stop_kind, stop_kinds, stop_of, upstream_of, repair_over, wipe_of}
+use Rattle.cluster_model.specs.Messages.{answer_events_by, answer_message, arrival_events_at, decision_body, decision_events, heard_message, lost_at_once, message_events, message_events_by, output_events, receiver_of, send_events, sending_events, replying_events, server_order_events}
+use Rattle.cluster_model.specs.Orders.{arming, declared_member, feed_kinds, feeding, following_of, handing_over, hold_taken, is_same_required, replica_start_kinds, require_of, required_names, server_at, stop_kind, stop_kinds, stop_of, upstream_of, repair_over, wipe_of}
 use Rattle.cluster_model.specs.Requests.{answering, config_text_of, told_kind}
 use Rattle.cluster_model.specs.Parts.{each, events_of, for_some}
 use Rattle.cluster_model.specs.State.{Cluster}
@@ -220,53 +220,52 @@ told-above : (last : ℕ) (member : Member) (agent : Option AgentFacts) (told : 
 told-above last member agent (tolds.Text status text) = tt
 told-above last member agent tolds.Written = mapped-above last (answering member ok) (config_text_of agent) (λ text. tt)
 
-order-above : (last : ℕ) (cluster : Cluster) (member : Member) (heard : HeardMessage) (output : Output) → HoldsIf (IsAbove last) (order_kind cluster member heard output)
-order-above last cluster member heard (outputs.Send to sequence body) = tt
-order-above last cluster member heard (outputs.Answer to run sequence answer) = tt
-order-above last cluster member heard outputs.Begin = tt
-order-above last cluster member heard (outputs.StartReplica leader) = tt
-order-above last cluster member heard (outputs.Stop reason) = tt
-order-above last cluster member heard (outputs.Follow leader) =
-    holds-then (IsAbove last) (upstream_of member (slice_get cluster.facts.members leader.number)) (server_at cluster member) (λ s. upstream-above last member (slice_get cluster.facts.members leader.number) (is_replica s.state))
-order-above last cluster member heard (outputs.Require required) =
-    holds-then (IsAbove last) (require_of cluster.facts.members member required) (server_at cluster member)
-    (λ s. require-above last (kinds.Replication (replications.RequiredSet (server_of member) required (required_names cluster.facts.members required))) (is_same_required s.required required) tt)
-order-above last cluster member heard (outputs.Armed until) = tt
-order-above last cluster member heard (outputs.Fed until) = tt
-order-above last cluster member heard outputs.Disarmed = tt
-order-above last cluster member heard outputs.CannotArm = tt
-order-above last cluster member heard outputs.DisablesWatchdog = tt
-order-above last cluster member heard outputs.RunsWithoutKey = tt
-order-above last cluster member heard outputs.Passes = tt
-order-above last cluster member heard outputs.PostponesPromotion = tt
-order-above last cluster member heard (outputs.DoesNotRace bar) = tt
-order-above last cluster member heard outputs.ShutDown =
-    holds-then (IsAbove last) (stop_of member) (server_at cluster member) (λ s. holds-if (IsAbove last) (is_up s.state) (stop_kind member s.state s.stop_delay) (stop-above last member (is_primary s.state && s.stop_delay.0 == 0)))
-order-above last cluster member heard (outputs.Repair leader repair) = tt
-order-above last cluster member heard (outputs.HoldTaken until from sequence) = mapped-above last (hold_taken member until heard.run sequence) (slice_get cluster.facts.members from.number) (λ from. tt)
-order-above last cluster member heard (outputs.Restart as_primary) = tt
-order-above last cluster member heard outputs.Wipe =
-    holds-then (IsAbove last) (wipe_of member) (server_at cluster member) (λ s. require-above last (kinds.Log (logs.Wiped (server_of member))) (is_creating s.state || live s.state) tt)
-order-above last cluster member heard (outputs.HandsOver candidate) = mapped-above last (handing_over member) (slice_get cluster.facts.members candidate.number) (λ candidate. tt)
-order-above last cluster member heard (outputs.Told request told) = told-above last member (agent_at cluster.agents member.id.number) told
+kinds-above : (last : ℕ) (cluster : Cluster) (kind : Option EventKind) → HoldsIf (IsAbove last) kind → AllAre (IsAbove last) (events_of cluster (kinds_of kind))
+kinds-above last cluster kind is = all-kinds (IsAbove last) cluster (kinds_of kind) (one-kind (IsAbove last) kind is)
 
-ordered-above : (last : ℕ) (cluster : Cluster) (member : Member) (heard : HeardMessage) (output : Output) → AllAre (IsAbove last) (events_of cluster (kinds_of (order_kind cluster member heard output)))
-ordered-above last cluster member heard output =
-    all-kinds (IsAbove last) cluster (kinds_of (order_kind cluster member heard output)) (one-kind (IsAbove last) (order_kind cluster member heard output) (order-above last cluster member heard output))
+server-order-above : (last : ℕ) (cluster : Cluster) (member : Member) (order : ServerFacts → Option EventKind) → ((s : ServerFacts) → HoldsIf (IsAbove last) (order s)) → AllAre (IsAbove last) (server_order_events cluster member order)
+server-order-above last cluster member order all = kinds-above last cluster (option_and_then order (server_at cluster member)) (holds-then (IsAbove last) order (server_at cluster member) all)
 
 output-above : (last : ℕ) (cluster : Cluster) (member : Member) (heard : HeardMessage) (output : Output) → last ≤ cluster.facts.sent → AllAre (IsAbove last) (output_events member heard cluster output)
 output-above last cluster member heard (outputs.Send to sequence body) low = sending-above last cluster member (slice_get cluster.facts.processes member.id.number) (receiver_of cluster.facts.members to) sequence body low
 output-above last cluster member heard (outputs.Answer to run sequence answer) low = replying-above last cluster member (receiver_of cluster.facts.members (targets.Member to)) run sequence (bodies.Answer answer) low
 output-above last cluster member heard outputs.Begin low = begins-above last cluster member (server_at cluster member)
+output-above last cluster member heard (outputs.StartReplica leader) low = starts-above last cluster member (declared_member cluster.facts.members leader) (server_at cluster member)
+output-above last cluster member heard (outputs.Stop reason) low = stops-above last cluster member reason (server_at cluster member)
+output-above last cluster member heard outputs.ShutDown low =
+    server-order-above last cluster member (stop_of member) (λ s. holds-if (IsAbove last) (is_up s.state) (stop_kind member s.state s.stop_delay) (stop-above last member (is_primary s.state && s.stop_delay.0 == 0)))
+output-above last cluster member heard (outputs.Restart as_primary) low = restarts-above last cluster member (server_at cluster member)
+output-above last cluster member heard outputs.Wipe low =
+    server-order-above last cluster member (wipe_of member) (λ s. require-above last (kinds.Log (logs.Wiped (server_of member))) (is_creating s.state || live s.state) tt)
+output-above last cluster member heard (outputs.Follow leader) low =
+    let found = slice_get cluster.facts.members leader.number in
+    server-order-above last cluster member (upstream_of member found) (λ s. upstream-above last member found (is_replica s.state))
+output-above last cluster member heard (outputs.Repair leader repair) low =
+    let found = slice_get cluster.facts.members leader.number in
+    kinds-above last cluster (option_and_then (repair_over cluster.facts.cuts cluster.facts.servers member repair) found)
+    (repaired-holds (IsAbove last) cluster.facts.cuts cluster.facts.servers member repair found (λ other r. tt) (λ other. tt))
+output-above last cluster member heard (outputs.Require required) low =
+    server-order-above last cluster member (require_of cluster.facts.members member required)
+    (λ s. require-above last (kinds.Replication (replications.RequiredSet (server_of member) required (required_names cluster.facts.members required))) (is_same_required s.required required) tt)
 output-above last cluster member heard (outputs.Armed until) low = all-kinds (IsAbove last) cluster (feed_kinds member heard (arming member until heard)) (tt, (tt, tt))
 output-above last cluster member heard (outputs.Fed until) low = all-kinds (IsAbove last) cluster (feed_kinds member heard (feeding member until heard)) (tt, (tt, tt))
-output-above last cluster member heard (outputs.StartReplica leader) low = starts-above last cluster member (declared_member cluster.facts.members leader) (server_at cluster member)
-output-above last cluster member heard (outputs.Restart as_primary) low = restarts-above last cluster member (server_at cluster member)
-output-above last cluster member heard (outputs.Stop reason) low = stops-above last cluster member reason (server_at cluster member)
-output-above last cluster member heard (outputs.Repair leader repair) low =
-    let kind = option_and_then (repair_over cluster.facts.cuts cluster.facts.servers member repair) (slice_get cluster.facts.members leader.number) in
-    all-kinds (IsAbove last) cluster (kinds_of kind) (one-kind (IsAbove last) kind (repaired-holds (IsAbove last) cluster.facts.cuts cluster.facts.servers member repair (slice_get cluster.facts.members leader.number) (λ other r. tt) (λ other. tt)))
-output-above last cluster member heard output low = ordered-above last cluster member heard output
+output-above last cluster member heard outputs.Disarmed low = (tt, tt)
+output-above last cluster member heard outputs.CannotArm low = (tt, tt)
+output-above last cluster member heard outputs.Passes low = (tt, tt)
+output-above last cluster member heard outputs.PostponesPromotion low = (tt, tt)
+output-above last cluster member heard outputs.DisablesWatchdog low = (tt, tt)
+output-above last cluster member heard outputs.RunsWithoutKey low = (tt, tt)
+output-above last cluster member heard (outputs.DoesNotRace bar) low = (tt, tt)
+output-above last cluster member heard (outputs.HandsOver candidate) low =
+    let found = slice_get cluster.facts.members candidate.number in
+    kinds-above last cluster (option_map (handing_over member) found) (mapped-above last (handing_over member) found (λ candidate. tt))
+output-above last cluster member heard (outputs.Told request told) low =
+    let agent = agent_at cluster.agents member.id.number in
+    kinds-above last cluster (told_kind member agent told) (told-above last member agent told)
+output-above last cluster member heard (outputs.HoldTaken until from sequence) low =
+    let found = slice_get cluster.facts.members from.number in
+    let hold = hold_taken member until heard.run sequence in
+    kinds-above last cluster (option_map hold found) (mapped-above last hold found (λ from. tt))
 
 outputs-above : (last : ℕ) (cluster : Cluster) (member : Member) (heard : HeardMessage) (outs : List Output) → last ≤ cluster.facts.sent → AllAre (IsAbove last) (each (output_events member heard) cluster outs)
 outputs-above last cluster member heard [] low = tt

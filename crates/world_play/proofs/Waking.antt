@@ -74,7 +74,7 @@ wake-took cluster after member process had has there ready woken =
     found-took AgentProcess cluster after had has (wake_events_if cluster member) (slice_get cluster.facts.processes member.id.number) process input_cost there
     (subst (λ (b : Bool). Emits cluster after had has (if b then wake_events_of cluster member else []) input_cost) (sym ready) woken)
 
--- so is one that a script wakes, where it may act
+-- an agent is woken that may act, by a script
 pub turn-took : (cluster after : Cluster) (member : Member) (process : AgentProcess) (had has : List Event) → slice_get cluster.facts.processes member.id.number ≡ Some process
     → may_act process ≡ true → Emits cluster after had has (wake_events_of cluster member) input_cost → Emits cluster after had has (turn_events cluster member) input_cost
 turn-took cluster after member process had has there ready woken =

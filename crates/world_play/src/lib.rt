@@ -9,6 +9,7 @@ mod receiving;
 mod repairing;
 mod servers;
 mod steps;
+mod telling;
 mod ticks;
 mod wakes;
 

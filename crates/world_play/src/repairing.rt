@@ -1,14 +1,17 @@
 //! The log of a server is repaired by that of its leader's.
-ghost use Rattle.std.specs.Prelude.{OnOk, option_and_then, if◌then◌else◌, Some};
+ghost use Rattle.std.specs.Prelude.{OnOk, if◌then◌else◌, Some, slice_get};
 ghost use Rattle.cluster_model.specs.Commands.{kinds_of};
-ghost use Rattle.cluster_model.specs.Orders.{repair_by, repair_over};
+ghost use Rattle.cluster_model.specs.Messages.{repair_events};
+ghost use Rattle.cluster_model.specs.Orders.{repair_by};
 ghost use Rattle.cluster_model.specs.Parts.{events_of};
 ghost use Rattle.world_model.specs.Emits.{Emits};
 ghost use Rattle.world_model.specs.Room.{HasRoom};
 
 use agent_model::Repair;
 use event_book::{Event, Member};
+use pat_base::MemberId;
 use std::alloc::AllocError;
+use world_parts::order_kinds::member_at;
 use world_parts::sources::link_of_members;
 use world_stage::Stage;
 
@@ -18,13 +21,13 @@ pub fn repair_log(
     stage: &mut Stage,
     member: Member,
     repair: Repair,
-    leader: Option<Member>,
+    leader: MemberId,
     events: &mut Vec<Event>,
 ) -> Result<(), AllocError>
     requires { HasRoom stage.old 1 }
-    ensures { OnOk result (Emits stage.old stage.new events.old.items events.new.items (events_of stage.old (kinds_of (option_and_then (repair_over stage.old.facts.cuts stage.old.facts.servers member repair) leader))) 1) }
+    ensures { OnOk result (Emits stage.old stage.new events.old.items events.new.items (repair_events stage.old member repair (slice_get stage.old.facts.members leader.number)) 1) }
 {
-    let Some(leader) = leader else {
+    let Some(leader) = member_at(stage.members(), leader) else {
         return Ok(());
     };
     if stage.cuts().is_cut(link_of_members(member, leader)) {
@@ -33,7 +36,8 @@ pub fn repair_log(
     repair_by(stage, member, repair, leader, events)
 }
 
-/// The same, over a joined link.
+/// The log of a member's server is repaired by that of this leader's, over a joined link: where that accepts writes, and the
+/// server may be rewound, or waits for a copy.
 fn repair_by(
     stage: &mut Stage,
     member: Member,

@@ -1,10 +1,10 @@
 //! What commands and agents do to servers.
-ghost use Rattle.std.specs.Prelude.{◌≡◌, OnOk, Some, option_map};
+ghost use Rattle.std.specs.Prelude.{◌≡◌, OnOk, Some, option_map, slice_get};
 ghost use Rattle.pat_base.specs.declared.server_state.State.TheVariants as states;
 ghost use Rattle.event_book.specs.Members.{server_of};
-ghost use Rattle.cluster_model.specs.Messages.{begin_events, replica_start_events, server_restart_events, stop_events};
+ghost use Rattle.cluster_model.specs.Messages.{begin_events, replica_start_events, server_order_events, server_restart_events, stop_events};
 ghost use Rattle.cluster_model.specs.Next.{promote_events};
-ghost use Rattle.cluster_model.specs.Orders.{server_at};
+ghost use Rattle.cluster_model.specs.Orders.{declared_member, require_of, server_at, stop_of, upstream_of, wipe_of};
 ghost use Rattle.world_model.specs.Comes.{MayCome};
 ghost use Rattle.world_model.specs.Emits.{Emits};
 ghost use Rattle.world_model.specs.Promoting.{beginning_at};
@@ -12,10 +12,12 @@ ghost use Rattle.world_model.specs.Room.{HasRoom, beginning_cost, promotion_cost
 
 use cluster_model::Beginning;
 use event_book::{Event, EventKind, Member, Note, Reason, ServerEvent, ServerOf};
-use pat_base::State;
+use pat_base::{MemberId, Required, State};
 use std::alloc::AllocError;
 use world_parts::losing::loss_of_any;
-use world_parts::order_kinds::{following_of, stop_of};
+use world_parts::order_kinds::{
+    declared_member, following_of, member_at, require_of, stop_of, upstream_of, wipe_of,
+};
 use world_parts::server_changes::is_down;
 use world_parts::server_commands::{beginning_of, promoted_timeline, restart_of};
 use world_stage::Stage;
@@ -75,11 +77,11 @@ pub fn begin_on(
 pub fn start_replica(
     stage: &mut Stage,
     member: Member,
-    leader: Option<Member>,
+    leader: Option<MemberId>,
     events: &mut Vec<Event>,
 ) -> Result<(), AllocError>
     requires { HasRoom stage.old replica_start_cost }
-    ensures { OnOk result (Emits stage.old stage.new events.old.items events.new.items (replica_start_events stage.old member leader) replica_start_cost) }
+    ensures { OnOk result (Emits stage.old stage.new events.old.items events.new.items (replica_start_events stage.old member (declared_member stage.old.facts.members leader)) replica_start_cost) }
 {
     let Some(state) = server_state(stage, member) else {
         return Ok(());
@@ -88,6 +90,7 @@ pub fn start_replica(
         return Ok(());
     }
     let server = ServerOf::of(member);
+    let leader = declared_member(stage.members(), leader);
     stage.happen_then(
         EventKind::Server(ServerEvent::StartsAsReplica { server }),
         following_of(member, leader),
@@ -114,6 +117,63 @@ pub fn stop(
         stop,
         events,
     )
+}
+
+/// The server of a member shuts down by the order of its agent, where it runs or starts.
+pub fn shut_down(
+    stage: &mut Stage,
+    member: Member,
+    events: &mut Vec<Event>,
+) -> Result<(), AllocError>
+    requires { HasRoom stage.old 1 }
+    ensures { OnOk result (Emits stage.old stage.new events.old.items events.new.items (server_order_events stage.old member (stop_of member)) 1) }
+{
+    let stop = stop_of(stage.servers(), member);
+    stage.happen_if(stop, events)
+}
+
+/// The server of a member is wiped by the order of its agent, where it isn't live and doesn't wait for a copy already.
+pub fn wipe(stage: &mut Stage, member: Member, events: &mut Vec<Event>) -> Result<(), AllocError>
+    requires { HasRoom stage.old 1 }
+    ensures { OnOk result (Emits stage.old stage.new events.old.items events.new.items (server_order_events stage.old member (wipe_of member)) 1) }
+{
+    let wipe = wipe_of(stage.servers(), member);
+    stage.happen_if(wipe, events)
+}
+
+/// The server of a member follows that of this leader by the order of its agent, where it is a replica.
+pub fn follow(
+    stage: &mut Stage,
+    member: Member,
+    leader: MemberId,
+    events: &mut Vec<Event>,
+) -> Result<(), AllocError>
+    requires { HasRoom stage.old 1 }
+    ensures { OnOk result (Emits stage.old stage.new events.old.items events.new.items (server_order_events stage.old member (upstream_of member (slice_get stage.old.facts.members leader.number))) 1) }
+{
+    let leader = member_at(stage.members(), leader);
+    let upstream = upstream_of(stage.servers(), member, leader);
+    stage.happen_if(upstream, events)
+}
+
+/// Commits of a member's server wait for these by the order of its agent, where that is a change.
+pub fn require(
+    stage: &mut Stage,
+    member: Member,
+    required: Required,
+    events: &mut Vec<Event>,
+) -> Result<(), AllocError>
+    requires { HasRoom stage.old 1 }
+    ensures { OnOk result (Emits stage.old stage.new events.old.items events.new.items (server_order_events stage.old member (require_of stage.old.facts.members member required)) 1) }
+{
+    let change = require_of(
+        stage.alloc(),
+        stage.members(),
+        stage.servers(),
+        member,
+        required,
+    )?;
+    stage.happen_if(change, events)
 }
 
 /// The server of a member starts again in its role by the order of its agent, where it runs.

@@ -57,7 +57,7 @@ begins-again now s is quick =
     sym (ap (λ (state : State). restarted_in state now s) is
     ∙ ap (λ (b : Bool). if b then started true (stopped s) else record (stopped s) { state = states.Starting true (moment_after now s.start_delay) }) quick)
 
--- so is one that ends and starts slowly
+-- a primary that ends and starts slowly is restarted
 starts-again : (now : ℕ) (s : ServerFacts) → s.state ≡ states.Primary → (s.start_delay.0 == 0) ≡ false → starts_as_primary now (stopped s) ≡ restarted (record { 0 = now }) s
 starts-again now s is slow =
     ap (λ (b : Bool). if not b then primary_started (record { 0 = now }) (stopped s) else stopped s) slow ∙ sym (ap (λ (state : State). restarted_in state (record { 0 = now }) s) is)

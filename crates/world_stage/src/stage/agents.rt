@@ -68,7 +68,7 @@ impl Stage {
         ensures emits { OnOk result (Emits self.old self.new events.old.items events.new.items (event_of self.old (EventKind.Agent (AgentEvent.Woken agent))) hearing_cost) }
         ensures outputs { outputs.new.outputs ≡ outputs_of (outcome_of self.old agent heards.Wake) }
     {
-        self.hear(agent, Heard::Wake, outputs);
+        self.agent_hears(agent, Heard::Wake, outputs);
         write_down(
             events,
             self.clock,
@@ -91,7 +91,7 @@ impl Stage {
         ensures outputs { OnOk result (outputs.new.outputs ≡ outputs_of (outcome_of self.old agent (heards.Operated action))) }
     {
         let told = copy_of(&action)?;
-        self.hear(agent, Heard::Operated { action }, outputs);
+        self.agent_hears(agent, Heard::Operated { action }, outputs);
         write_down(
             events,
             self.clock,
@@ -103,7 +103,12 @@ impl Stage {
     }
 
     /// The agent of a member acts on what a message says, if it says anything to agents.
-    pub(crate) fn hear_if(&mut self, member: Member, heard: Option<Heard>, outputs: &mut Outputs)
+    pub(crate) fn agent_hears_if(
+        &mut self,
+        member: Member,
+        heard: Option<Heard>,
+        outputs: &mut Outputs,
+    )
         requires room { HasRoom self.old hearing_cost }
         requires spare { most_outputs ≤ outputs.old.spare }
         requires none { outputs.old.outputs ≡ [] }
@@ -112,12 +117,12 @@ impl Stage {
     {
         match heard {
             None => {}
-            Some(heard) => self.hear(member, heard, outputs),
+            Some(heard) => self.agent_hears(member, heard, outputs),
         }
     }
 
     /// The agent of a member acts on what it hears, if there is one: what it does is put into the list.
-    pub(crate) fn hear(&mut self, member: Member, heard: Heard, outputs: &mut Outputs)
+    pub(crate) fn agent_hears(&mut self, member: Member, heard: Heard, outputs: &mut Outputs)
         requires room { HasRoom self.old hearing_cost }
         requires spare { most_outputs ≤ outputs.old.spare }
         requires none { outputs.old.outputs ≡ [] }

@@ -135,7 +135,7 @@ impl Stage {
                     sent: carried.sent,
                 };
                 let said = self.heard_from(carried)?;
-                self.hear_if(member, said, outputs);
+                self.agent_hears_if(member, said, outputs);
                 Ok(Arrival::AtAgent(member, heard))
             }
         }

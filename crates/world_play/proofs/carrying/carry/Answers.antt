@@ -1,36 +1,71 @@
-use Rattle.std.proofs.Common.{◌∙◌, ap, arith, List, rules, slice_get}
+use Rattle.std.proofs.Common.{arith}
 use Rattle.std.proofs.lemmas.Result.{on_ok_weaker}
-use Rattle.event_book.specs.declared.member.Member.{Member}
-use Rattle.world_play.proofs.Carried.{carried, order-same, order-took, repair-took}
+use Rattle.world_model.specs.Room.{beginning_cost, feeding_cost, replica_start_cost, sending_cost, stopping_cost}
+use Rattle.world_play.proofs.Carried.{carried}
 use Rattle.world_play.proofs.carrying.carry.Goals as goal
 
-pub returns-in_ok-kind-in_default : goal.returns-in_ok-kind-in_default
-returns-in_ok-kind-in_default c =
-    let none = c.in_default in
-    let same = order-same c.args.stage.now c.args.member c.args.heard c.args.output none.not-Send none.not-Answer none.not-Begin none.not-StartReplica none.not-Stop none.not-Armed none.not-Fed none.not-Repair none.not-Restart in
-    on_ok_weaker c.happen_if.result
-    (λ took. order-took c.args.stage.now c.happen_if.new.self c.args.events.now.items c.happen_if.new.events.items c.args.member c.args.heard c.args.output c.in_ok-kind-in_default.kind same c.in_ok-kind-in_default.ensures.kind took)
-    c.happen_if.ensures
-
-pub returns-in-Repair : goal.returns-in-Repair
-returns-in-Repair c =
-    let place = c.in-Repair.leader.number in
-    let there = c.member_at-leader.ensures ∙ ap (λ (l : List Member). slice_get l place) c.members-in-Repair.ensures in
-    on_ok_weaker c.repair_log.result
-    (λ took. repair-took c.args.stage.now c.repair_log.new.stage c.args.events.now.items c.repair_log.new.events.items c.args.member c.args.heard c.in-Repair.leader c.in-Repair.repair c.args.output c.member_at-leader.result c.in-Repair.is there took)
-    c.repair_log.ensures
-
 pub returns-in-Send : goal.returns-in-Send
-returns-in-Send c = on_ok_weaker c.write.result (λ took. carried _ _ _ _ _ c.args.member c.args.heard c.args.output _ took (search rules) (omega arith)) c.write.ensures
+returns-in-Send c = on_ok_weaker c.write.result (carried _ _ _ _ c.args.member c.args.heard c.args.output _ sending_cost c.in-Send.is (omega arith)) c.write.ensures
 
 pub returns-in-Answer : goal.returns-in-Answer
-returns-in-Answer c = on_ok_weaker c.reply.result (λ took. carried _ _ _ _ _ c.args.member c.args.heard c.args.output _ took (search rules) (omega arith)) c.reply.ensures
+returns-in-Answer c = on_ok_weaker c.reply.result (carried _ _ _ _ c.args.member c.args.heard c.args.output _ sending_cost c.in-Answer.is (omega arith)) c.reply.ensures
 
 pub returns-in-Begin : goal.returns-in-Begin
-returns-in-Begin c = on_ok_weaker c.begin.result (λ took. carried _ _ _ _ _ c.args.member c.args.heard c.args.output _ took (search rules) (omega arith)) c.begin.ensures
+returns-in-Begin c = on_ok_weaker c.begin.result (carried _ _ _ _ c.args.member c.args.heard c.args.output _ beginning_cost c.in-Begin.is (omega arith)) c.begin.ensures
 
 pub returns-in-StartReplica : goal.returns-in-StartReplica
-returns-in-StartReplica c = on_ok_weaker c.start_replica.result (λ took. carried _ _ _ _ _ c.args.member c.args.heard c.args.output _ took (search rules) (omega arith)) c.start_replica.ensures
+returns-in-StartReplica c = on_ok_weaker c.start_replica.result (carried _ _ _ _ c.args.member c.args.heard c.args.output _ replica_start_cost c.in-StartReplica.is (omega arith)) c.start_replica.ensures
 
 pub returns-in-Stop : goal.returns-in-Stop
-returns-in-Stop c = on_ok_weaker c.stop.result (λ took. carried _ _ _ _ _ c.args.member c.args.heard c.args.output _ took (search rules) (omega arith)) c.stop.ensures
+returns-in-Stop c = on_ok_weaker c.stop.result (carried _ _ _ _ c.args.member c.args.heard c.args.output _ stopping_cost c.in-Stop.is (omega arith)) c.stop.ensures
+
+pub returns-in-ShutDown : goal.returns-in-ShutDown
+returns-in-ShutDown c = on_ok_weaker c.shut_down.result (carried _ _ _ _ c.args.member c.args.heard c.args.output _ 1 c.in-ShutDown.is (omega arith)) c.shut_down.ensures
+
+pub returns-in-Wipe : goal.returns-in-Wipe
+returns-in-Wipe c = on_ok_weaker c.wipe.result (carried _ _ _ _ c.args.member c.args.heard c.args.output _ 1 c.in-Wipe.is (omega arith)) c.wipe.ensures
+
+pub returns-in-Follow : goal.returns-in-Follow
+returns-in-Follow c = on_ok_weaker c.follow.result (carried _ _ _ _ c.args.member c.args.heard c.args.output _ 1 c.in-Follow.is (omega arith)) c.follow.ensures
+
+pub returns-in-Repair : goal.returns-in-Repair
+returns-in-Repair c = on_ok_weaker c.repair_log.result (carried _ _ _ _ c.args.member c.args.heard c.args.output _ 1 c.in-Repair.is (omega arith)) c.repair_log.ensures
+
+pub returns-in-Require : goal.returns-in-Require
+returns-in-Require c = on_ok_weaker c.require.result (carried _ _ _ _ c.args.member c.args.heard c.args.output _ 1 c.in-Require.is (omega arith)) c.require.ensures
+
+pub returns-in-Armed : goal.returns-in-Armed
+returns-in-Armed c = on_ok_weaker c.tell_arming.result (carried _ _ _ _ c.args.member c.args.heard c.args.output _ feeding_cost c.in-Armed.is (omega arith)) c.tell_arming.ensures
+
+pub returns-in-Fed : goal.returns-in-Fed
+returns-in-Fed c = on_ok_weaker c.tell_feeding.result (carried _ _ _ _ c.args.member c.args.heard c.args.output _ feeding_cost c.in-Fed.is (omega arith)) c.tell_feeding.ensures
+
+pub returns-in-Disarmed : goal.returns-in-Disarmed
+returns-in-Disarmed c = on_ok_weaker c.tell_disarming.result (carried _ _ _ _ c.args.member c.args.heard c.args.output _ 1 c.in-Disarmed.is (omega arith)) c.tell_disarming.ensures
+
+pub returns-in-CannotArm : goal.returns-in-CannotArm
+returns-in-CannotArm c = on_ok_weaker c.tell_note-in-CannotArm.result (carried _ _ _ _ c.args.member c.args.heard c.args.output _ 1 c.in-CannotArm.is (omega arith)) c.tell_note-in-CannotArm.ensures
+
+pub returns-in-Passes : goal.returns-in-Passes
+returns-in-Passes c = on_ok_weaker c.tell_passing.result (carried _ _ _ _ c.args.member c.args.heard c.args.output _ 1 c.in-Passes.is (omega arith)) c.tell_passing.ensures
+
+pub returns-in-PostponesPromotion : goal.returns-in-PostponesPromotion
+returns-in-PostponesPromotion c = on_ok_weaker c.tell_note-in-PostponesPromotion.result (carried _ _ _ _ c.args.member c.args.heard c.args.output _ 1 c.in-PostponesPromotion.is (omega arith)) c.tell_note-in-PostponesPromotion.ensures
+
+pub returns-in-DisablesWatchdog : goal.returns-in-DisablesWatchdog
+returns-in-DisablesWatchdog c = on_ok_weaker c.tell_note-in-DisablesWatchdog.result (carried _ _ _ _ c.args.member c.args.heard c.args.output _ 1 c.in-DisablesWatchdog.is (omega arith)) c.tell_note-in-DisablesWatchdog.ensures
+
+pub returns-in-RunsWithoutKey : goal.returns-in-RunsWithoutKey
+returns-in-RunsWithoutKey c = on_ok_weaker c.tell_note-in-RunsWithoutKey.result (carried _ _ _ _ c.args.member c.args.heard c.args.output _ 1 c.in-RunsWithoutKey.is (omega arith)) c.tell_note-in-RunsWithoutKey.ensures
+
+pub returns-in-DoesNotRace : goal.returns-in-DoesNotRace
+returns-in-DoesNotRace c = on_ok_weaker c.tell_bar.result (carried _ _ _ _ c.args.member c.args.heard c.args.output _ 1 c.in-DoesNotRace.is (omega arith)) c.tell_bar.ensures
+
+pub returns-in-HandsOver : goal.returns-in-HandsOver
+returns-in-HandsOver c = on_ok_weaker c.tell_handover.result (carried _ _ _ _ c.args.member c.args.heard c.args.output _ 1 c.in-HandsOver.is (omega arith)) c.tell_handover.ensures
+
+pub returns-in-Told : goal.returns-in-Told
+returns-in-Told c = on_ok_weaker c.tell_answer.result (carried _ _ _ _ c.args.member c.args.heard c.args.output _ 1 c.in-Told.is (omega arith)) c.tell_answer.ensures
+
+pub returns-in-HoldTaken : goal.returns-in-HoldTaken
+returns-in-HoldTaken c = on_ok_weaker c.tell_hold.result (carried _ _ _ _ c.args.member c.args.heard c.args.output _ 1 c.in-HoldTaken.is (omega arith)) c.tell_hold.ensures

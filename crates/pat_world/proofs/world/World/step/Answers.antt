@@ -7,22 +7,22 @@ use Rattle.pat_world.proofs.Stepping.{TookSteps-step}
 use Rattle.pat_world.proofs.world.World.step.Goals as goal
 
 pub returns-else-is_err-clause-book : goal.returns-else-is_err-clause-book
-returns-else-is_err-clause-book c = on_ok_weaker c.play-taken.result (λ took start book stands. step-stands start book _ _ _ _ c.args.step.now step_cost stands took) c.play-taken.ensures.emits
+returns-else-is_err-clause-book c = on_ok_weaker c.tick_or_take-taken.result (λ took start book stands. step-stands start book _ _ _ _ c.args.step.now step_cost stands took) c.tick_or_take-taken.ensures.emits
 
 pub returns-else-is_err-clause-one_writer : goal.returns-else-is_err-clause-one_writer
 returns-else-is_err-clause-one_writer c =
-    on_ok_weaker c.play-taken.result
-    (λ took. step-keeps c.args.self.now.cluster c.play-taken.new.self.cluster c.args.events.now.items c.play-taken.new.events.items c.args.step.now step_cost c.requires.empty took)
-    c.play-taken.ensures.emits
+    on_ok_weaker c.tick_or_take-taken.result
+    (λ took. step-keeps c.args.self.now.cluster c.tick_or_take-taken.new.self.cluster c.args.events.now.items c.tick_or_take-taken.new.events.items c.args.step.now step_cost c.requires.empty took)
+    c.tick_or_take-taken.ensures.emits
 
 pub returns-else-is_err-clause-commits : goal.returns-else-is_err-clause-commits
 returns-else-is_err-clause-commits c =
-    on_ok_weaker c.play-taken.result
-    (λ took. step-keeps-commits c.args.self.now.cluster c.play-taken.new.self.cluster c.args.events.now.items c.play-taken.new.events.items c.args.step.now step_cost c.requires.empty took)
-    c.play-taken.ensures.emits
+    on_ok_weaker c.tick_or_take-taken.result
+    (λ took. step-keeps-commits c.args.self.now.cluster c.tick_or_take-taken.new.self.cluster c.args.events.now.items c.tick_or_take-taken.new.events.items c.args.step.now step_cost c.requires.empty took)
+    c.tick_or_take-taken.ensures.emits
 
 pub returns-else-is_err-clause-taken : goal.returns-else-is_err-clause-taken
 returns-else-is_err-clause-taken c =
-    on_ok_weaker c.play-taken.result
-    (λ took. TookSteps-step c.args.self.now c.play-taken.new.self c.args.events.now.items c.play-taken.new.events.items _ c.requires.room c.play-taken.ensures.steps took)
-    c.play-taken.ensures.emits
+    on_ok_weaker c.tick_or_take-taken.result
+    (λ took. TookSteps-step c.args.self.now c.tick_or_take-taken.new.self c.args.events.now.items c.tick_or_take-taken.new.events.items _ c.requires.room c.tick_or_take-taken.ensures.steps took)
+    c.tick_or_take-taken.ensures.emits

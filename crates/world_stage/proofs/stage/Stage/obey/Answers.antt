@@ -10,7 +10,7 @@ use Rattle.world_stage.proofs.stage.Stage.obey.Goals as goal
 pub returns-clause-emits : goal.returns-clause-emits
 returns-clause-emits c =
     on_ok_weaker c.write_down.result
-    (λ has. Emits-told c.args.self.now c.hear.new.self c.self.inside.clock (kinds.Agent (Operated c.args.agent c.args.action)) c.args.events.now.items c.write_down.new.events.items tt c.hear.ensures.world
+    (λ has. Emits-told c.args.self.now c.agent_hears.new.self c.self.inside.clock (kinds.Agent (Operated c.args.agent c.args.action)) c.args.events.now.items c.write_down.new.events.items tt c.agent_hears.ensures.world
     (ap (λ (b : Cluster). b.facts.clock) c.self.view_is)
     (subst (λ (a : OperatorAction). c.write_down.new.events.items ≡ c.args.events.now.items ++ record { tick = c.self.inside.clock; kind = kinds.Agent (Operated c.args.agent a) } ∷ []) c.in_ok-told.ensures has))
     c.write_down.ensures

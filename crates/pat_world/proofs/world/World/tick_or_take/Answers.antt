@@ -1,6 +1,6 @@
 use Rattle.std.proofs.Common.{ℕ, ◌≡◌, ◌<◌, ◌+◌, arith, subst}
 use Rattle.world_model.specs.Idle.{IsIdleIn}
-use Rattle.pat_world.proofs.world.World.play.Goals as goal
+use Rattle.pat_world.proofs.world.World.tick_or_take.Goals as goal
 
 pub tick-requires-clause-idle : goal.tick-requires-clause-idle
 tick-requires-clause-idle c =

@@ -8,7 +8,7 @@ use Rattle.cluster_model.specs.State.{Cluster}
 use Rattle.world_model.specs.Room.{HasRoom, hearing_cost}
 use Rattle.world_stage.proofs.Hearing.{heard-outputs, heard-state, unheard-by}
 use Rattle.world_stage.proofs.Worlds.{seen}
-use Rattle.world_stage.proofs.stage.Stage.hear.Goals as goal
+use Rattle.world_stage.proofs.stage.Stage.agent_hears.Goals as goal
 
 pub returns-in_default-clause-world : goal.returns-in_default-clause-world
 returns-in_default-clause-world c = unheard-by c.args.self.now c.args.member c.args.heard (sym c.machine.ensures.machine ∙ c.in_default.is)

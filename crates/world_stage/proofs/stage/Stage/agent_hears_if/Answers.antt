@@ -3,7 +3,7 @@ use Rattle.agent_model.specs.declared.heard.Heard.{Heard}
 use Rattle.cluster_model.specs.Cluster.{agent_facts_with}
 use Rattle.cluster_model.specs.Inputs.{outcome_of_heard}
 use Rattle.world_stage.proofs.Hearing.{unheard, with_agents}
-use Rattle.world_stage.proofs.stage.Stage.hear_if.Goals as goal
+use Rattle.world_stage.proofs.stage.Stage.agent_hears_if.Goals as goal
 
 pub returns-in-None-clause-world : goal.returns-in-None-clause-world
 returns-in-None-clause-world c =
