@@ -197,28 +197,7 @@ of-Ok : (base : Option ℕ) (members : List Name) (body : List Line) (line : Lis
 of-Ok base members body line words.Cluster a may k e = absurd (err_is _ a e)
 of-Ok base members body line words.Base a may k e = base-Ok base members body line a k e
 of-Ok base members body line words.Member a may k e = member-Ok base members body line a k e
-of-Ok base members body line words.Config a may k e = body-Ok base members body line words.Config a may k e
-of-Ok base members body line words.Tick a may k e = body-Ok base members body line words.Tick a may k e
-of-Ok base members body line words.Run a may k e = body-Ok base members body line words.Run a may k e
-of-Ok base members body line words.Turn a may k e = body-Ok base members body line words.Turn a may k e
-of-Ok base members body line words.Deliver a may k e = body-Ok base members body line words.Deliver a may k e
-of-Ok base members body line words.Lose a may k e = body-Ok base members body line words.Lose a may k e
-of-Ok base members body line words.Hold a may k e = body-Ok base members body line words.Hold a may k e
-of-Ok base members body line words.Resume a may k e = body-Ok base members body line words.Resume a may k e
-of-Ok base members body line words.Kill a may k e = body-Ok base members body line words.Kill a may k e
-of-Ok base members body line words.Restart a may k e = body-Ok base members body line words.Restart a may k e
-of-Ok base members body line words.Crash a may k e = body-Ok base members body line words.Crash a may k e
-of-Ok base members body line words.Promote a may k e = body-Ok base members body line words.Promote a may k e
-of-Ok base members body line words.Commit a may k e = body-Ok base members body line words.Commit a may k e
-of-Ok base members body line words.Stream a may k e = body-Ok base members body line words.Stream a may k e
-of-Ok base members body line words.Freeze a may k e = body-Ok base members body line words.Freeze a may k e
-of-Ok base members body line words.Thaw a may k e = body-Ok base members body line words.Thaw a may k e
-of-Ok base members body line words.Cut a may k e = body-Ok base members body line words.Cut a may k e
-of-Ok base members body line words.Join a may k e = body-Ok base members body line words.Join a may k e
-of-Ok base members body line words.Slow a may k e = body-Ok base members body line words.Slow a may k e
-of-Ok base members body line words.Rest a may k e = body-Ok base members body line words.Rest a may k e
-of-Ok base members body line words.Ctl a may k e = body-Ok base members body line words.Ctl a may k e
-of-Ok base members body line words.Trace a may k e = body-Ok base members body line words.Trace a may k e
+of-Ok base members body line keyword a may k e = body-Ok base members body line keyword a may k e
 
 -- a base that is said is in its range
 abbrev IsBaseIfSaid : Option ℕ → Type 0

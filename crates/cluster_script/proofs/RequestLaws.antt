@@ -25,7 +25,7 @@ use Rattle.rest_api.specs.declared.call.RestCall.{RestCall}
 use Rattle.rest_api.specs.declared.call.RestCall.TheVariants as calls
 use Rattle.script_words.proofs.Outcomes.{err_is, ok_or-Ok, both-Ok, cond-Err}
 use Rattle.script_words.proofs.PlainTexts.{IsPlain, IsPlain-append, blank-IsPlain, plain-is_utf8, no-feeds}
-use Rattle.cluster_script.proofs.FirstWordLaws.{some_name-IsPlain, word-IsPlain}
+use Rattle.cluster_script.proofs.FirstWordLaws.{longest_word, some_name-IsPlain, word-IsPlain}
 use Rattle.script_words.proofs.WordLaws.{find-passes, cut_word-None, cut_word-Some, cut_word-again, cut_word-alone}
 
 -- a target, and what stands behind its blank, if there is one
@@ -132,10 +132,10 @@ call-IsPlain calls.Reinitialize = record { plain = refl; short = omega arith }
 call-IsPlain calls.PatchConfiguration = record { plain = refl; short = omega arith }
 call-IsPlain calls.ReplaceConfiguration = record { plain = refl; short = omega arith }
 
-empty-IsPlain : (members : List Name) (m : MemberId) (call : RestCall) → IsPlain (rest_text members m call []) (7 + ((32 + (18 + 1)) + 1))
+empty-IsPlain : (members : List Name) (m : MemberId) (call : RestCall) → IsPlain (rest_text members m call []) (longest_word + ((32 + (18 + 1)) + 1))
 empty-IsPlain members m call =
     let named : IsPlain (two_texts (member_text members m) (request_text call [])) (32 + (18 + 1)) = IsPlain-append (member_text members m) (32 ∷ request_text call []) 32 (18 + 1) (some_name-IsPlain _) (blank-IsPlain (request_text call []) 18 (call-IsPlain call)) in
-    IsPlain-append (word_of words.Rest) (32 ∷ two_texts (member_text members m) (request_text call [])) 7 ((32 + (18 + 1)) + 1) (word-IsPlain words.Rest) (blank-IsPlain (two_texts (member_text members m) (request_text call [])) (32 + (18 + 1)) named)
+    IsPlain-append (word_of words.Rest) (32 ∷ two_texts (member_text members m) (request_text call [])) longest_word ((32 + (18 + 1)) + 1) (word-IsPlain words.Rest) (blank-IsPlain (two_texts (member_text members m) (request_text call [])) (32 + (18 + 1)) named)
 
 empty-IsInForm : (members : List Name) (m : MemberId) (call : RestCall) → IsInForm (rest_text members m call [])
 empty-IsInForm members m call = let all = empty-IsPlain members m call in record { text = plain-is_utf8 (rest_text members m call []) all.plain; short = omega (arith, all.short) }

@@ -41,7 +41,7 @@ use Rattle.rest_api.specs.declared.call.RestCall.{RestCall}
 use Rattle.member_options.proofs.OptionCanonLaws.{few-options, options-enough}
 use Rattle.member_options.proofs.OptionTexts.{options-IsPlain}
 use Rattle.script_words.proofs.PlainTexts.{IsPlain, IsPlain-append, IsPlain-most, blank-IsPlain, name-IsPlain, decimal-IsPlain, plain-is_utf8, no-feeds}
-use Rattle.cluster_script.proofs.FirstWordLaws.{some_name-IsPlain, word-IsPlain}
+use Rattle.cluster_script.proofs.FirstWordLaws.{longest_word, some_name-IsPlain, word-IsPlain}
 use Rattle.cluster_script.proofs.RequestLaws.{request-one-line}
 use Rattle.script_law.proofs.SpellLaws.{size-fits, delay-fits, base-fits, spelled-is-read}
 use Rattle.script_law.proofs.FirstWords.{spelled-counts}
@@ -59,7 +59,7 @@ end-IsPlain members (ends.Member m) = some_name-IsPlain (slice_get members m.num
 
 spelled-IsLineText : (keyword : Keyword) (rest : List ℕ) → IsPlain rest 500 → IsLineText (spelled keyword rest)
 spelled-IsLineText keyword rest h =
-    let p : IsPlain (spelled keyword rest) (7 + (500 + 1)) = IsPlain-append (word_of keyword) (32 ∷ rest) 7 (500 + 1) (word-IsPlain keyword) (blank-IsPlain rest 500 h) in
+    let p : IsPlain (spelled keyword rest) (longest_word + (500 + 1)) = IsPlain-append (word_of keyword) (32 ∷ rest) longest_word (500 + 1) (word-IsPlain keyword) (blank-IsPlain rest 500 h) in
     record { text = plain-is_utf8 (spelled keyword rest) p.plain; alone = no-feeds (spelled keyword rest) p.plain; short = omega (arith, p.short); counts = spelled-counts keyword rest }
 
 -- the line of a configuration, whose text is as it was written

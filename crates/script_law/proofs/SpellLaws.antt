@@ -279,30 +279,7 @@ spelled-again d keyword rest =
 
 keyword-again : (d : DraftText) (keyword : Keyword) (rest : Option (List ℕ)) (a : Addition) → addition_of d.base (member_names d.members) d.body keyword rest ≡ Ok a → with_keyword d (Some keyword) rest ≡ Ok (with_addition d a)
 keyword-again d words.Config rest a is = absurd (err_is _ a is)
-keyword-again d words.Cluster rest a is = ap (λ r. on_ok r (λ added. Ok (with_addition d added))) is
-keyword-again d words.Base rest a is = ap (λ r. on_ok r (λ added. Ok (with_addition d added))) is
-keyword-again d words.Member rest a is = ap (λ r. on_ok r (λ added. Ok (with_addition d added))) is
-keyword-again d words.Tick rest a is = ap (λ r. on_ok r (λ added. Ok (with_addition d added))) is
-keyword-again d words.Run rest a is = ap (λ r. on_ok r (λ added. Ok (with_addition d added))) is
-keyword-again d words.Turn rest a is = ap (λ r. on_ok r (λ added. Ok (with_addition d added))) is
-keyword-again d words.Deliver rest a is = ap (λ r. on_ok r (λ added. Ok (with_addition d added))) is
-keyword-again d words.Lose rest a is = ap (λ r. on_ok r (λ added. Ok (with_addition d added))) is
-keyword-again d words.Hold rest a is = ap (λ r. on_ok r (λ added. Ok (with_addition d added))) is
-keyword-again d words.Resume rest a is = ap (λ r. on_ok r (λ added. Ok (with_addition d added))) is
-keyword-again d words.Kill rest a is = ap (λ r. on_ok r (λ added. Ok (with_addition d added))) is
-keyword-again d words.Restart rest a is = ap (λ r. on_ok r (λ added. Ok (with_addition d added))) is
-keyword-again d words.Crash rest a is = ap (λ r. on_ok r (λ added. Ok (with_addition d added))) is
-keyword-again d words.Promote rest a is = ap (λ r. on_ok r (λ added. Ok (with_addition d added))) is
-keyword-again d words.Commit rest a is = ap (λ r. on_ok r (λ added. Ok (with_addition d added))) is
-keyword-again d words.Stream rest a is = ap (λ r. on_ok r (λ added. Ok (with_addition d added))) is
-keyword-again d words.Freeze rest a is = ap (λ r. on_ok r (λ added. Ok (with_addition d added))) is
-keyword-again d words.Thaw rest a is = ap (λ r. on_ok r (λ added. Ok (with_addition d added))) is
-keyword-again d words.Cut rest a is = ap (λ r. on_ok r (λ added. Ok (with_addition d added))) is
-keyword-again d words.Join rest a is = ap (λ r. on_ok r (λ added. Ok (with_addition d added))) is
-keyword-again d words.Slow rest a is = ap (λ r. on_ok r (λ added. Ok (with_addition d added))) is
-keyword-again d words.Rest rest a is = ap (λ r. on_ok r (λ added. Ok (with_addition d added))) is
-keyword-again d words.Ctl rest a is = ap (λ r. on_ok r (λ added. Ok (with_addition d added))) is
-keyword-again d words.Trace rest a is = ap (λ r. on_ok r (λ added. Ok (with_addition d added))) is
+keyword-again d _ rest a is = ap (λ r. on_ok r (λ added. Ok (with_addition d added))) is
 
 addition-again : (d : DraftText) (keyword : Keyword) (rest : List ℕ) (a : Addition) → addition_of d.base (member_names d.members) d.body keyword (Some rest) ≡ Ok a → with_line d (spelled keyword rest) ≡ Ok (with_addition d a)
 addition-again d keyword rest a is = spelled-again d keyword rest ∙ keyword-again d keyword (Some rest) a is
