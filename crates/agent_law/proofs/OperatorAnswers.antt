@@ -1,11 +1,12 @@
 -- Each answer to an operator has its cause, and what waits for a result was asked.
-use Rattle.std.proofs.Common.{◌≡◌, ◌⊎◌, ℕ, ◌++◌, nat_le, true, false, List, [], ◌∷◌, Option, Some, None, refl, sym, subst, ap, ◌∙◌, inl, inr, append-nil}
+use Rattle.std.proofs.Common.{◌≡◌, ◌⊎◌, ◌≤◌, ℕ, ◌++◌, ◌==◌, ◌&&◌, not, nat_le, eq-eqb, Bool, true, false, List, [], ◌∷◌, Option, Some, None, All, refl, sym, subst, ap, ◌∙◌, inl, inr, append-nil}
 use Rattle.std.proofs.lemmas.Bool.{eqb-true, leb-true}
-use Rattle.std.proofs.lemmas.List.Elements.{Contains-push, Contains-append_left}
+use Rattle.std.proofs.lemmas.List.Elements.{All-cons, All-nil, Contains-push, Contains-append_left}
 use Rattle.pat_base.specs.declared.member_id.MemberId.{MemberId}
 use Rattle.pat_base.specs.declared.name.Name.{Name}
 use Rattle.pat_base.specs.declared.ticks.Ticks.{Ticks}
 use Rattle.lease_store.specs.declared.action.FailoverKind.{FailoverKind}
+use Rattle.lease_store.specs.declared.action.FailoverKind.TheVariants as kinds
 use Rattle.lease_store.specs.declared.action.OperatorAction.{OperatorAction}
 use Rattle.lease_store.specs.declared.action.OperatorRequest.{OperatorRequest}
 use Rattle.lease_store.specs.declared.action.OperatorRequest.TheVariants as requests
@@ -33,20 +34,25 @@ use Rattle.agent_model.specs.declared.operating.Told.TheVariants as tolds
 use Rattle.agent_model.specs.declared.output.Output.{Output}
 use Rattle.agent_model.specs.declared.output.Output.TheVariants as outputs
 use Rattle.agent_model.specs.declared.output.Target.TheVariants as targets
+use Rattle.agent_model.specs.declared.knowledge.Waited.{Waited}
 use Rattle.agent_model.specs.declared.who.Who.{Who}
+use Rattle.agent_model.specs.declared.why.Why.{Why}
+use Rattle.agent_model.specs.declared.why.Why.TheVariants.{HandOver, Lost}
 use Rattle.agent_model.specs.Agents.{RoleFacts, Outcome, made}
-use Rattle.agent_model.specs.Before.{before}
+use Rattle.agent_model.specs.Before.{before, has_ended}
 use Rattle.agent_model.specs.Decisions.{granted, is_write_of, refused}
-use Rattle.agent_law.specs.OperatorAnswers.{told_in, HasNewLeader, HasOldLeader, IsResultBy, IsReason, AnswersWaiting, IsDoneIn, AnswersOneAtMost, IsWish, IsAskedFor, WaitsAsAsked}
-use Rattle.agent_model.specs.Operators.{answering, answering_if, operating, config_revision, operated, done_by, failed_by, done_text, failed_text, holder_in, holder_if, name_in, is_same_member, result_as, looked_by, uses_read, looked, operator_until, late_answer, given_up_by, given_up, learned, granted_as, is_asked_for, operates, grants_operator, operator_granted, refusal_of, operator_refused}
+use Rattle.agent_law.specs.OperatorAnswers.{told_in, HasNewLeader, HasOldLeader, IsResultBy, IsReason, AnswersWaiting, IsDoneIn, AnswersAtOnce, AnswersOneAtMost, IsWish, IsAskedFor, WaitsAsAsked, AwaitsResult, IsOverdue, IsRefused, IsRefusedWrite, IsRefusedFailover, IsUnheard, HasCause, HaveCauses, AwaitsDecision, TellsDecision}
+use Rattle.agent_model.specs.Operators.{awaits_number, answering, answering_if, operating, config_revision, operated, done_by, failed_by, done_text, failed_text, holder_in, holder_if, name_in, is_same_member, result_as, looked_by, uses_read, looked, operator_until, late_answer, given_up_by, given_up, learned, granted_as, is_asked_for, operates, grants_operator, operator_granted, refusal_of, operator_refused}
 use Rattle.agent_model.specs.Acting.{lease_span}
 use Rattle.agent_model.specs.Outputs.{listed}
 use Rattle.agent_model.specs.Table.{step}
 use Rattle.agent_model.specs.Wake.{woken}
 use Rattle.agent_law.proofs.Granting.{both-true}
+use Rattle.agent_law.proofs.Living.{no-way}
 use Rattle.agent_law.proofs.Knowing.{before-onward, before-read}
 use Rattle.agent_law.proofs.Replying.{Quiet, as-said, told-more, told-same, before-quiet, roused-quiet, got-quiet, refused-quiet, granted-quiet, answered-quiet}
-use Rattle.agent_model.proofs.Rows.{if-cases, wake-by}
+use Rattle.agent_model.proofs.Judging.{if-true}
+use Rattle.agent_model.proofs.Rows.{before-by, if-cases, wake-by}
 
 -- no operator is told anything yet, and the same request waits as before
 abbrev Untold : Outcome → Outcome → Type 0
@@ -214,3 +220,137 @@ step-right now points heard role knows machine = by heard
     by (HearsOperator action) = does now action action.asked o b untold (before-read now o).1 refl
     by (Asked from run sequence) = right-of now (Asked from run sequence) o _ (Owed.Silent (told-more b.outputs _ ∙ (append-nil (told_in b.outputs) ∙ untold.0), untold.1))
     by (Answered sequence answer) = goes (Answered sequence answer) b _ (Owed.Silent untold) (answered-quiet b now sequence answer b (as-said b))
+
+-- ---- words that tell of want of time, or of a refusal, have their cause
+late-cause : (now : Ticks) (knows : Knowledge) (request : ℕ) (waiting : Operating) (operation : Operation) → knows.operating ≡ Some waiting → request ≡ waiting.request → waiting.operation ≡ operation
+    → (operator_until knows.settings operation waiting.since).0 ≤ now.0 → HasCause now Wake knows (request, late_answer operation)
+late-cause now knows request waiting (FailingOver kind) is number failing over = (refl, record { waiting = waiting; waits = is; number = sym number; so = record { kind = kind; operation = failing; over = over } })
+late-cause now knows request waiting Configuring is number configuring over = inr (refl, record { waiting = waiting; waits = is; number = sym number; so = record { operation = configuring; unheard = refl; over = over } })
+
+refusal-cause : (now : Ticks) (heard : Heard) (knows : Knowledge) (request : ℕ) (waiting : Operating) (operation : Operation) → knows.operating ≡ Some waiting → request ≡ waiting.request → waiting.operation ≡ operation
+    → IsRefused heard waiting → HasCause now heard knows (request, refusal_of operation)
+refusal-cause now heard knows request waiting (FailingOver kind) is number failing refused = (refl, record { waiting = waiting; waits = is; number = sym number; so = record { kind = kind; operation = failing; refused = refused } })
+refusal-cause now heard knows request waiting Configuring is number configuring refused = inl (refl, record { waiting = waiting; waits = is; number = sym number; so = record { operation = configuring; refused = refused } })
+
+done-free : (now : Ticks) (heard : Heard) (knows : Knowledge) (request : ℕ) (kind : FailoverKind) (name : Name) → HasCause now heard knows (request, tolds.Text ok (done_text kind name))
+done-free now heard knows request kinds.Switchover name = tt
+done-free now heard knows request kinds.Failover name = tt
+
+failed-free : (now : Ticks) (heard : Heard) (knows : Knowledge) (request : ℕ) (kind : FailoverKind) → HasCause now heard knows (request, tolds.Text service_unavailable (failed_text kind))
+failed-free now heard knows request kinds.Switchover = tt
+failed-free now heard knows request kinds.Failover = tt
+
+result-free : (now : Ticks) (heard : Heard) (knows : Knowledge) (request : ℕ) (operation : Operation) (was : Option MemberId) (snapshot : SnapshotFacts) (told : Told) → IsResultBy operation was snapshot told → HasCause now heard knows (request, told)
+result-free now heard knows request (FailingOver kind) was snapshot told (inl led) = subst (λ (t : Told). HasCause now heard knows (request, t)) (sym led.says) (done-free now heard knows request kind led.name)
+result-free now heard knows request (FailingOver kind) was snapshot told (inr leads) = subst (λ (t : Told). HasCause now heard knows (request, t)) (sym leads.says) (failed-free now heard knows request kind)
+result-free now heard knows request Configuring was snapshot told never = absurd never
+
+reason-cause : (now : Ticks) (heard : Heard) (o : Outcome) (request : ℕ) (told : Told) (waiting : Operating) → o.knows.operating ≡ Some waiting → request ≡ waiting.request → IsReason now heard o waiting told → HasCause now heard o.knows (request, told)
+reason-cause now Wake o request told waiting is number reason = subst (λ (t : Told). HasCause now Wake o.knows (request, t)) (sym reason.1) (late-cause now o.knows request waiting waiting.operation is number refl reason.0)
+reason-cause now (Got sequence snapshot) o request told waiting is number reason = result-free now (Got sequence snapshot) o.knows request waiting.operation waiting.leader snapshot told reason.1
+reason-cause now (HeardGranted sequence grant snapshot) o request told waiting is number reason = subst (λ (t : Told). HasCause now (HeardGranted sequence grant snapshot) o.knows (request, t)) (sym reason.3) tt
+reason-cause now (Mismatch sequence key found) o request told waiting is number reason = subst (λ (t : Told). HasCause now (Mismatch sequence key found) o.knows (request, t)) (sym reason.1)
+    (refusal-cause now (Mismatch sequence key found) o.knows request waiting waiting.operation is number refl (record { key = key; found = found; hears = ap (λ (s : ℕ). Mismatch s key found) (sym reason.0) }))
+reason-cause now (Asked from run sequence) o request told waiting is number never = absurd never
+reason-cause now (Answered sequence answer) o request told waiting is number never = absurd never
+reason-cause now (HearsOperator action) o request told waiting is number never = absurd never
+
+done-cause : (now : Ticks) (heard : Heard) (knows : Knowledge) (outs : List Output) (request : ℕ) (asked : OperatorRequest) (told : Told) → IsDoneIn outs asked told → HasCause now heard knows (request, told)
+done-cause now heard knows outs request requests.Restart told done = subst (λ (t : Told). HasCause now heard knows (request, t)) (sym done.1) tt
+done-cause now heard knows outs request requests.Reinit told done = subst (λ (t : Told). HasCause now heard knows (request, t)) (sym done.1) tt
+done-cause now heard knows outs request (requests.Failover kind failover) told never = absurd never
+done-cause now heard knows outs request (requests.Configuration config) told never = absurd never
+
+at-once-cause : (now : Ticks) (heard : Heard) (knows : Knowledge) (after : Outcome) (answer : ℕ × Told) → AnswersAtOnce heard after answer → HasCause now heard knows answer
+at-once-cause now (HearsOperator action) knows after answer done = done-cause now (HearsOperator action) knows after.outputs answer.0 action.asked answer.1 done.1
+at-once-cause now Wake knows after answer never = absurd never
+at-once-cause now (Got sequence snapshot) knows after answer never = absurd never
+at-once-cause now (HeardGranted sequence grant snapshot) knows after answer never = absurd never
+at-once-cause now (Mismatch sequence key found) knows after answer never = absurd never
+at-once-cause now (Asked from run sequence) knows after answer never = absurd never
+at-once-cause now (Answered sequence told) knows after answer never = absurd never
+
+-- each answer has its cause
+pub told-causes : (now : Ticks) (heard : Heard) (o after : Outcome) (told : List (ℕ × Told)) → AnswersOneAtMost now heard o after told → All (HasCause now heard o.knows) told
+told-causes now heard o after [] answers = All-nil (HasCause now heard o.knows)
+told-causes now heard o after (answer ∷ []) (inl waited) =
+    All-cons (HasCause now heard o.knows) answer [] (reason-cause now heard o answer.0 answer.1 waited.waiting waited.waited waited.request waited.reason) (All-nil (HasCause now heard o.knows))
+told-causes now heard o after (answer ∷ []) (inr at-once) = All-cons (HasCause now heard o.knows) answer [] (at-once-cause now heard o.knows after answer at-once) (All-nil (HasCause now heard o.knows))
+told-causes now heard o after (first ∷ second ∷ others) never = absurd never
+
+pub right-causes : (now : Ticks) (heard : Heard) (o after : Outcome) → IsRight now heard o after → HaveCauses now heard o.knows after.outputs
+right-causes now heard o after right = told-causes now heard o after (told_in after.outputs) right.answers
+
+-- whatever is the outcome of the table, behind no outputs
+pub input-right-as : (now : Ticks) (points : List HistoryPoint) (heard : Heard) (role : RoleFacts) (knows : Knowledge) (machine : Machine) (outs : List Output) (after : Outcome) → after ≡ step now points heard (made role knows machine outs)
+    → outs ≡ [] → IsRight now heard (made role knows machine []) after
+input-right-as now points heard role knows machine outs after is none = let same : after ≡ step now points heard (made role knows machine []) = is ∙ ap (λ (l : List Output). step now points heard (made role knows machine l)) none in
+    subst (λ (x : Outcome). IsRight now heard (made role knows machine []) x) (sym same) (step-right now points heard role knows machine)
+
+-- ---- what the key store decided on the request that waits is told at once
+ended-waited : (why : Why) (held : ℕ) (o : Outcome) → (has_ended why held o).knows.waited ≡ o.knows.waited
+ended-waited HandOver held o = refl
+ended-waited Lost held o = refl
+
+before-waited : (now : Ticks) (o : Outcome) → (before now o).knows.waited ≡ o.knows.waited
+before-waited now o = before-by (λ (x : Outcome). x.knows.waited ≡ o.knows.waited) now o
+    (record { kept = λ _. refl; leader = λ _ _ _. refl; ending = λ held why _ _. ended-waited why held o; follower = λ _ _. refl; holder = λ _ _ _. refl; ready = λ _ _ _. refl; stray = λ _ _. refl })
+
+asked-so : (operating : Option Operating) (sequence : ℕ) (waiting : Operating) → operating ≡ Some waiting → waiting.sequence ≡ sequence → is_asked_for operating sequence ≡ true
+asked-so None sequence waiting is number = absurd (none-some waiting is)
+asked-so (Some found) sequence waiting is number = subst (λ (w : Operating). w.sequence == sequence ≡ true) (sym (some-is found waiting is)) (eq-eqb waiting.sequence sequence number)
+
+operates-so : (asked own : Bool) → asked ≡ true → own ≡ false → asked && not own ≡ true
+operates-so true false asked alone = refl
+operates-so true true asked alone = absurd (no-way (sym alone))
+operates-so false own asked alone = absurd (no-way asked)
+
+both-so : (a b : Bool) → a ≡ true → b ≡ true → a && b ≡ true
+both-so true true a b = refl
+both-so true false a b = absurd (no-way b)
+both-so false b a is = absurd (no-way a)
+
+before-operates : (now : Ticks) (sequence : ℕ) (waiting : Operating) (o : Outcome) → AwaitsDecision sequence waiting o.knows → Untold o (before now o) → operates (before now o).knows sequence ≡ true
+before-operates now sequence waiting o awaits untold = let b : Outcome = before now o in
+    operates-so (is_asked_for b.knows.operating sequence) (awaits_number b.knows.waited sequence) (asked-so b.knows.operating sequence waiting (untold.1 ∙ awaits.waits) awaits.number)
+    (ap (λ (w : Option Waited). awaits_number w sequence) (before-waited now o) ∙ awaits.alone)
+
+tells-one : (o b : Outcome) (request : ℕ) (told : Told) → Untold o b → told_in (answering request told b).outputs ≡ (request, told) ∷ []
+tells-one o b request told untold = told-more b.outputs (outputs.Told request told) ∙ ap (λ (l : List (ℕ × Told)). l ++ (request, told) ∷ []) untold.0
+
+refusal-told : (o b : Outcome) (waiting : Operating) → Untold o b → b.knows.operating ≡ Some waiting → told_in (operator_refused b.knows.operating b).outputs ≡ (waiting.request, refusal_of waiting.operation) ∷ []
+refusal-told o b waiting untold is = ap (λ (w : Option Operating). told_in (operator_refused w b).outputs) is ∙ tells-one o b waiting.request (refusal_of waiting.operation) untold
+
+written-told : (snapshot : SnapshotFacts) (o b : Outcome) (waiting : Operating) → Untold o b → b.knows.operating ≡ Some waiting → waiting.operation ≡ Configuring
+    → told_in (operator_granted snapshot b.knows.operating b).outputs ≡ (waiting.request, tolds.Written) ∷ []
+written-told snapshot o b waiting untold is configuring = ap (λ (w : Option Operating). told_in (operator_granted snapshot w b).outputs) is
+    ∙ ap (λ (operation : Operation). told_in (granted_as operation waiting.request (learned snapshot b)).outputs) configuring ∙ tells-one o (learned snapshot b) waiting.request tolds.Written untold
+
+pub step-decides : (now : Ticks) (points : List HistoryPoint) (heard : Heard) (role : RoleFacts) (knows : Knowledge) (machine : Machine) → TellsDecision heard knows (step now points heard (made role knows machine [])).outputs
+step-decides now points heard role knows machine = by heard
+  where
+    o : Outcome
+    o = made role knows machine []
+
+    b : Outcome
+    b = before now o
+
+    untold : Untold o b
+    untold = let first : Quiet o b = before-quiet o now o (as-said o) in (first.told, first.waits)
+
+    by : (heard : Heard) → TellsDecision heard knows (step now points heard o).outputs
+    by (Mismatch sequence key found) = λ waiting awaits. ap (λ (x : Outcome). told_in x.outputs) (if-true (operates b.knows sequence) (operator_refused b.knows.operating b) (refused now sequence b) (before-operates now sequence waiting o awaits untold))
+        ∙ refusal-told o b waiting untold (untold.1 ∙ awaits.waits)
+    by (HeardGranted sequence grant snapshot) = λ waiting awaits own configuring. ap (λ (x : Outcome). told_in x.outputs) (if-true (grants_operator sequence grant b.knows) (operator_granted snapshot b.knows.operating b) (granted now sequence grant snapshot b)
+        (both-so (operates b.knows sequence) (is_write_of b.knows.who.me grant) (before-operates now sequence waiting o awaits untold) (subst (λ (w : Who). is_write_of w.me grant ≡ true) (sym (before-onward None now o).who) own)))
+        ∙ written-told snapshot o b waiting untold (untold.1 ∙ awaits.waits) configuring
+    by Wake = tt
+    by (Got sequence snapshot) = tt
+    by (Asked from run sequence) = tt
+    by (Answered sequence answer) = tt
+    by (HearsOperator action) = tt
+
+pub input-decides-as : (now : Ticks) (points : List HistoryPoint) (heard : Heard) (role : RoleFacts) (knows : Knowledge) (machine : Machine) (outs : List Output) (after : Outcome) → after ≡ step now points heard (made role knows machine outs)
+    → outs ≡ [] → TellsDecision heard knows after.outputs
+input-decides-as now points heard role knows machine outs after is none = let same : after ≡ step now points heard (made role knows machine []) = is ∙ ap (λ (l : List Output). step now points heard (made role knows machine l)) none in
+    subst (λ (x : Outcome). TellsDecision heard knows x.outputs) (sym same) (step-decides now points heard role knows machine)

@@ -1,5 +1,5 @@
 -- What operators are told, and why, and which of their requests waits for a result.
-use Rattle.std.specs.Prelude.{ℕ, ◌≡◌, ◌⊎◌, ◌≤◌, ◌++◌, Bool, true, false, List, [], ◌∷◌, Option, Some, None, Contains}
+use Rattle.std.specs.Prelude.{ℕ, ◌≡◌, ◌⊎◌, ◌≤◌, ◌+◌, ◌*◌, ◌++◌, Bool, true, false, List, [], ◌∷◌, Option, Some, None, All, Contains}
 use Rattle.pat_base.specs.declared.member_id.MemberId.{MemberId}
 use Rattle.pat_base.specs.declared.name.Name.{Name}
 use Rattle.pat_base.specs.declared.ticks.Ticks.{Ticks}
@@ -7,15 +7,20 @@ use Rattle.lease_store.specs.declared.action.FailoverKind.{FailoverKind}
 use Rattle.lease_store.specs.declared.action.OperatorAction.{OperatorAction}
 use Rattle.lease_store.specs.declared.action.OperatorRequest.{OperatorRequest}
 use Rattle.lease_store.specs.declared.action.OperatorRequest.TheVariants as requests
+use Rattle.lease_store.specs.declared.config.Config.{Config}
+use Rattle.lease_store.specs.declared.key.Key.{Key}
+use Rattle.lease_store.specs.declared.txn.Expected.{Expected}
 use Rattle.lease_store.specs.declared.txn.Txn.{Txn}
 use Rattle.lease_store.specs.declared.txn.Txn.TheVariants as txns
 use Rattle.cluster_config.specs.KeyValues.{failover_in}
 use Rattle.cluster_config.specs.Snapshots.{SnapshotFacts}
+use Rattle.operator_keys.specs.declared.answer_text.Text.{Text}
 use Rattle.operator_keys.specs.declared.answer_text.Text.TheVariants as texts
-use Rattle.operator_keys.specs.Statuses.{service_unavailable, ok}
+use Rattle.operator_keys.specs.Statuses.{service_unavailable, conflict, ok}
 use Rattle.event_book.specs.declared.message.Body.TheVariants as bodies
 use Rattle.agent_model.specs.declared.heard.Heard.{Heard}
 use Rattle.agent_model.specs.declared.heard.Heard.TheVariants.{Wake, Got, Granted, Mismatch, Operated}
+use Rattle.agent_model.specs.declared.knowledge.Knowledge.{Knowledge}
 use Rattle.agent_model.specs.declared.operating.Operating.{Operating}
 use Rattle.agent_model.specs.declared.operating.Operation.{Operation}
 use Rattle.agent_model.specs.declared.operating.Operation.TheVariants.{FailingOver, Configuring}
@@ -27,7 +32,7 @@ use Rattle.agent_model.specs.declared.output.Target.TheVariants as targets
 use Rattle.agent_model.specs.Agents.{Outcome}
 use Rattle.agent_model.specs.Before.{before}
 use Rattle.agent_model.specs.Decisions.{is_write_of}
-use Rattle.agent_model.specs.Operators.{done_text, failed_text, holder_in, holder_if, name_in, is_same_member, uses_read, operator_until, late_answer, refusal_of}
+use Rattle.agent_model.specs.Operators.{awaits_number, done_text, failed_text, holder_in, holder_if, name_in, is_same_member, most_operator_ticks, uses_read, operator_until, late_answer, refusal_of}
 
 -- what an output tells an operator, with the number of the request; most tell none
 abbrev pub told_by : Output → List (ℕ × Told)
@@ -117,3 +122,76 @@ WaitsForHeard now _ o after waiting = ⊥
 -- what waits after an input waited before, or is the request that is heard
 abbrev pub WaitsAsAsked : Ticks → Heard → Outcome → Outcome → Type 0
 WaitsAsAsked now heard o after = (waiting : Operating) → after.knows.operating ≡ Some waiting → (o.knows.operating ≡ Some waiting) ⊎ WaitsForHeard now heard o after waiting
+
+-- the request of this number waits for its result, and this is so of it
+pub record AwaitsResult (request : ℕ) (IsSo : Operating → Type 0) (knows : Knowledge) : Type 0 where
+  pub waiting : Operating
+  pub waits : knows.operating ≡ Some waiting
+  pub number : waiting.request ≡ request
+  pub so : IsSo waiting
+
+-- the time for what comes of a switchover or a failover is over: it was asked for 600 ticks ago, or earlier
+pub record IsOverdue (now : Ticks) (waiting : Operating) : Type 0 where
+  pub kind : FailoverKind
+  pub operation : waiting.operation ≡ FailingOver kind
+  pub over : waiting.since.0 + most_operator_ticks ≤ now.0
+
+-- the key store refused what was asked for this operation: what is heard is its refusal of that question
+pub record IsRefused (heard : Heard) (waiting : Operating) : Type 0 where
+  pub key : Key
+  pub found : Expected
+  pub hears : heard ≡ Mismatch waiting.sequence key found
+
+-- the key store refused to write the configuration
+pub record IsRefusedWrite (heard : Heard) (waiting : Operating) : Type 0 where
+  pub operation : waiting.operation ≡ Configuring
+  pub refused : IsRefused heard waiting
+
+-- the key store refused to have another leader asked for
+pub record IsRefusedFailover (heard : Heard) (waiting : Operating) : Type 0 where
+  pub kind : FailoverKind
+  pub operation : waiting.operation ≡ FailingOver kind
+  pub refused : IsRefused heard waiting
+
+-- until `retry_timeout` was over no answer was heard on whether the configuration is written: nothing is heard now, and it was asked for so
+-- many seconds ago, or earlier
+pub record IsUnheard (now : Ticks) (heard : Heard) (settings : Config) (waiting : Operating) : Type 0 where
+  pub operation : waiting.operation ≡ Configuring
+  pub unheard : heard ≡ Wake
+  pub over : waiting.since.0 + 10 * settings.retry_timeout ≤ now.0
+
+-- words that tell of want of time, or of a refusal, have their cause. A configuration that was not written is told with the status of a
+-- conflict where the key store refused it, and with that of want of service where no answer came in time. Other words are free here
+abbrev pub IsCause : Ticks → Heard → Knowledge → ℕ → ℕ → Text → Type 0
+IsCause now heard knows request status texts.NoResultInTime = (status ≡ service_unavailable) × AwaitsResult request (IsOverdue now) knows
+IsCause now heard knows request status texts.AnotherUnderWay = (status ≡ service_unavailable) × AwaitsResult request (IsRefusedFailover heard) knows
+IsCause now heard knows request status texts.ConfigurationNotWritten =
+    ((status ≡ conflict) × AwaitsResult request (IsRefusedWrite heard) knows) ⊎ ((status ≡ service_unavailable) × AwaitsResult request (IsUnheard now heard knows.settings) knows)
+IsCause now heard knows request status _ = Unit {0}
+
+-- what is told has its cause, where it tells words
+abbrev pub IsCauseOf : Ticks → Heard → Knowledge → ℕ → Told → Type 0
+IsCauseOf now heard knows request (tolds.Text status text) = IsCause now heard knows request status text
+IsCauseOf now heard knows request tolds.Written = Unit {0}
+
+-- an answer to the request of a number has its cause
+abbrev pub HasCause : Ticks → Heard → Knowledge → ℕ × Told → Type 0
+HasCause now heard knows answer = IsCauseOf now heard knows answer.0 answer.1
+
+-- what outputs tell operators has its cause in what the agent knew, and in what it heard at this moment
+abbrev pub HaveCauses : Ticks → Heard → Knowledge → List Output → Type 0
+HaveCauses now heard knows outs = All (HasCause now heard knows) (told_in outs)
+
+-- the answer of this number is one that a request waits for, and the agent waits for none of this number by itself
+pub record AwaitsDecision (sequence : ℕ) (waiting : Operating) (knows : Knowledge) : Type 0 where
+  pub waits : knows.operating ≡ Some waiting
+  pub number : waiting.sequence ≡ sequence
+  pub alone : awaits_number knows.waited sequence ≡ false
+
+-- what the key store decided on the request that waits is told at once: its refusal, or that the configuration is written. So no request
+-- waits on whose decision was heard, but for another leader
+abbrev pub TellsDecision : Heard → Knowledge → List Output → Type 0
+TellsDecision (Mismatch sequence key found) knows outs = (waiting : Operating) → AwaitsDecision sequence waiting knows → told_in outs ≡ (waiting.request, refusal_of waiting.operation) ∷ []
+TellsDecision (Granted sequence grant snapshot) knows outs =
+    (waiting : Operating) → AwaitsDecision sequence waiting knows → is_write_of knows.who.me grant ≡ true → waiting.operation ≡ Configuring → told_in outs ≡ (waiting.request, tolds.Written) ∷ []
+TellsDecision _ knows outs = Unit {0}

@@ -27,7 +27,7 @@ ghost use Rattle.agent_model.specs.Fits.{Fits};
 ghost use Rattle.agent_law.specs.FreeKey.{HearsFree, StaysOut, AsksForKey, AsksOthers, HearsLast, RunsLate, LosesRace, LosesAndTurns};
 ghost use Rattle.agent_model.specs.HandingOver.{handover_judged};
 ghost use Rattle.agent_law.specs.Handovers.{HandsOverTo};
-ghost use Rattle.agent_law.specs.OperatorAnswers.{told_in, AnswersOneAtMost, WaitsAsAsked};
+ghost use Rattle.agent_law.specs.OperatorAnswers.{told_in, AnswersOneAtMost, HaveCauses, TellsDecision, WaitsAsAsked};
 ghost use Rattle.agent_law.specs.Orders.{IsCarriedOut};
 ghost use Rattle.agent_law.specs.Powers.{BringsNothing, GrantMay, LeavesMachine};
 ghost use Rattle.agent_model.specs.Racing.{can_start};
@@ -89,6 +89,14 @@ pub fn who_asks_is_answered()
 pub fn an_operator_is_answered_once()
     ensures answers { (now : Ticks) (points : List HistoryPoint) (heard : Heard) (role : RoleFacts) (knows : Knowledge) (machine : Machine) → AnswersOneAtMost now heard (made role knows machine []) (step now points heard (made role knows machine [])) (told_in (step now points heard (made role knows machine [])).outputs) }
     ensures waits { (now : Ticks) (points : List HistoryPoint) (heard : Heard) (role : RoleFacts) (knows : Knowledge) (machine : Machine) → WaitsAsAsked now heard (made role knows machine []) (step now points heard (made role knows machine [])) }
+{}
+
+/// Refusals and delays are told for their cause. That no result came in time an operator hears 600 ticks after the key store was
+/// asked, and no earlier. That its configuration was not written it hears with status 409 only where the key store refused that, and
+/// with 503 only where no answer was heard until `retry_timeout` was over; an answer that is heard is told at once.
+pub fn refusals_and_delays_are_told_for_cause()
+    ensures causes { (now : Ticks) (points : List HistoryPoint) (heard : Heard) (role : RoleFacts) (knows : Knowledge) (machine : Machine) → HaveCauses now heard knows (step now points heard (made role knows machine [])).outputs }
+    ensures decisions { (now : Ticks) (points : List HistoryPoint) (heard : Heard) (role : RoleFacts) (knows : Knowledge) (machine : Machine) → TellsDecision heard knows (step now points heard (made role knows machine [])).outputs }
 {}
 
 /// A leader hands over only to a member that may lead next, by what it answered: one that accepts no writes, may fail over, lags no
