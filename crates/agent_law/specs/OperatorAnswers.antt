@@ -3,6 +3,7 @@ use Rattle.std.specs.Prelude.{ℕ, ◌≡◌, ◌⊎◌, ◌≤◌, ◌+◌, ◌
 use Rattle.pat_base.specs.declared.member_id.MemberId.{MemberId}
 use Rattle.pat_base.specs.declared.name.Name.{Name}
 use Rattle.pat_base.specs.declared.ticks.Ticks.{Ticks}
+use Rattle.pat_base.specs.declared.ticks.TheConstants.{TICKS_OF_SECOND}
 use Rattle.lease_store.specs.declared.action.FailoverKind.{FailoverKind}
 use Rattle.lease_store.specs.declared.action.OperatorAction.{OperatorAction}
 use Rattle.lease_store.specs.declared.action.OperatorRequest.{OperatorRequest}
@@ -158,7 +159,7 @@ pub record IsRefusedFailover (heard : Heard) (waiting : Operating) : Type 0 wher
 pub record IsUnheard (now : Ticks) (heard : Heard) (settings : Config) (waiting : Operating) : Type 0 where
   pub operation : waiting.operation ≡ Configuring
   pub unheard : heard ≡ Wake
-  pub over : waiting.since.0 + 10 * settings.retry_timeout ≤ now.0
+  pub over : waiting.since.0 + TICKS_OF_SECOND * settings.retry_timeout ≤ now.0
 
 -- words that tell of want of time, or of a refusal, have their cause. A configuration that was not written is told with the status of a
 -- conflict where the key store refused it, and with that of want of service where no answer came in time. Other words are free here
