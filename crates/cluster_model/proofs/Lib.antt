@@ -2,3 +2,4 @@ pub mod Staying
 pub mod Places
 pub mod Lists
 pub mod Founds
+pub mod Commanding

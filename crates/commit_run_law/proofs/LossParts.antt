@@ -1,5 +1,5 @@
 -- Each part of a step but the inputs of agents tells the first loss.
-use Rattle.std.proofs.Common.{ℕ, ◌≡◌, ◌+◌, ◌++◌, ◌==◌, Bool, true, false, cond, List, [], ◌∷◌, slice_get, Option, Some, None, option_map}
+use Rattle.std.proofs.Common.{ℕ, ◌≡◌, ◌+◌, ◌++◌, Bool, true, false, cond, List, [], ◌∷◌, slice_get, Option, Some, None, option_map}
 use Rattle.pat_base.specs.declared.member_id.MemberId.{MemberId}
 use Rattle.pat_base.specs.declared.ticks.Ticks.{Ticks}
 use Rattle.lease_store.specs.Decision.{Decision, Grant, Refusal, decision_on}
@@ -19,7 +19,6 @@ use Rattle.event_book.specs.declared.event.MessageEvent.TheVariants as messages
 use Rattle.event_book.specs.declared.event.Note.TheVariants.{AlreadyRunning}
 use Rattle.event_book.specs.declared.event.ServerEvent.TheVariants as servers
 use Rattle.event_book.specs.declared.event.WatchdogEvent.TheVariants as watchdogs
-use Rattle.event_book.specs.declared.event.LinkEvent.TheVariants as changes
 use Rattle.event_book.specs.declared.link.LinkEnd.{LinkEnd}
 use Rattle.event_book.specs.declared.link.LinkEnd.TheVariants as ends
 use Rattle.event_book.specs.declared.member.Member.{Member}
@@ -27,31 +26,27 @@ use Rattle.event_book.specs.declared.message.Body.{Body}
 use Rattle.event_book.specs.declared.message.Body.TheVariants as bodies
 use Rattle.event_book.specs.declared.message.Message.{Message}
 use Rattle.event_book.specs.Flight.{InFlightFacts}
-use Rattle.event_book.specs.Links.{is_cut}
 use Rattle.event_book.specs.Members.{server_of}
 use Rattle.agent_model.specs.declared.machine.Machine.{Machine}
 use Rattle.script_model.specs.declared.line.Command.{Command}
-use Rattle.script_model.specs.declared.line.Command.TheVariants as commands
-use Rattle.script_model.specs.declared.line.SlowedCall.{SlowedCall}
-use Rattle.script_model.specs.declared.line.SlowedCall.TheVariants as slowed_calls
-use Rattle.script_model.specs.declared.ranges.Delay.{Delay}
 use Rattle.script_model.specs.Script.{HeadText}
 use Rattle.cluster_model.specs.declared.beginning.Completion.{Completion}
 use Rattle.cluster_model.specs.declared.beginning.Completion.TheVariants as completions
 use Rattle.cluster_model.specs.Beginnings.{completed_by, completion_of}
 use Rattle.cluster_model.specs.Cluster.{cluster_after, cluster_over}
-use Rattle.cluster_model.specs.Commands.{cut_of, disarm_at_start, disarm_if, disarm_of, join_of, kinds_of, link_of, agent_started}
+use Rattle.cluster_model.specs.Commands.{disarm_at_start, disarm_if, disarm_of, kinds_of, agent_started}
 use Rattle.cluster_model.specs.Losing.{beginning_kinds}
 use Rattle.cluster_model.specs.Machines.{machine_of}
 use Rattle.cluster_model.specs.Messages.{answer_events_by, answer_message, arrival_events_at, decision_body, decision_events, lost_at_once, send_events}
-use Rattle.cluster_model.specs.Next.{command_kind, confirm_events, declared, process_kind, promote_events, receive_events, receive_events_at_most, agent_start_events}
+use Rattle.cluster_model.specs.Next.{command_kind, confirm_events, declared, promote_events, receive_events, receive_events_at_most, agent_start_events}
 use Rattle.cluster_model.specs.Parts.{each, event_of, events_of, for_some}
-use Rattle.cluster_model.specs.ServerCommands.{commit_of, freezing_of, is_gone, promote_kinds, slow_of}
+use Rattle.cluster_model.specs.ServerCommands.{commit_of, promote_kinds}
 use Rattle.cluster_model.specs.State.{Cluster}
 use Rattle.cluster_model.specs.Streaming.{confirm_of, source_of, unconfirmed_end}
 use Rattle.cluster_model.specs.Ticking.{completion_events, next_expiries, reset_events, reset_of, tick_events}
 use Rattle.event_book.specs.Kinds.{AllAre}
 use Rattle.run_step_law.specs.Promise.{Upholds, UpholdsAlways}
+use Rattle.cluster_model.proofs.Commanding.{HoldsOfCommands, command-holds, each-command-holds}
 use Rattle.cluster_model.proofs.Founds.{holds-if, holds-then}
 use Rattle.cluster_model.proofs.Lists.{HoldsIf, all-kinds, all-more, one-kind}
 use Rattle.run_step_law.proofs.Upholding.{upheld-for_some, upheld-none, upheld-then, upholds-all}
@@ -144,36 +139,24 @@ upholds-receive head most member book cluster good =
     upheld-loseless head book cluster (receive_events_at_most cluster most member) good (receives-none cluster most member (source_of cluster.facts.members cluster.facts.servers cluster.facts.cuts member))
 
 -- ---- commands
-process-none : (change : Member → AgentProcess → Option EventKind) → ((m : Member) (process : AgentProcess) → HoldsIf LosesNone (change m process)) → (cluster : Cluster) (id : MemberId) → HoldsIf LosesNone (process_kind change cluster id)
-process-none change all cluster id = holds-then LosesNone _ (declared cluster id) (λ m. holds-then LosesNone (change m) (slice_get cluster.facts.processes m.id.number) (all m))
-
 commit-none : (member : Member) (entry : Option Entry) → LosesNone (commit_of member entry)
 commit-none member None = tt
 commit-none member (Some entry) = tt
 
-freezing-none : (to : Bool) (member : Member) (frozen : Bool) → HoldsIf LosesNone (freezing_of to member frozen)
-freezing-none true member true = tt
-freezing-none true member false = tt
-freezing-none false member true = tt
-freezing-none false member false = tt
-
-slow-none : (member : Member) (slowed : SlowedCall) (delay : Delay) (s : ServerFacts) → HoldsIf LosesNone (slow_of member slowed delay s)
-slow-none member slowed_calls.Stop delay s = holds-cond (s.stop_delay.0 == delay.ticks) None _ tt tt
-slow-none member slowed_calls.Start delay s = holds-cond (s.start_delay.0 == delay.ticks) None _ tt tt
+commands-none : (cluster : Cluster) → HoldsOfCommands LosesNone cluster
+commands-none cluster = record {
+  suspended = λ m. tt;
+  resumed = λ m. tt;
+  committed = λ m bytes least. commit-none m (entry_for cluster.facts.servers m.id.number (cluster.facts.commits + 1) bytes);
+  frozen = λ m. tt;
+  thawed = λ m. tt;
+  slowed = λ m stop start. tt;
+  links = λ change. tt;
+}
 
 kind-none : (cluster : Cluster) (command : Command) → HoldsIf LosesNone (command_kind cluster command)
-kind-none cluster (commands.Suspend id) = process-none _ (λ m process. holds-cond _ (Some (kinds.Agent (agents.Suspended m))) None tt tt) cluster id
-kind-none cluster (commands.Resume id) = process-none _ (λ m process. holds-cond process.suspended (Some (kinds.Agent (agents.Resumed m))) None tt tt) cluster id
-kind-none cluster (commands.Kill id) = process-none _ (λ m process. holds-cond process.running (Some (kinds.Agent (agents.Killed m))) None tt tt) cluster id
-kind-none cluster (commands.Crash id) =
-    holds-then LosesNone _ (declared cluster id) (λ m. holds-then LosesNone _ (slice_get cluster.facts.servers m.id.number) (λ s. holds-cond (is_gone s.state) None (Some (kinds.Server (servers.Crashed (server_of m)))) tt tt))
-kind-none cluster (commands.Commit id size) = holds-mapped (declared cluster id) _ (λ m. commit-none m (entry_for cluster.facts.servers m.id.number (cluster.facts.commits + 1) size.bytes))
-kind-none cluster (commands.Freeze id) = holds-then LosesNone _ (declared cluster id) (λ m. holds-then LosesNone (freezing_of true m) (slice_get cluster.facts.frozen m.id.number) (freezing-none true m))
-kind-none cluster (commands.Thaw id) = holds-then LosesNone _ (declared cluster id) (λ m. holds-then LosesNone (freezing_of false m) (slice_get cluster.facts.frozen m.id.number) (freezing-none false m))
-kind-none cluster (commands.Slow id slowed delay) = holds-then LosesNone _ (declared cluster id) (λ m. holds-then LosesNone (slow_of m slowed delay) (slice_get cluster.facts.servers m.id.number) (slow-none m slowed delay))
-kind-none cluster (commands.Cut first second) = holds-then LosesNone (cut_of cluster.facts.cuts) (link_of cluster.facts.members first second) (λ link. holds-cond (is_cut cluster.facts.cuts link) None (Some (kinds.Link (changes.Cut link))) tt tt)
-kind-none cluster (commands.Join first second) = holds-then LosesNone (join_of cluster.facts.cuts) (link_of cluster.facts.members first second) (λ link. holds-cond (is_cut cluster.facts.cuts link) (Some (kinds.Link (changes.Joined link))) None tt tt)
-kind-none cluster _ = tt
+kind-none cluster command =
+    each-command-holds LosesNone cluster (record { killed = λ m. tt; crashed = λ m. tt }) command (command-holds LosesNone cluster (commands-none cluster) command)
 
 pub upholds-command : (head : HeadText) (command : Command) → UpholdsAlways (losses_told head) (λ cluster. events_of cluster (kinds_of (command_kind cluster command)))
 upholds-command head command book cluster good = upheld-loseless head book cluster _ good (none-if cluster (command_kind cluster command) (kind-none cluster command))

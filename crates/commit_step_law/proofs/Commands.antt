@@ -1,5 +1,5 @@
 -- Messages that are lost, and the commands of a script, uphold commits.
-use Rattle.std.proofs.Common.{ℕ, ◌≡◌, ◌<◌, ◌≤◌, ◌++◌, Bool, true, false, cond, List, [], ◌∷◌, length, slice_get, Option, Some, None, option_and_then, option_map, refl, sym, subst, inr}
+use Rattle.std.proofs.Common.{ℕ, ◌≡◌, ◌<◌, ◌≤◌, ◌++◌, Bool, true, false, cond, List, [], ◌∷◌, length, slice_get, Option, Some, None, option_and_then, refl, sym, subst, inr}
 use Rattle.pat_base.specs.declared.member_id.MemberId.{MemberId}
 use Rattle.pg_model.specs.Facts.{ServerFacts, is_replica}
 use Rattle.event_book.specs.declared.agent_process.AgentProcess.{AgentProcess}
@@ -9,20 +9,18 @@ use Rattle.event_book.specs.declared.event.EventKind.{EventKind}
 use Rattle.event_book.specs.declared.event.EventKind.TheVariants as kinds
 use Rattle.event_book.specs.declared.event.MessageEvent.TheVariants.{Lost}
 use Rattle.event_book.specs.declared.event.ServerEvent.TheVariants as servers
-use Rattle.event_book.specs.declared.event.LinkEvent.TheVariants as changes
 use Rattle.event_book.specs.declared.member.Member.{Member}
-use Rattle.event_book.specs.Facts.{Facts}
-use Rattle.event_book.specs.Links.{is_cut}
 use Rattle.event_book.specs.Members.{server_of}
 use Rattle.script_model.specs.declared.line.Command.{Command}
 use Rattle.script_model.specs.declared.line.Command.TheVariants as commands
 use Rattle.script_model.specs.Script.{HeadText, names_of}
 use Rattle.cluster_model.specs.Cluster.{cluster_after}
-use Rattle.cluster_model.specs.Commands.{cut_of, suspend_of, join_of, kill_of, kinds_of, link_of, resume_of}
-use Rattle.cluster_model.specs.Next.{command_kind, declared, process_kind, promote_events, agent_start_events}
+use Rattle.cluster_model.specs.Commands.{kill_of, kinds_of}
+use Rattle.cluster_model.specs.Next.{command_kind, declared, promote_events, agent_start_events}
 use Rattle.cluster_model.specs.Parts.{event_of, events_of, for_some}
-use Rattle.cluster_model.specs.ServerCommands.{crash_of, freezing_of, is_gone, slow_of}
+use Rattle.cluster_model.specs.ServerCommands.{crash_of, is_gone}
 use Rattle.cluster_model.specs.State.{Cluster}
+use Rattle.cluster_model.proofs.Commanding.{EndsNothing, HoldsOfCommands, command-holds}
 use Rattle.lease_law.specs.Premises.{IsHandsOffKind}
 use Rattle.lease_law.proofs.Runs.{head-is, none-more}
 use Rattle.commit_law.specs.Actions.{Lose}
@@ -31,11 +29,10 @@ use Rattle.commit_law.proofs.Showing.{lost-shown}
 use Rattle.commit_log_law.specs.Happening.{MayHappen}
 use Rattle.commit_log_law.proofs.Beginning.{fits-aside}
 use Rattle.commit_log_law.proofs.Commits.{commit-may}
-use Rattle.commit_log_law.proofs.Completions.{freezing-may, slow-may}
 use Rattle.commit_log_law.proofs.Kept.{change-once}
 use Rattle.run_step_law.specs.Declaring.{member_count}
 use Rattle.run_step_law.specs.Promise.{Upholds, UpholdsAlways}
-use Rattle.run_step_law.proofs.Commands.{IsQuietCommand, command-quiet}
+use Rattle.run_step_law.proofs.Commands.{command-quiet}
 use Rattle.run_step_law.proofs.Ending.{kept-loss}
 use Rattle.cluster_model.proofs.Lists.{HoldsIf}
 use Rattle.run_step_law.proofs.Members.{declared-now, declared-within}
@@ -71,47 +68,20 @@ pub upholds-loss : (head : HeadText) (number : ℕ) → UpholdsAlways (kept_comm
 upholds-loss head number book cluster good =
     upheld-goes head book cluster (event_of cluster (kinds.Message (Lost number))) good (goes-loss (setup_of head) cluster number) (kept-loss head book cluster number good.lease)
 
--- ---- what a command brings at a server or a link may happen
-may-found : {X : Type 0} (P : EventKind → Type 0) (found : Option X) (change : X → Option EventKind) → ((x : X) → HoldsIf P (change x)) → HoldsIf P (option_and_then change found)
-may-found P None change all = tt
-may-found P (Some x) change all = all x
+-- ---- what a command brings that ends nothing may happen
+commands-may : (cluster : Cluster) → HoldsOfCommands (MayHappen cluster.facts) cluster
+commands-may cluster = record {
+  suspended = λ m. tt;
+  resumed = λ m. tt;
+  committed = commit-may cluster.facts;
+  frozen = λ m. tt;
+  thawed = λ m. tt;
+  slowed = λ m stop start. tt;
+  links = λ change. tt;
+}
 
-may-mapped : {X : Type 0} (P : EventKind → Type 0) (found : Option X) (change : X → EventKind) → ((x : X) → P (change x)) → HoldsIf P (option_map change found)
-may-mapped P None change all = tt
-may-mapped P (Some x) change all = all x
-
-may-cond : (P : EventKind → Type 0) (test : Bool) (first second : Option EventKind) → HoldsIf P first → HoldsIf P second → HoldsIf P (cond test first second)
-may-cond P true first second a b = a
-may-cond P false first second a b = b
-
-may-of : (P : EventKind → Type 0) (found : Option EventKind) → ((kind : EventKind) → found ≡ Some kind → P kind) → HoldsIf P found
-may-of P None all = tt
-may-of P (Some kind) all = all kind refl
-
-process-may : (facts : Facts) (change : Member → AgentProcess → Option EventKind) → ((m : Member) (process : AgentProcess) → HoldsIf (MayHappen facts) (change m process)) → (cluster : Cluster) (id : MemberId)
-    → HoldsIf (MayHappen facts) (process_kind change cluster id)
-process-may facts change all cluster id = may-found (MayHappen facts) (declared cluster id) _ (λ m. may-found (MayHappen facts) (slice_get cluster.facts.processes m.id.number) (change m) (all m))
-
-command-may : (cluster : Cluster) (command : Command) → IsQuietCommand command → HoldsIf (MayHappen cluster.facts) (command_kind cluster command)
-command-may cluster (commands.Suspend id) is = process-may cluster.facts suspend_of (λ m process. may-cond (MayHappen cluster.facts) _ (Some (kinds.Agent (agents.Suspended m))) None tt tt) cluster id
-command-may cluster (commands.Resume id) is = process-may cluster.facts resume_of (λ m process. may-cond (MayHappen cluster.facts) _ (Some (kinds.Agent (agents.Resumed m))) None tt tt) cluster id
-command-may cluster (commands.Kill id) is = absurd is
-command-may cluster (commands.Crash id) is = absurd is
-command-may cluster (commands.Commit id size) is = may-mapped (MayHappen cluster.facts) (declared cluster id) _ (λ m. commit-may cluster.facts m size.bytes size.least)
-command-may cluster (commands.Freeze id) is =
-    may-found (MayHappen cluster.facts) (declared cluster id) _ (λ m. may-found (MayHappen cluster.facts) (slice_get cluster.facts.frozen m.id.number) (freezing_of true m)
-    (λ frozen. may-of (MayHappen cluster.facts) (freezing_of true m frozen) (freezing-may cluster.facts true frozen m)))
-command-may cluster (commands.Thaw id) is =
-    may-found (MayHappen cluster.facts) (declared cluster id) _ (λ m. may-found (MayHappen cluster.facts) (slice_get cluster.facts.frozen m.id.number) (freezing_of false m)
-    (λ frozen. may-of (MayHappen cluster.facts) (freezing_of false m frozen) (freezing-may cluster.facts false frozen m)))
-command-may cluster (commands.Slow id slowed delay) is =
-    may-found (MayHappen cluster.facts) (declared cluster id) _ (λ m. may-found (MayHappen cluster.facts) (slice_get cluster.facts.servers m.id.number) (slow_of m slowed delay)
-    (λ s. may-of (MayHappen cluster.facts) (slow_of m slowed delay s) (slow-may cluster.facts m slowed delay s)))
-command-may cluster (commands.Cut first second) is =
-    may-found (MayHappen cluster.facts) (link_of cluster.facts.members first second) (cut_of cluster.facts.cuts) (λ link. may-cond (MayHappen cluster.facts) (is_cut cluster.facts.cuts link) None (Some (kinds.Link (changes.Cut link))) tt tt)
-command-may cluster (commands.Join first second) is =
-    may-found (MayHappen cluster.facts) (link_of cluster.facts.members first second) (join_of cluster.facts.cuts) (λ link. may-cond (MayHappen cluster.facts) (is_cut cluster.facts.cuts link) (Some (kinds.Link (changes.Joined link))) None tt tt)
-command-may cluster _ is = tt
+command-may : (cluster : Cluster) (command : Command) → EndsNothing command → HoldsIf (MayHappen cluster.facts) (command_kind cluster command)
+command-may cluster command is = command-holds (MayHappen cluster.facts) cluster (commands-may cluster) command is
 
 -- ---- commands that bring one event at most
 module _ (head : HeadText) (few : length (names_of head) ≤ MOST_MEMBERS) (book : List Event) (cluster : Cluster) (good : CommitsBridged head book cluster) where

@@ -27,15 +27,14 @@ use Rattle.agent_model.specs.declared.machine.Machine.{Machine}
 use Rattle.cluster_model.specs.Machines.{machine_of}
 use Rattle.event_book.specs.Flight.{InFlightFacts}
 use Rattle.script_model.specs.declared.line.Command.{Command}
-use Rattle.script_model.specs.declared.line.Command.TheVariants as commands
 use Rattle.cluster_model.specs.Acknowledging.{acknowledge_kinds}
 use Rattle.cluster_model.specs.Cluster.{cluster_after}
-use Rattle.cluster_model.specs.Commands.{disarm_at_start, disarm_if, disarm_of, kill_of, kinds_of, agent_started}
+use Rattle.cluster_model.specs.Commands.{disarm_at_start, disarm_if, disarm_of, kinds_of, agent_started}
 use Rattle.cluster_model.specs.Losing.{beginning_kinds, loss_if}
 use Rattle.cluster_model.specs.Messages.{answer_events_by, answer_message, decision_body, decision_kind, send_events, arrival_events_at, decision_events, lose_events}
-use Rattle.cluster_model.specs.Next.{acknowledge_events, all_entries, command_kind, confirm_events, declared, promote_events, receive_events, receive_events_at_most, receive_events_of, agent_start_events}
+use Rattle.cluster_model.specs.Next.{acknowledge_events, all_entries, command_kind, confirm_events, promote_events, receive_events, receive_events_at_most, receive_events_of, agent_start_events}
 use Rattle.cluster_model.specs.Parts.{event_of, events_of, for_some}
-use Rattle.cluster_model.specs.ServerCommands.{crash_of, is_gone, promote_kinds}
+use Rattle.cluster_model.specs.ServerCommands.{promote_kinds}
 use Rattle.cluster_model.specs.State.{Cluster}
 use Rattle.cluster_model.specs.Streaming.{confirm_of, source_of, unconfirmed_end}
 use Rattle.cluster_model.specs.Ticking.{tick_events}
@@ -43,7 +42,7 @@ use Rattle.lease_law.specs.Premises.{Moments}
 use Rattle.event_book.specs.Kinds.{AllAre}
 use Rattle.run_step_law.specs.Asides.{IsAsideIn, IsQuiet}
 use Rattle.run_step_law.proofs.Commands.{command-quiet}
-use Rattle.cluster_model.proofs.Founds.{holds-if, holds-then}
+use Rattle.cluster_model.proofs.Commanding.{each-command-holds}
 use Rattle.cluster_model.proofs.Lists.{AllKinds, HoldsIf, all-kinds, one-kind}
 use Rattle.run_law.proofs.Measuring.{IsPlain, Measures, Tells, tells-none, tells-send, told-for_some, told-if, told-plain, told-then}
 use Rattle.run_law.proofs.Moments.{KnowsSending}
@@ -115,16 +114,9 @@ tells-acknowledge member moments cluster knows =
     (all-kinds IsPlain cluster list (quiet-kinds list (acknowledge-quiet cluster.facts.servers cluster.facts.members member (slice_get cluster.facts.servers member.id.number))))
 
 -- ---- commands
-gone-plain : (test : Bool) (kind : EventKind) → IsPlain kind → HoldsIf IsPlain (cond test None (Some kind))
-gone-plain true kind is = tt
-gone-plain false kind is = is
-
 kind-plain : (cluster : Cluster) (command : Command) → HoldsIf IsPlain (command_kind cluster command)
-kind-plain cluster (commands.Kill id) =
-    holds-then IsPlain _ (declared cluster id) (λ m. holds-then IsPlain (kill_of m) (slice_get cluster.facts.processes m.id.number) (λ process. holds-if IsPlain process.running (kinds.Agent (agents.Killed m)) tt))
-kind-plain cluster (commands.Crash id) =
-    holds-then IsPlain _ (declared cluster id) (λ m. holds-then IsPlain (crash_of m) (slice_get cluster.facts.servers m.id.number) (λ s. gone-plain (is_gone s.state) _ tt))
-kind-plain cluster command = quiet-if (command_kind cluster command) (command-quiet cluster command tt)
+kind-plain cluster command =
+    each-command-holds IsPlain cluster (record { killed = λ m. tt; crashed = λ m. tt }) command (λ is. quiet-if (command_kind cluster command) (command-quiet cluster command is))
 
 pub tells-kind : (command : Command) → Tells (λ cluster. events_of cluster (kinds_of (command_kind cluster command)))
 tells-kind command moments cluster knows = told-plain moments cluster _ (plain-if cluster (command_kind cluster command) (kind-plain cluster command))

@@ -21,7 +21,7 @@ use Rattle.cluster_model.specs.Next.{acknowledge_events, confirm_events, receive
 use Rattle.cluster_model.specs.Parts.{event_of, events_of}
 use Rattle.cluster_model.specs.State.{Cluster}
 use Rattle.cluster_model.specs.Streaming.{confirm_of, source_of}
-use Rattle.cluster_model.proofs.Lists.{AllKinds, kinds-both}
+use Rattle.cluster_model.proofs.Lists.{AllKinds, HoldsIf, kinds-both, one-kind}
 use Rattle.run_step_law.specs.Asides.{IsQuiet}
 use Rattle.run_step_law.specs.Bridged.{Bridged}
 use Rattle.run_step_law.specs.Kept.{IsKept, Keeps}
@@ -30,15 +30,10 @@ use Rattle.run_step_law.proofs.Quiet.{kept-quiet, kept-quietly}
 
 -- one such event, if one happens
 abbrev pub IsQuietIf : Option EventKind → Type 0
-IsQuietIf None = Unit {0}
-IsQuietIf (Some kind) = IsQuiet kind
-
-quiet-if : (found : Option EventKind) → IsQuietIf found → AllKinds IsQuiet (kinds_of found)
-quiet-if None is = tt
-quiet-if (Some kind) is = (is, tt)
+IsQuietIf found = HoldsIf IsQuiet found
 
 pub kept-quiet-if : (head : HeadText) (found : Option EventKind) → IsQuietIf found → Keeps head (λ cluster. events_of cluster (kinds_of found))
-kept-quiet-if head found is book cluster good = kept-quietly head (kinds_of found) (quiet-if found is) book cluster good
+kept-quiet-if head found is book cluster good = kept-quietly head (kinds_of found) (one-kind IsQuiet found is) book cluster good
 
 pub confirm-quiet : (member from : Member) (end : Option Lsn) → IsQuietIf (confirm_of member from end)
 confirm-quiet member from None = tt
