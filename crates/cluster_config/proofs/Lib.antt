@@ -6,4 +6,5 @@ mod MergeSteps
 mod PatchLaws
 mod ReadingLaws
 mod SettingLaws
+mod SnapshotLaws
 pub mod TextLaws

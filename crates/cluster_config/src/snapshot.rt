@@ -2,10 +2,12 @@
 ghost use Rattle.std.specs.Prelude.{◌≡◌, IsSome, IsTrue, IfOk, option_copied};
 ghost use Rattle.std.specs.FinMap.{find, is_sorted};
 ghost use Rattle.lease_store.specs.Kept.{AreOfKind};
+ghost use Rattle.lease_store.specs.InKeyOrder.{in_key_order};
 ghost use Rattle.lease_store.specs.KeyOrder.{key_cmp};
+ghost use Rattle.lease_store.specs.declared.key.Key.TheVariants as keys;
 ghost use Rattle.cluster_config.specs.Snapshots.{IsRead, entry_in, leader_by, leader_of_entry, leader_in, settings_by, settings_of_entry, settings_in, failsafe_by, failsafe_of_entry, failsafe_in, has_row};
 
-use lease_store::{Config, Key, KeyEntry, Value, key_entry_at};
+use lease_store::{Config, Key, KeyEntry, Value, in_key_order, key_entry_at};
 use pat_base::{Host, MemberId, MemberSet, Name};
 use std::alloc::{AllocError, Global};
 use std::marker::Model;
@@ -37,20 +39,23 @@ pub struct LeaderEntry {
 }
 
 impl Snapshot {
-    /// The snapshot of these entries, which are those of a store. It fails only for want of memory.
+    /// The snapshot of these entries, which stand in any order: each is of its key's kind, and the configuration is among
+    /// them. Of several of one key the first counts. It fails only for want of memory.
     pub fn read(
         alloc: Global,
         scope: Name,
         members: &[(Name, Host)],
         entries: Vec<(Key, KeyEntry)>,
     ) -> Result<Snapshot, AllocError>
-        requires { IsRead entries.items }
-        ensures { IfOk result (λ snapshot. snapshot ≡ record { scope = scope; members = members.now; entries = entries.items }) }
+        requires kinds { AreOfKind entries.items }
+        requires config { IsSome (find key_cmp keys.Config entries.items) }
+        ensures snapshot { IfOk result (λ snapshot. snapshot ≡ record { scope = scope; members = members.now; entries = in_key_order entries.items }) }
+        ensures in_order { IsTrue (is_sorted key_cmp entries.items) → in_key_order entries.items ≡ entries.items }
     {
         Ok(Snapshot {
             scope,
             members: Vec::from_slice(alloc, members)?,
-            entries,
+            entries: in_key_order(alloc, entries)?,
         })
     }
 

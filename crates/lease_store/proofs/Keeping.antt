@@ -72,7 +72,7 @@ kinds-placed key stored e es Less same is k rest = (is, k)
 kinds-placed key stored e es Equal same is k rest = (subst (λ (other : Key). IsOfKind other stored.value) (keys_exact key e.0 same) is, k.1)
 kinds-placed key stored e es Greater same is k rest = (k.0, rest)
 
-kinds-put : (key : Key) (stored : KeyEntry) (es : List (Key × KeyEntry)) → IsOfKind key stored.value → AreOfKind es → AreOfKind (put key_cmp key stored es)
+pub kinds-put : (key : Key) (stored : KeyEntry) (es : List (Key × KeyEntry)) → IsOfKind key stored.value → AreOfKind es → AreOfKind (put key_cmp key stored es)
 kinds-put key stored [] is k = (is, tt)
 kinds-put key stored (e ∷ es) is k = kinds-placed key stored e es (key_cmp key e.0) refl is k (kinds-put key stored es is k.1)
 

@@ -2,6 +2,7 @@ pub mod Absent
 pub mod Answering
 pub mod Expiring
 pub mod Fences
+pub mod InOrder
 pub mod KeyLaws
 pub mod Keeping
 pub mod OneKey

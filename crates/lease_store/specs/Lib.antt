@@ -5,6 +5,7 @@ pub mod Expiries
 pub mod Fencing
 pub mod Kept
 pub mod KeyOrder
+pub mod InKeyOrder
 pub mod Keys
 pub mod Kinds
 pub mod Places

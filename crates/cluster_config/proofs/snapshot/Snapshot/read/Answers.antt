@@ -1,0 +1,20 @@
+use Rattle.std.proofs.Common.{sym, subst, List}
+use Rattle.lease_store.specs.declared.key.Key.{Key}
+use Rattle.lease_store.specs.declared.value.KeyEntry.{KeyEntry}
+use Rattle.lease_store.proofs.InOrder.{in_key_order-sorted}
+use Rattle.cluster_config.specs.Snapshots.{IsRead}
+use Rattle.cluster_config.proofs.SnapshotLaws.{read-in_key_order}
+use Rattle.cluster_config.proofs.snapshot.Snapshot.read.Goals as goal
+
+pub returns-in_err-from_slice-clause-in_order : goal.returns-in_err-from_slice-clause-in_order
+returns-in_err-from_slice-clause-in_order c = in_key_order-sorted c.args.entries.items
+
+pub returns-in_err-in_key_order-clause-in_order : goal.returns-in_err-in_key_order-clause-in_order
+returns-in_err-in_key_order-clause-in_order c = in_key_order-sorted c.args.entries.items
+
+pub returns-clause-in_order : goal.returns-clause-in_order
+returns-clause-in_order c = in_key_order-sorted c.args.entries.items
+
+pub invariant_of-result : goal.invariant_of-result
+invariant_of-result c =
+    subst (λ (entries : List (Key × KeyEntry)). IsRead entries) (sym c.in_ok-in_key_order.ensures) (read-in_key_order c.args.entries.items c.requires.kinds c.requires.config)
