@@ -9,6 +9,7 @@ ghost use Rattle.ha_loop.specs.Roles.{role_of};
 ghost use Rattle.agent_commit_law.specs.Committing.{CommitsFrom};
 ghost use Rattle.agent_model.specs.Bounds.{IsSmall};
 ghost use Rattle.agent_law.specs.FreeKey.{AsksWhereFree, AsksWhereWon, BeginsWhereGranted};
+ghost use Rattle.agent_law.specs.OperatorAnswers.{told_in, AnswersOneAtMost, HaveCauses, TellsDecision, WaitsAsAsked};
 ghost use Rattle.agent_lease_law.specs.Lawful.{IsLawfulFrom};
 ghost use Rattle.agent_model.specs.Outputs.{most_outputs};
 ghost use Rattle.agent_law.specs.Seen.{machine_with, machine_seen};
@@ -119,6 +120,12 @@ impl Agent {
         ensures free_key { AsksWhereFree now heard (prepared now heard (made self.role self.knows machine.old out.old.outputs)) (made result.role result.knows machine.new out.new.outputs) }
         ensures won_race { AsksWhereWon now heard (prepared now heard (made self.role self.knows machine.old out.old.outputs)) (made result.role result.knows machine.new out.new.outputs) }
         ensures granted_key { BeginsWhereGranted now heard (prepared now heard (made self.role self.knows machine.old out.old.outputs)) (made result.role result.knows machine.new out.new.outputs) }
+        // An operator is answered at most once, and for a cause; at once, where the key store's decision on it is heard. What waits for
+        // a result waited before, or is heard.
+        ensures answers { out.old.outputs ≡ [] → AnswersOneAtMost now heard (made self.role self.knows machine.old []) (made result.role result.knows machine.new out.new.outputs) (told_in out.new.outputs) }
+        ensures causes { out.old.outputs ≡ [] → HaveCauses now heard self.knows out.new.outputs }
+        ensures decisions { out.old.outputs ≡ [] → TellsDecision heard self.knows out.new.outputs }
+        ensures waits { out.old.outputs ≡ [] → WaitsAsAsked now heard (made self.role self.knows machine.old []) (made result.role result.knows machine.new out.new.outputs) }
         // It brings at most 40 messages and 40 outputs, and asks the key store for leases that it can write.
         ensures small { IsSmall (made self.role self.knows machine.old out.old.outputs) (made result.role result.knows machine.new out.new.outputs) }
         ensures numbers { result.knows.sequence ≤ self.knows.sequence + most_outputs }
@@ -145,6 +152,10 @@ impl Agent {
         ensures outcome { made result.role result.knows machine.new out.new.outputs ≡ step now history.now.points (heards.Operated action) (made self.role self.knows machine.old out.old.outputs) }
         ensures lawful { out.old.outputs ≡ [] → IsLawfulFrom now (heards.Operated action) (made self.role self.knows machine.old []) (made result.role result.knows machine.new out.new.outputs) }
         ensures commits { out.old.outputs ≡ [] → CommitsFrom now (heards.Operated action) (made self.role self.knows machine.old []) (made result.role result.knows machine.new out.new.outputs) }
+        // It answers no other request than this one, and no other comes to wait.
+        ensures answers { out.old.outputs ≡ [] → AnswersOneAtMost now (heards.Operated action) (made self.role self.knows machine.old []) (made result.role result.knows machine.new out.new.outputs) (told_in out.new.outputs) }
+        ensures causes { out.old.outputs ≡ [] → HaveCauses now (heards.Operated action) self.knows out.new.outputs }
+        ensures waits { out.old.outputs ≡ [] → WaitsAsAsked now (heards.Operated action) (made self.role self.knows machine.old []) (made result.role result.knows machine.new out.new.outputs) }
         ensures numbers { result.knows.sequence ≤ self.knows.sequence + most_outputs }
         ensures room { out.old.spare ≤ out.new.spare + most_outputs }
     {

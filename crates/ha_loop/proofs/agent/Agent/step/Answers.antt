@@ -1,4 +1,4 @@
-use Rattle.std.proofs.Common.{◌≡◌, rules, subst, sym}
+use Rattle.std.proofs.Common.{◌≡◌, [], rules, subst, sym}
 use Rattle.agent_model.specs.Agents.{made}
 use Rattle.ha_loop.specs.Roles.{role_of}
 use Rattle.agent_law.specs.FreeKey.{AsksWhereFree, AsksWhereWon, BeginsWhereGranted}
@@ -8,6 +8,7 @@ use Rattle.agent_model.proofs.Bounds.{step-small}
 use Rattle.agent_law.proofs.Beginning.{step-asks, step-begins, step-wins}
 use Rattle.agent_commit_law.proofs.CommitInputs.{input-commits-as}
 use Rattle.agent_lease_law.proofs.LawfulSteps.{input-lawful-as}
+use Rattle.agent_law.proofs.OperatorAnswers.{input-decides-as, input-right-as, right-causes}
 use Rattle.agent_law.proofs.Staying.{input-ends-as, input-counts}
 use Rattle.ha_loop.proofs.agent.Agent.step.Goals as goal
 
@@ -51,3 +52,21 @@ returns-clause-small c =
     let o = made c.args.self.role c.args.self.knows c.args.machine.now c.args.out.now.outputs in
     subst (IsSmall o) (sym (let told : made (role_of c.hear-role.result) c.hear-role.new.knows c.hear-role.new.machine c.hear-role.new.out.outputs ≡ step c.args.now c.args.history.now.points c.args.heard o = search rules in told))
     (step-small c.args.now c.args.history.now.points c.args.heard o)
+
+pub returns-clause-answers : goal.returns-clause-answers
+returns-clause-answers c none = (input-right-as c.args.now c.args.history.now.points c.args.heard c.args.self.role c.args.self.knows c.args.machine.now c.args.out.now.outputs
+    (made (role_of c.hear-role.result) c.hear-role.new.knows c.hear-role.new.machine c.hear-role.new.out.outputs) (search rules) none).answers
+
+pub returns-clause-causes : goal.returns-clause-causes
+returns-clause-causes c none =
+    let after = made (role_of c.hear-role.result) c.hear-role.new.knows c.hear-role.new.machine c.hear-role.new.out.outputs in
+    right-causes c.args.now c.args.heard (made c.args.self.role c.args.self.knows c.args.machine.now []) after
+    (input-right-as c.args.now c.args.history.now.points c.args.heard c.args.self.role c.args.self.knows c.args.machine.now c.args.out.now.outputs after (search rules) none)
+
+pub returns-clause-waits : goal.returns-clause-waits
+returns-clause-waits c none = (input-right-as c.args.now c.args.history.now.points c.args.heard c.args.self.role c.args.self.knows c.args.machine.now c.args.out.now.outputs
+    (made (role_of c.hear-role.result) c.hear-role.new.knows c.hear-role.new.machine c.hear-role.new.out.outputs) (search rules) none).waits
+
+pub returns-clause-decisions : goal.returns-clause-decisions
+returns-clause-decisions c none = input-decides-as c.args.now c.args.history.now.points c.args.heard c.args.self.role c.args.self.knows c.args.machine.now c.args.out.now.outputs
+    (made (role_of c.hear-role.result) c.hear-role.new.knows c.hear-role.new.machine c.hear-role.new.out.outputs) (search rules) none
