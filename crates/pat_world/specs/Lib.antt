@@ -1,4 +1,5 @@
 pub mod Book
+pub mod Fenced
 pub mod KeptCommits
 pub mod OneWriter
 pub mod Steps

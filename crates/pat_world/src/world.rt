@@ -12,6 +12,7 @@ ghost use Rattle.cluster_model.specs.State.{Cluster};
 ghost use Rattle.cluster_model.specs.Steps.{IsStep};
 ghost use Rattle.pat_world.specs.Book.{StandsFor, left_by, next_of};
 ghost use Rattle.world_model.specs.Idle.{BringsTicks, IsIdleBefore, IsIdleIn, NothingEnds, NothingIsDue};
+ghost use Rattle.pat_world.specs.Fenced.{KeepsFencing};
 ghost use Rattle.pat_world.specs.KeptCommits.{KeepsCommits};
 ghost use Rattle.pat_world.specs.OneWriter.{KeepsOneWriter};
 ghost use Rattle.pat_world.specs.Steps.{HasStepsLeft, TookSteps, IsCounted};
@@ -129,6 +130,8 @@ impl World {
         ensures one_writer { OnOk result (KeepsOneWriter self.old.cluster events.new.items) }
         // Each server that accepts writes has each acknowledged commit then, where the run began with synchronous mode on, which stays on.
         ensures commits { OnOk result (KeepsCommits self.old.cluster events.new.items) }
+        // Who writes under a lease is granted that only while the leader key is as the lease left it, where a run brought this world.
+        ensures fenced { OnOk result (KeepsFencing self.old.cluster events.new.items) }
         ensures acknowledged { OnOk result (AreAcknowledged self.new.cluster.facts.members self.new.cluster.facts.servers) }
         ensures refused { OnErr result (events.new.items ≡ events.old.items) }
     {

@@ -1,6 +1,6 @@
--- Each input of an agent tells before each feed from when it is measured.
+-- Each input of an agent tells before each feed from when it is measured, and grants nothing.
 use Rattle.std.proofs.Common.{ℕ, ◌≡◌, ◌≢◌, ◌≤◌, ◌<◌, List, [], ◌∷◌, slice_get, Option, Some, None, All, refl, ◌∙◌, ap, sym, subst, arith}
-use Rattle.std.proofs.lemmas.List.Elements.{All-head, All-tail}
+use Rattle.std.proofs.lemmas.List.Elements.{All-cons, All-head, All-nil, All-tail}
 use Rattle.pat_base.specs.declared.ticks.Ticks.{Ticks}
 use Rattle.lease_store.specs.declared.action.OperatorAction.{OperatorAction}
 use Rattle.wal_model.specs.declared.entry.HistoryPoint.{HistoryPoint}
@@ -43,6 +43,7 @@ use Rattle.run_input_law.proofs.InputEvents.{output-mine}
 use Rattle.run_input_law.proofs.InputOutputs.{each-numbered, output-numbered, stays-output}
 use Rattle.run_input_law.proofs.InputStays.{each-mine}
 use Rattle.cluster_model.proofs.Lists.{all-more}
+use Rattle.run_law.proofs.Fencing.{AreDecided, IsUngranted, ungranted-decided}
 use Rattle.run_law.proofs.Measuring.{IsUnfed, Measures, measured-both, unfed-measured}
 use Rattle.run_law.proofs.Moments.{KnowsSending, moments_over}
 use Rattle.run_law.proofs.Unfed.{FeedsNone, actions-feed-none, wakes-feed-none}
@@ -52,6 +53,18 @@ mine-unfed : (member : Member) (run heard : ℕ) (kind : EventKind) → IsOfInpu
 mine-unfed member run heard (kinds.Watchdog (watchdogs.Armed by until answer)) is = absurd is.2
 mine-unfed member run heard (kinds.Watchdog (watchdogs.Fed by until basis)) is = absurd is.2
 mine-unfed member run heard _ is = tt
+
+-- whatever an output is
+abbrev IsAny : Output → Type 0
+IsAny output = Unit {0}
+
+all-any : (outs : List Output) → All IsAny outs
+all-any [] = All-nil IsAny
+all-any (output ∷ more) = All-cons IsAny output more tt (all-any more)
+
+mine-ungranted : (member : Member) (run heard : ℕ) (kind : EventKind) → IsOfInput member run heard IsAny kind → IsUngranted kind
+mine-ungranted member run heard (kinds.Store happening) is = absurd is
+mine-ungranted member run heard _ is = tt
 
 -- the moment at which this message was sent is known, and its number is none of those to come
 record IsHeardAt (moments : Moments) (cluster : Cluster) (message : HeardMessage) : Type 0 where
@@ -133,6 +146,13 @@ module _ (member : Member) (run : ℕ) (message : HeardMessage) where
       (all-more (IsOfInput member run message.number FeedsNone) IsUnfed (each (output_events member message) cluster outs) (mine-unfed member run message.number)
       (each-mine member run message.number FeedsNone cluster message refl runs outs table none))
 
+  -- the key store alone grants
+  each-decided : (cluster : Cluster) (outs : List Output) → Runs cluster.facts.processes → All IsOfTable outs → AreDecided cluster (each (output_events member message) cluster outs)
+  each-decided cluster outs runs table =
+      ungranted-decided cluster (each (output_events member message) cluster outs)
+      (all-more (IsOfInput member run message.number IsAny) IsUngranted (each (output_events member message) cluster outs) (mine-ungranted member run message.number)
+      (each-mine member run message.number IsAny cluster message refl runs outs table (all-any outs)))
+
 runs-in : (cluster : Cluster) (k : ℕ) (process : AgentProcess) → slice_get cluster.facts.processes k ≡ Some process → process.run ≡ run_in cluster.facts.processes k
 runs-in cluster k process e = sym (ap run_now e)
 
@@ -155,14 +175,15 @@ module _ (moments : Moments) (cluster : Cluster) (member : Member) (heard : Hear
 
   called-told : (agent : Option AgentFacts) (machine : Option Machine)
       → Measures moments cluster (record { tick = record { 0 = cluster.facts.clock }; kind = Called } ∷ input_events (cluster_after cluster Called) member no_message (outcome_at (moment_of cluster) (points_of cluster member) heard agent machine))
-  called-told None machine = record { measured = λ since. (tt, tt); numbered = (tt, tt) }
-  called-told (Some agent) None = record { measured = λ since. (tt, tt); numbered = (tt, tt) }
+  called-told None machine = record { measured = λ since. (tt, tt); numbered = (tt, tt); decided = (tt, tt) }
+  called-told (Some agent) None = record { measured = λ since. (tt, tt); numbered = (tt, tt); decided = (tt, tt) }
   called-told (Some agent) (Some machine) =
       let outs = (step (moment_of cluster) (points_of cluster member) heard (made agent.role agent.knows machine [])).outputs in
       let table = (step-carried-out (moment_of cluster) (points_of cluster member) heard agent.role agent.knows machine).kinds in
       record {
         measured = λ since. (tt, each-unfed member Run no_message (moments_after moments Called) since (cluster_after cluster Called) outs runs-on table (none agent.role agent.knows machine));
         numbered = (tt, each-numbered member Run no_message (cluster_after cluster Called) outs runs-on table);
+        decided = (tt, each-decided member Run no_message (cluster_after cluster Called) outs runs-on table);
       }
 
   told-called : Measures moments cluster (record { tick = record { 0 = cluster.facts.clock }; kind = Called } ∷ input_events (cluster_after cluster Called) member no_message (outcome_of cluster member heard))
@@ -181,8 +202,8 @@ module _ (moments : Moments) (cluster : Cluster) (number : ℕ) (message : InFli
 
   hears-told : (heard : Heard) (agent : Option AgentFacts) (machine : Option Machine)
       → Measures moments cluster (record { tick = record { 0 = cluster.facts.clock }; kind = Arrived } ∷ input_events (cluster_after cluster Arrived) member (heard_message number message) (outcome_at (moment_of cluster) (points_of cluster member) heard agent machine))
-  hears-told heard None machine = record { measured = λ since. (tt, tt); numbered = (tt, tt) }
-  hears-told heard (Some agent) None = record { measured = λ since. (tt, tt); numbered = (tt, tt) }
+  hears-told heard None machine = record { measured = λ since. (tt, tt); numbered = (tt, tt); decided = (tt, tt) }
+  hears-told heard (Some agent) None = record { measured = λ since. (tt, tt); numbered = (tt, tt); decided = (tt, tt) }
   hears-told heard (Some agent) (Some machine) =
       let outs = (step (moment_of cluster) (points_of cluster member) heard (made agent.role agent.knows machine [])).outputs in
       let table = (step-carried-out (moment_of cluster) (points_of cluster member) heard agent.role agent.knows machine).kinds in
@@ -194,11 +215,12 @@ module _ (moments : Moments) (cluster : Cluster) (number : ℕ) (message : InFli
               (record { known = knows.known number message found; old = knows.flown number message found }),
         );
         numbered = (tt, each-numbered member run (heard_message number message) (cluster_after cluster Arrived) outs (runs-in cluster member.id.number) table);
+        decided = (tt, each-decided member run (heard_message number message) (cluster_after cluster Arrived) outs (runs-in cluster member.id.number) table);
       }
 
   heard-told : (heard : Option Heard)
       → Measures moments cluster (record { tick = record { 0 = cluster.facts.clock }; kind = Arrived } ∷ input_events (cluster_after cluster Arrived) member (heard_message number message) (outcome_of_heard cluster member heard))
-  heard-told None = record { measured = λ since. (tt, tt); numbered = (tt, tt) }
+  heard-told None = record { measured = λ since. (tt, tt); numbered = (tt, tt); decided = (tt, tt) }
   heard-told (Some heard) = hears-told heard (agent_at cluster.agents member.id.number) (machine_of cluster member)
 
   pub told-hearing : Measures moments cluster (hear_events cluster number message member)

@@ -1,5 +1,5 @@
 -- Each step of a run tells before each feed from when it is measured.
-use Rattle.std.proofs.Common.{ℕ, ◌+◌, ◌++◌, Bool, true, false, cond, List, [], ◌∷◌, slice_get, Option, Some, None}
+use Rattle.std.proofs.Common.{ℕ, ◌≡◌, refl, ◌+◌, ◌++◌, Bool, true, false, cond, List, [], ◌∷◌, slice_get, Option, Some, None}
 use Rattle.pat_base.specs.declared.ticks.Ticks.{Ticks}
 use Rattle.lease_store.specs.declared.txn.Txn.{Txn}
 use Rattle.lease_store.specs.Decision.{Decision, Grant, Refusal, decision_on}
@@ -14,6 +14,7 @@ use Rattle.event_book.specs.declared.event.EventKind.{EventKind}
 use Rattle.event_book.specs.declared.event.EventKind.TheVariants as kinds
 use Rattle.event_book.specs.declared.event.MessageEvent.TheVariants as messages
 use Rattle.event_book.specs.declared.event.ServerEvent.TheVariants as servers
+use Rattle.event_book.specs.declared.event.StoreEvent.TheVariants as stores
 use Rattle.event_book.specs.declared.event.WatchdogEvent.TheVariants as watchdogs
 use Rattle.event_book.specs.declared.link.LinkEnd.{LinkEnd}
 use Rattle.event_book.specs.declared.link.LinkEnd.TheVariants as ends
@@ -49,16 +50,18 @@ use Rattle.run_law.proofs.Moments.{KnowsSending}
 use Rattle.run_step_law.proofs.Streams.{IsQuietIf, acknowledge-quiet, confirm-quiet}
 use Rattle.run_step_law.proofs.Ticks.{IsBeside, Rest, rest-beside}
 
--- ---- what feeds and sends nothing
+-- ---- what feeds, sends and grants nothing
 aside-plain : (May : ℕ → Type 0) (kind : EventKind) → IsAsideIn May kind → IsPlain kind
 aside-plain May (kinds.Watchdog (watchdogs.Armed member until answer)) is = absurd is
 aside-plain May (kinds.Watchdog (watchdogs.Fed member until basis)) is = absurd is
 aside-plain May (kinds.Message (messages.Sent number message)) is = absurd is
+aside-plain May (kinds.Store (stores.Granted number by txn standbys)) is = absurd is
 aside-plain May _ is = tt
 
 quiet-plain : (kind : EventKind) → IsQuiet kind → IsPlain kind
 quiet-plain (kinds.Watchdog happening) is = absurd is
 quiet-plain (kinds.Message happening) is = absurd is
+quiet-plain (kinds.Store (stores.Granted number by txn standbys)) is = absurd is
 quiet-plain _ is = tt
 
 quiet-kinds : (list : List EventKind) → AllKinds IsQuiet list → AllKinds IsPlain list
@@ -167,18 +170,25 @@ told-event : (moments : Moments) (cluster : Cluster) (kind : EventKind) (more : 
 told-event moments cluster kind more is knows rest =
     told-then moments cluster (event_of cluster kind) (more (cluster_after cluster kind)) knows (told-plain moments cluster (event_of cluster kind) (is, tt)) (λ later. rest _ (cluster_after cluster kind) later)
 
-tells-decision : (number : ℕ) (message : Message) (txn : Txn) (decision : Decision) (from : LinkEnd) → Tells (λ cluster. decision_events cluster number message txn decision from)
-tells-decision number message txn decision ends.Store moments cluster knows = tells-none moments cluster
-tells-decision number message txn Grant (ends.Member by) moments cluster knows =
+told-granted : (moments : Moments) (cluster : Cluster) (number : ℕ) (by : Member) (txn : Txn) (more : Cluster → List Event) → decision_on cluster.facts.keys cluster.facts.clock txn ≡ Grant → KnowsSending moments cluster.facts → Tells more
+    → Measures moments cluster (event_of cluster (decision_kind cluster.facts.members number by txn Grant) ++ more (cluster_after cluster (decision_kind cluster.facts.members number by txn Grant)))
+told-granted moments cluster number by txn more granted knows rest =
+    let kind : EventKind = decision_kind cluster.facts.members number by txn Grant in
+    told-then moments cluster (event_of cluster kind) (more (cluster_after cluster kind)) knows (record { measured = λ since. (tt, tt); numbered = (tt, tt); decided = (granted, tt) }) (λ later. rest _ (cluster_after cluster kind) later)
+
+told-decision : (moments : Moments) (cluster : Cluster) (number : ℕ) (message : Message) (txn : Txn) (decision : Decision) (from : LinkEnd) → decision_on cluster.facts.keys cluster.facts.clock txn ≡ decision → KnowsSending moments cluster.facts
+    → Measures moments cluster (decision_events cluster number message txn decision from)
+told-decision moments cluster number message txn decision ends.Store is knows = tells-none moments cluster
+told-decision moments cluster number message txn Grant (ends.Member by) is knows =
     let answer : Message = answer_message message (decision_body number txn Grant) in
-    told-event moments cluster (decision_kind cluster.facts.members number by txn Grant) (λ later. send_events later answer) tt knows (tells-send answer)
-tells-decision number message txn (Refusal key found) (ends.Member by) moments cluster knows =
+    told-granted moments cluster number by txn (λ later. send_events later answer) is knows (tells-send answer)
+told-decision moments cluster number message txn (Refusal key found) (ends.Member by) is knows =
     let answer : Message = answer_message message (decision_body number txn (Refusal key found)) in
     told-event moments cluster (decision_kind cluster.facts.members number by txn (Refusal key found)) (λ later. send_events later answer) tt knows (tells-send answer)
 
 tells-answer : (number : ℕ) (message : Message) (body : Body) → Tells (λ cluster. answer_events_by cluster number message body)
 tells-answer number message bodies.Read moments cluster knows = tells-send (answer_message message bodies.Snapshot) moments cluster knows
-tells-answer number message (bodies.Request txn) moments cluster knows = tells-decision number message txn (decision_on cluster.facts.keys cluster.facts.clock txn) message.from moments cluster knows
+tells-answer number message (bodies.Request txn) moments cluster knows = told-decision moments cluster number message txn (decision_on cluster.facts.keys cluster.facts.clock txn) message.from refl knows
 tells-answer number message _ moments cluster knows = tells-none moments cluster
 
 pub told-store : (moments : Moments) (cluster : Cluster) (number : ℕ) (message : InFlightFacts) → KnowsSending moments cluster.facts → Measures moments cluster (arrival_events_at cluster number message ends.Store)

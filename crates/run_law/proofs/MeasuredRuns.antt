@@ -1,4 +1,4 @@
--- Each run tells before each feed from when it is measured.
+-- Each run tells before each feed from when it is measured, and is fenced.
 use Rattle.std.proofs.Common.{ℕ, ◌≡◌, List, [], ◌∷◌, slice_get, Option, Some, None, Result, Ok, Err, zero, suc, refl}
 use Rattle.lease_store.specs.declared.action.OperatorRequest.{OperatorRequest}
 use Rattle.operator_keys.specs.declared.refusal.Refused.{Refused}
@@ -32,6 +32,8 @@ use Rattle.lease_law.specs.Premises.{Moments, first_moments}
 use Rattle.lease_law.proofs.Tools.{none-some}
 use Rattle.summary.specs.Sights.{first_since}
 use Rattle.summary.specs.Telling.{AreMeasured}
+use Rattle.run_law.specs.Fencing.{AreFenced}
+use Rattle.run_law.proofs.Fencing.{decided-fenced}
 use Rattle.run_law.proofs.MeasuredInputs.{told-hearing, told-operated, told-wake}
 use Rattle.run_law.proofs.MeasuredParts.{tells-acknowledge, tells-kind, tells-promote, tells-receive, tells-receive-at-most, tells-restart, tells-tick, told-lose, told-store}
 use Rattle.run_law.proofs.Measuring.{Measures, Tells, tells-each, tells-none, tells-then, told-for_some, told-if, told-plain}
@@ -135,3 +137,6 @@ knows-first head = record { clock = refl; order = tt; flown = λ i carried e. ab
 
 pub runs-measured : (head : HeadText) (steps : List Step) → AreMeasured first_moments first_since (run_events (cluster_of head) steps)
 runs-measured head steps = (tells-run steps first_moments (cluster_of head) (knows-first head)).measured first_since
+
+pub runs-fenced : (head : HeadText) (steps : List Step) → AreFenced (cluster_of head) (run_events (cluster_of head) steps)
+runs-fenced head steps = decided-fenced (cluster_of head) (run_events (cluster_of head) steps) (tells-run steps first_moments (cluster_of head) (knows-first head)).decided

@@ -7,6 +7,7 @@ ghost use Rattle.event_book.specs.Writers.{HasOneWriter};
 ghost use Rattle.cluster_model.specs.Next.{run_events};
 ghost use Rattle.cluster_model.specs.Starting.{cluster_of};
 ghost use Rattle.lease_law.specs.Premises.{IsTimely, IsHandsOff, first_moments};
+ghost use Rattle.run_law.specs.Fencing.{AreFenced};
 ghost use Rattle.summary.specs.Sights.{first_since};
 ghost use Rattle.summary.specs.Telling.{AreMeasured};
 ghost use Rattle.run_step_law.specs.Declaring.{declared_of, works_of};
@@ -28,4 +29,10 @@ pub fn runs_have_one_writer()
 /// grant. It needs no premise.
 pub fn runs_tell_measures()
     ensures { (head : HeadText) (steps : List Step) → AreMeasured first_moments first_since (run_events (cluster_of head) steps) }
+{}
+
+/// Fencing, in every run: whoever's write under a lease is granted finds the leader key there at that moment, by the revision of that
+/// lease. So who writes under a revision of the leader key that is no longer there is refused. It needs no premise.
+pub fn runs_are_fenced()
+    ensures { (head : HeadText) (steps : List Step) → AreFenced (cluster_of head) (run_events (cluster_of head) steps) }
 {}

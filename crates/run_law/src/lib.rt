@@ -3,4 +3,4 @@
 
 mod laws;
 
-pub use laws::{runs_have_one_writer, runs_tell_measures};
+pub use laws::{runs_are_fenced, runs_have_one_writer, runs_tell_measures};

@@ -1,5 +1,6 @@
 use Rattle.std.proofs.lemmas.Result.{on_ok_weaker}
 use Rattle.world_model.specs.Room.{step_cost}
+use Rattle.pat_world.proofs.Fenced.{step-fenced}
 use Rattle.pat_world.proofs.KeptCommits.{step-keeps-commits}
 use Rattle.pat_world.proofs.OneWriter.{step-keeps}
 use Rattle.pat_world.proofs.Standing.{step-stands}
@@ -20,6 +21,12 @@ returns-else-is_err-clause-commits c =
     on_ok_weaker c.tick_or_take-taken.result
     (λ took. step-keeps-commits c.args.self.now.cluster c.tick_or_take-taken.new.self.cluster c.args.events.now.items c.tick_or_take-taken.new.events.items c.args.step.now step_cost c.requires.empty took)
     c.tick_or_take-taken.ensures.emits
+
+pub returns-else-is_err-clause-fenced : goal.returns-else-is_err-clause-fenced
+returns-else-is_err-clause-fenced c =
+    on_ok_weaker c.play-taken.result
+    (λ took. step-fenced c.args.self.now.cluster c.play-taken.new.self.cluster c.args.events.now.items c.play-taken.new.events.items c.args.step.now step_cost c.requires.empty took)
+    c.play-taken.ensures.emits
 
 pub returns-else-is_err-clause-taken : goal.returns-else-is_err-clause-taken
 returns-else-is_err-clause-taken c =
