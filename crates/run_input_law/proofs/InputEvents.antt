@@ -38,6 +38,7 @@ use Rattle.wal_model.specs.declared.entry.Entry.{Entry}
 use Rattle.cluster_model.specs.Messages.{agent_message, lost_at_once, sending_events, output_events, replying_events, server_order_events}
 use Rattle.cluster_model.specs.Orders.{declared_member, following_of, handing_over, is_same_required, arming, feeding, feed_kinds, replica_start_kinds, require_of, required_names, server_at, stop_kind, stop_kinds, stop_of, upstream_of, repair_over, wipe_of}
 use Rattle.cluster_model.specs.Parts.{events_of, for_some}
+use Rattle.cluster_model.specs.Requests.{told_kind}
 use Rattle.cluster_model.specs.State.{Cluster}
 use Rattle.event_book.specs.Kinds.{AllAre}
 use Rattle.cluster_model.proofs.Founds.{holds-if, holds-mapped, holds-then, repaired-holds, told-holds}
