@@ -1,5 +1,5 @@
 //! What a happening changes at servers.
-ghost use Rattle.std.specs.Prelude.{◌≡◌, ◌<◌, ◌^◌, ◌==◌, ◌&&◌, ◌||◌, not, OnOk, IfSome, IsTrue, slice_get};
+ghost use Rattle.std.specs.Prelude.{◌≡◌, ◌<◌, ◌≤◌, ◌^◌, ◌==◌, ◌&&◌, ◌||◌, not, OnOk, IfSome, IsTrue, slice_get};
 ghost use Rattle.pat_base.specs.Changes.{with_changed};
 ghost use Rattle.event_book.specs.Servers.{begun_in, servers_after, servers_by, servers_by_log, servers_by_replication, servers_by_watchdog, starts_as_primary, starts_as_replica, stops};
 ghost use Rattle.pg_model.specs.Facts.{is_down, is_up};
