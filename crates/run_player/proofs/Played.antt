@@ -35,6 +35,10 @@ use Rattle.run_player.specs.Run.{noted_from, printed_from, traced_after, traced_
 pub Prints-err : {K X Y E : Type 0} {sink : Ghosts K} {a b : K} {fault error : E} {bytes : List ℕ} → Prints {X = X} sink a b fault (Err error) bytes → Prints {X = Y} sink a b fault (Err error) bytes
 Prints-err p = record { ok = tt; part = p.part; write = λ e. p.write (ap Err cc); grows = p.grows; room = p.room }
 
+-- a call that stops by the same error, whatever it would have answered
+pub same-error : {X Y : Type 0} {a b : PrintError} → ◌≡◌ {A = Result X PrintError} (Err a) (Err b) → ◌≡◌ {A = Result Y PrintError} (Err a) (Err b)
+same-error e = ap Err cc
+
 pub memory-is-no-write : Memory ≡ Write → ⊥
 memory-is-no-write e = cc
 
@@ -42,7 +46,7 @@ ok-is-no-error : {X : Type 0} {x : X} → IsErrOf {E = PrintError} (Ok x) Memory
 ok-is-no-error e = cc
 
 -- nothing is the lines of no steps
-PrintsWholeSteps-none : {K : Type 0} (sink : Ghosts K) (out : K) (cluster : Cluster) (trace : Bool) (steps : List Step) → PrintsWholeSteps sink out out cluster trace steps
+pub PrintsWholeSteps-none : {K : Type 0} (sink : Ghosts K) (out : K) (cluster : Cluster) (trace : Bool) (steps : List Step) → PrintsWholeSteps sink out out cluster trace steps
 PrintsWholeSteps-none sink out cluster trace steps = record { done = []; more = steps; parts = refl; grew = Grew-nothing (sink.content out) }
 
 -- what a step hands out into an empty buffer is all that it prints

@@ -1,14 +1,16 @@
-use Rattle.std.proofs.Common.{ℕ, List, ap, ◌∙◌, Err, Ok, subst}
+use Rattle.std.proofs.Common.{ℕ, Bool, false, List, ap, ◌∙◌, Err, Ok, subst}
 use Rattle.pat_base.specs.Prints.{Prints}
 use Rattle.std.proofs.lemmas.Result.{err_from_is_err_and}
 use Rattle.pat_base.proofs.Printing.{Prints-none, Prints-ok}
+use Rattle.script_model.specs.Steps.{steps_of}
 use Rattle.cluster_model.specs.Starting.{cluster_of}
 use Rattle.cluster_model.specs.State.{Cluster}
 use Rattle.cluster_model.specs.Steps.{names_in}
 use Rattle.world_model.proofs.Declaring.{names-start}
 use Rattle.run_player.specs.declared.print_error.PrintError.TheVariants.{Memory, Write}
 use Rattle.run_player.specs.Watches.{first_summary}
-use Rattle.run_player.proofs.Played.{Prints-err, memory-is-no-write}
+use Rattle.run_player.specs.Playing.{PrintsWholeSteps}
+use Rattle.run_player.proofs.Played.{Prints-err, PrintsWholeSteps-none, memory-is-no-write, same-error}
 use Rattle.run_player.proofs.Whole.{has-room, left-by, text-is}
 use Rattle.run_player.proofs.playing.play.Goals as goal
 
@@ -51,3 +53,14 @@ returns-in-Err-clause-printed g c =
     (subst (λ (t : List ℕ). Prints {X = Unit {0}} g.K.Sink c.args.out.now c.play.new.out Write (Err c.in-Err.error) t)
     (text-is script player.world.cluster player.trace player.summary (first.world ∙ ap (λ h. cluster_of h) c.head.ensures.value) first.trace (first.summary ∙ ap (λ h. first_summary h) c.head.ensures.value))
     c.in-Err.ensures.printed)
+
+pub returns-in_err-player-clause-whole : goal.returns-in_err-player-clause-whole
+returns-in_err-player-clause-whole g c = λ e. PrintsWholeSteps-none g.K.Sink c.args.out.now (cluster_of c.args.script.now.head) false (steps_of c.args.script.now.body)
+
+pub returns-in-Err-clause-whole : goal.returns-in-Err-clause-whole
+returns-in-Err-clause-whole g c = λ e.
+    let script = c.args.script.now in
+    let player = c.in_ok-player.player in
+    let first = c.in_ok-player.ensures in
+    subst (λ (w : Cluster). PrintsWholeSteps g.K.Sink c.args.out.now c.play.new.out w false (steps_of script.body)) (first.world ∙ ap (λ h. cluster_of h) c.head.ensures.value)
+    (subst (λ (t : Bool). PrintsWholeSteps g.K.Sink c.args.out.now c.play.new.out player.world.cluster t (steps_of script.body)) first.trace (c.in-Err.ensures.whole (same-error e)))

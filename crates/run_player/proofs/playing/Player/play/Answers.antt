@@ -1,4 +1,4 @@
-use Rattle.std.proofs.Common.{◌≡◌, ◌++◌, [], Result, Ok, Err, append-nil, ap, ◌∙◌, sym, subst}
+use Rattle.std.proofs.Common.{◌++◌, [], Err, append-nil, ap, ◌∙◌, sym, subst}
 use Rattle.std.proofs.lemmas.Result.{err_from_is_err_and}
 use Rattle.pat_base.specs.Outside.{Grew}
 use Rattle.pat_base.specs.Prints.{Prints}
@@ -7,13 +7,10 @@ use Rattle.script_model.specs.Steps.{steps_of}
 use Rattle.summary.specs.declared.answers.Closing.{Closing}
 use Rattle.summary.specs.Sights.{SummaryFacts}
 use Rattle.summary.specs.SummaryText.{closing_text}
-use Rattle.run_player.specs.declared.print_error.PrintError.{PrintError}
 use Rattle.run_player.specs.declared.print_error.PrintError.TheVariants.{Write}
 use Rattle.run_player.specs.Run.{printed_from}
+use Rattle.run_player.proofs.Played.{same-error}
 use Rattle.run_player.proofs.playing.Player.play.Goals as goal
-
-same-error : {X Y : Type 0} {a b : PrintError} → Err {A = X} a ≡ Err b → Err {A = Y} a ≡ Err b
-same-error e = ap Err cc
 
 pub returns-in_err-play_body-clause-printed : goal.returns-in_err-play_body-clause-printed
 returns-in_err-play_body-clause-printed g c =
