@@ -1,7 +1,7 @@
 -- Steps that were played, one after another: what is left is behind what was done.
-use Rattle.std.proofs.Common.{◌≡◌, ◌≢◌, Bool, ℕ, ◌+◌, List, [], ◌∷◌, ◌++◌, length, drop, Some, Result, Ok, Err, IsErrOf, arith, append_assoc, append-nil, length-append, refl, ◌∙◌, ap, sym, subst, suc, zero}
+use Rattle.std.proofs.Common.{◌≡◌, ◌≢◌, Bool, ℕ, ◌+◌, List, [], ◌∷◌, ◌++◌, length, drop, Some, Result, Ok, Err, arith, append_assoc, append-nil, length-append, refl, ◌∙◌, ap, sym, subst, suc, zero}
 use Rattle.std.proofs.lemmas.Option.{none-some, same_Some}
-use Rattle.std.specs.Prelude.{slice_get}
+use Rattle.std.specs.Prelude.{IsErrOf, slice_get}
 use Rattle.pat_base.specs.declared.name.Name.{Name}
 use Rattle.pat_base.specs.declared.outside.Failed.{Failed}
 use Rattle.pat_base.specs.declared.outside.Sink.{Ghosts}
@@ -146,7 +146,7 @@ Plays-then {sink = sink} {before = before} {between = between} {after = after} {
   world = q.world ∙ ap (λ c. cluster_over c (run_events c piece)) p.world ∙ run_events-append before.world.cluster steps piece;
   trace = q.trace ∙ ap (λ t. traced_over t piece) p.trace ∙ sym (traced_over-append before.trace steps piece);
   summary = q.summary ∙ ap (λ s. noted_from s between.world.cluster piece) p.summary ∙ ap (λ c. noted_from (noted_from before.summary before.world.cluster steps) c piece) p.world ∙ noted_from-append before.summary before.world.cluster steps piece;
-  taken = TookSteps-then before.world between.world after.world (length steps) (length piece) (length (steps ++ piece)) (length-append steps piece) p.taken q.taken;
+  taken = TookSteps-then before.world between.world after.world (length steps) (length piece) (length (steps ++ piece)) (sym (length-append steps piece)) p.taken q.taken;
   printed = subst (λ (t : List ℕ). Prints {X = Unit {0}} sink out then Write (Ok tt) t) (next-text before between steps piece p.world p.trace) (Prints-then (Ok tt) p.printed (Prints-ok Write tt q.printed));
   whole = λ e. absurd (ok-is-no-error e);
 }
