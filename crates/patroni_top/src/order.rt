@@ -15,7 +15,7 @@ impl Order {
         ensures { result ≡ order_of (map string_bytes words.now) }
     {
         match words {
-            [word] => order_in(word),
+            [word] => order_in(word.as_str()),
             _ => None,
         }
     }
