@@ -44,7 +44,7 @@ pub returns-in-Disarmed : goal.returns-in-Disarmed
 returns-in-Disarmed c = on_ok_weaker c.tell_disarming.result (carried _ _ _ _ c.args.member c.args.heard c.args.output _ 1 c.in-Disarmed.is (omega arith)) c.tell_disarming.ensures
 
 pub returns-in-CannotArm : goal.returns-in-CannotArm
-returns-in-CannotArm c = on_ok_weaker c.tell_note-in-CannotArm.result (carried _ _ _ _ c.args.member c.args.heard c.args.output _ 1 c.in-CannotArm.is (omega arith)) c.tell_note-in-CannotArm.ensures
+returns-in-CannotArm c = on_ok_weaker c.tell_note.result (carried _ _ _ _ c.args.member c.args.heard c.args.output _ 1 c.in-CannotArm.is (omega arith)) c.tell_note.ensures
 
 pub returns-in-Passes : goal.returns-in-Passes
 returns-in-Passes c = on_ok_weaker c.tell_passing.result (carried _ _ _ _ c.args.member c.args.heard c.args.output _ 1 c.in-Passes.is (omega arith)) c.tell_passing.ensures
