@@ -24,9 +24,9 @@ returns-else-is_err-clause-commits c =
 
 pub returns-else-is_err-clause-fenced : goal.returns-else-is_err-clause-fenced
 returns-else-is_err-clause-fenced c =
-    on_ok_weaker c.play-taken.result
-    (λ took. step-fenced c.args.self.now.cluster c.play-taken.new.self.cluster c.args.events.now.items c.play-taken.new.events.items c.args.step.now step_cost c.requires.empty took)
-    c.play-taken.ensures.emits
+    on_ok_weaker c.tick_or_take-taken.result
+    (λ took. step-fenced c.args.self.now.cluster c.tick_or_take-taken.new.self.cluster c.args.events.now.items c.tick_or_take-taken.new.events.items c.args.step.now step_cost c.requires.empty took)
+    c.tick_or_take-taken.ensures.emits
 
 pub returns-else-is_err-clause-taken : goal.returns-else-is_err-clause-taken
 returns-else-is_err-clause-taken c =
