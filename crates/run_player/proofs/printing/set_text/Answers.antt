@@ -1,4 +1,4 @@
-use Rattle.std.proofs.Common.{◌++◌, append_assoc, append-nil, ap, ◌∙◌, sym, drop, arith}
+use Rattle.std.proofs.Common.{◌+◌, ◌++◌, append_assoc, append-nil, ap, ◌∙◌, sym, drop, arith}
 use Rattle.std.proofs.lemmas.List.{drop_all}
 use Rattle.std.specs.String.{string_bytes}
 use Rattle.event_book.specs.Text.{lines_of, line_of, bytes_or_none}
