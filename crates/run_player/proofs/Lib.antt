@@ -1,4 +1,0 @@
-pub mod Idling
-pub mod Played
-pub mod Watching
-pub mod Whole

@@ -1,5 +1,0 @@
-pub mod Left
-pub mod LineParts
-pub mod Playing
-pub mod Run
-pub mod Watches
