@@ -1,21 +1,14 @@
 -- Commits are kept, and required lists and sync key in order, at each moment of each run in synchronous mode up to which the premises are met.
-use Rattle.std.proofs.Common.{ℕ, ◌≡◌, true, List, [], Option, Some, None, slice_get}
-use Rattle.wal_model.specs.declared.entry.Entry.{Entry}
+use Rattle.std.proofs.Common.{List, []}
 use Rattle.script_model.specs.declared.line.Step.{Step}
 use Rattle.script_model.specs.Script.{HeadText, IsHead}
 use Rattle.event_book.specs.declared.event.Event.{Event}
 use Rattle.cluster_model.specs.Next.{run_events}
 use Rattle.cluster_model.specs.Starting.{cluster_of}
-use Rattle.commit_law.specs.Books.{HasCommit, KeepsNow}
-use Rattle.commit_law.specs.Past.{log_found}
 use Rattle.run_step_law.specs.Parts.{PartsUphold}
 use Rattle.run_step_law.proofs.Walking.{upholds-run}
-use Rattle.wal_model.specs.Lacking.{has_serial}
-use Rattle.summary.specs.Seeing.{WritersHold, entries_found}
-use Rattle.wal_model.proofs.Serials.{looked-up}
 use Rattle.commit_step_law.specs.Bridged.{KeepsInOrder, kept_commits}
-use Rattle.commit_step_law.specs.Reading.{past_of}
-use Rattle.commit_run_law.specs.Runs.{InSynchronousMode, KeepsCommitsIn, KeepsOrderIn, first_logs}
+use Rattle.commit_run_law.specs.Runs.{InSynchronousMode, KeepsCommitsIn, KeepsOrderIn}
 use Rattle.commit_step_law.proofs.Arrivals.{upheld-arrival}
 use Rattle.commit_step_law.proofs.Commands.{upheld-command, upheld-restarts, upholds-loss, upholds-promote}
 use Rattle.commit_input_law.proofs.EveryInput.{inputs-uphold}
@@ -25,15 +18,6 @@ use Rattle.commit_run_law.proofs.Holding.{held-by-book}
 use Rattle.commit_step_law.proofs.Servers.{upholds-acknowledge, upholds-note, upholds-receive}
 use Rattle.commit_step_law.proofs.Ticks.{upholds-tick}
 use Rattle.commit_step_law.proofs.Transitions.{composable}
-
--- ---- in the summary's words
-found-serial : (found : Option (Option (List Entry))) (commit : ℕ) → HasCommit (log_found found) commit → has_serial (entries_found found) commit ≡ true
-found-serial None commit has = absurd has
-found-serial (Some None) commit has = absurd has
-found-serial (Some (Some log)) commit has = (looked-up log commit).1 (record { front = has.front; entry = has.entry; rest = has.rest; whole = has.whole; serial_is = has.serial })
-
-hold-now : (head : HeadText) (book : List Event) → KeepsNow (past_of head book) → WritersHold (first_logs head) book
-hold-now head book kept = held-by-book head book (λ server writes commit told. found-serial (slice_get (past_of head book).logs server) commit (kept server writes commit told))
 
 -- ---- every run
 pub parts : (head : HeadText) → IsHead head → PartsUphold head (kept_commits head)
@@ -57,7 +41,7 @@ promised head is steps on front rest whole met mode =
     (record { timely = met; mode = mode })
 
 pub runs-keep : (head : HeadText) → IsHead head → (steps : List Step) → KeepsCommitsIn head (run_events (cluster_of head) steps)
-runs-keep head is steps on front rest whole met mode = hold-now head front (promised head is steps on front rest whole met mode).kept
+runs-keep head is steps on front rest whole met mode = held-by-book head front (promised head is steps on front rest whole met mode).kept
 
 pub runs-in-order : (head : HeadText) → IsHead head → (steps : List Step) → KeepsOrderIn head (run_events (cluster_of head) steps)
 runs-in-order head is steps on front rest whole met mode = (promised head is steps on front rest whole met mode).order

@@ -3,22 +3,14 @@ use Rattle.std.proofs.Common.{ℕ, ◌≡◌, ◌∙◌, Bool, true, false, List
 use Rattle.script_model.specs.Script.{HeadText}
 use Rattle.event_book.specs.declared.event.Event.{Event}
 use Rattle.event_book.specs.Acknowledged.{acknowledged_in}
-use Rattle.event_book.specs.Logs.{Logs, logs_over}
+use Rattle.event_book.specs.Kept.{KeepsCommits}
+use Rattle.event_book.specs.Logs.{Logs, entries_at, logs_over}
 use Rattle.event_book.specs.Writers.{writes_over}
-use Rattle.commit_law.specs.Past.{Past}
+use Rattle.commit_law.specs.Books.{KeepsNow}
 use Rattle.commit_law.proofs.Fronts.{past-logs, past-shown, past-writes}
 use Rattle.wal_model.specs.Lacking.{has_serial}
-use Rattle.summary.specs.Seeing.{WritersHold, entries_at}
 use Rattle.commit_step_law.specs.Reading.{past_of}
 use Rattle.commit_run_law.specs.Runs.{first_logs}
-
--- each of these servers that accepts writes has each of these commits in its log
-abbrev Hold : (ℕ → Bool) → Logs → List ℕ → Type 0
-Hold writes logs acknowledged = (server : ℕ) → writes server ≡ true → (commit : ℕ) → Contains acknowledged commit → has_serial (entries_at logs server) commit ≡ true
-
--- each server that accepts writes has each acknowledged commit in its log, by what a book determines
-abbrev pub HoldsIn : Past → Type 0
-HoldsIn past = Hold past.writes past.logs past.acknowledged
 
 -- a book's own logs, writers and acknowledged commits
 pub book-logs : (head : HeadText) (book : List Event) → (past_of head book).logs ≡ logs_over (first_logs head) book
@@ -30,12 +22,12 @@ book-writes head book n = ap (λ (w : ℕ → Bool). w n) (past-writes (past_of 
 pub book-acknowledged : (head : HeadText) (book : List Event) → (past_of head book).acknowledged ≡ acknowledged_in book
 book-acknowledged head book = past-shown (past_of head []) book
 
-pub held-by-book : (head : HeadText) (book : List Event) → HoldsIn (past_of head book) → WritersHold (first_logs head) book
+pub held-by-book : (head : HeadText) (book : List Event) → KeepsNow (past_of head book) → KeepsCommits (first_logs head) book
 held-by-book head book hold server writes commit told =
     subst (λ (l : Logs). has_serial (entries_at l server) commit ≡ true) (book-logs head book)
     (hold server (book-writes head book server ∙ writes) commit (subst (λ (l : List ℕ). Contains l commit) (sym (book-acknowledged head book)) told))
 
-pub held-by-past : (head : HeadText) (book : List Event) → WritersHold (first_logs head) book → HoldsIn (past_of head book)
+pub held-by-past : (head : HeadText) (book : List Event) → KeepsCommits (first_logs head) book → KeepsNow (past_of head book)
 held-by-past head book hold server writes commit told =
     subst (λ (l : Logs). has_serial (entries_at l server) commit ≡ true) (sym (book-logs head book))
     (hold server (sym (book-writes head book server) ∙ writes) commit (subst (λ (l : List ℕ). Contains l commit) (book-acknowledged head book) told))

@@ -17,7 +17,8 @@ use Rattle.event_book.specs.declared.member.Member.{Member}
 use Rattle.event_book.specs.declared.member.ServerOf.{ServerOf}
 use Rattle.event_book.specs.Acknowledged.{acknowledged_in}
 use Rattle.event_book.specs.Facts.{Facts}
-use Rattle.event_book.specs.Logs.{Logs, log_copied, logs_in, logs_over}
+use Rattle.event_book.specs.Kept.{KeepsCommits}
+use Rattle.event_book.specs.Logs.{Logs, entries_at, entries_found, log_copied, logs_in, logs_over}
 use Rattle.event_book.specs.Members.{server_of}
 use Rattle.event_book.specs.Writers.{Begins, BeginsKind, writes_in, writes_now}
 use Rattle.cluster_model.specs.Acknowledging.{acknowledge_kinds, acknowledgement, acknowledgements, ready_commits}
@@ -29,6 +30,7 @@ use Rattle.cluster_model.specs.Parts.{event_of, events_of}
 use Rattle.cluster_model.specs.State.{Cluster}
 use Rattle.event_book.specs.Kinds.{AllAre}
 use Rattle.lease_law.proofs.Tools.{both}
+use Rattle.commit_law.specs.Books.{KeepsNow}
 use Rattle.commit_law.specs.Past.{Past, past_after}
 use Rattle.commit_log_law.specs.Happening.{MayHappen, Takes}
 use Rattle.commit_log_law.specs.Matching.{IsSameServers}
@@ -43,13 +45,13 @@ use Rattle.cluster_model.proofs.Places.{there}
 use Rattle.run_step_law.proofs.Streams.{acknowledge-quiet}
 use Rattle.wal_model.specs.Lacking.{has_serial, lacks_in}
 use Rattle.summary.specs.Losses.{WriterLacksOf}
-use Rattle.summary.specs.Seeing.{WriterLacks, WritersHold, entries_at, entries_found}
+use Rattle.summary.specs.Seeing.{WriterLacks}
 use Rattle.summary.specs.Sights.{is_loss}
 use Rattle.summary.proofs.Keeping.{acknowledged-lacks, began-lacks}
 use Rattle.summary.proofs.Losing.{none-if-hold}
 use Rattle.commit_step_law.specs.Reading.{past_of}
 use Rattle.commit_run_law.specs.Runs.{first_logs}
-use Rattle.commit_run_law.proofs.Holding.{HoldsIn, book-acknowledged, book-logs, book-writes, held-by-book, held-by-past}
+use Rattle.commit_run_law.proofs.Holding.{book-acknowledged, book-logs, book-writes, held-by-book, held-by-past}
 use Rattle.commit_run_law.proofs.Losses.{Tells, TellsSoFar, losses_told, lost-tells, none-lost, some-lost, upheld-tells}
 use Rattle.commit_step_law.proofs.Transitions.{past-more}
 use Rattle.pat_base.specs.declared.member_id.TheConstants.{MOST_MEMBERS}
@@ -245,20 +247,20 @@ IsRepair (kinds.Log (log_events.Wiped server)) = Unit {0}
 IsRepair _ = ⊥
 
 -- another log at a place where nobody writes
-hold-changed : (past : Past) (k : ℕ) (change : Option (List Entry) → Option (List Entry)) → past.writes k ≡ false → HoldsIn past → HoldsIn (record past { logs = with_changed past.logs k change })
+hold-changed : (past : Past) (k : ℕ) (change : Option (List Entry) → Option (List Entry)) → past.writes k ≡ false → KeepsNow past → KeepsNow (record past { logs = with_changed past.logs k change })
 hold-changed past k change quiet hold server writing commit told = elim (cases_eq server k) [
   | inl same ↦ absurd (both (sym quiet ∙ ap past.writes (sym same) ∙ writing))
   | inr other ↦ subst (λ (o : Option (Option (List Entry))). has_serial (entries_found o) commit ≡ true) (sym (changed-there past.logs k change server other)) (hold server writing commit told)
 ]
 
-hold-copied : (past : Past) (k : ℕ) (found : Option (Option (List Entry))) → past.writes k ≡ false → HoldsIn past → HoldsIn (record past { logs = log_copied past.logs k found })
+hold-copied : (past : Past) (k : ℕ) (found : Option (Option (List Entry))) → past.writes k ≡ false → KeepsNow past → KeepsNow (record past { logs = log_copied past.logs k found })
 hold-copied past k None quiet hold = hold
 hold-copied past k (Some theirs) quiet hold = hold-changed past k (λ log. theirs) quiet hold
 
 quiet-taker : (past : Past) (facts : Facts) (k from : ℕ) → IsSameServers past facts → Takes facts.servers k from → past.writes k ≡ false
 quiet-taker past facts k from same takes = same.writes k ∙ ap writes_now takes.is ∙ not-live-quiet takes.server.state takes.not_live
 
-hold-repaired : (past : Past) (facts : Facts) (kind : EventKind) → IsSameServers past facts → IsRepair kind → MayHappen facts kind → HoldsIn past → HoldsIn (past_after past kind)
+hold-repaired : (past : Past) (facts : Facts) (kind : EventKind) → IsSameServers past facts → IsRepair kind → MayHappen facts kind → KeepsNow past → KeepsNow (past_after past kind)
 hold-repaired past facts (kinds.Log (log_events.Rewound server from kept at)) same is may hold =
     hold-changed past server.id.number (λ log. Some (take kept (entries_of log))) (quiet-taker past facts server.id.number from.id.number same may.takes) hold
 hold-repaired past facts (kinds.Log (log_events.Copied server from)) same is may hold =
@@ -278,8 +280,8 @@ repair-tells _ is = absurd is
 pub upheld-repair : (head : HeadText) (book : List Event) (cluster : Cluster) (kind : EventKind) → TellsSoFar head book cluster → IsRepair kind → MayHappen cluster.facts kind → Upholds (losses_told head) book cluster (event_of cluster kind)
 upheld-repair head book cluster kind good is may =
     let event : Event = event_now cluster kind in
-    let keeps : WritersHold (first_logs head) book → WriterLacks (first_logs head) (book ++ event ∷ []) → ⊥ = (λ hold.
+    let keeps : KeepsCommits (first_logs head) book → WriterLacks (first_logs head) (book ++ event ∷ []) → ⊥ = (λ hold.
     none-if-hold (first_logs head) (book ++ event ∷ []) (held-by-book head (book ++ event ∷ [])
-    (subst HoldsIn (sym (past-more head book (event ∷ []))) (hold-repaired (past_of head book) cluster.facts kind good.same is may (held-by-past head book hold))))) in
+    (subst KeepsNow (sym (past-more head book (event ∷ []))) (hold-repaired (past_of head book) cluster.facts kind good.same is may (held-by-past head book hold))))) in
     upheld-tells head book cluster (event_of cluster kind) good
     (record { begins = repair-tells kind is; told = (none-lost (first_logs head) book event [] refl keeps, tt) }) (repair-begins (λ n. n < member_count head) kind is, tt)

@@ -8,6 +8,7 @@ use Rattle.event_book.specs.declared.event.LogEvent.TheVariants as log_events
 use Rattle.event_book.specs.declared.event.ReplicationEvent.TheVariants as replications
 use Rattle.event_book.specs.declared.event.ServerEvent.TheVariants as servers
 use Rattle.event_book.specs.Clock.{now_after}
+use Rattle.event_book.specs.Kept.{KeepsCommits}
 use Rattle.event_book.specs.Logs.{Logs}
 use Rattle.event_book.specs.Writers.{Begins, BeginsKind}
 use Rattle.event_book.proofs.Told.{count-of}
@@ -23,7 +24,7 @@ use Rattle.run_step_law.specs.Declaring.{declared_members, member_count}
 use Rattle.run_step_law.specs.Promise.{IsComposable, Promise, Upholds}
 use Rattle.summary.specs.Losses.{may_lose}
 use Rattle.summary.specs.Moments.{AreAllFronts}
-use Rattle.summary.specs.Seeing.{WriterLacks, WritersHold}
+use Rattle.summary.specs.Seeing.{WriterLacks}
 use Rattle.summary.specs.Sights.{is_loss, tells_loss}
 use Rattle.summary.specs.Telling.{TellLosses, TellsLoss}
 use Rattle.summary.proofs.Fronts.{whole-front}
@@ -41,7 +42,7 @@ pub record Tells (logs : Logs) (book events : List Event) : Type 0 where
 module _ (logs : Logs) where
   -- no commit was lost at any front of this book
   abbrev NoneLost : List Event → Type 0
-  NoneLost book = AreAllFronts (WritersHold logs) book
+  NoneLost book = AreAllFronts (KeepsCommits logs) book
 
   front-holds : (book more : List Event) → NoneLost (book ++ more) → NoneLost book
   front-holds book more all = record { each = λ front rest is. all.each front (rest ++ more) (sym (assoc front rest more) ∙ ap (λ (l : List Event). l ++ more) is) }
@@ -52,15 +53,15 @@ module _ (logs : Logs) where
   lost-tells book (event ∷ events) lost = (λ all. absurd (lost all), lost-tells (book ++ event ∷ []) events (λ all. lost (front-holds book (event ∷ []) all)))
 
   -- an event that loses nothing, behind which no loss is told
-  pub none-lost : (book : List Event) (event : Event) (behind : List Event) → tells_loss behind ≡ false → (WritersHold logs book → WriterLacks logs (book ++ event ∷ []) → ⊥) → TellsLoss logs book event behind
-  none-lost book event behind none keeps all = (λ told. absurd (both (sym none ∙ told)), λ lacks. absurd (keeps (whole-front (WritersHold logs) book all) lacks))
+  pub none-lost : (book : List Event) (event : Event) (behind : List Event) → tells_loss behind ≡ false → (KeepsCommits logs book → WriterLacks logs (book ++ event ∷ []) → ⊥) → TellsLoss logs book event behind
+  none-lost book event behind none keeps all = (λ told. absurd (both (sym none ∙ told)), λ lacks. absurd (keeps (whole-front (KeepsCommits logs) book all) lacks))
 
   -- an event that loses a commit, behind which that is told
-  pub some-lost : (book : List Event) (event : Event) (behind : List Event) → tells_loss behind ≡ true → (WritersHold logs book → WriterLacks logs (book ++ event ∷ []))
+  pub some-lost : (book : List Event) (event : Event) (behind : List Event) → tells_loss behind ≡ true → (KeepsCommits logs book → WriterLacks logs (book ++ event ∷ []))
       → TellsLoss logs book event behind × (NoneLost (book ++ event ∷ []) → ⊥)
   some-lost book event behind some lacks = (
-    λ all. (λ told. lacks (whole-front (WritersHold logs) book all), λ w. some),
-    λ all. none-if-hold logs (book ++ event ∷ []) (whole-front (WritersHold logs) (book ++ event ∷ []) all) (lacks (whole-front (WritersHold logs) book (front-holds book (event ∷ []) all))),
+    λ all. (λ told. lacks (whole-front (KeepsCommits logs) book all), λ w. some),
+    λ all. none-if-hold logs (book ++ event ∷ []) (whole-front (KeepsCommits logs) (book ++ event ∷ []) all) (lacks (whole-front (KeepsCommits logs) book (front-holds book (event ∷ []) all))),
   )
 
   -- one group of events behind another

@@ -3,10 +3,10 @@ use Rattle.std.specs.Prelude.{◌≡◌, true, List}
 use Rattle.script_model.specs.Script.{HeadText, names_of}
 use Rattle.event_book.specs.declared.event.Event.{Event}
 use Rattle.event_book.specs.Facts.{start_of}
+use Rattle.event_book.specs.Kept.{KeepsCommits}
 use Rattle.event_book.specs.Logs.{Logs, logs_in}
 use Rattle.run_step_law.specs.Kept.{WhereMet}
 use Rattle.summary.specs.Claims.{KeepMode}
-use Rattle.summary.specs.Seeing.{WritersHold}
 use Rattle.commit_step_law.specs.Ordered.{KeepsOrder}
 
 -- the logs that the servers of this head begin with
@@ -20,7 +20,7 @@ InSynchronousMode head book claim =
 
 -- at its end each server that accepts writes has each acknowledged commit
 abbrev pub KeepsCommitsIn : HeadText → List Event → Type 0
-KeepsCommitsIn head book = InSynchronousMode head book (WritersHold (first_logs head))
+KeepsCommitsIn head book = InSynchronousMode head book (KeepsCommits (first_logs head))
 
 -- at its end required lists and sync key are in order, and each event in it happened in order
 abbrev pub KeepsOrderIn : HeadText → List Event → Type 0

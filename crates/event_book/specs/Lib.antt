@@ -6,6 +6,7 @@ pub mod Facts
 pub mod Flight
 pub mod Frozen
 pub mod Functions
+pub mod Kept
 pub mod Keys
 pub mod Kinds
 pub mod Links

@@ -46,3 +46,12 @@ logs_after known _ = known
 abbrev pub logs_over : Logs → List Event → Logs
 logs_over known [] = known
 logs_over known (event ∷ events) = logs_over (logs_after known event.kind) events
+
+-- the entries of a log, none where there is no such server or it has no log
+abbrev pub entries_found : Option (Option (List Entry)) → List Entry
+entries_found None = []
+entries_found (Some log) = entries_of log
+
+-- the entries of the log of the server of this number
+abbrev pub entries_at : Logs → ℕ → List Entry
+entries_at known server = entries_found (slice_get known server)

@@ -18,7 +18,7 @@ use Rattle.lease_law.specs.Leases.{Question, Grant, Answer, Flying, Requested, A
 use Rattle.lease_law.specs.States.{Declared}
 use Rattle.lease_law.specs.Inputs.{AgentInput, IsOnTime, IsInTime}
 use Rattle.lease_law.specs.Past.{Past, grant_of, answer_of, question_in_flight_of, answer_in_flight_of, peer_in_flight_of, flying_of, past_flight_by, moments_sent_after, taken_after, runs_after, past_after, past_over, first_past, past_of, VolatileState, state_of}
-use Rattle.lease_law.specs.Premises.{Moments, IsSentInTime, IsFeedInTime, IsKindInTime, AreInTime, IsTimely, KeepsClockAndRuns, KeepsMomentOf, IsFedBy, IsFedOn, ShowsFeed}
+use Rattle.lease_law.specs.Premises.{Moments, IsFeedInTime, IsKindInTime, AreInTime, IsTimely, KeepsClockAndRuns, KeepsMomentOf, IsFedBy, IsFedOn, ShowsFeed}
 use Rattle.event_book.specs.Kinds.{AllAre}
 use Rattle.lease_law.proofs.Tools.{some-is, none-some, put-all, dropped, put-here, put-there}
 
@@ -153,12 +153,8 @@ HoldsInTime margin moments m members sequence = (p moment : ℕ) → members p �
 fed-on : (margin : ℕ → Option ℕ) (moments : Moments) (m : ℕ) (members : ℕ → Bool) (sequence : ℕ) (kind : EventKind) → IsKindInTime margin moments kind → IsFedOn m members sequence kind → HoldsInTime margin moments m members sequence
 fed-on margin moments m members sequence (kinds.Watchdog (watchdogs.Fed member until (bases.Acknowledgements acknowledging number))) is fed =
     subst (λ (k : ℕ). HoldsInTime margin moments k members sequence) fed.0
-    (subst (λ (k : ℕ). HoldsInTime margin moments member.id.number members k) fed.1 (λ p moment e taken. is p moment (fed.2 p e) taken))
+    (subst (λ (k : ℕ). HoldsInTime margin moments member.id.number members k) fed.1 (λ p moment e taken. is moment (p, fed.2 p e, taken)))
 fed-on margin moments m members sequence _ is fed = absurd fed
-
-sent-in-time : (margin : Option ℕ) (clock clock' moment : ℕ) (sent : Option ℕ) → IsSentInTime margin clock sent → sent ≡ Some moment → clock ≡ clock' → IsOnTime margin clock' moment
-sent-in-time margin clock clock' moment None is e same = absurd (none-some moment e)
-sent-in-time margin clock clock' moment (Some sent) is e same = subst (λ (k : ℕ). IsOnTime margin k moment) same (subst (λ (k : ℕ). IsOnTime margin clock k) (some-is sent moment e) is)
 
 -- the event behind a book and a front of the next action's events
 abbrev Behind : List Event → List Event → Event → List Event → List Event
@@ -170,10 +166,8 @@ event-in-time margin book front event rest timely = (in-time-rest margin (past_o
 pub grant-in-time : (margin : ℕ → Option ℕ) (book front : List Event) (event : Event) (rest : List Event) (m number : ℕ) (answer : Answer) (grant : Grant) → IsTimely margin (Behind book front event rest) → AllAre (KeepsMomentOf number) front → IsFedBy m number event.kind → (past_of book).flight number ≡ Some (Answered answer) → answer.grant ≡ Some grant → IsOnTime (margin m) (past_of book).clock grant.moment
 grant-in-time margin book front event rest m number answer grant timely aside fed at is =
     let past : Past = past_over (past_of book) front in
-    sent-in-time (margin m) past.clock (past_of book).clock grant.moment (past.sent number)
-    (fed-by margin (moments_of past) m number event.kind (event-in-time margin book front event rest timely) fed)
-    (asides-sent number (past_of book) front aside ∙ agrees book number answer grant at is)
-    (stills-clock (past_of book) front (asides-still number front aside))
+    subst (λ (k : ℕ). IsOnTime (margin m) k grant.moment) (stills-clock (past_of book) front (asides-still number front aside))
+    (fed-by margin (moments_of past) m number event.kind (event-in-time margin book front event rest timely) fed grant.moment (asides-sent number (past_of book) front aside ∙ agrees book number answer grant at is))
 
 hold-in-time : (margin : ℕ → Option ℕ) (book front : List Event) (event : Event) (rest : List Event) (m : ℕ) (members : ℕ → Bool) (run sequence p moment : ℕ) → IsTimely margin (Behind book front event rest) → AllAre KeepsClockAndRuns front → IsFedOn m members sequence event.kind → run ≡ (past_of book).runs m → members p ≡ true → IsTaken (past_of book).taken (record { by = p; from = m; run = run; sequence = sequence; moment = moment }) → IsOnTime (margin m) (past_of book).clock moment
 hold-in-time margin book front event rest m members run sequence p moment timely still fed same e taken =

@@ -42,28 +42,31 @@ moments_after moments kind = record {
 abbrev pub first_moments : Moments
 first_moments = record { clock = 0; sent = λ i. None; taken = []; runs = λ m. 1 }
 
--- a feed by an answer comes at most the margin after that answer was sent, if it was sent at all
-abbrev pub IsSentInTime : Option ℕ → ℕ → Option ℕ → Type 0
-IsSentInTime margin clock None = Unit {0}
-IsSentInTime margin clock (Some sent) = IsOnTime margin clock sent
+-- a feed of this member's watchdog on this basis is measured from this moment: the answer that tells the grant was sent then; or one of the
+-- acknowledging members took its hold then for the failsafe request of this number, in its sender's run
+abbrev pub IsFedFrom : Moments → ℕ → Basis → ℕ → Type 0
+IsFedFrom moments m (bases.Grant answer) moment = moments.sent answer ≡ Some moment
+IsFedFrom moments m (bases.Acknowledgements members sequence) moment =
+    (by : ℕ) × (set_members members by ≡ true) × IsTaken moments.taken (record { by = by; from = m; run = moments.runs m; sequence = sequence; moment = moment })
 
--- a feed comes at most the margin after the grant that the answer of this number tells, which was sent at once; or after each
--- hold that one of the acknowledging members took for that failsafe request
+-- where this happening arms or feeds a watchdog, this holds of its member and of the basis
+abbrev pub OnWatchdogFeed : (ℕ → Basis → Type 0) → WatchdogEvent → Type 0
+OnWatchdogFeed P (watchdogs.Armed member until answer) = P member.id.number (bases.Grant answer)
+OnWatchdogFeed P (watchdogs.Fed member until basis) = P member.id.number basis
+OnWatchdogFeed P _ = Unit {0}
+
+-- where this event arms or feeds a watchdog, this holds of its member and of the basis
+abbrev pub OnFeed : (ℕ → Basis → Type 0) → EventKind → Type 0
+OnFeed P (kinds.Watchdog happening) = OnWatchdogFeed P happening
+OnFeed P _ = Unit {0}
+
+-- a feed comes at most the margin after each moment that it is measured from
 abbrev pub IsFeedInTime : (ℕ → Option ℕ) → Moments → ℕ → Basis → Type 0
-IsFeedInTime margin moments m (bases.Grant answer) = IsSentInTime (margin m) moments.clock (moments.sent answer)
-IsFeedInTime margin moments m (bases.Acknowledgements members sequence) =
-    (p moment : ℕ) → set_members members p ≡ true → IsTaken moments.taken (record { by = p; from = m; run = moments.runs m; sequence = sequence; moment = moment }) → IsOnTime (margin m) moments.clock moment
+IsFeedInTime margin moments m basis = (moment : ℕ) → IsFedFrom moments m basis moment → IsOnTime (margin m) moments.clock moment
 
 -- where this event arms or feeds a watchdog, it does so in time
-abbrev pub IsWatchdogInTime : (ℕ → Option ℕ) → Moments → WatchdogEvent → Type 0
-IsWatchdogInTime margin moments (watchdogs.Armed member until answer) = IsFeedInTime margin moments member.id.number (bases.Grant answer)
-IsWatchdogInTime margin moments (watchdogs.Fed member until basis) = IsFeedInTime margin moments member.id.number basis
-IsWatchdogInTime margin moments _ = Unit {0}
-
--- where this is an event of a watchdog that is armed or fed, that is in time
 abbrev pub IsKindInTime : (ℕ → Option ℕ) → Moments → EventKind → Type 0
-IsKindInTime margin moments (kinds.Watchdog happening) = IsWatchdogInTime margin moments happening
-IsKindInTime margin moments _ = Unit {0}
+IsKindInTime margin moments kind = OnFeed (IsFeedInTime margin moments) kind
 
 -- each watchdog is armed and fed in time in these events
 abbrev pub AreInTime : (ℕ → Option ℕ) → Moments → List Event → Type 0

@@ -18,7 +18,7 @@ use Rattle.event_book.specs.declared.event.WatchdogEvent.TheVariants as watchdog
 use Rattle.event_book.specs.declared.reason.Basis.{Basis}
 use Rattle.event_book.specs.declared.reason.Basis.TheVariants as bases
 use Rattle.lease_law.specs.Inputs.{IsOnTime}
-use Rattle.lease_law.specs.Premises.{AreHandsOff, AreInTime, ArePremisesMet, IsFeedInTime, IsHandsOffKind, IsKindInTime, IsSentInTime, IsWatchdogInTime, Moments, first_moments, moments_after}
+use Rattle.lease_law.specs.Premises.{AreHandsOff, AreInTime, ArePremisesMet, IsFeedInTime, IsHandsOffKind, IsKindInTime, Moments, first_moments, moments_after}
 use Rattle.lease_law.proofs.Tools.{both, none-some, some-is}
 use Rattle.summary.specs.declared.answers.Breach.{Breach}
 use Rattle.summary.specs.declared.answers.Breach.TheVariants as breaches
@@ -29,7 +29,7 @@ use Rattle.summary.specs.Claims.{IsBreachBy, IsToldOfPremises, margin_of, margin
 use Rattle.summary.specs.Heads.{is_watching, first_unwatched, name_unless, head_breach}
 use Rattle.summary.specs.Moments.{now_over, moments_over, AreAllFronts}
 use Rattle.summary.specs.Noting.{margin_at, is_late, late_if, pause_if, breach_by_watchdog, breach_by_store, breach_by_server, breach_of, broken_by, premises_after}
-use Rattle.summary.specs.Seeing.{IsSpanSince, IsLatenessOn, IsLatenessBy, IsLateness}
+use Rattle.summary.specs.Seeing.{IsLateness, IsLatenessOn}
 use Rattle.summary.proofs.Fronts.{fronts-start, fronts-more, whole-front, breaks-now, breaks-first, breaks-more}
 
 lt-from : (m n : ℕ) → nat_lt m n ≡ true → m < n
@@ -51,28 +51,15 @@ none-late : (margin : Option Ticks) (lateness : ℕ) → lateness ≡ 0 → is_l
 none-late None lateness none late = both late
 none-late (Some margin) lateness none late = let more : margin.0 < lateness = lt-from margin.0 lateness late in omega (arith, more, none)
 
-sent-in-time : (margin : Option Ticks) (clock : ℕ) (sent : Option ℕ) (lateness : ℕ) → is_late margin lateness ≡ false → IsSpanSince clock sent lateness → IsSentInTime (margin_ticks margin) clock sent
-sent-in-time margin clock None lateness small span = tt
-sent-in-time margin clock (Some sent) lateness small span = on-time margin clock sent lateness small (omega (arith, span))
-
-sent-late : (margin : Option Ticks) (clock : ℕ) (sent : Option ℕ) (lateness : ℕ) → is_late margin lateness ≡ true → IsSpanSince clock sent lateness → IsSentInTime (margin_ticks margin) clock sent → ⊥
-sent-late margin clock None lateness late span time = none-late margin lateness span late
-sent-late margin clock (Some sent) lateness late span time = too-late margin clock sent lateness late span time
-
 -- the same of a feed by its basis
 fed-in-time : (margin : ℕ → Option ℕ) (own : Option Ticks) (moments : Moments) (m : ℕ) (basis : Basis) (lateness : ℕ) → margin_ticks own ≡ margin m → is_late own lateness ≡ false → IsLatenessOn moments m basis lateness → IsFeedInTime margin moments m basis
-fed-in-time margin own moments m (bases.Grant answer) lateness is small span =
-    subst (λ o. IsSentInTime o moments.clock (moments.sent answer)) is (sent-in-time own moments.clock (moments.sent answer) lateness small span)
-fed-in-time margin own moments m (bases.Acknowledgements members sequence) lateness is small span = λ p moment there taken.
-    subst (λ o. IsOnTime o moments.clock moment) is (on-time own moments.clock moment lateness small (span.most p moment there taken))
+fed-in-time margin own moments m basis lateness is small span = λ moment from. subst (λ o. IsOnTime o moments.clock moment) is (on-time own moments.clock moment lateness small (span.most moment from))
 
 fed-late : (margin : ℕ → Option ℕ) (own : Option Ticks) (moments : Moments) (m : ℕ) (basis : Basis) (lateness : ℕ) → margin_ticks own ≡ margin m → is_late own lateness ≡ true → IsLatenessOn moments m basis lateness → IsFeedInTime margin moments m basis → ⊥
-fed-late margin own moments m (bases.Grant answer) lateness is late span time =
-    sent-late own moments.clock (moments.sent answer) lateness late span (subst (λ o. IsSentInTime o moments.clock (moments.sent answer)) (sym is) time)
-fed-late margin own moments m (bases.Acknowledgements members sequence) lateness is late span time =
+fed-late margin own moments m basis lateness is late span time =
     elim span.one [
       | inl none ↦ none-late own lateness none late
-      | inr one ↦ too-late own moments.clock one.1 lateness late one.4 (subst (λ o. IsOnTime o moments.clock one.1) (sym is) (time one.0 one.1 one.2 one.3))
+      | inr one ↦ too-late own moments.clock one.0 lateness late one.2 (subst (λ o. IsOnTime o moments.clock one.0) (sym is) (time one.0 one.1))
     ]
 
 -- a late one is told, and no other
@@ -88,7 +75,7 @@ late-some false name why e = absurd (none-some why e)
 abbrev Same : List (Option Ticks) → (ℕ → Option ℕ) → Type 0
 Same margins margin = (m : ℕ) → margin_ticks (margin_at margins m) ≡ margin m
 
-watchdog-right : (margins : List (Option Ticks)) (margin : ℕ → Option ℕ) (moments : Moments) (lateness : ℕ) (happening : WatchdogEvent) → Same margins margin → breach_by_watchdog margins lateness happening ≡ None → IsLatenessBy moments happening lateness → IsWatchdogInTime margin moments happening
+watchdog-right : (margins : List (Option Ticks)) (margin : ℕ → Option ℕ) (moments : Moments) (lateness : ℕ) (happening : WatchdogEvent) → Same margins margin → breach_by_watchdog margins lateness happening ≡ None → IsLateness moments (kinds.Watchdog happening) lateness → IsKindInTime margin moments (kinds.Watchdog happening)
 watchdog-right margins margin moments lateness (watchdogs.Armed member until answer) same none span =
     fed-in-time margin (margin_at margins member.id.number) moments member.id.number (bases.Grant answer) lateness (same member.id.number) (late-none (is_late (margin_at margins member.id.number) lateness) member.name none) span
 watchdog-right margins margin moments lateness (watchdogs.Fed member until basis) same none span =
@@ -100,7 +87,7 @@ record IsWrong (margin : ℕ → Option ℕ) (moments : Moments) (kind : EventKi
   told : IsBreachBy why kind
   fails : IsKindInTime margin moments kind → IsHandsOffKind kind → ⊥
 
-watchdog-wrong : (margins : List (Option Ticks)) (margin : ℕ → Option ℕ) (moments : Moments) (lateness : ℕ) (happening : WatchdogEvent) (why : Breach) → Same margins margin → breach_by_watchdog margins lateness happening ≡ Some why → IsLatenessBy moments happening lateness → IsWrong margin moments (kinds.Watchdog happening) why
+watchdog-wrong : (margins : List (Option Ticks)) (margin : ℕ → Option ℕ) (moments : Moments) (lateness : ℕ) (happening : WatchdogEvent) (why : Breach) → Same margins margin → breach_by_watchdog margins lateness happening ≡ Some why → IsLateness moments (kinds.Watchdog happening) lateness → IsWrong margin moments (kinds.Watchdog happening) why
 watchdog-wrong margins margin moments lateness (watchdogs.Armed member until answer) why same some span =
     let own = margin_at margins member.id.number in
     let late = late-some (is_late own lateness) member.name why some in

@@ -5,6 +5,7 @@ use Rattle.event_book.specs.declared.event.Event.{Event}
 use Rattle.event_book.specs.declared.event.EventKind.{EventKind}
 use Rattle.event_book.specs.declared.event.EventKind.TheVariants as kinds
 use Rattle.event_book.specs.Clock.{now_after}
+use Rattle.event_book.specs.Kept.{KeepsCommits}
 use Rattle.event_book.specs.Logs.{Logs}
 use Rattle.event_book.specs.Writers.{HasOneWriter}
 use Rattle.lease_law.proofs.Runs.{head-is, tail-is, cons-eq}
@@ -19,7 +20,6 @@ use Rattle.summary.specs.declared.answers.WatchOf.{WatchOf}
 use Rattle.lease_law.specs.Premises.{ArePremisesMet}
 use Rattle.summary.specs.Claims.{AreCommitsGuarded, IsGuarded, IsSummaryOf, IsToldOfMode, IsToldOfPremises, KeepMode, margin_of, works_of}
 use Rattle.summary.specs.Moments.{now_over, IsFirstBreak, IsToldFirst}
-use Rattle.summary.specs.Seeing.{WritersHold}
 
 -- of two fronts of a book one is a front of the other
 two-fronts : (xs rx ys ry : List Event) → xs ++ rx ≡ ys ++ ry → ((more : List Event) × (xs ++ more ≡ ys)) ⊎ ((event : Event) × (more : List Event) × (ys ++ event ∷ more ≡ xs))
@@ -73,7 +73,7 @@ guarded members first logs book closing is guards = guarded-at members first boo
 
 -- each front that meets the premises and keeps the mode holds all commits
 abbrev Guards : List WatchOf → Settings → Logs → List Event → Type 0
-Guards members first logs book = (front rest : List Event) → front ++ rest ≡ book → ArePremisesMet (margin_of members) (works_of members) first front → KeepMode true front → WritersHold logs front
+Guards members first logs book = (front rest : List Event) → front ++ rest ≡ book → ArePremisesMet (margin_of members) (works_of members) first front → KeepMode true front → KeepsCommits logs front
 
 -- one of two breaks comes no later than the third
 either : (P M Q : List Event → Type 0) (book : List Event) (tick other moment : ℕ) → IsFirstBreak P book tick → IsFirstBreak M book other → (b : IsFirstBreak Q book moment) → (P b.front → M b.front → ⊥) → (tick ≤ moment) ⊎ (other ≤ moment)
@@ -83,23 +83,23 @@ either P M Q book tick other moment a m b broken =
       | inr c ↦ inr (no-later M Q book other moment m b (broken (a.earlier b.front c.1 c.0 c.2)))
     ]
 
-commits-at : (members : List WatchOf) (first : Settings) (logs : Logs) (book : List Event) (told : Premises) (mode : Synchronous) (lost : FirstMoment) → IsToldOfPremises members first book told → IsToldOfMode first book mode → IsToldFirst (WritersHold logs) book lost
+commits-at : (members : List WatchOf) (first : Settings) (logs : Logs) (book : List Event) (told : Premises) (mode : Synchronous) (lost : FirstMoment) → IsToldOfPremises members first book told → IsToldOfMode first book mode → IsToldFirst (KeepsCommits logs) book lost
     → first.config.synchronous_mode ≡ true → Guards members first logs book → AreCommitsGuarded told mode lost
 commits-at members first logs book premises.Met synchronous.On firsts.Never a m b on guards = refl
 commits-at members first logs book premises.Met synchronous.On (firsts.At moment) a m b on guards = absurd (b.broken (guards b.front b.rest b.whole (a.each b.front b.rest b.whole) (m.1.each b.front b.rest b.whole)))
 commits-at members first logs book premises.Met synchronous.Off lost a m b on guards = tt
 commits-at members first logs book premises.Met (synchronous.Broken other) firsts.Never a m b on guards = tt
 commits-at members first logs book premises.Met (synchronous.Broken other) (firsts.At moment) a m b on guards =
-    no-later (KeepMode first.config.synchronous_mode) (WritersHold logs) book other.0 moment.0 m b (λ keep. b.broken (guards b.front b.rest b.whole (a.each b.front b.rest b.whole) (subst (λ (mode : Bool). KeepMode mode b.front) on keep)))
+    no-later (KeepMode first.config.synchronous_mode) (KeepsCommits logs) book other.0 moment.0 m b (λ keep. b.broken (guards b.front b.rest b.whole (a.each b.front b.rest b.whole) (subst (λ (mode : Bool). KeepMode mode b.front) on keep)))
 commits-at members first logs book (premises.Broken tick why) synchronous.On firsts.Never a m b on guards = tt
 commits-at members first logs book (premises.Broken tick why) synchronous.On (firsts.At moment) a m b on guards =
-    no-later (ArePremisesMet (margin_of members) (works_of members) first) (WritersHold logs) book tick.0 moment.0 a.break b (λ met. b.broken (guards b.front b.rest b.whole met (m.1.each b.front b.rest b.whole)))
+    no-later (ArePremisesMet (margin_of members) (works_of members) first) (KeepsCommits logs) book tick.0 moment.0 a.break b (λ met. b.broken (guards b.front b.rest b.whole met (m.1.each b.front b.rest b.whole)))
 commits-at members first logs book (premises.Broken tick why) synchronous.Off lost a m b on guards = tt
 commits-at members first logs book (premises.Broken tick why) (synchronous.Broken other) firsts.Never a m b on guards = inl tt
 commits-at members first logs book (premises.Broken tick why) (synchronous.Broken other) (firsts.At moment) a m b on guards =
-    either (ArePremisesMet (margin_of members) (works_of members) first) (KeepMode first.config.synchronous_mode) (WritersHold logs) book tick.0 other.0 moment.0 a.break m b
+    either (ArePremisesMet (margin_of members) (works_of members) first) (KeepMode first.config.synchronous_mode) (KeepsCommits logs) book tick.0 other.0 moment.0 a.break m b
     (λ met keep. b.broken (guards b.front b.rest b.whole met (subst (λ (mode : Bool). KeepMode mode b.front) on keep)))
 
 pub commits-guarded : (members : List WatchOf) (first : Settings) (logs : Logs) (book : List Event) (closing : Closing) → IsSummaryOf members first logs book closing → first.config.synchronous_mode ≡ true
-    → ((front rest : List Event) → front ++ rest ≡ book → ArePremisesMet (margin_of members) (works_of members) first front → KeepMode true front → WritersHold logs front) → AreCommitsGuarded closing.premises closing.synchronous closing.lost
+    → ((front rest : List Event) → front ++ rest ≡ book → ArePremisesMet (margin_of members) (works_of members) first front → KeepMode true front → KeepsCommits logs front) → AreCommitsGuarded closing.premises closing.synchronous closing.lost
 commits-guarded members first logs book closing is on guards = commits-at members first logs book closing.premises closing.synchronous closing.lost is.premises is.synchronous is.lost on guards

@@ -20,13 +20,14 @@ use Rattle.event_book.specs.declared.event.WatchdogEvent.TheVariants as watchdog
 use Rattle.event_book.specs.declared.member.ServerOf.{ServerOf}
 use Rattle.event_book.specs.Acknowledged.{acknowledged_of, acknowledged_in}
 use Rattle.event_book.specs.Functions.{put_at}
-use Rattle.event_book.specs.Logs.{Logs, log_received, logs_by, logs_after, logs_over}
+use Rattle.event_book.specs.Kept.{KeepsCommits}
+use Rattle.event_book.specs.Logs.{Logs, entries_at, entries_found, log_received, logs_after, logs_by, logs_over}
 use Rattle.event_book.specs.Writers.{writes_by_server, writes_by_watchdog, writes_after, writes_over, AcceptsWrites}
 use Rattle.lease_law.proofs.Tools.{both, put-all, put-here, put-there}
 use Rattle.std.proofs.lemmas.Bool.{cases_eq}
 use Rattle.wal_model.specs.Lacking.{has_serial, lacks_in}
 use Rattle.summary.specs.Losses.{may_lose, may_lose_by_server, may_lose_by_log, WriterLacksOf}
-use Rattle.summary.specs.Seeing.{entries_found, entries_at, LacksOne, WriterLacks, WritersHold}
+use Rattle.summary.specs.Seeing.{LacksOne, WriterLacks}
 use Rattle.wal_model.proofs.Serials.{lacks-some}
 use Rattle.summary.proofs.Losing.{none-if-hold}
 use Rattle.summary.proofs.Standing.{acknowledged-more}
@@ -112,14 +113,14 @@ told-more book event told is = acknowledged-more book (event ∷ []) ∙ ap (λ 
 writes-more : (book : List Event) (event : Event) (n : ℕ) → writes_over (λ m. false) (book ++ event ∷ []) n ≡ writes_after (writes_over (λ m. false) book) event.kind n
 writes-more book event n = ap (λ (w : ℕ → Bool). w n) (over-more book event)
 
-holds-more : (known : Logs) (book : List Event) (event : Event) → may_lose event.kind ≡ false → WritersHold known book → WritersHold known (book ++ event ∷ [])
+holds-more : (known : Logs) (book : List Event) (event : Event) → may_lose event.kind ≡ false → KeepsCommits known book → KeepsCommits known (book ++ event ∷ [])
 holds-more known book event few hold server writes commit there =
     subst (λ ls. has_serial (entries_at ls server) commit ≡ true) (sym (logs-more known book event))
     (kind-grows (logs_over known book) event.kind server commit few
     (hold server (writes-before (writes_over (λ m. false) book) event.kind server few (sym (writes-more book event server) ∙ writes)) commit
     (subst (λ l. Contains l commit) (told-more book event [] (none-told event.kind few) ∙ append-nil (acknowledged_in book)) there)))
 
-pub others-keep : (known : Logs) (book : List Event) (event : Event) → may_lose event.kind ≡ false → WritersHold known book → WriterLacks known (book ++ event ∷ []) → ⊥
+pub others-keep : (known : Logs) (book : List Event) (event : Event) → may_lose event.kind ≡ false → KeepsCommits known book → WriterLacks known (book ++ event ∷ []) → ⊥
 others-keep known book event few hold = none-if-hold known (book ++ event ∷ []) (holds-more known book event few hold)
 
 -- a server begins
@@ -132,7 +133,7 @@ lacks-began known book event server timeline n is =
 began-writes : (book : List Event) (event : Event) (server : ServerOf) (timeline n : ℕ) → event.kind ≡ kinds.Server (servers.Began server timeline) → writes_over (λ m. false) (book ++ event ∷ []) n ≡ put_at (writes_over (λ m. false) book) server.id.number true n
 began-writes book event server timeline n is = writes-more book event n ∙ ap (λ k. writes_after (writes_over (λ m. false) book) k n) is
 
-pub began-lacks : (known : Logs) (book : List Event) (event : Event) (server : ServerOf) (timeline : ℕ) → event.kind ≡ kinds.Server (servers.Began server timeline) → WritersHold known book → WriterLacks known (book ++ event ∷ []) ↔ LacksOne known book server.id.number
+pub began-lacks : (known : Logs) (book : List Event) (event : Event) (server : ServerOf) (timeline : ℕ) → event.kind ≡ kinds.Server (servers.Began server timeline) → KeepsCommits known book → WriterLacks known (book ++ event ∷ []) ↔ LacksOne known book server.id.number
 began-lacks known book event server timeline is hold = (
   λ some.
       let lacks : LacksOne known book some.0 = sym (lacks-began known book event server timeline some.0 is) ∙ some.2 in
@@ -180,7 +181,7 @@ or-not : (a b : Bool) → b ≡ false → (a || not b) ≡ true
 or-not true b e = refl
 or-not false b e = ap not e
 
-pub acknowledged-lacks : (known : Logs) (book : List Event) (event : Event) (server : ServerOf) (commit : ℕ) → event.kind ≡ kinds.Replication (replications.Acknowledged server commit) → WritersHold known book → WriterLacks known (book ++ event ∷ []) ↔ WriterLacksOf known book commit
+pub acknowledged-lacks : (known : Logs) (book : List Event) (event : Event) (server : ServerOf) (commit : ℕ) → event.kind ≡ kinds.Replication (replications.Acknowledged server commit) → KeepsCommits known book → WriterLacks known (book ++ event ∷ []) ↔ WriterLacksOf known book commit
 acknowledged-lacks known book event server commit is hold = (
   λ some.
       let log = entries_at (logs_over known book) some.0 in

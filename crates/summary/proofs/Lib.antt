@@ -7,7 +7,6 @@ pub mod Losing
 pub mod Standing
 pub mod Guarding
 pub mod Keeping
-pub mod Spans
 pub mod Measuring
 pub mod Steps
 pub mod Listing

@@ -64,25 +64,25 @@ set-at (w ∷ ws) zero (suc n) now name is = inr is
 set-at (w ∷ ws) (suc k) zero now name is = inr is
 set-at (w ∷ ws) (suc k) (suc n) now name is = elim (set-at ws k n now name is) [ inl c ↦ inl (ap suc c.0, c.1) | inr c ↦ inr c ]
 
-named-off : (names : ℕ → Name) (writers : List (Option Name)) (k : ℕ) → AreNamed names writers → AreNamed names (slice_set writers k None)
+named-off : (names : ℕ → Option Name) (writers : List (Option Name)) (k : ℕ) → AreNamed names writers → AreNamed names (slice_set writers k None)
 named-off names writers k are = record { each = λ n name is. elim (set-at writers k n None name is) [ inl c ↦ absurd (none-some name c.1) | inr c ↦ are.each n name c ] }
 
-named-on : (names : ℕ → Name) (writers : List (Option Name)) (k : ℕ) (own : Name) → own ≡ names k → AreNamed names writers → AreNamed names (slice_set writers k (Some own))
+named-on : (names : ℕ → Option Name) (writers : List (Option Name)) (k : ℕ) (own : Name) → names k ≡ Some own → AreNamed names writers → AreNamed names (slice_set writers k (Some own))
 named-on names writers k own same are = record {
-  each = λ n name is. elim (set-at writers k n (Some own) name is) [ inl c ↦ sym (some-is own name c.1) ∙ same ∙ ap names (sym c.0) | inr c ↦ are.each n name c ];
+  each = λ n name is. elim (set-at writers k n (Some own) name is) [ inl c ↦ ap names c.0 ∙ same ∙ c.1 | inr c ↦ are.each n name c ];
 }
 
-named-server : (names : ℕ → Name) (writers : List (Option Name)) (happening : ServerEvent) → NamesServer names (kinds.Server happening) → AreNamed names writers → AreNamed names (writers_by_server writers happening)
+named-server : (names : ℕ → Option Name) (writers : List (Option Name)) (happening : ServerEvent) → NamesServer names (kinds.Server happening) → AreNamed names writers → AreNamed names (writers_by_server writers happening)
 named-server names writers (servers.Began server timeline) same are = named-on names writers server.id.number server.name same are
 named-server names writers (servers.Ended server) same are = named-off names writers server.id.number are
 named-server names writers (servers.Crashed server) same are = named-off names writers server.id.number are
 named-server names writers _ same are = are
 
-named-watchdog : (names : ℕ → Name) (writers : List (Option Name)) (happening : WatchdogEvent) → AreNamed names writers → AreNamed names (writers_by_watchdog writers happening)
+named-watchdog : (names : ℕ → Option Name) (writers : List (Option Name)) (happening : WatchdogEvent) → AreNamed names writers → AreNamed names (writers_by_watchdog writers happening)
 named-watchdog names writers (watchdogs.Reset member) are = named-off names writers member.id.number are
 named-watchdog names writers _ are = are
 
-pub named-more : (names : ℕ → Name) (writers : List (Option Name)) (kind : EventKind) → NamesServer names kind → AreNamed names writers → AreNamed names (writers_after writers kind)
+pub named-more : (names : ℕ → Option Name) (writers : List (Option Name)) (kind : EventKind) → NamesServer names kind → AreNamed names writers → AreNamed names (writers_after writers kind)
 named-more names writers (kinds.Server happening) same are = named-server names writers happening same are
 named-more names writers (kinds.Watchdog happening) same are = named-watchdog names writers happening are
 named-more names writers _ same are = are
@@ -92,5 +92,5 @@ none-named zero n name is = none-some (Some name) is
 none-named (suc count) zero name is = no-writer name is
 none-named (suc count) (suc n) name is = none-named count n name is
 
-pub named-first : (names : ℕ → Name) → AreNamed names (replicate SERVERS None)
+pub named-first : (names : ℕ → Option Name) → AreNamed names (replicate SERVERS None)
 named-first names = record { each = λ n name is. absurd (none-named 17 n name is) }

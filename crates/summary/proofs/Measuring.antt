@@ -1,5 +1,5 @@
 -- Each feed is as late as the events tell.
-use Rattle.std.proofs.Common.{◌≡◌, ℕ, ◌-◌, List, [], ◌∷◌, ◌++◌, arith, refl, sym, subst, inl, inr}
+use Rattle.std.proofs.Common.{◌≡◌, ◌≤◌, ℕ, ◌-◌, ◌∙◌, List, [], ◌∷◌, ◌++◌, arith, refl, sym, subst, inl, inr}
 use Rattle.pat_base.specs.declared.ticks.Ticks.{Ticks}
 use Rattle.event_book.specs.declared.event.Event.{Event}
 use Rattle.event_book.specs.declared.event.EventKind.{EventKind}
@@ -9,11 +9,12 @@ use Rattle.event_book.specs.declared.event.WatchdogEvent.TheVariants as watchdog
 use Rattle.event_book.specs.declared.reason.Basis.{Basis}
 use Rattle.event_book.specs.declared.reason.Basis.TheVariants as bases
 use Rattle.lease_law.specs.Premises.{Moments, moments_after}
+use Rattle.lease_law.proofs.Tools.{some-is}
 use Rattle.summary.specs.Moments.{now_over, moments_over}
 use Rattle.summary.specs.Noting.{ticks_after}
-use Rattle.summary.specs.Seeing.{IsSpanSince, IsLatenessOn, IsLatenessBy, IsLateness}
+use Rattle.summary.specs.Seeing.{IsLateness, IsLatenessOn}
 use Rattle.summary.specs.Sights.{since_after, since_over, lateness_by_watchdog, lateness_at}
-use Rattle.summary.specs.Telling.{IsMeasuredOn, IsMeasuredBy, IsMeasured, AreMeasured}
+use Rattle.summary.specs.Telling.{IsMeasuredOn, IsMeasured, AreMeasured}
 
 pub clock-over : (moments : Moments) (book : List Event) → (moments_over moments book).clock ≡ now_over moments.clock book
 clock-over moments [] = refl
@@ -38,19 +39,34 @@ measured-rest moments since (x ∷ xs) ys measured = measured-rest (moments_afte
 
 -- what is measured from the right moment is right
 on-right : (moments : Moments) (m : ℕ) (basis : Basis) (since lateness : ℕ) → IsMeasuredOn moments m basis since → lateness ≡ moments.clock - since → IsLatenessOn moments m basis lateness
-on-right moments m (bases.Grant answer) since lateness measured is = subst (λ o. IsSpanSince moments.clock o lateness) (sym measured) is
-on-right moments m (bases.Acknowledgements members sequence) since lateness hold is = record {
-  most = λ by moment there took. let e = hold.none_earlier by moment there took in omega (arith, e, is);
-  one = elim hold.one [ inl same ↦ inl (omega (arith, same, is)) | inr first ↦ inr (first.0, since, first.1, first.2, is) ];
+on-right moments m (bases.Grant answer) since lateness sent is = record {
+  most = λ moment from. let same : since ≡ moment = some-is since moment (sym sent ∙ from) in omega (arith, same, is);
+  one = inr (since, sent, is);
+}
+on-right moments m (bases.Acknowledgements members sequence) since lateness first is = record {
+  most = λ moment from. let later = first.none_earlier moment from in omega (arith, later, is);
+  one = elim first.one [ inl same ↦ inl (omega (arith, same, is)) | inr from ↦ inr (since, from, is) ];
 }
 
-watchdog-right : (moments : Moments) (clock since : Ticks) (happening : WatchdogEvent) → clock.0 ≡ moments.clock → IsMeasuredBy moments since happening → IsLatenessBy moments happening (lateness_by_watchdog clock since happening)
+-- there is one such lateness
+no-later : (moments : Moments) (m : ℕ) (basis : Basis) (n k : ℕ) → IsLatenessOn moments m basis n → IsLatenessOn moments m basis k → n ≤ k
+no-later moments m basis n k a b =
+    elim a.one [
+      | inl none ↦ omega (arith, none)
+      | inr one ↦ (let most = b.most one.0 one.1 in let is = one.2 in omega (arith, most, is))
+    ]
+
+pub one-lateness : (moments : Moments) (m : ℕ) (basis : Basis) (n k : ℕ) → IsLatenessOn moments m basis n → IsLatenessOn moments m basis k → n ≡ k
+one-lateness moments m basis n k a b = let e = no-later moments m basis n k a b in let f = no-later moments m basis k n b a in omega (arith, e, f)
+
+watchdog-right : (moments : Moments) (clock since : Ticks) (happening : WatchdogEvent) → clock.0 ≡ moments.clock → IsMeasured moments since (kinds.Watchdog happening)
+    → IsLateness moments (kinds.Watchdog happening) (lateness_by_watchdog clock since happening)
 watchdog-right moments clock since (watchdogs.Armed member until answer) same measured =
     on-right moments member.id.number (bases.Grant answer) since.0 (clock.0 - since.0) measured (omega (arith, same))
 watchdog-right moments clock since (watchdogs.Fed member until basis) same measured =
     on-right moments member.id.number basis since.0 (clock.0 - since.0) measured (omega (arith, same))
-watchdog-right moments clock since _ same measured = refl
+watchdog-right moments clock since _ same measured = tt
 
 pub lateness-right : (moments : Moments) (clock since : Ticks) (kind : EventKind) → clock.0 ≡ moments.clock → IsMeasured moments since kind → IsLateness moments kind (lateness_at (ticks_after clock kind) since kind)
 lateness-right moments clock since (kinds.Watchdog happening) same measured = watchdog-right moments clock since happening same measured
-lateness-right moments clock since _ same measured = refl
+lateness-right moments clock since _ same measured = tt

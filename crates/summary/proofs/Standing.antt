@@ -8,6 +8,7 @@ use Rattle.event_book.specs.declared.event.EventKind.{EventKind}
 use Rattle.event_book.specs.declared.event.EventKind.TheVariants as kinds
 use Rattle.event_book.specs.declared.event.ReplicationEvent.TheVariants as replications
 use Rattle.event_book.specs.Acknowledged.{acknowledged_of, acknowledged_in}
+use Rattle.event_book.specs.Kept.{KeepsCommits}
 use Rattle.event_book.specs.Logs.{Logs}
 use Rattle.event_book.specs.Writers.{HasOneWriter, writes_over}
 use Rattle.lease_law.proofs.Runs.{assoc, none-more}
@@ -18,7 +19,7 @@ use Rattle.summary.specs.Claims.{margin_ticks, declared_margin, is_writer, IsSum
 use Rattle.summary.specs.Heads.{filled, first_unwatched, watch_of}
 use Rattle.summary.specs.Moments.{now_over}
 use Rattle.summary.specs.Noting.{WatchFacts, margin_at, ticks_after, writers_after, count_after, noted}
-use Rattle.summary.specs.Seeing.{WritersHold, IsSeen, Sighting, events_in, noted_over, AreSeen}
+use Rattle.summary.specs.Seeing.{IsSeen, Sighting, events_in, noted_over, AreSeen}
 use Rattle.summary.proofs.Breaking.{premises-more, premises-first}
 use Rattle.summary.proofs.Fronts.{now-more, fronts-start}
 use Rattle.summary.proofs.Losing.{lost-more}
@@ -72,7 +73,7 @@ stands-first members first logs within = record {
     two_writers = fronts-start HasOneWriter (λ m n wm wn. absurd (both wm));
     writers = none-writes 17;
     acknowledged = refl;
-    lost = fronts-start (WritersHold logs) (λ server writes commit there. absurd (both writes));
+    lost = fronts-start (KeepsCommits logs) (λ server writes commit there. absurd (both writes));
   };
 }
 

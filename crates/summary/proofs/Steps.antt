@@ -3,6 +3,7 @@ use Rattle.std.proofs.Common.{◌≡◌, ℕ, ◌≤◌, List, [], ◌∷◌, �
 use Rattle.pat_base.specs.declared.ticks.Ticks.{Ticks}
 use Rattle.lease_store.specs.Settings.{Settings}
 use Rattle.event_book.specs.declared.event.Event.{Event}
+use Rattle.event_book.specs.Kept.{KeepsCommits}
 use Rattle.event_book.specs.Logs.{Logs}
 use Rattle.event_book.specs.Writers.{HasOneWriter, writes_over}
 use Rattle.lease_law.specs.Premises.{ArePremisesMet, first_moments}
@@ -12,7 +13,7 @@ use Rattle.summary.specs.declared.answers.WatchOf.{WatchOf}
 use Rattle.summary.specs.Claims.{IsGuarded, IsSummaryOf, WatchStandsFor, margin_of, works_of}
 use Rattle.summary.specs.Moments.{now_over, moments_over, IsToldFirst}
 use Rattle.summary.specs.Noting.{WatchFacts, ticks_after, writers_after, noted}
-use Rattle.summary.specs.Seeing.{WritersHold, IsSeen, events_in, noted_over, AreSeen}
+use Rattle.summary.specs.Seeing.{IsSeen, events_in, noted_over, AreSeen}
 use Rattle.summary.specs.Sights.{since_after, lateness_at, seen_beside, sightings_of, SummaryFacts, first_since, summary_of, noted_step, noted_steps, book_of}
 use Rattle.summary.specs.Telling.{IsMeasured, AreMeasured, TellLosses, EachTellsLosses, WatchStandsButForLosses}
 use Rattle.summary.proofs.Breaking.{premises-more}
@@ -38,7 +39,7 @@ seen-over members first logs book watch since (event ∷ events) stands measured
     let seen = seen_beside (ticks_after watch.closing.end event.kind) since event.kind events in
     let right : IsSeen logs book watch.closing.lost event seen = record {
       lateness = lateness-right (moments_over first_moments book) watch.closing.end since event.kind (stands.closing.end ∙ sym (clock-over first_moments book)) measured.0;
-      lacking = λ never. told.0 (subst (λ (f : FirstMoment). IsToldFirst (WritersHold logs) book f) never stands.closing.lost);
+      lacking = λ never. told.0 (subst (λ (f : FirstMoment). IsToldFirst (KeepsCommits logs) book f) never stands.closing.lost);
     } in (
       right,
       seen-over members first logs (book ++ event ∷ []) (noted watch event.kind seen) (since_after since event.kind) events (stands-more members first logs book watch event seen stands right)

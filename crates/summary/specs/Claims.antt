@@ -13,6 +13,7 @@ use Rattle.event_book.specs.declared.event.ServerEvent.TheVariants as servers
 use Rattle.event_book.specs.declared.event.StoreEvent.TheVariants as stores
 use Rattle.event_book.specs.declared.event.WatchdogEvent.TheVariants as watchdogs
 use Rattle.event_book.specs.Acknowledged.{acknowledged_in}
+use Rattle.event_book.specs.Kept.{KeepsCommits}
 use Rattle.event_book.specs.Logs.{Logs}
 use Rattle.event_book.specs.Writers.{HasOneWriter, writes_over}
 use Rattle.lease_law.specs.Premises.{ArePremisesMet}
@@ -30,7 +31,6 @@ use Rattle.summary.specs.declared.answers.WatchOf.{WatchOf}
 use Rattle.summary.specs.Heads.{is_watching, first_unwatched, head_breach}
 use Rattle.summary.specs.Moments.{now_over, AreAllFronts, IsFirstBreak, IsToldFirst}
 use Rattle.summary.specs.Noting.{WatchFacts, margin_at}
-use Rattle.summary.specs.Seeing.{WritersHold}
 
 -- a margin as a number of ticks
 abbrev pub margin_ticks : Option Ticks → Option ℕ
@@ -128,7 +128,7 @@ pub record IsSummaryOf (members : List WatchOf) (first : Settings) (logs : Logs)
   -- so many commits were acknowledged
   pub acknowledged : closing.acknowledged ≡ length (acknowledged_in book)
   -- each server that accepts writes has each acknowledged commit at the end of each front, or one lacked some first at that moment
-  pub lost : IsToldFirst (WritersHold logs) book closing.lost
+  pub lost : IsToldFirst (KeepsCommits logs) book closing.lost
 
 -- the summary keeps what this book makes of it
 pub record WatchStandsFor (members : List WatchOf) (first : Settings) (logs : Logs) (book : List Event) (facts : WatchFacts) : Type 0 where

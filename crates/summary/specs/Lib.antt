@@ -5,7 +5,6 @@ pub mod Moments
 pub mod Seeing
 pub mod Claims
 pub mod Losses
-pub mod Lateness
 pub mod Sights
 pub mod Telling
 pub mod Listed

@@ -18,11 +18,11 @@ pub record AreListed (writers : List (Option Name)) : Type 0 where
   pub each : (name : Name) → IsWriterNamed writers name → Contains (sorted_from [] writers) name
   pub only : (name : Name) → Contains (sorted_from [] writers) name → IsWriterNamed writers name
 
--- where a server begins in this event, the event has the name of that server
-abbrev pub NamesServer : (ℕ → Name) → EventKind → Type 0
-NamesServer names (kinds.Server (servers.Began server timeline)) = server.name ≡ names server.id.number
+-- where a server begins in this event, the event has the name of the server of that number
+abbrev pub NamesServer : (ℕ → Option Name) → EventKind → Type 0
+NamesServer names (kinds.Server (servers.Began server timeline)) = names server.id.number ≡ Some server.name
 NamesServer names _ = Unit {0}
 
--- each of these writers has the name of that server
-pub record AreNamed (names : ℕ → Name) (writers : List (Option Name)) : Type 0 where
-  pub each : (server : ℕ) (name : Name) → slice_get writers server ≡ Some (Some name) → name ≡ names server
+-- each of these writers has the name of the server of its number
+pub record AreNamed (names : ℕ → Option Name) (writers : List (Option Name)) : Type 0 where
+  pub each : (server : ℕ) (name : Name) → slice_get writers server ≡ Some (Some name) → names server ≡ Some name

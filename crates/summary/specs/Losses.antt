@@ -9,10 +9,9 @@ use Rattle.event_book.specs.declared.event.ReplicationEvent.{ReplicationEvent}
 use Rattle.event_book.specs.declared.event.ReplicationEvent.TheVariants as replications
 use Rattle.event_book.specs.declared.event.ServerEvent.{ServerEvent}
 use Rattle.event_book.specs.declared.event.ServerEvent.TheVariants as servers
-use Rattle.event_book.specs.Logs.{Logs, logs_over}
+use Rattle.event_book.specs.Logs.{Logs, entries_at, logs_over}
 use Rattle.event_book.specs.Writers.{AcceptsWrites}
 use Rattle.wal_model.specs.Lacking.{has_serial}
-use Rattle.summary.specs.Seeing.{entries_at}
 
 -- by what happens to a server: where it begins it may lack a commit
 abbrev pub may_lose_by_server : ServerEvent → Bool

@@ -2,6 +2,7 @@
 ghost use Rattle.std.specs.Prelude.{ℕ, ◌≡◌, ◌≤◌, ◌++◌, ◌↔◌, true, false, List, [], ◌∷◌, length, replicate, Option, None};
 ghost use Rattle.pat_base.specs.declared.name.Name.{Name};
 ghost use Rattle.lease_store.specs.Settings.{Settings};
+ghost use Rattle.event_book.specs.Kept.{KeepsCommits};
 ghost use Rattle.event_book.specs.Logs.{Logs};
 ghost use Rattle.event_book.specs.Writers.{HasOneWriter};
 ghost use Rattle.event_book.specs.declared.event.Event.{Event};
@@ -10,6 +11,7 @@ ghost use Rattle.event_book.specs.declared.event.EventKind.TheVariants.{Server, 
 ghost use Rattle.event_book.specs.declared.event.ReplicationEvent.TheVariants.{Acknowledged};
 ghost use Rattle.event_book.specs.declared.event.ServerEvent.TheVariants.{Began};
 ghost use Rattle.event_book.specs.declared.member.ServerOf.{ServerOf};
+ghost use Rattle.event_book.specs.declared.reason.Basis.{Basis};
 ghost use Rattle.lease_law.specs.Premises.{ArePremisesMet, Moments};
 ghost use Rattle.summary.specs.declared.answers.Closing.{Closing};
 ghost use Rattle.summary.specs.declared.answers.Seen.{Seen};
@@ -19,10 +21,9 @@ ghost use Rattle.summary.specs.declared.answers.WatchOf.{WatchOf};
 ghost use Rattle.summary.specs.Claims.{AreCommitsGuarded, IsGuarded, IsSummaryOf, KeepMode, WatchStandsFor, margin_of, works_of};
 ghost use Rattle.summary.specs.Heads.{watch_of};
 ghost use Rattle.summary.specs.Noting.{WatchFacts, noted, writers_after};
-ghost use Rattle.summary.specs.Lateness.{lateness_of};
 ghost use Rattle.summary.specs.Listed.{AreListed, AreNamed, NamesServer};
 ghost use Rattle.summary.specs.Losses.{WriterLacksOf, may_lose};
-ghost use Rattle.summary.specs.Seeing.{AreSeen, IsLateness, IsSeen, LacksOne, Sighting, WriterLacks, WritersHold, events_in, noted_over};
+ghost use Rattle.summary.specs.Seeing.{AreSeen, IsLatenessOn, IsSeen, LacksOne, Sighting, WriterLacks, events_in, noted_over};
 
 /// Each answer of the summary is so of the book whose events were noted, where what was seen beside each was right.
 pub fn summary_tells_the_book()
@@ -52,29 +53,29 @@ pub fn premises_guard_writers()
 pub fn premises_guard_commits()
     ensures { (members : List WatchOf) (first : Settings) (logs : Logs) (book : List Event) (closing : Closing)
         → IsSummaryOf members first logs book closing → first.config.synchronous_mode ≡ true
-        → ((front rest : List Event) → front ++ rest ≡ book → ArePremisesMet (margin_of members) (works_of members) first front → KeepMode true front → WritersHold logs front)
+        → ((front rest : List Event) → front ++ rest ≡ book → ArePremisesMet (margin_of members) (works_of members) first front → KeepMode true front → KeepsCommits logs front)
         → AreCommitsGuarded closing.premises closing.synchronous closing.lost }
 {}
 
 /// Which events may lose a commit where none was lost before, for who keeps track of it: where a server begins, its own log decides;
 /// where a commit is acknowledged, the logs of those that accept writes do; where a log only grows, and in all else, none is lost.
 pub fn few_events_lose()
-    ensures others { (logs : Logs) (book : List Event) (event : Event) → may_lose event.kind ≡ false → WritersHold logs book → WriterLacks logs (book ++ event ∷ []) → ⊥ }
+    ensures others { (logs : Logs) (book : List Event) (event : Event) → may_lose event.kind ≡ false → KeepsCommits logs book → WriterLacks logs (book ++ event ∷ []) → ⊥ }
     ensures began { (logs : Logs) (book : List Event) (event : Event) (server : ServerOf) (timeline : ℕ) → event.kind ≡ Server (Began server timeline)
-        → WritersHold logs book → WriterLacks logs (book ++ event ∷ []) ↔ LacksOne logs book server.id.number }
+        → KeepsCommits logs book → WriterLacks logs (book ++ event ∷ []) ↔ LacksOne logs book server.id.number }
     ensures acknowledged { (logs : Logs) (book : List Event) (event : Event) (server : ServerOf) (commit : ℕ) → event.kind ≡ Replication (Acknowledged server commit)
-        → WritersHold logs book → WriterLacks logs (book ++ event ∷ []) ↔ WriterLacksOf logs book commit }
+        → KeepsCommits logs book → WriterLacks logs (book ++ event ∷ []) ↔ WriterLacksOf logs book commit }
 {}
 
-/// There is one right lateness of each event, which the moments before it give.
+/// A feed has one lateness.
 pub fn lateness_is_determined()
-    ensures { (moments : Moments) (kind : EventKind) (lateness : ℕ) → IsLateness moments kind lateness ↔ lateness ≡ lateness_of moments kind }
+    ensures { (moments : Moments) (m : ℕ) (basis : Basis) (n k : ℕ) → IsLatenessOn moments m basis n → IsLatenessOn moments m basis k → n ≡ k }
 {}
 
-/// The names of the writers are listed in byte order; and each is the server's own, where the events in which servers begin have their
-/// names.
+/// The names of the writers are listed in byte order; and each is that of the server of its number, where the events in which servers begin
+/// have these names.
 pub fn writers_are_listed()
     ensures listed { (writers : List (Option Name)) → AreListed writers }
-    ensures first { (names : ℕ → Name) → AreNamed names (replicate SERVERS None) }
-    ensures each { (names : ℕ → Name) (writers : List (Option Name)) (kind : EventKind) → NamesServer names kind → AreNamed names writers → AreNamed names (writers_after writers kind) }
+    ensures first { (names : ℕ → Option Name) → AreNamed names (replicate SERVERS None) }
+    ensures each { (names : ℕ → Option Name) (writers : List (Option Name)) (kind : EventKind) → NamesServer names kind → AreNamed names writers → AreNamed names (writers_after writers kind) }
 {}
