@@ -7,7 +7,7 @@ use Rattle.cluster_script.specs.Limits.{limit_of}
 use Rattle.cluster_script.specs.declared.limits.Limit.TheVariants.{Bytes}
 use Rattle.patroni_top.specs.declared.ending.Ending.{Ending}
 use Rattle.patroni_top.specs.declared.ending.Ending.TheVariants as endings
-use Rattle.patroni_top.specs.Status.{Says}
+use Rattle.patroni_top.specs.Status.{Refuses}
 
 too-long : (bytes : List ℕ) → 1048576 < length bytes → limit_of bytes ≡ Some Bytes
 too-long bytes long =
@@ -34,11 +34,11 @@ reads-all all none = elim (cases_lt 1048576 (length all)) [
   | inr short ↦ (take_all 1048577 all (omega (arith, short)), drop_all 1048577 all (omega (arith, short)))
 ]
 
-says-front : (ending : Ending) (all : List ℕ) → Says ending (take 1048577 all) → Says ending all
-says-front (endings.NotScript line fault) all h = subst (λ (bytes : List ℕ). Says (endings.NotScript line fault) bytes) (reads-all all h.0).0 h
-says-front (endings.Limit limit) all h = sym (limit_of-take all) ∙ h
-says-front _ all h = tt
+refuses-front : (ending : Ending) (all : List ℕ) → Refuses ending (take 1048577 all) → Refuses ending all
+refuses-front (endings.NotScript line fault) all h = subst (λ (bytes : List ℕ). Refuses (endings.NotScript line fault) bytes) (reads-all all h.0).0 h
+refuses-front (endings.Limit limit) all h = sym (limit_of-take all) ∙ h
+refuses-front _ all h = tt
 
--- an ending says of all bytes what it says of those read
-pub Says-all : (ending : Ending) (read all : List ℕ) → read ≡ take 1048577 all → Says ending read → Says ending all
-Says-all ending read all is h = says-front ending all (subst (λ (bytes : List ℕ). Says ending bytes) is h)
+-- an ending that refuses those read refuses all
+pub Refuses-all : (ending : Ending) (read all : List ℕ) → read ≡ take 1048577 all → Refuses ending read → Refuses ending all
+Refuses-all ending read all is h = refuses-front ending all (subst (λ (bytes : List ℕ). Refuses ending bytes) is h)

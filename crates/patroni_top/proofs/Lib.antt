@@ -1,9 +1,5 @@
 pub mod Books
 pub mod Endings
-pub mod Idling
 pub mod Input
-pub mod Played
 pub mod Premises
 pub mod Telling
-pub mod Watching
-pub mod Whole

@@ -1,8 +1,5 @@
 pub mod Claims
+pub mod Commands
 pub mod Ended
 pub mod Ends
-pub mod LineParts
-pub mod Playing
-pub mod Run
 pub mod Status
-pub mod Watches

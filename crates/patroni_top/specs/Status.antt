@@ -14,10 +14,11 @@ use Rattle.cluster_script.specs.Limits.{limit_text, limit_of}
 use Rattle.cluster_script.specs.Reading.{script_of}
 use Rattle.patroni_top.specs.declared.ending.Ending.{Ending}
 use Rattle.patroni_top.specs.declared.ending.Ending.TheVariants as endings
-use Rattle.patroni_top.specs.declared.print_error.PrintError.{PrintError}
-use Rattle.patroni_top.specs.declared.print_error.PrintError.TheVariants as prints
+use Rattle.run_player.specs.declared.print_error.PrintError.{PrintError}
+use Rattle.run_player.specs.declared.print_error.PrintError.TheVariants as prints
 use Rattle.patroni_top.specs.declared.status.Status.{Status}
 use Rattle.patroni_top.specs.declared.status.Status.TheVariants as statuses
+use Rattle.patroni_top.specs.Commands.{Faulty, PastLimit, Verdict}
 
 -- the number of an exit status
 abbrev pub code_of : Status → ℕ
@@ -39,11 +40,17 @@ status_of endings.WriteFault = statuses.WriteFault
 status_of endings.Memory = statuses.Memory
 status_of (endings.Limit limit) = statuses.Limit
 
--- what an ending says of the bytes of the input
-abbrev pub Says : Ending → List ℕ → Type 0
-Says (endings.NotScript line fault) bytes = (limit_of bytes ≡ None) × (script_of bytes ≡ Err (line, fault))
-Says (endings.Limit limit) bytes = limit_of bytes ≡ Some limit
-Says _ bytes = Unit {0}
+-- what an ending says of what came of the words and the input: the fault with its line, or the limit, is the input's
+abbrev pub Says : Ending → Verdict → Type 0
+Says (endings.NotScript line fault) verdict = verdict ≡ Faulty line fault
+Says (endings.Limit limit) verdict = verdict ≡ PastLimit limit
+Says _ verdict = Unit {0}
+
+-- an ending refuses bytes that are to be a script for what they are
+abbrev pub Refuses : Ending → List ℕ → Type 0
+Refuses (endings.NotScript line fault) bytes = (limit_of bytes ≡ None) × (script_of bytes ≡ Err (line, fault))
+Refuses (endings.Limit limit) bytes = limit_of bytes ≡ Some limit
+Refuses _ bytes = Unit {0}
 
 -- an ending of a run in which the input gives no script
 abbrev pub IsRefusal : Ending → Type 0

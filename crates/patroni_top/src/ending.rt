@@ -4,11 +4,11 @@ ghost use Rattle.patroni_top.specs.Status.{ending_of_read, ending_of_fault, endi
 ghost use Rattle.patroni_top.specs.declared.ending.Ending.TheVariants as endings;
 
 use crate::Status;
-use crate::print_error::PrintError;
 use arrayvec::ArrayString;
 use cluster_script::{Limit, ScriptFault, limit_text};
 use itoa::Buffer;
 use pat_base::ReadError;
+use run_player::PrintError;
 use script_words::{Fault, fault_text};
 use std::alloc::AllocError;
 

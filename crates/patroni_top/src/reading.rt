@@ -3,8 +3,8 @@ ghost use Rattle.std.specs.Prelude.{◌≡◌, ◌≢◌, Some, None, Ok, Err, [
 ghost use Rattle.pat_base.specs.Outside.{Known, Rose, Consumed};
 ghost use Rattle.cluster_script.specs.Limits.{limit_of};
 ghost use Rattle.cluster_script.specs.Reading.{script_of};
-ghost use Rattle.patroni_top.specs.Run.{KeepsLimits};
-ghost use Rattle.patroni_top.specs.Status.{Says, IsRefusal};
+ghost use Rattle.run_player.specs.Run.{KeepsLimits};
+ghost use Rattle.patroni_top.specs.Status.{Refuses, IsRefusal};
 
 use crate::ending::Ending;
 use cluster_script::ScriptLines;
@@ -22,7 +22,7 @@ pub fn script_from<S: Source>(alloc: Global, input: &mut S) -> Result<Script, En
     ensures end { IfOk result (λ _. Known (S.rest input.old) (λ _. S.rest input.new ≡ Some [])) }
     ensures few { IfOk result KeepsLimits }
     ensures refused { IfErr result IsRefusal }
-    ensures says { IfErr result (λ ending. Known (S.rest input.old) (Says ending)) }
+    ensures refuses { IfErr result (λ ending. Known (S.rest input.old) (Refuses ending)) }
     ensures fault { IsErrOf result Ending.ReadFault → Rose (S.faults input.old) (S.faults input.new) }
     ensures reliable { S.is_reliable input.old → result ≢ Err Ending.ReadFault }
     ensures consumed { Consumed (S.rest input.old) (S.rest input.new) 1048577 }
@@ -36,7 +36,7 @@ fn script_in(alloc: Global, bytes: &[u8]) -> Result<Script, Ending>
     ensures script { IfOk result (λ script. (limit_of bytes.now ≡ None) × (script_of bytes.now ≡ Ok script)) }
     ensures few { IfOk result KeepsLimits }
     ensures refused { IfErr result IsRefusal }
-    ensures says { IfErr result (λ ending. Says ending bytes.now) }
+    ensures refuses { IfErr result (λ ending. Refuses ending bytes.now) }
     ensures read { result ≢ Err Ending.ReadFault }
 {
     let lines = ScriptLines::cut(alloc, bytes)?;

@@ -2,7 +2,7 @@ use Rattle.std.proofs.Common.{◌∙◌, ap, sym, Some}
 use Rattle.std.proofs.lemmas.Result.{IfOk-weaker, IfErr-weaker}
 use Rattle.cluster_script.specs.Limits.{limit_of}
 use Rattle.cluster_script.specs.Reading.{script_of}
-use Rattle.patroni_top.proofs.Input.{limit_of-take, reads-all, Says-all}
+use Rattle.patroni_top.proofs.Input.{limit_of-take, reads-all, Refuses-all}
 use Rattle.patroni_top.proofs.reading.script_from.Goals as goal
 
 pub returns-clause-script : goal.returns-clause-script
@@ -20,8 +20,8 @@ returns-clause-end g c =
     (λ script read all is. c.in_ok-bytes.ensures.after all is ∙ ap Some (reads-all all (ap limit_of (sym (c.deref.ensures.value ∙ c.in_ok-bytes.ensures.bytes all is)) ∙ read.0)).1)
     c.script_in.ensures.script
 
-pub returns-clause-says : goal.returns-clause-says
-returns-clause-says g c =
+pub returns-clause-refuses : goal.returns-clause-refuses
+returns-clause-refuses g c =
     IfErr-weaker c.script_in.result _ _
-    (λ ending says all is. Says-all ending _ all (c.deref.ensures.value ∙ c.in_ok-bytes.ensures.bytes all is) says)
-    c.script_in.ensures.says
+    (λ ending refuses all is. Refuses-all ending _ all (c.deref.ensures.value ∙ c.in_ok-bytes.ensures.bytes all is) refuses)
+    c.script_in.ensures.refuses

@@ -1,5 +1,0 @@
-use Rattle.std.proofs.Common.{length, arith, ap}
-use Rattle.patroni_top.proofs.watches.first_summary.Goals as goal
-
-pub new-requires : goal.new-requires
-new-requires c = omega (arith, ap length c.deref.ensures.value, c.in_ok-watches.ensures.few)

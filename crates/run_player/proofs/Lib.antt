@@ -1,0 +1,4 @@
+pub mod Idling
+pub mod Played
+pub mod Watching
+pub mod Whole
