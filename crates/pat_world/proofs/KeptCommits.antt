@@ -11,7 +11,7 @@ use Rattle.cluster_model.specs.State.{Cluster}
 use Rattle.commit_run_law.specs.Runs.{KeepsCommitsIn, KeepsOrderIn}
 use Rattle.commit_run_law.proofs.EveryRun.{runs-in-order, runs-keep}
 use Rattle.world_model.specs.Emits.{Emits}
-use Rattle.pat_world.specs.KeptCommits.{KeepsCommits}
+use Rattle.pat_world.specs.KeptCommits.{KeepsAcknowledged}
 use Rattle.pat_world.proofs.IdleTicks.{run_events-both}
 use Rattle.pat_world.proofs.OneWriter.{run_events-last}
 
@@ -32,13 +32,13 @@ module _ (claim : HeadText → List Event → Type 0) (every : (head : HeadText)
       let next : run_events world more ≡ run_events (cluster_over start (run_events start steps)) more = ap (λ (c : Cluster). run_events c more) stands.world_is in
       subst (claim head) (run_events-both start steps more ∙ sym (ap (λ (es : List Event). run_events start steps ++ es) next)) (every head is (steps ++ more))
 
-pub step-keeps-commits : (before after : Cluster) (had has : List Event) (step : Step) (cost : ℕ) → had ≡ [] → Emits before after had has (next_events before step) cost → KeepsCommits before has
+pub step-keeps-commits : (before after : Cluster) (had has : List Event) (step : Step) (cost : ℕ) → had ≡ [] → Emits before after had has (next_events before step) cost → KeepsAcknowledged before has
 step-keeps-commits before after had has step cost none took = record {
   kept = by-step KeepsCommitsIn runs-keep before after had has step cost none took;
   order = by-step KeepsOrderIn runs-in-order before after had has step cost none took;
 }
 
-pub steps-keep-commits : (world : Cluster) (more : List Step) → KeepsCommits world (run_events world more)
+pub steps-keep-commits : (world : Cluster) (more : List Step) → KeepsAcknowledged world (run_events world more)
 steps-keep-commits world more = record {
   kept = by-steps KeepsCommitsIn runs-keep world more;
   order = by-steps KeepsOrderIn runs-in-order world more;

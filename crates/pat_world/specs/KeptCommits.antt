@@ -12,7 +12,7 @@ use Rattle.pat_world.specs.Book.{StandsFor}
 -- whichever steps brought a world here from a head with synchronous mode on: at each moment of their book, and inside the events that come next, each
 -- server that accepts writes has each acknowledged commit, and required lists and sync key are in order, as long as the premises of one writer are met and
 -- the mode stays on
-pub record KeepsCommits (world : Cluster) (events : List Event) : Type 0 where
+pub record KeepsAcknowledged (world : Cluster) (events : List Event) : Type 0 where
   pub kept : (head : HeadText) (steps : List Step) → IsHead head → StandsFor (cluster_of head) (run_events (cluster_of head) steps) world
       → KeepsCommitsIn head (run_events (cluster_of head) steps ++ events)
   pub order : (head : HeadText) (steps : List Step) → IsHead head → StandsFor (cluster_of head) (run_events (cluster_of head) steps) world
