@@ -6,18 +6,23 @@ use Rattle.std.proofs.lemmas.Map.Views.{All-insert_key}
 use Rattle.std.specs.BTreeSet.{insert_key}
 use Rattle.std.specs.List.Sorted.{IsStrictlySortedBy}
 use Rattle.pat_base.specs.declared.name.Name.{Name}
+use Rattle.pat_base.specs.declared.ticks.Ticks.{Ticks}
+use Rattle.event_book.specs.declared.event.Event.{Event}
 use Rattle.event_book.specs.declared.event.EventKind.{EventKind}
 use Rattle.event_book.specs.declared.event.EventKind.TheVariants as kinds
 use Rattle.event_book.specs.declared.event.ServerEvent.{ServerEvent}
 use Rattle.event_book.specs.declared.event.ServerEvent.TheVariants as servers
 use Rattle.event_book.specs.declared.event.WatchdogEvent.{WatchdogEvent}
 use Rattle.event_book.specs.declared.event.WatchdogEvent.TheVariants as watchdogs
+use Rattle.event_book.specs.Kinds.{AllAre}
 use Rattle.event_book.specs.NameLists.{name_cmp}
 use Rattle.event_book.proofs.NamedMembers.{insert-kept, insert-there, name_cmp-exact}
 use Rattle.event_book.proofs.RisingNames.{rises-insert, name_cmp-total}
 use Rattle.lease_law.proofs.Tools.{none-some, some-is}
 use Rattle.summary.specs.Listed.{IsWriterNamed, AreListed, NamesServer, AreNamed}
-use Rattle.summary.specs.Noting.{writers_by_server, writers_by_watchdog, writers_after}
+use Rattle.summary.specs.Noting.{WatchFacts, noted, ticks_after, writers_by_server, writers_by_watchdog, writers_after}
+use Rattle.summary.specs.Seeing.{noted_over}
+use Rattle.summary.specs.Sights.{SummaryFacts, noted_step, seen_beside, sightings_of, since_after}
 use Rattle.summary.specs.SummaryText.{sorted_from}
 use Rattle.summary.specs.declared.answers.TheConstants.{SERVERS}
 
@@ -94,3 +99,13 @@ none-named (suc count) (suc n) name is = none-named count n name is
 
 pub named-first : (names : ℕ → Option Name) → AreNamed names (replicate SERVERS None)
 named-first names = record { each = λ n name is. absurd (none-named 17 n name is) }
+
+-- so it stays through the events of a step
+named-over : (names : ℕ → Option Name) (watch : WatchFacts) (clock since : Ticks) (events : List Event) → AllAre (NamesServer names) events → AreNamed names watch.closing.writers → AreNamed names (noted_over watch (sightings_of clock since events)).closing.writers
+named-over names watch clock since [] all are = are
+named-over names watch clock since (event ∷ events) all are =
+    named-over names (noted watch event.kind (seen_beside (ticks_after clock event.kind) since event.kind events)) (ticks_after clock event.kind) (since_after since event.kind) events all.1
+    (named-more names watch.closing.writers event.kind all.0 are)
+
+pub named-step : (names : ℕ → Option Name) (facts : SummaryFacts) (events : List Event) → AllAre (NamesServer names) events → AreNamed names facts.watch.closing.writers → AreNamed names (noted_step facts events).watch.closing.writers
+named-step names facts events all are = named-over names facts.watch facts.watch.closing.end facts.since events all are

@@ -3,6 +3,7 @@ ghost use Rattle.std.specs.Prelude.{ℕ, ◌≡◌, ◌≤◌, ◌++◌, ◌↔�
 ghost use Rattle.pat_base.specs.declared.name.Name.{Name};
 ghost use Rattle.lease_store.specs.Settings.{Settings};
 ghost use Rattle.event_book.specs.Kept.{KeepsCommits};
+ghost use Rattle.event_book.specs.Kinds.{AllAre};
 ghost use Rattle.event_book.specs.Logs.{Logs};
 ghost use Rattle.event_book.specs.Writers.{HasOneWriter};
 ghost use Rattle.event_book.specs.declared.event.Event.{Event};
@@ -23,6 +24,7 @@ ghost use Rattle.summary.specs.Heads.{watch_of};
 ghost use Rattle.summary.specs.Noting.{WatchFacts, noted, writers_after};
 ghost use Rattle.summary.specs.Listed.{AreListed, AreNamed, NamesServer};
 ghost use Rattle.summary.specs.Losses.{WriterLacksOf, may_lose};
+ghost use Rattle.summary.specs.Sights.{SummaryFacts, noted_step};
 ghost use Rattle.summary.specs.Seeing.{AreSeen, IsLatenessOn, IsSeen, LacksOne, Sighting, WriterLacks, events_in, noted_over};
 
 /// Each answer of the summary is so of the book whose events were noted, where what was seen beside each was right.
@@ -78,4 +80,6 @@ pub fn writers_are_listed()
     ensures listed { (writers : List (Option Name)) → AreListed writers }
     ensures first { (names : ℕ → Option Name) → AreNamed names (replicate SERVERS None) }
     ensures each { (names : ℕ → Option Name) (writers : List (Option Name)) (kind : EventKind) → NamesServer names kind → AreNamed names writers → AreNamed names (writers_after writers kind) }
+    ensures step { (names : ℕ → Option Name) (facts : SummaryFacts) (events : List Event) → AllAre (NamesServer names) events
+        → AreNamed names facts.watch.closing.writers → AreNamed names (noted_step facts events).watch.closing.writers }
 {}
