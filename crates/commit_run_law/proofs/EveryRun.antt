@@ -31,7 +31,7 @@ parts head is = record {
   receipts = upholds-receive head (few-names head is);
   acknowledgements = upholds-acknowledge head;
   restarts = λ id book cluster good. upheld-restarts head (few-names head is) book cluster good id;
-  promotions = upholds-promote head;
+  promotions = λ member declared. upholds-promote head member;
   commands = λ command book cluster good. upheld-command head (few-names head is) book cluster good command;
 }
 

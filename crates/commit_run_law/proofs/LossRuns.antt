@@ -199,7 +199,7 @@ module _ (head : HeadText) where
     receipts = upholds-receive head;
     acknowledgements = upheld-acknowledge head few;
     restarts = upholds-restart head;
-    promotions = upholds-promote head;
+    promotions = λ member is. upholds-promote head member;
     commands = upholds-command head;
   }
 

@@ -22,6 +22,7 @@ use Rattle.commit_log_law.specs.Matching.{IsSameServers}
 use Rattle.commit_log_law.proofs.Matching.{same-by}
 use Rattle.run_step_law.specs.Declaring.{declared_members, member_count}
 use Rattle.run_step_law.specs.Promise.{IsComposable, Promise, Upholds}
+use Rattle.run_step_law.proofs.Members.{members-over}
 use Rattle.summary.specs.Losses.{may_lose}
 use Rattle.summary.specs.Moments.{AreAllFronts}
 use Rattle.summary.specs.Seeing.{WriterLacks}
@@ -138,10 +139,6 @@ same-over past cluster [] begins same = same
 same-over past cluster (event ∷ events) begins same =
     same-over (past_after past event.kind) (cluster_after cluster event.kind) events
     (subst (λ (count : ℕ). Begins (λ n. n < count) events) (sym (count-of (now_after cluster.facts.clock event.kind) cluster.facts.servers event.kind)) begins.1) (same-by past cluster.facts event.kind begins.0 same)
-
-members-over : (cluster : Cluster) (events : List Event) → (cluster_over cluster events).facts.members ≡ cluster.facts.members
-members-over cluster [] = refl
-members-over cluster (event ∷ events) = members-over (cluster_after cluster event.kind) events
 
 sized-over : (cluster : Cluster) (events : List Event) → length (cluster_over cluster events).facts.servers ≡ length cluster.facts.servers
 sized-over cluster [] = refl

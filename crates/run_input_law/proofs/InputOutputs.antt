@@ -70,12 +70,13 @@ numbered-both last [] ys first second = second
 numbered-both last (x ∷ xs) ys first second = (first.0, numbered-both (sent_after last x.kind) xs ys first.1 second)
 
 -- ---- one event that sends nothing, or feeds nothing
-abbrev no_message : Output → Type 0
+-- an output that sends no message
+abbrev pub no_message : Output → Type 0
 no_message (outputs.Send to sequence body) = ⊥
 no_message (outputs.Answer to asked sequence answer) = ⊥
 no_message _ = Unit {0}
 
-no-sent : (member : Member) (run : ℕ) (message : Message) → IsMessageOf member run no_message message → ⊥
+pub no-sent : (member : Member) (run : ℕ) (message : Message) → IsMessageOf member run no_message message → ⊥
 no-sent member run message (Asks question) = question.from
 no-sent member run message (AsksPeer peer id sequence is from) = from
 no-sent member run message (AnswersPeer peer id asked sequence answer is from) = from

@@ -7,3 +7,6 @@ pub mod Measuring
 pub mod MeasuredParts
 pub mod MeasuredInputs
 pub mod MeasuredRuns
+pub mod Naming
+pub mod NamedParts
+pub mod NamedRuns

@@ -1,6 +1,7 @@
 -- Each step of a run tells before each feed from when it is measured.
 use Rattle.std.proofs.Common.{ℕ, ◌≡◌, refl, ◌+◌, ◌++◌, Bool, true, false, cond, List, [], ◌∷◌, slice_get, Option, Some, None}
 use Rattle.pat_base.specs.declared.ticks.Ticks.{Ticks}
+use Rattle.pat_base.specs.ServerState.{live}
 use Rattle.lease_store.specs.declared.txn.Txn.{Txn}
 use Rattle.lease_store.specs.Decision.{Decision, Grant, Refusal, decision_on}
 use Rattle.pg_model.specs.declared.answers.Streamed.{Streamed}
@@ -44,10 +45,11 @@ use Rattle.event_book.specs.Kinds.{AllAre}
 use Rattle.run_step_law.specs.Asides.{IsAsideIn, IsQuiet}
 use Rattle.run_step_law.proofs.Commands.{command-quiet}
 use Rattle.cluster_model.proofs.Commanding.{each-command-holds}
-use Rattle.cluster_model.proofs.Lists.{AllKinds, HoldsIf, all-kinds, one-kind}
+use Rattle.cluster_model.proofs.Founds.{holds-unless}
+use Rattle.cluster_model.proofs.Lists.{AllKinds, HoldsIf, all-kinds, all-more, one-kind}
 use Rattle.run_law.proofs.Measuring.{IsPlain, Measures, Tells, tells-none, tells-send, told-for_some, told-if, told-plain, told-then}
 use Rattle.run_law.proofs.Moments.{KnowsSending}
-use Rattle.run_step_law.proofs.Streams.{IsQuietIf, acknowledge-quiet, confirm-quiet}
+use Rattle.run_step_law.proofs.Streams.{acknowledge-quiet, confirm-quiet}
 use Rattle.run_step_law.proofs.Ticks.{IsBeside, Rest, rest-beside}
 
 -- ---- what feeds, sends and grants nothing
@@ -64,13 +66,10 @@ quiet-plain (kinds.Message happening) is = absurd is
 quiet-plain (kinds.Store (stores.Granted number by txn standbys)) is = absurd is
 quiet-plain _ is = tt
 
-quiet-kinds : (list : List EventKind) → AllKinds IsQuiet list → AllKinds IsPlain list
-quiet-kinds [] all = tt
-quiet-kinds (kind ∷ more) all = (quiet-plain kind all.0, quiet-kinds more all.1)
-
-quiet-if : (found : Option EventKind) → IsQuietIf found → HoldsIf IsPlain found
-quiet-if None is = tt
-quiet-if (Some kind) is = quiet-plain kind is
+-- what holds of more kinds holds of the one that is found, if one is
+pub holds-more : (P Q : EventKind → Type 0) (found : Option EventKind) → ((kind : EventKind) → P kind → Q kind) → HoldsIf P found → HoldsIf Q found
+holds-more P Q None more is = tt
+holds-more P Q (Some kind) more is = more kind is
 
 beside-plain : (May : ℕ → Type 0) (events : List Event) → AllAre (IsBeside May) events → AllAre IsPlain events
 beside-plain May [] all = tt
@@ -84,42 +83,47 @@ pub tells-tick : Tells tick_events
 tells-tick moments cluster knows = told-plain moments cluster (tick_events cluster) (tt, beside-plain (λ n. Unit {0}) (Rest cluster) (rest-beside (λ n. Unit {0}) cluster (λ n lives. tt)))
 
 -- ---- streams
-confirm-plain : (cluster : Cluster) (member from : Member) → AllAre IsPlain (confirm_events cluster member from)
-confirm-plain cluster member from =
+confirms-quiet : (cluster : Cluster) (member from : Member) → AllAre IsQuiet (confirm_events cluster member from)
+confirms-quiet cluster member from =
     let end = unconfirmed_end member (slice_get cluster.facts.servers member.id.number) (slice_get cluster.facts.servers from.id.number) in
-    plain-if cluster (confirm_of member from end) (quiet-if (confirm_of member from end) (confirm-quiet member from end))
+    all-kinds IsQuiet cluster (kinds_of (confirm_of member from end)) (one-kind IsQuiet (confirm_of member from end) (confirm-quiet member from end))
 
-receive-plain : (cluster : Cluster) (member from : Member) (news : Option Streamed) → AllAre IsPlain (receive_events cluster member from news)
-receive-plain cluster member from None = confirm-plain cluster member from
-receive-plain cluster member from (Some streams.NotConnected) = tt
-receive-plain cluster member from (Some (streams.Diverged at)) = (tt, tt)
-receive-plain cluster member from (Some (streams.Received count)) = (tt, confirm-plain _ member from)
+receive-quiet : (cluster : Cluster) (member from : Member) (news : Option Streamed) → AllAre IsQuiet (receive_events cluster member from news)
+receive-quiet cluster member from None = confirms-quiet cluster member from
+receive-quiet cluster member from (Some streams.NotConnected) = tt
+receive-quiet cluster member from (Some (streams.Diverged at)) = (tt, tt)
+receive-quiet cluster member from (Some (streams.Received count)) = (tt, confirms-quiet _ member from)
 
-receives-plain : (cluster : Cluster) (most : ℕ) (member : Member) (source : Option Member) → AllAre IsPlain (for_some source (λ from. receive_events cluster member from (news_at cluster.facts.servers member.id.number from.id.number most)))
-receives-plain cluster most member None = tt
-receives-plain cluster most member (Some from) = receive-plain cluster member from (news_at cluster.facts.servers member.id.number from.id.number most)
+receives-quiet : (cluster : Cluster) (most : ℕ) (member : Member) (source : Option Member) → AllAre IsQuiet (for_some source (λ from. receive_events cluster member from (news_at cluster.facts.servers member.id.number from.id.number most)))
+receives-quiet cluster most member None = tt
+receives-quiet cluster most member (Some from) = receive-quiet cluster member from (news_at cluster.facts.servers member.id.number from.id.number most)
 
-most-plain : (cluster : Cluster) (most : ℕ) (member : Member) → AllAre IsPlain (receive_events_at_most cluster most member)
-most-plain cluster most member = receives-plain cluster most member (source_of cluster.facts.members cluster.facts.servers cluster.facts.cuts member)
+pub most-quiet : (cluster : Cluster) (most : ℕ) (member : Member) → AllAre IsQuiet (receive_events_at_most cluster most member)
+most-quiet cluster most member = receives-quiet cluster most member (source_of cluster.facts.members cluster.facts.servers cluster.facts.cuts member)
+
+told-quiet : (moments : Moments) (cluster : Cluster) (events : List Event) → AllAre IsQuiet events → Measures moments cluster events
+told-quiet moments cluster events all = told-plain moments cluster events (all-more IsQuiet IsPlain events quiet-plain all)
 
 pub tells-receive-at-most : (most : ℕ) (member : Member) → Tells (λ cluster. receive_events_at_most cluster most member)
-tells-receive-at-most most member moments cluster knows = told-plain moments cluster (receive_events_at_most cluster most member) (most-plain cluster most member)
+tells-receive-at-most most member moments cluster knows = told-quiet moments cluster (receive_events_at_most cluster most member) (most-quiet cluster most member)
 
 pub tells-receive : (member : Member) → Tells (λ cluster. receive_events_of cluster member)
 tells-receive member moments cluster knows =
     told-for_some moments cluster (slice_get cluster.facts.frozen member.id.number) _ (λ frozen is.
     told-if moments cluster frozen [] (receive_events_at_most cluster all_entries member) (tells-none moments cluster) (tells-receive-at-most all_entries member moments cluster knows))
 
+pub acknowledges-quiet : (cluster : Cluster) (member : Member) → AllAre IsQuiet (acknowledge_events cluster member)
+acknowledges-quiet cluster member =
+    let found = slice_get cluster.facts.servers member.id.number in
+    all-kinds IsQuiet cluster (acknowledge_kinds cluster.facts.servers cluster.facts.members member found) (acknowledge-quiet cluster.facts.servers cluster.facts.members member found)
+
 pub tells-acknowledge : (member : Member) → Tells (λ cluster. acknowledge_events cluster member)
-tells-acknowledge member moments cluster knows =
-    let list = acknowledge_kinds cluster.facts.servers cluster.facts.members member (slice_get cluster.facts.servers member.id.number) in
-    told-plain moments cluster (events_of cluster list)
-    (all-kinds IsPlain cluster list (quiet-kinds list (acknowledge-quiet cluster.facts.servers cluster.facts.members member (slice_get cluster.facts.servers member.id.number))))
+tells-acknowledge member moments cluster knows = told-quiet moments cluster (acknowledge_events cluster member) (acknowledges-quiet cluster member)
 
 -- ---- commands
 kind-plain : (cluster : Cluster) (command : Command) → HoldsIf IsPlain (command_kind cluster command)
 kind-plain cluster command =
-    each-command-holds IsPlain cluster (record { killed = λ m. tt; crashed = λ m. tt }) command (λ is. quiet-if (command_kind cluster command) (command-quiet cluster command is))
+    each-command-holds IsPlain cluster (record { killed = λ m. tt; crashed = λ m. tt }) command (λ is. holds-more IsQuiet IsPlain (command_kind cluster command) quiet-plain (command-quiet cluster command is))
 
 pub tells-kind : (command : Command) → Tells (λ cluster. events_of cluster (kinds_of (command_kind cluster command)))
 tells-kind command moments cluster knows = told-plain moments cluster _ (plain-if cluster (command_kind cluster command) (kind-plain cluster command))
@@ -138,28 +142,32 @@ tells-promote member moments cluster knows =
     told-for_some moments cluster (slice_get cluster.facts.servers member.id.number) _ (λ s is.
     told-plain moments cluster _ (all-kinds IsPlain cluster (promote_kinds member cluster.facts.acknowledged s) (promoted-plain member cluster.facts.acknowledged s (is_replica s.state))))
 
-agent_started-plain : (member : Member) (process : AgentProcess) (test : Bool) → IsPlain (cond test (kinds.Note (AlreadyRunning member)) (kinds.Agent (agents.Started member (process.run + 1))))
-agent_started-plain member process true = tt
-agent_started-plain member process false = tt
+-- what holds of the events at the start of an agent holds of those that it brings
+module _ (P : EventKind → Type 0) (member : Member) where
+  disarm-holds : (deadline : Option Ticks) → P (kinds.Watchdog (watchdogs.Disarmed member)) → HoldsIf P (disarm_if member deadline)
+  disarm-holds None is = tt
+  disarm-holds (Some deadline) is = is
 
-disarm-plain : (member : Member) (deadline : Option Ticks) → HoldsIf IsPlain (disarm_if member deadline)
-disarm-plain member None = tt
-disarm-plain member (Some deadline) = tt
+  disarms-hold : (machine : Option Machine) → P (kinds.Watchdog (watchdogs.Disarmed member)) → HoldsIf P (disarm_of member machine)
+  disarms-hold None is = tt
+  disarms-hold (Some machine) is = holds-unless P (live machine.server.state) _ (disarm-holds machine.watchdog.deadline is)
 
-none-or : (test : Bool) (found : Option EventKind) → HoldsIf IsPlain found → HoldsIf IsPlain (cond test None found)
-none-or true found is = tt
-none-or false found is = is
+  starts-by : (test : Bool) (run : ℕ) → P (kinds.Note (AlreadyRunning member)) → P (kinds.Agent (agents.Started member run)) → P (cond test (kinds.Note (AlreadyRunning member)) (kinds.Agent (agents.Started member run)))
+  starts-by true run runs starts = runs
+  starts-by false run runs starts = starts
 
-disarms-plain : (member : Member) (machine : Option Machine) → HoldsIf IsPlain (disarm_of member machine)
-disarms-plain member None = tt
-disarms-plain member (Some machine) = none-or _ _ (disarm-plain member machine.watchdog.deadline)
+  pub starts-hold : (process : AgentProcess) (machine : Option Machine) → P (kinds.Note (AlreadyRunning member)) → P (kinds.Agent (agents.Started member (process.run + 1))) → P (kinds.Watchdog (watchdogs.Disarmed member))
+      → AllKinds P (agent_started member process ∷ kinds_of (disarm_at_start member process machine))
+  starts-hold process machine runs starts disarmed = (
+    starts-by process.running (process.run + 1) runs starts,
+    one-kind P (disarm_at_start member process machine) (holds-unless P process.running (disarm_of member machine) (disarms-hold machine disarmed)),
+  )
 
 pub tells-restart : (member : Member) → Tells (λ cluster. agent_start_events cluster member)
 tells-restart member moments cluster knows =
     told-for_some moments cluster (slice_get cluster.facts.processes member.id.number) _ (λ process is.
     let machine = machine_of cluster member in
-    told-plain moments cluster _ (all-kinds IsPlain cluster (agent_started member process ∷ kinds_of (disarm_at_start member process machine))
-    (agent_started-plain member process process.running, one-kind IsPlain (disarm_at_start member process machine) (none-or process.running (disarm_of member machine) (disarms-plain member machine)))))
+    told-plain moments cluster _ (all-kinds IsPlain cluster (agent_started member process ∷ kinds_of (disarm_at_start member process machine)) (starts-hold IsPlain member process machine tt tt tt)))
 
 pub told-lose : (moments : Moments) (cluster : Cluster) (number : ℕ) (message : Option InFlightFacts) → Measures moments cluster (lose_events cluster number message)
 told-lose moments cluster number None = told-plain moments cluster _ (tt, tt)

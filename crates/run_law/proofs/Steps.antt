@@ -28,7 +28,7 @@ parts head few = record {
   receipts = keeps-receive-at-most head;
   acknowledgements = keeps-acknowledge head;
   restarts = λ id book cluster good. kept-restarts head few book cluster id good;
-  promotions = λ member book cluster good. kept-promote head book cluster member good;
+  promotions = λ member is book cluster good. kept-promote head book cluster member good;
   commands = λ command book cluster good. kept-command-kind head few book cluster command good;
 }
 

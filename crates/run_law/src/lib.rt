@@ -3,4 +3,6 @@
 
 mod laws;
 
-pub use laws::{runs_are_fenced, runs_have_one_writer, runs_tell_measures};
+pub use laws::{
+    runs_are_fenced, runs_have_one_writer, runs_name_their_servers, runs_tell_measures,
+};

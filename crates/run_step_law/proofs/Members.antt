@@ -4,11 +4,13 @@ use Rattle.std.proofs.Math.ListN.{length-map}
 use Rattle.std.proofs.lemmas.Option.{slice_get_within}
 use Rattle.std.proofs.lemmas.Bool.Decides.{nat_tests}
 use Rattle.pat_base.specs.declared.name.Name.{Name}
+use Rattle.event_book.specs.declared.event.Event.{Event}
 use Rattle.event_book.specs.declared.member.Member.{Member}
 use Rattle.event_book.specs.Members.{members_from, put_first}
 use Rattle.pat_base.specs.MemberId.{member_by}
 use Rattle.pat_base.specs.declared.member_id.MemberId.{MemberId}
 use Rattle.script_model.specs.Script.{HeadText, IsHead, names_of}
+use Rattle.cluster_model.specs.Cluster.{cluster_after, cluster_over}
 use Rattle.cluster_model.specs.Next.{declared}
 use Rattle.cluster_model.specs.State.{Cluster}
 use Rattle.lease_law.proofs.Tools.{some-is}
@@ -29,10 +31,11 @@ not-small n is small = grind (arith, nat_tests)
 record StandsFirst (n : ℕ) (name : Name) (members : List Member) (all : List Member) : Type 0 where
   member : Member
   number : member.id.number ≡ n
+  named : member.name ≡ name
   is : all ≡ member ∷ members
 
 first-by : (n : ℕ) (test : Bool) (is : nat_lt n MOST_MEMBERS ≡ test) (name : Name) (members : List Member) → n < MOST_MEMBERS → StandsFirst n name members (put_first (member_by n test is) name members)
-first-by n true is name members small = record { member = record { id = record { number = n; below = _ }; name = name }; number = refl; is = refl }
+first-by n true is name members small = record { member = record { id = record { number = n; below = _ }; name = name }; number = refl; named = refl; is = refl }
 first-by n false is name members small = absurd (not-small n is small)
 
 small-first : (n more : ℕ) → n + suc more ≤ MOST_MEMBERS → n < MOST_MEMBERS
@@ -66,6 +69,19 @@ numbered-from n (name ∷ names) few i m is =
 from-few : (count : ℕ) → count ≤ MOST_MEMBERS → 0 + count ≤ MOST_MEMBERS
 from-few count few = omega (arith, few)
 
+named-behind : (name : Name) (names : List Name) (member m : Member) (members : List Member) → member.name ≡ name
+    → ((i : ℕ) → slice_get members i ≡ Some m → slice_get names i ≡ Some m.name)
+    → (i : ℕ) → slice_get (member ∷ members) i ≡ Some m → slice_get (name ∷ names) i ≡ Some m.name
+named-behind name names member m members named rest zero is = ap Some (sym named ∙ ap (λ (z : Member). z.name) (some-is member m is))
+named-behind name names member m members named rest (suc i) is = rest i is
+
+named-from : (n : ℕ) (names : List Name) → n + length names ≤ MOST_MEMBERS → (i : ℕ) (m : Member) → slice_get (members_from n names) i ≡ Some m → slice_get names i ≡ Some m.name
+named-from n [] few i m is = absurd (none-at i m is)
+named-from n (name ∷ names) few i m is =
+    let first = first-by n (nat_lt n MOST_MEMBERS) refl name (members_from (n + 1) names) (small-first n (length names) few) in
+    named-behind name names first.member m (members_from (n + 1) names) first.named (λ i is. named-from (n + 1) names (small-next n (length names) few) i m is) i
+    (sym (ap (λ (ms : List Member). slice_get ms i) first.is) ∙ is)
+
 counted-from : (n : ℕ) (names : List Name) → n + length names ≤ MOST_MEMBERS → length (members_from n names) ≡ length names
 counted-from n [] few = refl
 counted-from n (name ∷ names) few =
@@ -90,6 +106,15 @@ declared-at head few i m is = ap (slice_get (declared_members head)) (numbered h
 -- and has a number below how many there are
 pub declared-within : (head : HeadText) → length (names_of head) ≤ MOST_MEMBERS → (m : Member) → IsDeclared head m → m.id.number < member_count head
 declared-within head few m is = subst (λ (n : ℕ). m.id.number < n) (counted head few) (slice_get_within (declared_members head) m.id.number m is)
+
+-- and has the name that the head declares at that number
+pub declared-named : (head : HeadText) → length (names_of head) ≤ MOST_MEMBERS → (m : Member) → IsDeclared head m → slice_get (names_of head) m.id.number ≡ Some m.name
+declared-named head few m is = named-from 0 (names_of head) (from-few (length (names_of head)) few) m.id.number m is
+
+-- the members stay
+pub members-over : (cluster : Cluster) (events : List Event) → (cluster_over cluster events).facts.members ≡ cluster.facts.members
+members-over cluster [] = refl
+members-over cluster (event ∷ events) = members-over (cluster_after cluster event.kind) events
 
 each-at : (P : Member → Type 0) (members : List Member) → ((i : ℕ) (m : Member) → slice_get members i ≡ Some m → P m) → Each P members
 each-at P [] all = tt

@@ -133,7 +133,8 @@ expiries-quiet : (holder : Option Member) (keys : List Key) → AllKinds IsQuiet
 expiries-quiet holder [] = tt
 expiries-quiet holder (key ∷ more) = kinds-both IsQuiet (expiry_of holder key) (expiries_of holder more) (expiry-quiet holder key) (expiries-quiet holder more)
 
-next-quiet : (cluster : Cluster) → AllKinds IsQuiet (next_expiries cluster)
+-- what expires with a tick is quiet
+pub next-quiet : (cluster : Cluster) → AllKinds IsQuiet (next_expiries cluster)
 next-quiet cluster = expiries-quiet (declared_member cluster.facts.members (expired_holder cluster.facts.keys (cluster.facts.clock + 1))) (expired_keys cluster.facts.keys (cluster.facts.clock + 1))
 
 -- an event in which nobody begins

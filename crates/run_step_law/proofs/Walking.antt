@@ -136,7 +136,7 @@ module _ (head : HeadText) (few : length (names_of head) ≤ MOST_MEMBERS) (prom
   upheld-command (commands.Lose number) book cluster good = upheld-lose number (in_flight cluster.facts.flight number) book cluster good
   upheld-command (commands.StartAgent id) book cluster good = parts.restarts id book cluster good
   upheld-command (commands.Promote id) book cluster good =
-      upheld-for_some promise composable book cluster (declared cluster id) (promote_events cluster) good (λ m is. parts.promotions m book cluster good)
+      upheld-for_some promise composable book cluster (declared cluster id) (promote_events cluster) good (λ m is. parts.promotions m (declared-now head few cluster (parts.members book cluster good) id m is) book cluster good)
   upheld-command (commands.Rest id call body) book cluster good =
       upheld-for_some promise composable book cluster (declared cluster id) (call_events cluster call body) good (λ m is. upheld-call call body m (declared-now head few cluster (parts.members book cluster good) id m is) book cluster good)
   upheld-command (commands.Stream id most) book cluster good =

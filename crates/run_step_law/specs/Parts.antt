@@ -52,5 +52,5 @@ pub record PartsUphold (head : HeadText) (promise : Promise) : Type 0 where
   pub acknowledgements : (member : Member) → UpholdsAlways promise (λ cluster. acknowledge_events cluster member)
   -- agents that start, servers that are promoted by hand, and the other commands
   pub restarts : (id : MemberId) → UpholdsAlways promise (λ cluster. for_some (declared cluster id) (agent_start_events cluster))
-  pub promotions : (member : Member) → UpholdsAlways promise (λ cluster. promote_events cluster member)
+  pub promotions : (member : Member) → IsDeclared head member → UpholdsAlways promise (λ cluster. promote_events cluster member)
   pub commands : (command : Command) → UpholdsAlways promise (λ cluster. events_of cluster (kinds_of (command_kind cluster command)))
