@@ -47,7 +47,7 @@ use Rattle.run_step_law.proofs.Walking.{upholds-run}
 use Rattle.run_input_law.specs.InputEvents.{IsOfInput}
 use Rattle.run_input_law.proofs.InputEvents.{output-mine}
 use Rattle.run_input_law.proofs.InputOutputs.{no-sent, no_message as sends_none}
-use Rattle.run_law.specs.Naming.{NamesMember}
+use Rattle.summary.specs.Listed.{NamesServer}
 use Rattle.run_law.proofs.NamedParts.{found-own, sends-own, upheld-arrival, upholds-acknowledge, upholds-command, upholds-promote, upholds-receive, upholds-restart, upholds-tick}
 use Rattle.run_law.proofs.Naming.{IsDeclaredEnd, IsOwn, NamesSoFar, composable, names_told, upheld-own}
 
@@ -147,7 +147,7 @@ module _ (head : HeadText) (few : length (names_of head) ≤ MOST_MEMBERS) where
   names-first : NamesSoFar head [] (cluster_of head)
   names-first = record { named = tt; members = refl; flight = record { order = tt; ends = λ i carried e. absurd (none-some carried e) } }
 
-pub runs-name : (head : HeadText) (steps : List Step) → IsHead head → AllAre (NamesMember head) (run_events (cluster_of head) steps)
+pub runs-name : (head : HeadText) (steps : List Step) → IsHead head → AllAre (NamesServer (slice_get (names_of head))) (run_events (cluster_of head) steps)
 runs-name head steps is =
     let few = few-names head is in
     ((upholds-run head few (names_told head) (composable head) (parts head few) steps [] (cluster_of head) (names-first head few)).behind tt).named

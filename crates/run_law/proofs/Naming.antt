@@ -1,7 +1,7 @@
 -- Servers begin under the names that the head declares. Between the parts of a step messages in flight go from and to declared members,
 -- since who hears one acts, and may begin.
-use Rattle.std.proofs.Common.{ℕ, ◌≡◌, ◌∙◌, List, [], ◌∷◌, Some, sym, subst, arith}
-use Rattle.script_model.specs.Script.{HeadText}
+use Rattle.std.proofs.Common.{ℕ, ◌≡◌, ◌∙◌, List, [], ◌∷◌, Some, slice_get, sym, subst, arith}
+use Rattle.script_model.specs.Script.{HeadText, names_of}
 use Rattle.event_book.specs.declared.event.Event.{Event}
 use Rattle.event_book.specs.declared.event.EventKind.{EventKind}
 use Rattle.event_book.specs.declared.event.EventKind.TheVariants as kinds
@@ -22,7 +22,7 @@ use Rattle.run_step_law.specs.Declaring.{declared_members}
 use Rattle.run_step_law.specs.Members.{IsDeclared}
 use Rattle.run_step_law.specs.Promise.{IsComposable, Promise, Upholds}
 use Rattle.run_step_law.proofs.Members.{members-over}
-use Rattle.run_law.specs.Naming.{NamesMember}
+use Rattle.summary.specs.Listed.{NamesServer}
 
 -- this end of a link is the key store, or a declared member
 abbrev pub IsDeclaredEnd : HeadText → LinkEnd → Type 0
@@ -36,9 +36,9 @@ HasDeclaredEnds head message = IsDeclaredEnd head message.from × IsDeclaredEnd 
 -- an event in which who begins is named as the head declares, and what is sent goes from and to declared members
 abbrev pub IsOwn : HeadText → EventKind → Type 0
 IsOwn head (kinds.Message (Sent number message)) = HasDeclaredEnds head message
-IsOwn head kind = NamesMember head kind
+IsOwn head kind = NamesServer (slice_get (names_of head)) kind
 
-own-named : (head : HeadText) (kind : EventKind) → IsOwn head kind → NamesMember head kind
+own-named : (head : HeadText) (kind : EventKind) → IsOwn head kind → NamesServer (slice_get (names_of head)) kind
 own-named head (kinds.Message (Sent number message)) own = tt
 own-named head kind own = own
 
@@ -79,7 +79,7 @@ module _ (head : HeadText) where
 
 -- ---- what holds between two parts of a step
 pub record NamesSoFar (head : HeadText) (book : List Event) (cluster : Cluster) : Type 0 where
-  pub named : AllAre (NamesMember head) book
+  pub named : AllAre (NamesServer (slice_get (names_of head))) book
   pub members : cluster.facts.members ≡ declared_members head
   pub flight : IsDeclaredFlight head cluster.facts.flight
 
@@ -96,7 +96,7 @@ pub upheld-own : (head : HeadText) (book : List Event) (cluster : Cluster) (even
 upheld-own head book cluster events good all = record {
   inside = λ front rest e meets. tt;
   behind = λ meets. record {
-    named = all-both (NamesMember head) book events good.named (all-more (IsOwn head) (NamesMember head) events (own-named head) all);
+    named = all-both (NamesServer (slice_get (names_of head))) book events good.named (all-more (IsOwn head) (NamesServer (slice_get (names_of head))) events (own-named head) all);
     members = members-over cluster events ∙ good.members;
     flight = flight-over head cluster events all good.flight;
   };

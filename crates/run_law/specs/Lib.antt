@@ -1,2 +1,1 @@
 pub mod Fencing
-pub mod Naming

@@ -1,6 +1,6 @@
 //! Laws of every run.
-ghost use Rattle.std.specs.Prelude.{ℕ, ◌≡◌, ◌++◌, Bool, List, Option};
-ghost use Rattle.script_model.specs.Script.{HeadText, IsHead};
+ghost use Rattle.std.specs.Prelude.{ℕ, ◌≡◌, ◌++◌, Bool, List, Option, slice_get};
+ghost use Rattle.script_model.specs.Script.{HeadText, IsHead, names_of};
 ghost use Rattle.script_model.specs.declared.line.Step.{Step};
 ghost use Rattle.event_book.specs.declared.event.Event.{Event};
 ghost use Rattle.event_book.specs.Kinds.{AllAre};
@@ -9,7 +9,7 @@ ghost use Rattle.cluster_model.specs.Next.{run_events};
 ghost use Rattle.cluster_model.specs.Starting.{cluster_of};
 ghost use Rattle.lease_law.specs.Premises.{IsTimely, IsHandsOff, first_moments};
 ghost use Rattle.run_law.specs.Fencing.{AreFenced};
-ghost use Rattle.run_law.specs.Naming.{NamesMember};
+ghost use Rattle.summary.specs.Listed.{NamesServer};
 ghost use Rattle.summary.specs.Sights.{first_since};
 ghost use Rattle.summary.specs.Telling.{AreMeasured};
 ghost use Rattle.run_step_law.specs.Declaring.{declared_of, works_of};
@@ -39,7 +39,7 @@ pub fn runs_are_fenced()
     ensures { (head : HeadText) (steps : List Step) → AreFenced (cluster_of head) (run_events (cluster_of head) steps) }
 {}
 
-/// In every run each server that begins to accept writes is told of by the name that the head declares for its number. It needs no premise.
+/// In every run each server that begins to accept writes is told by the name that the head declares for its number. It needs no premise.
 pub fn runs_name_their_servers()
-    ensures { (head : HeadText) (steps : List Step) → IsHead head → AllAre (NamesMember head) (run_events (cluster_of head) steps) }
+    ensures { (head : HeadText) (steps : List Step) → IsHead head → AllAre (NamesServer (slice_get (names_of head))) (run_events (cluster_of head) steps) }
 {}
