@@ -1,14 +1,19 @@
 -- The book of a run, step by step.
-use Rattle.std.proofs.Common.{◌≡◌, List, [], ◌∷◌, ◌++◌, refl, ap, subst, ◌∙◌}
+use Rattle.std.proofs.Common.{ℕ, ◌≡◌, List, [], ◌∷◌, ◌++◌, Option, refl, ap, subst, ◌∙◌}
+use Rattle.pat_base.specs.declared.name.Name.{Name}
 use Rattle.script_model.specs.declared.line.Step.{Step}
 use Rattle.script_model.specs.Script.{HeadText, IsHead}
 use Rattle.event_book.specs.declared.event.Event.{Event}
+use Rattle.event_book.specs.Kinds.{AllAre}
 use Rattle.cluster_model.specs.Cluster.{cluster_over}
 use Rattle.cluster_model.specs.Next.{next_events, run_events}
 use Rattle.cluster_model.specs.Starting.{cluster_of}
 use Rattle.cluster_model.specs.State.{Cluster}
-use Rattle.summary.specs.Sights.{book_of}
+use Rattle.cluster_model.proofs.Lists.{all-back, all-front}
+use Rattle.summary.specs.Listed.{AreNamed, NamesServer}
+use Rattle.summary.specs.Sights.{SummaryFacts, book_of, noted_step, noted_steps}
 use Rattle.summary.specs.Telling.{EachTellsLosses, TellLosses}
+use Rattle.summary.proofs.Listing.{named-step}
 use Rattle.commit_run_law.specs.Runs.{first_logs}
 use Rattle.commit_run_law.proofs.Losses.{told-back}
 use Rattle.commit_run_law.proofs.LossRuns.{runs-tell}
@@ -38,3 +43,9 @@ tell-behind head is done (step ∷ more) book whole =
 
 pub steps-tell : (head : HeadText) → IsHead head → (steps : List Step) → EachTellsLosses (first_logs head) [] (events_by_step (cluster_of head) steps)
 steps-tell head is steps = tell-behind head is [] steps [] refl
+
+-- writers that are named as servers are stay so through the events of these steps
+pub named-steps : (names : ℕ → Option Name) (facts : SummaryFacts) (steps : List (List Event)) → AllAre (NamesServer names) (book_of steps) → AreNamed names facts.watch.closing.writers → AreNamed names (noted_steps facts steps).watch.closing.writers
+named-steps names facts [] all are = are
+named-steps names facts (step ∷ steps) all are =
+    named-steps names (noted_step facts step) steps (all-back (NamesServer names) step (book_of steps) all) (named-step names facts step (all-front (NamesServer names) step (book_of steps) all) are)

@@ -8,21 +8,25 @@ use Rattle.leader_key.specs.declared.watchdog.Mode.{Mode}
 use Rattle.leader_key.specs.declared.watchdog.Mode.TheVariants as modes
 use Rattle.leader_key.specs.Watchdog.{is_armable}
 use Rattle.cluster_script.specs.Reading.{script_of}
-use Rattle.script_model.specs.Script.{HeadText, IsHead, MemberText, ScriptText}
+use Rattle.script_model.specs.Script.{HeadText, IsHead, MemberText, ScriptText, names_of}
 use Rattle.script_model.specs.Steps.{steps_of}
 use Rattle.cluster_script.proofs.ReadLaws.{read-is-spelled}
 use Rattle.event_book.specs.declared.event.Event.{Event}
+use Rattle.event_book.specs.Kinds.{AllAre}
 use Rattle.cluster_model.specs.Starting.{cluster_of}
 use Rattle.lease_law.specs.Premises.{ArePremisesMet, IsTimely, first_moments}
 use Rattle.summary.specs.Claims.{IsSummaryOf, margin_of, works_of as is_watched}
 use Rattle.run_step_law.specs.Declaring.{margin_said, works_said}
 use Rattle.run_step_law.specs.Kept.{MeetsPremises, WhereMet}
 use Rattle.summary.specs.Sights.{first_since}
+use Rattle.summary.specs.Listed.{AreNamed, NamesServer}
 use Rattle.summary.specs.Telling.{AreMeasured}
 use Rattle.summary.proofs.Guarding.{commits-guarded}
+use Rattle.summary.proofs.Listing.{named-first}
 use Rattle.summary.proofs.Steps.{steps-guarded, steps-told}
 use Rattle.run_law.proofs.EveryRun.{runs-one}
 use Rattle.run_law.proofs.MeasuredRuns.{runs-measured}
+use Rattle.run_law.proofs.NamedRuns.{runs-name}
 use Rattle.commit_run_law.specs.Runs.{KeepsCommitsIn, first_logs}
 use Rattle.commit_run_law.proofs.EveryRun.{runs-in-order, runs-keep}
 use Rattle.cluster_script.specs.declared.limits.Limit.{Limit}
@@ -32,12 +36,12 @@ use Rattle.event_book.specs.Writers.{HasOneWriter}
 use Rattle.script_words.specs.declared.fault.Fault.{Fault}
 use Rattle.summary.specs.Sights.{book_of}
 use Rattle.run_player.specs.Run.{Played, closing_of_run, events_by_step, played_of, run_of}
-use Rattle.run_player.specs.Watches.{declared_watch, is_off, watches_of}
+use Rattle.run_player.specs.Watches.{declared_watch, first_summary, is_off, watches_of}
 use Rattle.patroni_top.specs.declared.order.Order.{Order}
 use Rattle.patroni_top.specs.declared.order.Order.TheVariants as orders
 use Rattle.patroni_top.specs.Claims.{KeepsPromises}
 use Rattle.patroni_top.specs.Commands.{IfPlayed, verdict_by, verdict_of}
-use Rattle.patroni_top.proofs.Books.{book-by-step, steps-tell}
+use Rattle.patroni_top.proofs.Books.{book-by-step, named-steps, steps-tell}
 
 armable : (mode : Mode) (works : Bool) → not (is_off mode) && works ≡ is_armable mode works
 armable modes.Off works = refl
@@ -84,6 +88,10 @@ module _ (played : Played) (is : IsHead played.head) where
   closes = subst (λ (book : List Event). IsSummaryOf (watches_of played.head) played.head.config (first_logs played.head) book (closing_of_run played)) whole
       (steps-told (watches_of played.head) played.head.config (first_logs played.head) (events_by_step start played.steps) few measured (steps-tell played.head is played.steps))
 
+  named : AreNamed (slice_get (names_of played.head)) (closing_of_run played).writers
+  named = named-steps (slice_get (names_of played.head)) (first_summary played.head) (events_by_step start played.steps)
+      (subst (λ (book : List Event). AllAre (NamesServer (slice_get (names_of played.head))) book) (sym whole) (runs-name played.head played.steps is)) (named-first (slice_get (names_of played.head)))
+
   -- a run of a head that a script may have keeps what every run keeps
   pub keeps-promises : KeepsPromises played
   keeps-promises = record {
@@ -91,6 +99,7 @@ module _ (played : Played) (is : IsHead played.head) where
     kept_commits = keeps-commits;
     sync_order = runs-in-order played.head is played.steps;
     summary = closes;
+    names = named;
     premises_guard = steps-guarded (watches_of played.head) played.head.config (events_by_step start played.steps) few measured (λ front rest parts met. one-writer front rest (parts ∙ whole) (meets played.head front met));
     commits_guard = λ on. commits-guarded (watches_of played.head) played.head.config (first_logs played.head) (run_of played) (closing_of_run played) closes on (λ front rest parts met mode. keeps-commits on front rest parts (meets played.head front met) mode);
   }

@@ -1,7 +1,9 @@
 -- What a run is to keep, and what its closing summary is to say of that.
-use Rattle.std.specs.Prelude.{◌≡◌, true}
+use Rattle.std.specs.Prelude.{◌≡◌, true, slice_get}
+use Rattle.script_model.specs.Script.{names_of}
 use Rattle.event_book.specs.Writers.{HasOneWriter}
 use Rattle.summary.specs.Claims.{AreCommitsGuarded, IsGuarded, IsSummaryOf}
+use Rattle.summary.specs.Listed.{AreNamed}
 use Rattle.run_step_law.specs.Kept.{WhereMet}
 use Rattle.commit_run_law.specs.Runs.{KeepsCommitsIn, KeepsOrderIn, first_logs}
 use Rattle.run_player.specs.Run.{Played, closing_of_run, run_of}
@@ -21,6 +23,8 @@ pub record KeepsPromises (played : Played) : Type 0 where
   -- Each answer of the closing summary is so of the book: when the premises were first broken, and why; when synchronous mode was; since when
   -- two servers accepted writes, and which do at the end; how many commits were acknowledged; since when one is lost.
   pub summary : IsSummaryOf (watches_of played.head) played.head.config (first_logs played.head) (run_of played) (closing_of_run played)
+  -- Those that it says accept writes at the end have the names that the head declares for their numbers.
+  pub names : AreNamed (slice_get (names_of played.head)) (closing_of_run played).writers
   -- Where the summary says that the premises are met it says that two servers never accepted writes, and where it says when they were broken,
   -- two servers first did no earlier.
   pub premises_guard : IsGuarded (closing_of_run played).premises (closing_of_run played).two_writers
