@@ -2,7 +2,6 @@
 use Rattle.std.proofs.Common.{List, []}
 use Rattle.script_model.specs.declared.line.Step.{Step}
 use Rattle.script_model.specs.Script.{HeadText, IsHead}
-use Rattle.event_book.specs.declared.event.Event.{Event}
 use Rattle.cluster_model.specs.Next.{run_events}
 use Rattle.cluster_model.specs.Starting.{cluster_of}
 use Rattle.run_step_law.specs.Parts.{PartsUphold}
