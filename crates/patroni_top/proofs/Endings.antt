@@ -15,11 +15,16 @@ use Rattle.run_player.specs.Playing.{PrintsWholeSteps}
 use Rattle.run_player.specs.Run.{EndsAtStep, Played, played_of}
 use Rattle.patroni_top.specs.declared.ending.Ending.{Ending}
 use Rattle.patroni_top.specs.declared.ending.Ending.TheVariants as endings
+use Rattle.patroni_top.specs.declared.order.Order.{Order}
 use Rattle.patroni_top.specs.declared.order.Order.TheVariants as orders
 use Rattle.patroni_top.specs.declared.status.Status.TheVariants as statuses
 use Rattle.patroni_top.specs.Commands.{EndsWhole, Faulty, IfPlayed, Makes, NoCommand, PastLimit, Plan, Plays, Verdict, plan_text, verdict_on}
 use Rattle.patroni_top.specs.Ends.{Ends, IsBroken, IsCut, IsDone, IsFaulty, IsPastLimit}
 use Rattle.patroni_top.specs.Status.{status_of, ending_of_print, Refuses, Says, IsRefusal}
+
+-- there is one command
+pub only-run : (order : Order) → order ≡ orders.Run
+only-run orders.Run = refl
 
 -- an ending that refuses bytes says what comes of them
 pub refusal-says : (ending : Ending) (bytes : List ℕ) → Refuses ending bytes → Says ending (verdict_on orders.Run bytes)
@@ -40,7 +45,7 @@ none-played : (plan : Plan) → EndsWhole plan []
 none-played (Plays played) = record { done = []; more = played.steps; parts = refl; lines = refl }
 
 module _ {S K : Type 0} (source : SourceGhosts S) (sink : SinkGhosts K) where
-  module _ {input left : S} (out : K) (verdict : List ℕ → Verdict) where
+  module _ (input left : S) (out : K) (verdict : List ℕ → Verdict) where
     -- nothing was written for want of memory
     nothing-cut : (all : List ℕ → Verdict) (found : Verdict) → IsCut source sink input left out out all found
     nothing-cut all (Makes plan) = ([], none-played plan, Grew-nothing (sink.content out))
@@ -85,7 +90,7 @@ module _ {S K : Type 0} (source : SourceGhosts S) (sink : SinkGhosts K) where
     }
 
   -- a run that was printed, or a front of it
-  module _ {input left : S} {out then : K} (verdict : List ℕ → Verdict) (plan : Plan) (is : Known (source.rest input) (λ bytes. verdict bytes ≡ Makes plan)) (taken : Consumed (source.rest input) (source.rest left) 1048577) where
+  module _ (input left : S) (out then : K) (verdict : List ℕ → Verdict) (plan : Plan) (is : Known (source.rest input) (λ bytes. verdict bytes ≡ Makes plan)) (taken : Consumed (source.rest input) (source.rest left) 1048577) where
     no-limit : Known (source.rest input) (λ bytes. IsPastLimit (verdict bytes) → ⊥)
     no-limit bytes told past = subst IsPastLimit (is bytes told) past
 
@@ -124,5 +129,5 @@ module _ {S K : Type 0} (source : SourceGhosts S) (sink : SinkGhosts K) where
     }
 
   -- what was printed of a run when memory was wanting are the lines of whole steps
-  pub steps-cut : {input left : S} {out then : K} (verdict : List ℕ → Verdict) (played : Played) → PrintsWholeSteps sink out then (cluster_of played.head) false played.steps → IsCut source sink input left out then verdict (Makes (Plays played))
-  steps-cut verdict played whole = (_, record { done = whole.done; more = whole.more; parts = whole.parts; lines = refl }, whole.grew)
+  pub steps-cut : (input left : S) {out then : K} (verdict : List ℕ → Verdict) (played : Played) → PrintsWholeSteps sink out then (cluster_of played.head) false played.steps → IsCut source sink input left out then verdict (Makes (Plays played))
+  steps-cut input left verdict played whole = (_, record { done = whole.done; more = whole.more; parts = whole.parts; lines = refl }, whole.grew)

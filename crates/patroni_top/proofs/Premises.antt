@@ -66,7 +66,7 @@ meets head front met = record {
 }
 
 module _ (played : Played) (is : IsHead played.head) where
-  start : Cluster
+  abbrev start : Cluster
   start = cluster_of played.head
 
   whole : book_of (events_by_step start played.steps) ≡ run_of played

@@ -21,14 +21,14 @@ order_of _ = None
 
 -- what a command is to do: to play a run and to print it
 pub data Plan : Type 0 where
-  pub Plays : Played → Plan
+  Plays : Played → Plan
 
 -- what comes of the words of a command line by the bytes of the input
 pub data Verdict : Type 0 where
-  pub NoCommand : Verdict
-  pub PastLimit : Limit → Verdict
-  pub Faulty : ℕ → Fault → Verdict
-  pub Makes : Plan → Verdict
+  NoCommand : Verdict
+  PastLimit : Limit → Verdict
+  Faulty : ℕ → Fault → Verdict
+  Makes : Plan → Verdict
 
 -- what comes of bytes that are to be played as a script: limits are judged before the faults of lines
 abbrev pub verdict_by : Option Limit → Result ScriptText (ℕ × Fault) → Verdict
