@@ -7,6 +7,8 @@ ghost use Rattle.pat_cases.specs.declared.case.Case.{Case};
 /// A table answers what a row at some place answers which matches the facts, where no row before it does; and it answers that wherever
 /// there is such a row.
 pub fn the_first_match_answers()
-    ensures answered { (facts : ℕ) (rows : List Case) (answer : ℕ) → first_answer facts rows ≡ Some answer → AnswersFirst facts rows answer }
-    ensures answers { (facts : ℕ) (rows : List Case) (answer : ℕ) → AnswersFirst facts rows answer → first_answer facts rows ≡ Some answer }
+    ensures answered { (facts : ℕ) (rows : List Case) (answer : ℕ)
+        → first_answer facts rows ≡ Some answer → AnswersFirst facts rows answer }
+    ensures answers { (facts : ℕ) (rows : List Case) (answer : ℕ)
+        → AnswersFirst facts rows answer → first_answer facts rows ≡ Some answer }
 {}
