@@ -1,0 +1,8 @@
+use Rattle.std.proofs.Common.{arith, sym, length-take, take_all}
+use Rattle.rest_request.proofs.reading.head_room.Goals as goal
+
+pub slice_bounds-result-end : goal.slice_bounds-result-end
+slice_bounds-result-end c = omega (arith, length-take 16384 c.args.bytes.now)
+
+pub returns-else-bytes-gt-HEAD_LIMIT : goal.returns-else-bytes-gt-HEAD_LIMIT
+returns-else-bytes-gt-HEAD_LIMIT c = sym (take_all 16384 c.args.bytes.now c.if-bytes-gt-HEAD_LIMIT.false)
