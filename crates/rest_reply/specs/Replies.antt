@@ -40,6 +40,6 @@ head_of reply = head_bytes reply.status (phrase_of reply.status) (kind_of reply.
 abbrev pub reply_bytes : Reply → Bool → List ℕ
 reply_bytes reply head_only = head_of reply ++ (if head_only then [] else reply.body.items)
 
--- a head has this field
+-- a line of a head is that of this field
 abbrev pub HasField : List ℕ → List ℕ → List ℕ → Type 0
-HasField name value head = (front rest : List ℕ) × (head ≡ front ++ (field_line name value ++ rest))
+HasField name value head = (front rest : List ℕ) × (head ≡ line front ++ (field_line name value ++ rest))

@@ -1,29 +1,16 @@
 -- Methods of requests (RFC 9110, section 9.3, and RFC 5789).
-use Rattle.std.specs.Prelude.{ℕ, List, [], ◌∷◌, codes, Option, unwrap_or}
-use Rattle.std.specs.List.{find}
+use Rattle.std.specs.Prelude.{ℕ, if◌then◌else◌, List, codes}
 use Rattle.std.specs.Str.{bytes_eq}
 use Rattle.rest_request.specs.declared.verb.Verb.{Verb}
 use Rattle.rest_request.specs.declared.verb.Verb.TheVariants.{Get, Head, Options, Patch, Put, Post, Delete, Other}
 
--- the method of a verb that has one
-abbrev pub method_of : Verb → List ℕ
-method_of Get = codes "GET"
-method_of Head = codes "HEAD"
-method_of Options = codes "OPTIONS"
-method_of Patch = codes "PATCH"
-method_of Put = codes "PUT"
-method_of Post = codes "POST"
-method_of Delete = codes "DELETE"
-method_of Other = []
-
--- the verbs that have a method
-abbrev pub verbs : List Verb
-verbs = Get ∷ Head ∷ Options ∷ Patch ∷ Put ∷ Post ∷ Delete ∷ []
-
--- the verb that has this method
-abbrev pub known_verb : List ℕ → Option Verb
-known_verb method = find (λ verb. bytes_eq method (method_of verb)) verbs
-
--- the verb of a token: Other where none has it as its method
+-- the verb of a token
 abbrev pub verb_of : List ℕ → Verb
-verb_of token = unwrap_or (known_verb token) Other
+verb_of token =
+    if bytes_eq token (codes "GET") then Get
+    else (if bytes_eq token (codes "HEAD") then Head
+    else (if bytes_eq token (codes "OPTIONS") then Options
+    else (if bytes_eq token (codes "PATCH") then Patch
+    else (if bytes_eq token (codes "PUT") then Put
+    else (if bytes_eq token (codes "POST") then Post
+    else (if bytes_eq token (codes "DELETE") then Delete else Other))))))

@@ -45,14 +45,14 @@ fn gives_length(bytes: &[u8], header: &HeaderSpan) -> bool
 fn length_by(text: &[u8]) -> Result<usize, RequestFault>
     ensures { result ≡ length_by text.now }
 {
-    if !is_decimal(text) {
-        return Err(RequestFault::BadLength);
+    if is_decimal(text) {
+        let number = number_of(text);
+        if number > BODY_LIMIT {
+            return Err(RequestFault::TooLong);
+        }
+        return Ok(number);
     }
-    let number = number_of(text);
-    if number > BODY_LIMIT {
-        return Err(RequestFault::TooLong);
-    }
-    Ok(number)
+    Err(RequestFault::BadLength)
 }
 
 /// Whether a text is a decimal number.

@@ -17,17 +17,17 @@ use std::alloc::{AllocError, Global};
 use std::str;
 
 /// The request with which the bytes of a connection begin, and `None` where it isn't whole yet: then more bytes are to be
-/// read, and all are to be given again (RFC 9112, sections 2 to 6). What was answered otherwise stays, whatever follows.
+/// read, and all of them given again. What was answered otherwise stays, whatever follows.
 ///
-/// Of the fields only `Content-Length` is read: without one there is no content, and a `Transfer-Encoding` counts for
-/// nothing. A head is what the crate `httparse` reads, which isn't the grammar of RFC 9112: it takes the versions 1.0 and
-/// 1.1 alone, a line feed without a carriage return, any number of empty lines in front, any visible byte in a target that
-/// is UTF-8, bytes from 0x80 on in a value and a head without `Host`, and no folded lines.
+/// Of the fields only `Content-Length` is read (RFC 9112, section 6.3): without one there is no content, and
+/// `Transfer-Encoding` counts for nothing. A head is what the crate `httparse` reads, whose grammar isn't that of RFC 9112:
+/// it takes the versions 1.0 and 1.1 alone, a line feed without its carriage return, any number of empty lines in front, any
+/// visible bytes that are UTF-8 as a target, and a head without `Host`.
 ///
-/// Faults, the first that applies: `BadHead` where the first 16,384 bytes never become a whole head, `TooLong` where more
-/// bytes than these are there and the head isn't whole within them, `BadLength` where `Content-Length` stands there twice or
-/// isn't a decimal number, `TooLong` where it is above 65,536. `Memory` may come at any time. Where the bytes end within a
-/// target that no bytes make whole, more may be asked for in place of `BadHead`.
+/// The fault is the first that applies: `BadHead` where the first `HEAD_LIMIT` bytes never become a whole head, whatever
+/// follows; `TooLong` where there are more bytes than these, and the head isn't whole within them; `BadLength` where
+/// `Content-Length` stands there twice or isn't a decimal number; `TooLong` where it is above `BODY_LIMIT`. Where the bytes end
+/// within a target that never becomes whole, it may answer as if a head could still come. `Memory` may come at any time.
 pub fn read_request(alloc: Global, bytes: &[u8]) -> Result<Option<Request>, RequestFault>
     ensures { Reads bytes.now result }
 {

@@ -1,11 +1,12 @@
 use Rattle.std.proofs.Common.{arith, ap, Err, length, length-take}
+use Rattle.rest_request.specs.declared.limits.TheConstants.{HEAD_LIMIT}
 use Rattle.rest_request.proofs.Heads.{not-too-many, complete, unfinished, never}
 use Rattle.rest_request.proofs.reading.read_with.Goals as goal
 
 pub after-requires : goal.after-requires
 after-requires c =
     let within = rw c.in-Ok-Complete.field-0-is at c.in-Ok-Complete.ensures.within in
-    omega (arith, within.section.len_fits, ap length c.requires.room, length-take 16384 c.args.bytes.now)
+    omega (arith, within.section.len_fits, ap length c.requires.room, length-take HEAD_LIMIT c.args.bytes.now)
 
 pub returns-in-Ok-Complete : goal.returns-in-Ok-Complete
 returns-in-Ok-Complete c =
