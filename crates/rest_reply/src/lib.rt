@@ -1,0 +1,13 @@
+//! Replies of the REST interface of an agent, as bytes.
+#![tactic(auto)]
+
+mod laws;
+mod printing;
+mod reply;
+
+pub use laws::replies_tell_their_length;
+pub use printing::print_reply;
+pub use reply::Reply;
+
+#[cfg(test)]
+mod tests;

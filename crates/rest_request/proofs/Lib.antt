@@ -1,0 +1,6 @@
+pub mod Digits
+pub mod Heads
+pub mod Lengths
+pub mod Parameters
+pub mod Readings
+pub mod Tokens
