@@ -2,7 +2,7 @@
 use Rattle.std.proofs.Common.{◌≡◌, ◌≢◌, ◌≤◌, ℕ, false, List, [], length, Some, None, Ok, Err, refl, inl, inr, sym, subst, ◌∙◌}
 use Rattle.pat_base.specs.declared.outside.Sink.{Ghosts as SinkGhosts}
 use Rattle.pat_base.specs.declared.outside.Source.{Ghosts as SourceGhosts}
-use Rattle.pat_base.specs.Outside.{Known, Rose, Grew, GrewByPrefix, Consumed}
+use Rattle.pat_base.specs.Outside.{Known, Rose, Consumed}
 use Rattle.pat_base.specs.Prints.{Prints}
 use Rattle.pat_base.proofs.Contents.{Grew-nothing}
 use Rattle.cluster_script.specs.Limits.{limit_of}
@@ -12,7 +12,7 @@ use Rattle.cluster_model.specs.Starting.{cluster_of}
 use Rattle.run_player.specs.declared.print_error.PrintError.{PrintError}
 use Rattle.run_player.specs.declared.print_error.PrintError.TheVariants as prints
 use Rattle.run_player.specs.Playing.{PrintsWholeSteps}
-use Rattle.run_player.specs.Run.{EndsAtStep, Played, played_of}
+use Rattle.run_player.specs.Run.{Played, played_of}
 use Rattle.patroni_top.specs.declared.ending.Ending.{Ending}
 use Rattle.patroni_top.specs.declared.ending.Ending.TheVariants as endings
 use Rattle.patroni_top.specs.declared.order.Order.{Order}

@@ -3,13 +3,11 @@ use Rattle.std.proofs.Common.{◌≡◌, ◌≤◌, ℕ, Option, Some, None, Boo
 use Rattle.std.specs.Prelude.{not, ◌&&◌, slice_get}
 use Rattle.std.proofs.lemmas.List.{length-map}
 use mathlib.Core.Path.{fun_ext}
-use Rattle.lease_store.specs.Settings.{Settings}
 use Rattle.leader_key.specs.declared.watchdog.Mode.{Mode}
 use Rattle.leader_key.specs.declared.watchdog.Mode.TheVariants as modes
 use Rattle.leader_key.specs.Watchdog.{is_armable}
 use Rattle.cluster_script.specs.Reading.{script_of}
 use Rattle.script_model.specs.Script.{HeadText, IsHead, MemberText, ScriptText, names_of}
-use Rattle.script_model.specs.Steps.{steps_of}
 use Rattle.cluster_script.proofs.ReadLaws.{read-is-spelled}
 use Rattle.event_book.specs.declared.event.Event.{Event}
 use Rattle.event_book.specs.Kinds.{AllAre}

@@ -1,5 +1,5 @@
 -- What the words of a command line ask for, and what comes of it by the input.
-use Rattle.std.specs.Prelude.{ℕ, ◌≡◌, if◌then◌else◌, List, [], ◌∷◌, Option, Some, None, Result, Ok, Err, codes}
+use Rattle.std.specs.Prelude.{ℕ, if◌then◌else◌, List, [], ◌∷◌, Option, Some, None, Result, Ok, Err, codes}
 use Rattle.std.specs.Str.{bytes_eq}
 use Rattle.script_words.specs.declared.fault.Fault.{Fault}
 use Rattle.cluster_script.specs.declared.limits.Limit.{Limit}
