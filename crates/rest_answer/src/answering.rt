@@ -1,0 +1,83 @@
+//! What is answered to a request.
+ghost use Rattle.std.specs.Prelude.{◌≡◌, IfOk, option_copied};
+ghost use Rattle.rest_request.specs.Requests.{asked_by};
+ghost use Rattle.rest_answer.specs.Answers.{answered, answer_to, answer_by, health_reply};
+ghost use Rattle.rest_answer.specs.Replies.{reply_text};
+
+use crate::deciding::{call_of, decided};
+use crate::pages::page_reply;
+use crate::replies::{json_reply, status_reply};
+use crate::status::METHOD_NOT_ALLOWED;
+use crate::Answer;
+use cluster_config::AgentView;
+use operator_keys::NOT_FOUND;
+use rest_api::RestCall;
+use rest_facts::health_of_view;
+use rest_health::Endpoint;
+use rest_pages::patroni_text;
+use rest_paths::{Ask, Routes};
+use rest_reply::Reply;
+use rest_request::{Request, lag_of};
+use std::alloc::{AllocError, Global};
+
+/// What an agent that shows this answers to a request, or what it is to do for it (Patroni documentation, "Patroni REST API"). An unknown
+/// path is answered 404, and a known one with another method 405, both with no content. It fails only for want of memory.
+pub fn answer(
+    alloc: Global,
+    view: &AgentView<'_>,
+    routes: &Routes,
+    request: &Request,
+) -> Result<Answer, AllocError>
+    ensures { IfOk result (λ answer. answered answer ≡ answer_to view.now (option_copied view.now.seen) (asked_by request.now)) }
+{
+    let ask = routes.ask(request.method, request.target.as_str());
+    answer_by(
+        alloc,
+        view,
+        lag_of(request.target.as_str()),
+        request.body.as_slice(),
+        ask,
+    )
+}
+
+/// What is answered to this, by the parameter `lag` and the content that the request has.
+fn answer_by(
+    alloc: Global,
+    view: &AgentView<'_>,
+    lag: Option<&[u8]>,
+    body: &[u8],
+    ask: Ask,
+) -> Result<Answer, AllocError>
+    ensures { IfOk result (λ answer. answered answer ≡ answer_by view.now (option_copied view.now.seen) (option_copied lag.entry) body.now ask) }
+{
+    match ask {
+        Ask::NotFound => Ok(Answer::Now(status_reply(alloc, NOT_FOUND))),
+        Ask::NotAllowed => Ok(Answer::Now(status_reply(alloc, METHOD_NOT_ALLOWED))),
+        Ask::Health {
+            endpoint,
+            body: told,
+        } => Ok(Answer::Now(health_reply(alloc, view, endpoint, lag, told)?)),
+        Ask::Page(page) => Ok(Answer::Now(page_reply(alloc, view, page)?)),
+        Ask::PatchConfiguration => decided(alloc, view, RestCall::PatchConfiguration, body),
+        Ask::ReplaceConfiguration => decided(alloc, view, RestCall::ReplaceConfiguration, body),
+        Ask::Operation(operation) => decided(alloc, view, call_of(operation), body),
+        Ask::DropSwitchover => decided(alloc, view, RestCall::DropSwitchover, body),
+    }
+}
+
+/// What a health check answers: its status, and with a body what `/patroni` tells.
+fn health_reply(
+    alloc: Global,
+    view: &AgentView<'_>,
+    endpoint: Endpoint,
+    lag: Option<&[u8]>,
+    told: bool,
+) -> Result<Reply, AllocError>
+    ensures { IfOk result (λ reply. reply_text reply ≡ health_reply view.now (option_copied view.now.seen) endpoint (option_copied lag.entry) told) }
+{
+    let status = health_of_view(view, endpoint, lag);
+    if told {
+        return Ok(json_reply(status, patroni_text(alloc, view)?));
+    }
+    Ok(status_reply(alloc, status))
+}

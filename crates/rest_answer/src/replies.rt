@@ -1,0 +1,42 @@
+//! Replies that are made at once.
+ghost use Rattle.std.specs.Prelude.{◌≡◌, IfOk, string_bytes};
+ghost use Rattle.operator_keys.specs.AnswerTexts.{answer_text};
+ghost use Rattle.rest_answer.specs.Replies.{reply_text, json_of, text_of, status_alone};
+
+use operator_keys::Text;
+use rest_reply::Reply;
+use std::alloc::{AllocError, Global};
+
+/// A reply with JSON.
+pub(crate) fn json_reply(status: u16, text: String) -> Reply
+    ensures { reply_text result ≡ json_of status (string_bytes text) }
+{
+    Reply {
+        status,
+        json: true,
+        body: text.into_bytes(),
+    }
+}
+
+/// A reply with the words of an answer to operators.
+pub(crate) fn text_reply(alloc: Global, status: u16, text: Text) -> Result<Reply, AllocError>
+    ensures { IfOk result (λ reply. reply_text reply ≡ text_of status (answer_text text)) }
+{
+    let words = format!(in alloc; "{text}")?;
+    Ok(Reply {
+        status,
+        json: false,
+        body: words.into_bytes(),
+    })
+}
+
+/// A reply with no content.
+pub(crate) fn status_reply(alloc: Global, status: u16) -> Reply
+    ensures { reply_text result ≡ status_alone status }
+{
+    Reply {
+        status,
+        json: false,
+        body: Vec::new(alloc),
+    }
+}
