@@ -1,0 +1,4 @@
+pub mod Configuration
+pub mod Patroni
+pub mod Standbys
+pub mod Tags
