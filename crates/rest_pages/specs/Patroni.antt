@@ -24,9 +24,9 @@ abbrev pub named_members : Name → Name → Members
 named_members name scope = put (codes "scope") (string (name_bytes scope)) (put (codes "name") (string (name_bytes name)) no_members)
 
 -- the newest snapshot, if there is one, pauses the cluster
-abbrev pub is_paused : Option SnapshotFacts → Bool
-is_paused None = false
-is_paused (Some seen) = (config_in seen).pause
+abbrev pub pauses : Option SnapshotFacts → Bool
+pauses None = false
+pauses (Some seen) = (config_in seen).pause
 
 -- the newest snapshot, if there is one, has a sync key that names the member as standby
 abbrev pub is_sync_standby : MemberId → Option SnapshotFacts → Bool
@@ -39,14 +39,14 @@ role_text states.Primary = codes "master"
 role_text _ = codes "replica"
 
 -- the word of a server, whether or not it receives
-abbrev pub state_word : State → Word
-state_word states.Creating = words.CreatingReplica
-state_word states.Stopped = words.Stopped
-state_word (states.Starting as_primary at) = words.Starting
-state_word states.Replica = words.Running
-state_word states.Primary = words.Running
-state_word (states.Stopping was_primary at) = words.Stopping
-state_word states.Crashed = words.Crashed
+abbrev pub server_word : State → Word
+server_word states.Creating = words.CreatingReplica
+server_word states.Stopped = words.Stopped
+server_word (states.Starting as_primary at) = words.Starting
+server_word states.Replica = words.Running
+server_word states.Primary = words.Running
+server_word (states.Stopping was_primary at) = words.Stopping
+server_word states.Crashed = words.Crashed
 
 -- a server streams: it is a replica, and receives
 abbrev pub streams : State → Bool → Bool
@@ -88,10 +88,10 @@ patroni_members_of view seen =
     (put (codes "timeline") (whole view.timeline)
     (with_tags view.tags
     (with_flag (codes "sync_standby") (is_sync_standby view.me seen)
-    (put (codes "state") (string (word_text (state_word view.state)))
+    (put (codes "state") (string (word_text (server_word view.state)))
     (put (codes "role") (string (role_text view.state))
     (with_streaming view.state view.receives
-    (with_flag (codes "pause") (is_paused seen)
+    (with_flag (codes "pause") (pauses seen)
     (put (codes "patroni") (object (named_members view.name view.scope))
     (with_last_read view.last_read
     no_members)))))))))

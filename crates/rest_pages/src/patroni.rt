@@ -3,7 +3,7 @@ ghost use Rattle.std.specs.Prelude.{◌≡◌, IfOk, OnOk, option_copied, string
 ghost use Rattle.serde_json.specs.Data.{object};
 ghost use Rattle.serde_json.specs.Written.{compact_text};
 ghost use Rattle.json_build.specs.Objects.{members_in};
-ghost use Rattle.rest_pages.specs.Patroni.{named_members, is_paused, is_sync_standby, role_text, state_word, streams, with_last_read, with_streaming, location_members, replica_members, with_position, with_xlog, patroni_members, patroni_members_of};
+ghost use Rattle.rest_pages.specs.Patroni.{named_members, pauses, is_sync_standby, role_text, server_word, streams, with_last_read, with_streaming, location_members, replica_members, with_position, with_xlog, patroni_members, patroni_members_of};
 
 use crate::standbys::names_standby;
 use crate::tags::put_tags;
@@ -39,10 +39,10 @@ fn patroni_object(
     let mut members = Object::new(alloc);
     put_last_read(&mut members, alloc, view.last_read)?;
     members.put_object(alloc, "patroni", named_object(alloc, &view.name, &view.scope)?)?;
-    members.put_flag(alloc, "pause", is_paused(seen))?;
+    members.put_flag(alloc, "pause", pauses(seen))?;
     put_streaming(&mut members, alloc, view.state, view.receives)?;
     members.put_text(alloc, "role", role_text(view.state))?;
-    members.put_text(alloc, "state", state_word(view.state).as_str())?;
+    members.put_text(alloc, "state", server_word(view.state).as_str())?;
     members.put_flag(alloc, "sync_standby", is_sync_standby(view.me, seen))?;
     put_tags(&mut members, alloc, &view.tags)?;
     members.put_number(alloc, "timeline", view.timeline)?;
@@ -61,8 +61,8 @@ fn named_object(alloc: Global, name: &Name, scope: &Name) -> Result<Object, Allo
 }
 
 /// Whether the newest snapshot pauses the cluster.
-fn is_paused(seen: Option<&Snapshot>) -> bool
-    ensures { result ≡ is_paused (option_copied seen.entry) }
+fn pauses(seen: Option<&Snapshot>) -> bool
+    ensures { result ≡ pauses (option_copied seen.entry) }
 {
     match seen {
         None => false,
@@ -91,8 +91,8 @@ fn role_text(state: State) -> &'static str
 }
 
 /// The word of a server. Whether a replica receives is told by `replication_state`.
-fn state_word(state: State) -> Word
-    ensures { result ≡ state_word state }
+fn server_word(state: State) -> Word
+    ensures { result ≡ server_word state }
 {
     match state {
         State::Creating => Word::CreatingReplica,
