@@ -1,1 +1,5 @@
+pub mod Placing
+pub mod Standing
+pub mod Timelines
+pub mod Told
 pub mod Walks

@@ -1,5 +1,5 @@
 -- `/history`: how the timelines ended (Patroni documentation, "Patroni REST API", "Cluster status endpoints").
-use Rattle.std.specs.Prelude.{ℕ, List, [], ◌∷◌, ◌++◌, codes, Option, Some, None}
+use Rattle.std.specs.Prelude.{ℕ, List, [], ◌∷◌, ◌++◌, map, codes, Option, Some, None}
 use Rattle.std.specs.List.{filter_map}
 use Rattle.serde_json.specs.Data.{Data, array, string}
 use Rattle.serde_json.specs.View.{items_of}
@@ -19,25 +19,33 @@ use Rattle.rest_pages.specs.Rows.{declared_in}
 abbrev pub reason : List ℕ
 reason = codes "no recovery target specified"
 
+-- how a timeline ended, by a value, if that is a row of the history
+abbrev pub ended_by : Value → Option HistoryRow
+ended_by (values.History row) = Some row
+ended_by _ = None
+
+-- the same by a key with its entry
+abbrev pub ended_of : Key × KeyEntry → Option HistoryRow
+ended_of pair = ended_by pair.1.value
+
+-- how the timelines ended, in the order of their keys, which is that of the timelines
+abbrev pub endings : SnapshotFacts → List HistoryRow
+endings snapshot = filter_map ended_of snapshot.entries
+
 -- the items, with the name of the leader at the end, if there is such a member
 abbrev pub with_leader : List Data → Option (Name × Host) → List Data
 with_leader items None = items
 with_leader items (Some leader) = items ++ string (name_bytes leader.0) ∷ []
 
--- the timeline, where and why and when it ended, and who took over
-abbrev pub row_items : SnapshotFacts → HistoryRow → List Data
-row_items snapshot row =
+-- the timeline, where, why and when it ended, and who took over
+abbrev pub ending_items : SnapshotFacts → HistoryRow → List Data
+ending_items snapshot row =
     with_leader (whole row.timeline ∷ whole row.at.position ∷ string reason ∷ whole row.tick.0 ∷ []) (declared_in snapshot row.leader)
 
--- the row of a value, if it is one of the history
-abbrev pub row_data_by : SnapshotFacts → Value → Option Data
-row_data_by snapshot (values.History row) = Some (array (items_of (row_items snapshot row)))
-row_data_by snapshot _ = None
+-- the same as a list of JSON
+abbrev pub ending_data : SnapshotFacts → HistoryRow → Data
+ending_data snapshot row = array (items_of (ending_items snapshot row))
 
--- the row of a key with its entry, if it is one of the history
-abbrev pub row_data_of : SnapshotFacts → Key × KeyEntry → Option Data
-row_data_of snapshot pair = row_data_by snapshot pair.1.value
-
--- the rows, in the order of their keys, which is that of their timelines
+-- the items of the page
 abbrev pub history_items : SnapshotFacts → List Data
-history_items snapshot = filter_map (row_data_of snapshot) snapshot.entries
+history_items snapshot = map (ending_data snapshot) (endings snapshot)

@@ -1,11 +1,11 @@
 //! `/history`: how the timelines ended (Patroni documentation, "Patroni REST API", "Cluster status endpoints").
-ghost use Rattle.std.specs.Prelude.{◌≡◌, ◌++◌, IfOk, OnOk, string_bytes};
+ghost use Rattle.std.specs.Prelude.{◌≡◌, ◌++◌, map, IfOk, OnOk, string_bytes};
 ghost use Rattle.std.specs.Option.{option_to_list};
 ghost use Rattle.serde_json.specs.Data.{array};
 ghost use Rattle.serde_json.specs.View.{items_of};
 ghost use Rattle.serde_json.specs.Written.{compact_text};
 ghost use Rattle.json_build.specs.Lists.{items_in};
-ghost use Rattle.rest_pages.specs.History.{with_leader, row_items, row_data_by, history_items};
+ghost use Rattle.rest_pages.specs.History.{ended_by, with_leader, ending_items, ending_data, history_items};
 
 use crate::rows::declared_in;
 use cluster_config::Snapshot;
@@ -31,28 +31,28 @@ fn history_list(alloc: Global, snapshot: &Snapshot) -> Result<List, AllocError>
 {
     let mut list = List::new(alloc);
     for pair in snapshot.entries() {
-        push_row(&mut list, alloc, snapshot, &pair.1.value)?;
+        push_ending(&mut list, alloc, snapshot, &pair.1.value)?;
     }
     Ok(list)
 }
 
 /// Puts the row of a value at the end, if it is one of the history.
-fn push_row(
+fn push_ending(
     list: &mut List,
     alloc: Global,
     snapshot: &Snapshot,
     value: &Value,
 ) -> Result<(), AllocError>
-    ensures { OnOk result (items_in list.new ≡ items_in list.old ++ option_to_list (row_data_by snapshot.now value.now)) }
+    ensures { OnOk result (items_in list.new ≡ items_in list.old ++ map (ending_data snapshot.now) (option_to_list (ended_by value.now))) }
 {
     match value {
-        Value::History(row) => list.push_list(row_list(alloc, snapshot, row)?),
+        Value::History(row) => list.push_list(ending_list(alloc, snapshot, row)?),
         _ => Ok(()),
     }
 }
 
-fn row_list(alloc: Global, snapshot: &Snapshot, row: &HistoryRow) -> Result<List, AllocError>
-    ensures { IfOk result (λ list. items_in list ≡ row_items snapshot.now row.now) }
+fn ending_list(alloc: Global, snapshot: &Snapshot, row: &HistoryRow) -> Result<List, AllocError>
+    ensures { IfOk result (λ list. items_in list ≡ ending_items snapshot.now row.now) }
 {
     let mut list = List::new(alloc);
     list.push_number(row.timeline)?;

@@ -5,6 +5,7 @@ mod cluster;
 mod configuration;
 mod failsafe;
 mod history;
+mod laws;
 mod patroni;
 mod rows;
 mod standbys;
@@ -14,4 +15,8 @@ pub use cluster::cluster_text;
 pub use configuration::config_text;
 pub use failsafe::failsafe_text;
 pub use history::history_text;
+pub use laws::{
+    all_but_the_leader_lag, each_member_stands_once, members_stand_by_name,
+    nobody_is_listed_without_the_key, patroni_tells_the_role, timelines_rise,
+};
 pub use patroni::patroni_text;
