@@ -79,5 +79,6 @@ all-fold P before (x ∷ rows) here there = all-fold P (placed before x) rows he
   where
     n : ℕ
     n = position_or_len (is_before x) before
+
     here-placed : All P (placed before x)
     here-placed = All-append P (take n before) (x ∷ drop n before) (All-take P n before here) (All-cons P x (drop n before) (there 0 x (omega arith)) (All-drop P n before here))

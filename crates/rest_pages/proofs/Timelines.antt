@@ -55,7 +55,7 @@ behind-all : (timeline : ℕ) (pairs : List (Key × KeyEntry)) → AreOfKind pai
 behind-all timeline [] kinds below = tt
 behind-all timeline (pair ∷ pairs) kinds below =
     let parts : (is_lt (key_cmp (keys.History timeline) pair.0) ≡ true) × (below_all key_cmp (keys.History timeline) pairs ≡ true) =
-      and_parts (is_lt (key_cmp (keys.History timeline) pair.0)) (below_all key_cmp (keys.History timeline) pairs) below in
+    and_parts (is_lt (key_cmp (keys.History timeline) pair.0)) (below_all key_cmp (keys.History timeline) pairs) below in
     behind-cons timeline pair.0 pair.1.value (ended_of pair) (filter_map ended_of pairs) refl kinds.0 parts.0 (behind-all timeline pairs kinds.1 parts.1)
 
 -- the timelines of these rows rise

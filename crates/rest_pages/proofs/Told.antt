@@ -23,7 +23,7 @@ use Rattle.rest_pages.specs.declared.rows.Row.{Row}
 -- what stands at `lag` in the row of a member, by whether it leads
 lag-at : (leader : Bool) (timeline : Option ℕ) (state role name lag host : Data)
     → get_member (codes "lag") (with_timeline timeline (put (codes "state") state (put (codes "role") role (put (codes "name") name
-      (if leader then put (codes "host") host no_members else put (codes "lag") lag (put (codes "host") host no_members))))))
+    (if leader then put (codes "host") host no_members else put (codes "lag") lag (put (codes "host") host no_members))))))
     ≡ (if leader then None else Some lag)
 lag-at true None state role name lag host = refl
 lag-at true (Some timeline) state role name lag host = refl

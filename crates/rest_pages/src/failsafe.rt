@@ -33,7 +33,11 @@ fn hosts_object(
 {
     let mut hosts = Object::new(alloc);
     for number in 0..MOST_MEMBERS as u8 {
-        put_found(&mut hosts, alloc, listed_numbered(snapshot, members, number))?;
+        put_found(
+            &mut hosts,
+            alloc,
+            listed_numbered(snapshot, members, number),
+        )?;
     }
     Ok(hosts)
 }

@@ -20,3 +20,6 @@ pub use laws::{
     nobody_is_listed_without_the_key, patroni_tells_the_role, timelines_rise,
 };
 pub use patroni::patroni_text;
+
+#[cfg(test)]
+mod tests;

@@ -38,7 +38,11 @@ fn patroni_object(
 {
     let mut members = Object::new(alloc);
     put_last_read(&mut members, alloc, view.last_read)?;
-    members.put_object(alloc, "patroni", named_object(alloc, &view.name, &view.scope)?)?;
+    members.put_object(
+        alloc,
+        "patroni",
+        named_object(alloc, &view.name, &view.scope)?,
+    )?;
     members.put_flag(alloc, "pause", pauses(seen))?;
     put_streaming(&mut members, alloc, view.state, view.receives)?;
     members.put_text(alloc, "role", role_text(view.state))?;

@@ -89,11 +89,7 @@ fn row_in(snapshot: &Snapshot, member: MemberId) -> Option<Row>
     )
 }
 
-fn row_by(
-    member: MemberId,
-    declared: Option<(Name, Host)>,
-    told: Option<MemberInfo>,
-) -> Option<Row>
+fn row_by(member: MemberId, declared: Option<(Name, Host)>, told: Option<MemberInfo>) -> Option<Row>
     ensures { result ≡ row_by member declared told }
 {
     match (declared, told) {

@@ -10,7 +10,7 @@ pub loop-pair-preserved : goal.loop-pair-preserved
 loop-pair-preserved c =
     let entries : c.entries-pair-items.result.now ≡ c.args.snapshot.now.entries = c.entries-pair-items.ensures.entries in
     let there : c.pair-item.result ≡ get_or c.args.snapshot.now.entries c.loop-pair.pair-index c.pair-item.result =
-      c.pair-item.is ∙ ap (λ pairs. get_or pairs c.loop-pair.pair-index c.pair-item.result) entries in
+    c.pair-item.is ∙ ap (λ pairs. get_or pairs c.loop-pair.pair-index c.pair-item.result) entries in
     c.in_ok-push_ending.ensures
     ∙ ap (λ items. items ++ map (ending_data c.args.snapshot.now) (option_to_list (ended_of c.pair-item.result))) c.loop-pair.invariant
     ∙ sym (map-append (ending_data c.args.snapshot.now) (filter_map ended_of (take c.loop-pair.pair-index c.args.snapshot.now.entries)) (option_to_list (ended_of c.pair-item.result)))
