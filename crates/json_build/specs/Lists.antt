@@ -5,5 +5,5 @@ use Rattle.serde_json.specs.View.{view}
 use Rattle.json_build.specs.declared.list.List.{List}
 
 -- the items of a list, in their order
-abbrev pub items_in : List → Items Data
-items_in list = map view list.items.items
+abbrev pub list_items : List → Items Data
+list_items list = map view list.items.items

@@ -1,5 +1,5 @@
 -- Members of JSON objects, some of which are there at times.
-use Rattle.std.specs.Prelude.{ℕ, ℤ, Bool, true, false, List, Option, Some, None}
+use Rattle.std.specs.Prelude.{ℕ, ℤ, Bool, true, false, List}
 use Rattle.serde_json.specs.Data.{Data, boolean, number, unsigned, Members, put}
 use Rattle.serde_json.specs.Find.{of_integer}
 
@@ -12,14 +12,9 @@ where_so false name value members = members
 abbrev pub with_flag : List ℕ → Bool → Members → Members
 with_flag name flag members = where_so flag name (boolean true) members
 
--- the members, with a value at a name where there is one
-abbrev pub with_some : List ℕ → Option Data → Members → Members
-with_some name None members = members
-with_some name (Some value) members = put name value members
-
 -- a number from 0 on
-abbrev pub whole : ℕ → Data
-whole n = number (unsigned n)
+abbrev pub natural : ℕ → Data
+natural n = number (unsigned n)
 
 -- a number with its sign
 abbrev pub integer : ℤ → Data

@@ -4,5 +4,5 @@ use Rattle.serde_json.specs.View.{members_view}
 use Rattle.json_build.specs.declared.object.Object.{Object}
 
 -- the members of an object, in the order of their names
-abbrev pub members_in : Object → Members
-members_in o = members_view o.members.entries
+abbrev pub object_members : Object → Members
+object_members o = members_view o.members.entries

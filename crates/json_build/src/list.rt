@@ -7,7 +7,7 @@ use crate::Object;
 use serde_json::Value;
 use std::alloc::{AllocError, Global};
 
-/// A JSON list without floats, whose text is known to the byte (RFC 8259, "Arrays"). A contract sees its items as `items_in`. Each call
+/// A JSON list without floats, whose text is known to the byte (RFC 8259, "Arrays"). A contract sees its items as `list_items`. Each call
 /// fails only for want of memory.
 #[derive(Drop)]
 pub struct List {
@@ -20,13 +20,13 @@ impl List {
     ghost use Rattle.serde_json.specs.Data.{object, array, string};
     ghost use Rattle.serde_json.specs.View.{view, items_of};
     ghost use Rattle.serde_json.specs.Written.{has_float, compact_text};
-    ghost use Rattle.json_build.specs.Members.{whole};
-    ghost use Rattle.json_build.specs.Objects.{members_in};
-    ghost use Rattle.json_build.specs.Lists.{items_in};
+    ghost use Rattle.json_build.specs.Members.{natural};
+    ghost use Rattle.json_build.specs.Objects.{object_members};
+    ghost use Rattle.json_build.specs.Lists.{list_items};
 
     /// The list without items.
     pub fn new(alloc: Global) -> List
-        ensures { items_in result ≡ [] }
+        ensures { list_items result ≡ [] }
     {
         List {
             items: Vec::new(alloc),
@@ -34,44 +34,44 @@ impl List {
     }
 
     /// Puts a value at the end.
-    pub fn push(&mut self, value: Value) -> Result<(), AllocError>
+    fn push(&mut self, value: Value) -> Result<(), AllocError>
         requires { has_float (view value) ≡ false }
-        ensures { OnOk result (items_in self.new ≡ items_in self.old ++ view value ∷ []) }
+        ensures { OnOk result (list_items self.new ≡ list_items self.old ++ view value ∷ []) }
     {
         serde_json::push(&mut self.items, value)
     }
 
     /// Puts a text at the end.
     pub fn push_text(&mut self, alloc: Global, text: &str) -> Result<(), AllocError>
-        ensures { OnOk result (items_in self.new ≡ items_in self.old ++ string text.now ∷ []) }
+        ensures { OnOk result (list_items self.new ≡ list_items self.old ++ string text.now ∷ []) }
     {
         self.push(Value::try_from_str(alloc, text)?)
     }
 
     /// Puts a number from 0 on at the end.
     pub fn push_number(&mut self, number: u64) -> Result<(), AllocError>
-        ensures { OnOk result (items_in self.new ≡ items_in self.old ++ whole number ∷ []) }
+        ensures { OnOk result (list_items self.new ≡ list_items self.old ++ natural number ∷ []) }
     {
         self.push(Value::from(number))
     }
 
     /// Puts an object at the end.
     pub fn push_object(&mut self, other: Object) -> Result<(), AllocError>
-        ensures { OnOk result (items_in self.new ≡ items_in self.old ++ object (members_in other) ∷ []) }
+        ensures { OnOk result (list_items self.new ≡ list_items self.old ++ object (object_members other) ∷ []) }
     {
         self.push(other.into_value())
     }
 
     /// Puts a list at the end, as one item.
     pub fn push_list(&mut self, other: List) -> Result<(), AllocError>
-        ensures { OnOk result (items_in self.new ≡ items_in self.old ++ array (items_of (items_in other)) ∷ []) }
+        ensures { OnOk result (list_items self.new ≡ list_items self.old ++ array (items_of (list_items other)) ∷ []) }
     {
         self.push(other.into_value())
     }
 
     /// The list as a value.
-    pub fn into_value(self) -> Value
-        ensures value { view result ≡ array (items_of (items_in self)) }
+    pub(crate) fn into_value(self) -> Value
+        ensures value { view result ≡ array (items_of (list_items self)) }
         ensures no_float { has_float (view result) ≡ false }
     {
         Value::Array(self.items)
@@ -79,7 +79,7 @@ impl List {
 
     /// The list as text without spaces.
     pub fn into_text(self, alloc: Global) -> Result<String, AllocError>
-        ensures { IfOk result (λ text. string_bytes text ≡ compact_text (array (items_of (items_in self)))) }
+        ensures { IfOk result (λ text. string_bytes text ≡ compact_text (array (items_of (list_items self)))) }
     {
         self.into_value().to_string(alloc)
     }

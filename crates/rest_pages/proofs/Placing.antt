@@ -1,14 +1,23 @@
 -- Rows in the order of their names.
-use Rattle.std.proofs.Common.{◌≡◌, ◌∙◌, ℕ, ◌+◌, ◌≤◌, ◌<◌, zero, suc, Bool, true, false, cond, List, [], ◌∷◌, length, take, drop, fold, get_or, count_by, All, IsSortedBy, refl, sym, ap, subst, arith}
-use Rattle.std.specs.List.{insert, position_or_len}
+use Rattle.std.proofs.Common.{◌≡◌, ◌∙◌, ℕ, ◌+◌, ◌≤◌, ◌<◌, zero, suc, Bool, true, false, cond, nat_lt, List, [], ◌∷◌, Some, None, unwrap_or, length, take, drop, fold, get_or, count_by, All, IsSortedBy, refl, sym, ap, subst, arith}
+use Rattle.std.specs.List.{insert, position, position_or_len}
+use Rattle.std.proofs.lemmas.Bool.Decides.{nat_tests}
 use Rattle.std.specs.Ordering.{is_lt, ordering_reverse}
 use Rattle.std.proofs.lemmas.Cmp.{nat_list_cmp_total}
 use Rattle.std.proofs.lemmas.List.Elements.{All-append, All-cons, All-drop, All-tail, All-take}
-use Rattle.std.proofs.lemmas.List.Sums.{sum_by-cons, sum_by-insert}
+use Rattle.std.proofs.lemmas.List.Sums.{prefix_len-le-length, sum_by-cons, sum_by-insert}
 use Rattle.pat_base.specs.Name.{name_bytes}
 use Rattle.lease_store.proofs.Keeping.{less-from}
 use Rattle.rest_pages.specs.Rows.{is_before, placed}
 use Rattle.rest_pages.specs.declared.rows.Row.{Row}
+
+or-else : (t : Bool) (k n : ℕ) → nat_lt k n ≡ t → k ≤ n → unwrap_or (cond t (Some k) None) n ≡ k
+or-else true k n is fits = refl
+or-else false k n is fits = grind (arith, nat_tests)
+
+-- the first place that passes, and else that behind the last
+pub position-or-length : {A : Type 0} (p : A → Bool) (xs : List A) → unwrap_or (position p xs) (length xs) ≡ position_or_len p xs
+position-or-length p xs = or-else (nat_lt (position_or_len p xs) (length xs)) (position_or_len p xs) (length xs) refl (prefix_len-le-length _ xs)
 
 placed-cons : (x r : Row) (rows : List Row) (test : Bool) → is_before x r ≡ test → placed (r ∷ rows) x ≡ cond test (x ∷ r ∷ rows) (r ∷ placed rows x)
 placed-cons x r rows true is = rw is refl

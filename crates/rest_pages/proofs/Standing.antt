@@ -1,5 +1,5 @@
 -- Each member that tells of itself has one row.
-use Rattle.std.proofs.Common.{◌≡◌, ◌≢◌, ◌∙◌, ℕ, ◌+◌, ◌≤◌, ◌<◌, ◌==◌, zero, suc, Bool, true, false, cond, List, [], ◌∷◌, Option, Some, None, count_by, All, refl, sym, ap, subst, arith}
+use Rattle.std.proofs.Common.{◌≡◌, ◌≢◌, ◌∙◌, ℕ, ◌+◌, ◌≤◌, ◌<◌, ◌==◌, zero, suc, Bool, true, false, cond, List, [], ◌∷◌, Option, Some, None, count_by, All, refl, sym, ap, arith}
 use Rattle.std.specs.List.{cons_option, filter_map, range_with_len}
 use Rattle.std.proofs.lemmas.Bool.{eq-eqb, false_from_ne_true}
 use Rattle.std.proofs.lemmas.Bool.Decides.{nat_tests}
@@ -15,7 +15,7 @@ use Rattle.pat_base.proofs.Members.{member_of-number, number-member_of}
 use Rattle.lease_store.specs.declared.value.MemberInfo.{MemberInfo}
 use Rattle.cluster_config.specs.Snapshots.{SnapshotFacts}
 use Rattle.rest_pages.specs.Laws.{is_row_of}
-use Rattle.rest_pages.specs.Rows.{declared_in, placed, row_by, row_in, row_numbered, row_of, rows_by_number, rows_of, told_in}
+use Rattle.rest_pages.specs.Rows.{declared_in, row_by, row_in, row_numbered, row_of, rows_by_number, rows_of, info_in}
 use Rattle.rest_pages.specs.declared.rows.Row.{Row}
 use Rattle.rest_pages.proofs.Placing.{all-fold, count-fold}
 
@@ -28,7 +28,7 @@ member-row_by member (Some declared) (Some info) row is = sym (ap (λ (r : Row).
 numbered-by : (snapshot : SnapshotFacts) (k : ℕ) (found : Option MemberId) (row : Row) → member_of k ≡ found → row_of snapshot found ≡ Some row → (row.member.number ≡ k) × (row_in snapshot row.member ≡ Some row)
 numbered-by snapshot k None row by is = absurd (none-some row is)
 numbered-by snapshot k (Some member) row by is =
-    let same : row.member ≡ member = member-row_by member (declared_in snapshot member) (told_in snapshot member) row is in
+    let same : row.member ≡ member = member-row_by member (declared_in snapshot member) (info_in snapshot member) row is in
     (ap (λ (m : MemberId). m.number) same ∙ number-member_of k member by, ap (λ m. row_in snapshot m) same ∙ is)
 
 -- the row of a number is that of its member
@@ -82,7 +82,7 @@ count-within f all member row by a (suc n) from below =
     ∙ count-by f all member row by a n (member.number == a) refl (λ other. count-within f all member row by (a + 1) n (omega (arith, other)) (omega arith))
 
 -- a member that the cluster has and that tells of itself has one row
-pub stands-once : (snapshot : SnapshotFacts) (member : MemberId) (declared : Name × Host) (info : MemberInfo) → declared_in snapshot member ≡ Some declared → told_in snapshot member ≡ Some info
+pub stands-once : (snapshot : SnapshotFacts) (member : MemberId) (declared : Name × Host) (info : MemberInfo) → declared_in snapshot member ≡ Some declared → info_in snapshot member ≡ Some info
     → count_by (is_row_of member) (rows_of snapshot) ≡ 1
 stands-once snapshot member declared info has tells =
     count-fold (is_row_of member) (rows_by_number snapshot) []

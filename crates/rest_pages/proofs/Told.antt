@@ -4,7 +4,7 @@ use Rattle.std.specs.Str.{bytes_eq}
 use Rattle.serde_json.specs.Data.{Data, Members, no_members, put, boolean, object, string}
 use Rattle.serde_json.specs.Find.{get_member}
 use Rattle.serde_json.proofs.Views.{get_member-put, get_member-put_other}
-use Rattle.json_build.specs.Members.{where_so, whole, with_flag}
+use Rattle.json_build.specs.Members.{where_so, natural, with_flag}
 use Rattle.pat_base.specs.declared.lsn.Lsn.{Lsn}
 use Rattle.pat_base.specs.declared.server_state.State.{State}
 use Rattle.pat_base.specs.declared.server_state.State.TheVariants as states
@@ -17,7 +17,7 @@ use Rattle.cluster_config.specs.Snapshots.{SnapshotFacts}
 use Rattle.rest_pages.specs.Cluster.{lag_data, leads, member_role, row_members, with_timeline}
 use Rattle.rest_pages.specs.Patroni.{is_sync_standby, location_members, named_members, patroni_members_of, pauses, replica_members, role_text, server_word, streams, with_last_read, with_position, with_streaming, with_xlog}
 use Rattle.rest_pages.specs.Tags.{has_tags, tags_members, with_tags}
-use Rattle.rest_pages.specs.declared.cluster.Keys.{Keys}
+use Rattle.rest_pages.specs.declared.cluster.ClusterKeys.{ClusterKeys}
 use Rattle.rest_pages.specs.declared.rows.Row.{Row}
 
 -- what stands at `lag` in the row of a member, by whether it leads
@@ -30,14 +30,14 @@ lag-at true (Some timeline) state role name lag host = refl
 lag-at false None state role name lag host = refl
 lag-at false (Some timeline) state role name lag host = refl
 
-lag-of-row : (keys : Keys) (row : Row) → get_member (codes "lag") (row_members keys row) ≡ (if leads keys.leader row.member then None else Some (lag_data keys.status row.info.end))
+lag-of-row : (keys : ClusterKeys) (row : Row) → get_member (codes "lag") (row_members keys row) ≡ (if leads row.member keys.leader then None else Some (lag_data keys.status row.info.end))
 lag-of-row keys row =
-    lag-at (leads keys.leader row.member) row.info.timeline (string (word_text row.info.state)) (string (member_role keys row.member)) (string (name_bytes row.name)) (lag_data keys.status row.info.end) (string (host_bytes row.info.host))
+    lag-at (leads row.member keys.leader) row.info.timeline (string (word_text row.info.state)) (string (member_role keys row.member)) (string (name_bytes row.name)) (lag_data keys.status row.info.end) (string (host_bytes row.info.host))
 
-pub leader-has-none : (keys : Keys) (row : Row) → leads keys.leader row.member ≡ true → get_member (codes "lag") (row_members keys row) ≡ None
+pub leader-has-none : (keys : ClusterKeys) (row : Row) → leads row.member keys.leader ≡ true → get_member (codes "lag") (row_members keys row) ≡ None
 leader-has-none keys row is = lag-of-row keys row ∙ rw is refl
 
-pub others-have-one : (keys : Keys) (row : Row) → leads keys.leader row.member ≡ false → get_member (codes "lag") (row_members keys row) ≡ Some (lag_data keys.status row.info.end)
+pub others-have-one : (keys : ClusterKeys) (row : Row) → leads row.member keys.leader ≡ false → get_member (codes "lag") (row_members keys row) ≡ Some (lag_data keys.status row.info.end)
 others-have-one keys row is = lag-of-row keys row ∙ rw is refl
 
 true-false : true ≡ false → ⊥
@@ -67,7 +67,7 @@ other-xlog state (Some end) q ms differs = other-position state end q ms differs
 
 other-last_read : (last : Option Ticks) (q : List ℕ) (ms : Members) → (q ≡ codes "dcs_last_seen" → ⊥) → get_member q (with_last_read last ms) ≡ get_member q ms
 other-last_read None q ms differs = refl
-other-last_read (Some tick) q ms differs = get_member-put_other q (codes "dcs_last_seen") (whole tick.0) ms differs
+other-last_read (Some tick) q ms differs = get_member-put_other q (codes "dcs_last_seen") (natural tick.0) ms differs
 
 -- the members of `/patroni`, up to the role, up to the state, and so on
 abbrev before-role : AgentView → Option SnapshotFacts → Members
@@ -86,14 +86,14 @@ abbrev to-tags : AgentView → Option SnapshotFacts → Members
 to-tags view seen = with_tags view.tags (to-standby view seen)
 
 abbrev to-timeline : AgentView → Option SnapshotFacts → Members
-to-timeline view seen = put (codes "timeline") (whole view.timeline) (to-tags view seen)
+to-timeline view seen = put (codes "timeline") (natural view.timeline) (to-tags view seen)
 
 -- at a name that isn't put behind the flag of standbys
 behind-standby : (view : AgentView) (seen : Option SnapshotFacts) (q : List ℕ) → (q ≡ codes "xlog" → ⊥) → (q ≡ codes "timeline" → ⊥) → (q ≡ codes "tags" → ⊥)
     → get_member q (patroni_members_of view seen) ≡ get_member q (to-standby view seen)
 behind-standby view seen q xlog timeline tags =
     other-xlog view.state view.end q (to-timeline view seen) xlog
-    ∙ get_member-put_other q (codes "timeline") (whole view.timeline) (to-tags view seen) timeline
+    ∙ get_member-put_other q (codes "timeline") (natural view.timeline) (to-tags view seen) timeline
     ∙ other-where (has_tags view.tags) q (codes "tags") (object (tags_members view.tags)) (to-standby view seen) tags
 
 pub role-is-told : (view : AgentView) (seen : Option SnapshotFacts) → get_member (codes "role") (patroni_members_of view seen) ≡ Some (string (role_text view.state))

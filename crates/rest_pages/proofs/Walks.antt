@@ -1,11 +1,10 @@
 -- Walks over the members and over the keys of a snapshot.
-use Rattle.std.proofs.Common.{◌≡◌, ◌∙◌, ap, refl, arith, ℕ, ◌+◌, ◌<◌, ◌≤◌, zero, suc, Bool, true, false, cond, nat_lt, List, [], ◌∷◌, ◌++◌, length, take, fold, get_or, unwrap_or, Option, Some, None}
-use Rattle.std.specs.List.{filter_map, position, position_or_len, range_with_len}
+use Rattle.std.proofs.Common.{◌≡◌, ◌∙◌, ap, refl, arith, ℕ, ◌+◌, ◌<◌, zero, suc, List, [], ◌∷◌, ◌++◌, length, take, fold, get_or, Option, Some, None}
+use Rattle.std.specs.List.{filter_map, range_with_len}
 use Rattle.std.specs.Option.{option_to_list}
 use Rattle.std.proofs.Math.Seq.{take-suc}
-use Rattle.std.proofs.lemmas.Bool.Decides.{nat_tests}
 use Rattle.std.proofs.lemmas.List.Elements.{filter_map-append}
-use Rattle.std.proofs.lemmas.List.Sums.{fold-append, prefix_len-le-length}
+use Rattle.std.proofs.lemmas.List.Sums.{fold-append}
 use Rattle.rest_pages.specs.Rows.{with_found}
 
 range-more : (a n j : ℕ) → a + n ≡ j → range_with_len a (suc n) ≡ range_with_len a n ++ j ∷ []
@@ -40,11 +39,3 @@ found-more f xs i d below =
     ∙ ap (filter_map f) (take-suc xs i d below)
     ∙ filter_map-append f (take i xs) (get_or xs i d ∷ [])
     ∙ ap (λ ys. filter_map f (take i xs) ++ ys) (found-listed f (get_or xs i d) (f (get_or xs i d)) refl)
-
-or-else : (t : Bool) (k n : ℕ) → nat_lt k n ≡ t → k ≤ n → unwrap_or (cond t (Some k) None) n ≡ k
-or-else true k n is fits = refl
-or-else false k n is fits = grind (arith, nat_tests)
-
--- the first place that passes, and else that behind the last
-pub position-or-length : {A : Type 0} (p : A → Bool) (xs : List A) → unwrap_or (position p xs) (length xs) ≡ position_or_len p xs
-position-or-length p xs = or-else (nat_lt (position_or_len p xs) (length xs)) (position_or_len p xs) (length xs) refl (prefix_len-le-length _ xs)

@@ -13,16 +13,16 @@ use Rattle.pat_base.specs.Name.{name_bytes}
 use Rattle.cluster_config.specs.KeyValues.{config_in}
 use Rattle.cluster_config.specs.Naming.{is_one_of}
 use Rattle.cluster_config.specs.Snapshots.{SnapshotFacts, failsafe_in}
-use Rattle.rest_pages.specs.Rows.{declared_in, with_found}
+use Rattle.rest_pages.specs.Rows.{declared_in}
 
 -- the set, if there is one, lists the member
-abbrev pub is_listed : Option MemberSet → MemberId → Bool
-is_listed None member = false
-is_listed (Some members) member = is_one_of member members
+abbrev pub lists_member : Option MemberSet → MemberId → Bool
+lists_member None member = false
+lists_member (Some members) member = is_one_of member members
 
 -- the name and the host of the member, where the set lists it
 abbrev pub listed_in : SnapshotFacts → Option MemberSet → MemberId → Option (Name × Host)
-listed_in snapshot members member = if is_listed members member then declared_in snapshot member else None
+listed_in snapshot members member = if lists_member members member then declared_in snapshot member else None
 
 -- the name and the host of the member of this number, where the set lists it
 abbrev pub listed_by : SnapshotFacts → Option MemberSet → Option MemberId → Option (Name × Host)

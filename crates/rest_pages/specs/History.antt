@@ -3,7 +3,7 @@ use Rattle.std.specs.Prelude.{ℕ, List, [], ◌∷◌, ◌++◌, map, codes, Op
 use Rattle.std.specs.List.{filter_map}
 use Rattle.serde_json.specs.Data.{Data, array, string}
 use Rattle.serde_json.specs.View.{items_of}
-use Rattle.json_build.specs.Members.{whole}
+use Rattle.json_build.specs.Members.{natural}
 use Rattle.pat_base.specs.declared.host.Host.{Host}
 use Rattle.pat_base.specs.declared.name.Name.{Name}
 use Rattle.pat_base.specs.Name.{name_bytes}
@@ -16,8 +16,8 @@ use Rattle.cluster_config.specs.Snapshots.{SnapshotFacts}
 use Rattle.rest_pages.specs.Rows.{declared_in}
 
 -- why timelines end here
-abbrev pub reason : List ℕ
-reason = codes "no recovery target specified"
+abbrev pub end_reason : List ℕ
+end_reason = codes "no recovery target specified"
 
 -- how a timeline ended, by a value, if that is a row of the history
 abbrev pub ended_by : Value → Option HistoryRow
@@ -40,7 +40,7 @@ with_leader items (Some leader) = items ++ string (name_bytes leader.0) ∷ []
 -- the timeline, where, why and when it ended, and who took over
 abbrev pub ending_items : SnapshotFacts → HistoryRow → List Data
 ending_items snapshot row =
-    with_leader (whole row.timeline ∷ whole row.at.position ∷ string reason ∷ whole row.tick.0 ∷ []) (declared_in snapshot row.leader)
+    with_leader (natural row.timeline ∷ natural row.at.position ∷ string end_reason ∷ natural row.tick.0 ∷ []) (declared_in snapshot row.leader)
 
 -- the same as a list of JSON
 abbrev pub ending_data : SnapshotFacts → HistoryRow → Data

@@ -2,7 +2,7 @@
 use Rattle.std.specs.Prelude.{ℕ, Bool, false, List, codes, Option, Some, None}
 use Rattle.std.specs.Option.{option_copied}
 use Rattle.serde_json.specs.Data.{object, string, Members, no_members, put}
-use Rattle.json_build.specs.Members.{whole, where_so, with_flag}
+use Rattle.json_build.specs.Members.{natural, where_so, with_flag}
 use Rattle.pat_base.specs.declared.lsn.Lsn.{Lsn}
 use Rattle.pat_base.specs.declared.member_id.MemberId.{MemberId}
 use Rattle.pat_base.specs.declared.name.Name.{Name}
@@ -56,7 +56,7 @@ streams _ receives = false
 -- the members, with the tick at which the last read was answered, if one was
 abbrev pub with_last_read : Option Ticks → Members → Members
 with_last_read None members = members
-with_last_read (Some tick) members = put (codes "dcs_last_seen") (whole tick.0) members
+with_last_read (Some tick) members = put (codes "dcs_last_seen") (natural tick.0) members
 
 -- the members, with that the server streams, where it does
 abbrev pub with_streaming : State → Bool → Members → Members
@@ -64,11 +64,11 @@ with_streaming state receives members = where_so (streams state receives) (codes
 
 -- where the log of a primary ends
 abbrev pub location_members : Lsn → Members
-location_members end = put (codes "location") (whole end.position) no_members
+location_members end = put (codes "location") (natural end.position) no_members
 
 -- where the log of a replica ends, which has replayed all that it received
 abbrev pub replica_members : Lsn → Members
-replica_members end = put (codes "replayed_location") (whole end.position) (put (codes "received_location") (whole end.position) no_members)
+replica_members end = put (codes "replayed_location") (natural end.position) (put (codes "received_location") (natural end.position) no_members)
 
 -- the members, with where the log ends of a server that runs
 abbrev pub with_position : State → Lsn → Members → Members
@@ -85,7 +85,7 @@ with_xlog state (Some end) members = with_position state end members
 abbrev pub patroni_members_of : AgentView → Option SnapshotFacts → Members
 patroni_members_of view seen =
     with_xlog view.state view.end
-    (put (codes "timeline") (whole view.timeline)
+    (put (codes "timeline") (natural view.timeline)
     (with_tags view.tags
     (with_flag (codes "sync_standby") (is_sync_standby view.me seen)
     (put (codes "state") (string (word_text (server_word view.state)))

@@ -27,18 +27,18 @@ abbrev pub declared_in : SnapshotFacts → MemberId → Option (Name × Host)
 declared_in snapshot member = slice_get snapshot.members member.number
 
 -- what a member tells of itself, by a value of its key
-abbrev pub told_by : Value → Option MemberInfo
-told_by (values.Member info) = Some info
-told_by _ = None
+abbrev pub info_by : Value → Option MemberInfo
+info_by (values.Member info) = Some info
+info_by _ = None
 
 -- what a member tells of itself, by the entry of its key
-abbrev pub told_of_entry : Option KeyEntry → Option MemberInfo
-told_of_entry None = None
-told_of_entry (Some found) = told_by found.value
+abbrev pub info_of_entry : Option KeyEntry → Option MemberInfo
+info_of_entry None = None
+info_of_entry (Some found) = info_by found.value
 
 -- what the member tells of itself, where its key is there
-abbrev pub told_in : SnapshotFacts → MemberId → Option MemberInfo
-told_in snapshot member = told_of_entry (entry_in (keys.Member member) snapshot)
+abbrev pub info_in : SnapshotFacts → MemberId → Option MemberInfo
+info_in snapshot member = info_of_entry (entry_in (keys.Member member) snapshot)
 
 -- the row of a member that the cluster has and that tells of itself
 abbrev pub row_by : MemberId → Option (Name × Host) → Option MemberInfo → Option Row
@@ -48,7 +48,7 @@ row_by member (Some declared) (Some info) = Some (record { member = member; name
 
 -- the row of the member, if it has one
 abbrev pub row_in : SnapshotFacts → MemberId → Option Row
-row_in snapshot member = row_by member (declared_in snapshot member) (told_in snapshot member)
+row_in snapshot member = row_by member (declared_in snapshot member) (info_in snapshot member)
 
 -- the row of a member, if there is one
 abbrev pub row_of : SnapshotFacts → Option MemberId → Option Row

@@ -2,8 +2,8 @@
 ghost use Rattle.std.specs.Prelude.{◌≡◌, IfOk, OnOk, map, string_bytes};
 ghost use Rattle.serde_json.specs.Data.{object};
 ghost use Rattle.serde_json.specs.Written.{compact_text};
-ghost use Rattle.json_build.specs.Lists.{items_in};
-ghost use Rattle.json_build.specs.Objects.{members_in};
+ghost use Rattle.json_build.specs.Lists.{list_items};
+ghost use Rattle.json_build.specs.Objects.{object_members};
 ghost use Rattle.rest_pages.specs.Cluster.{keys_in, leads, member_role, lag_data, with_lag, with_timeline, row_members, row_data, cluster_rows, cluster_members};
 
 use crate::rows::{Row, rows_of};
@@ -16,7 +16,7 @@ use std::alloc::{AllocError, Global};
 
 /// What the page reads of a snapshot beside the members.
 #[derive(Clone, Copy, Debug, PartialEq, Eq)]
-struct Keys {
+struct ClusterKeys {
     /// Who leads.
     leader: Option<LeaderEntry>,
     /// Who replicates synchronously.
@@ -42,25 +42,25 @@ pub fn cluster_text(alloc: Global, snapshot: &Snapshot) -> Result<String, AllocE
 }
 
 fn member_list(alloc: Global, snapshot: &Snapshot) -> Result<List, AllocError>
-    ensures { IfOk result (λ list. items_in list ≡ cluster_rows snapshot.now) }
+    ensures { IfOk result (λ list. list_items list ≡ cluster_rows snapshot.now) }
 {
     let rows = rows_of(alloc, snapshot)?;
     row_list(alloc, &keys_in(snapshot), &rows)
 }
 
 /// Who leads, who replicates synchronously, and where the leader's log ends.
-fn keys_in(snapshot: &Snapshot) -> Keys
+fn keys_in(snapshot: &Snapshot) -> ClusterKeys
     ensures { result ≡ keys_in snapshot.now }
 {
-    Keys {
+    ClusterKeys {
         leader: snapshot.leader(),
         sync: snapshot.sync(),
         status: snapshot.status(),
     }
 }
 
-fn row_list(alloc: Global, keys: &Keys, rows: &[Row]) -> Result<List, AllocError>
-    ensures { IfOk result (λ list. items_in list ≡ map (row_data keys.now) rows.now) }
+fn row_list(alloc: Global, keys: &ClusterKeys, rows: &[Row]) -> Result<List, AllocError>
+    ensures { IfOk result (λ list. list_items list ≡ map (row_data keys.now) rows.now) }
 {
     let mut list = List::new(alloc);
     for row in rows {
@@ -69,8 +69,8 @@ fn row_list(alloc: Global, keys: &Keys, rows: &[Row]) -> Result<List, AllocError
     Ok(list)
 }
 
-fn row_object(alloc: Global, keys: &Keys, row: &Row) -> Result<Object, AllocError>
-    ensures { IfOk result (λ members. members_in members ≡ row_members keys.now row.now) }
+fn row_object(alloc: Global, keys: &ClusterKeys, row: &Row) -> Result<Object, AllocError>
+    ensures { IfOk result (λ members. object_members members ≡ row_members keys.now row.now) }
 {
     let mut members = Object::new(alloc);
     members.put_text(alloc, "host", row.info.host.as_str())?;
@@ -83,10 +83,10 @@ fn row_object(alloc: Global, keys: &Keys, row: &Row) -> Result<Object, AllocErro
 }
 
 /// The role of a member.
-fn member_role(keys: &Keys, member: MemberId) -> &'static str
+fn member_role(keys: &ClusterKeys, member: MemberId) -> &'static str
     ensures { result.now ≡ member_role keys.now member }
 {
-    if leads(keys.leader, member) {
+    if leads(member, keys.leader) {
         "leader"
     } else if names_standby(keys.sync, member) {
         "sync_standby"
@@ -96,8 +96,8 @@ fn member_role(keys: &Keys, member: MemberId) -> &'static str
 }
 
 /// Whether the leader key names the member.
-fn leads(leader: Option<LeaderEntry>, member: MemberId) -> bool
-    ensures { result ≡ leads leader member }
+fn leads(member: MemberId, leader: Option<LeaderEntry>) -> bool
+    ensures { result ≡ leads member leader }
 {
     match leader {
         None => false,
@@ -106,10 +106,15 @@ fn leads(leader: Option<LeaderEntry>, member: MemberId) -> bool
 }
 
 /// Puts how far a member lags, where it isn't the leader.
-fn put_lag(members: &mut Object, alloc: Global, keys: &Keys, row: &Row) -> Result<(), AllocError>
-    ensures { OnOk result (members_in members.new ≡ with_lag keys.now row.now (members_in members.old)) }
+fn put_lag(
+    members: &mut Object,
+    alloc: Global,
+    keys: &ClusterKeys,
+    row: &Row,
+) -> Result<(), AllocError>
+    ensures { OnOk result (object_members members.new ≡ with_lag keys.now row.now (object_members members.old)) }
 {
-    if leads(keys.leader, row.member) {
+    if leads(row.member, keys.leader) {
         return Ok(());
     }
     match (keys.status, row.info.end) {
@@ -127,7 +132,7 @@ fn put_timeline(
     alloc: Global,
     timeline: Option<u64>,
 ) -> Result<(), AllocError>
-    ensures { OnOk result (members_in members.new ≡ with_timeline timeline (members_in members.old)) }
+    ensures { OnOk result (object_members members.new ≡ with_timeline timeline (object_members members.old)) }
 {
     match timeline {
         None => Ok(()),

@@ -1,8 +1,8 @@
 //! `/failsafe`: whom the leader may ask while the key store is out of reach (Patroni documentation, "DCS Failsafe Mode").
 ghost use Rattle.std.specs.Prelude.{◌≡◌, IfOk, OnOk, option_map, string_bytes};
 ghost use Rattle.serde_json.specs.Written.{compact_text};
-ghost use Rattle.json_build.specs.Objects.{members_in};
-ghost use Rattle.rest_pages.specs.Failsafe.{is_listed, listed_in, listed_numbered, listed_of, with_host, host_members, failsafe_data};
+ghost use Rattle.json_build.specs.Objects.{object_members};
+ghost use Rattle.rest_pages.specs.Failsafe.{lists_member, listed_in, listed_numbered, listed_of, with_host, host_members, failsafe_data};
 ghost use Rattle.rest_pages.specs.Rows.{with_found};
 
 use crate::rows::declared_in;
@@ -29,7 +29,7 @@ fn hosts_object(
     snapshot: &Snapshot,
     members: Option<MemberSet>,
 ) -> Result<Object, AllocError>
-    ensures { IfOk result (λ hosts. members_in hosts ≡ host_members (listed_of snapshot.now members)) }
+    ensures { IfOk result (λ hosts. object_members hosts ≡ host_members (listed_of snapshot.now members)) }
 {
     let mut hosts = Object::new(alloc);
     for number in 0..MOST_MEMBERS as u8 {
@@ -48,7 +48,7 @@ fn put_found(
     alloc: Global,
     found: Option<(Name, Host)>,
 ) -> Result<(), AllocError>
-    ensures { OnOk result (members_in hosts.new ≡ with_found with_host (members_in hosts.old) found) }
+    ensures { OnOk result (object_members hosts.new ≡ with_found with_host (object_members hosts.old) found) }
 {
     match found {
         None => Ok(()),
@@ -75,7 +75,7 @@ fn listed_in(
 ) -> Option<(Name, Host)>
     ensures { result ≡ listed_in snapshot.now members member }
 {
-    if is_listed(members, member) {
+    if lists_member(members, member) {
         declared_in(snapshot, member)
     } else {
         None
@@ -83,8 +83,8 @@ fn listed_in(
 }
 
 /// Whether a set, if there is one, lists the member.
-fn is_listed(members: Option<MemberSet>, member: MemberId) -> bool
-    ensures { result ≡ is_listed members member }
+fn lists_member(members: Option<MemberSet>, member: MemberId) -> bool
+    ensures { result ≡ lists_member members member }
 {
     match members {
         None => false,

@@ -4,7 +4,7 @@ ghost use Rattle.std.specs.Option.{option_to_list};
 ghost use Rattle.serde_json.specs.Data.{array};
 ghost use Rattle.serde_json.specs.View.{items_of};
 ghost use Rattle.serde_json.specs.Written.{compact_text};
-ghost use Rattle.json_build.specs.Lists.{items_in};
+ghost use Rattle.json_build.specs.Lists.{list_items};
 ghost use Rattle.rest_pages.specs.History.{ended_by, with_leader, ending_items, ending_data, history_items};
 
 use crate::rows::declared_in;
@@ -27,7 +27,7 @@ pub fn history_text(alloc: Global, snapshot: &Snapshot) -> Result<String, AllocE
 }
 
 fn history_list(alloc: Global, snapshot: &Snapshot) -> Result<List, AllocError>
-    ensures { IfOk result (λ list. items_in list ≡ history_items snapshot.now) }
+    ensures { IfOk result (λ list. list_items list ≡ history_items snapshot.now) }
 {
     let mut list = List::new(alloc);
     for pair in snapshot.entries() {
@@ -43,7 +43,7 @@ fn push_ending(
     snapshot: &Snapshot,
     value: &Value,
 ) -> Result<(), AllocError>
-    ensures { OnOk result (items_in list.new ≡ items_in list.old ++ map (ending_data snapshot.now) (option_to_list (ended_by value.now))) }
+    ensures { OnOk result (list_items list.new ≡ list_items list.old ++ map (ending_data snapshot.now) (option_to_list (ended_by value.now))) }
 {
     match value {
         Value::History(row) => list.push_list(ending_list(alloc, snapshot, row)?),
@@ -52,7 +52,7 @@ fn push_ending(
 }
 
 fn ending_list(alloc: Global, snapshot: &Snapshot, row: &HistoryRow) -> Result<List, AllocError>
-    ensures { IfOk result (λ list. items_in list ≡ ending_items snapshot.now row.now) }
+    ensures { IfOk result (λ list. list_items list ≡ ending_items snapshot.now row.now) }
 {
     let mut list = List::new(alloc);
     list.push_number(row.timeline)?;
@@ -69,7 +69,7 @@ fn push_leader(
     alloc: Global,
     leader: Option<(Name, Host)>,
 ) -> Result<(), AllocError>
-    ensures { OnOk result (items_in list.new ≡ with_leader (items_in list.old) leader) }
+    ensures { OnOk result (list_items list.new ≡ with_leader (list_items list.old) leader) }
 {
     match leader {
         None => Ok(()),

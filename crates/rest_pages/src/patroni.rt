@@ -2,7 +2,7 @@
 ghost use Rattle.std.specs.Prelude.{◌≡◌, IfOk, OnOk, option_copied, string_bytes};
 ghost use Rattle.serde_json.specs.Data.{object};
 ghost use Rattle.serde_json.specs.Written.{compact_text};
-ghost use Rattle.json_build.specs.Objects.{members_in};
+ghost use Rattle.json_build.specs.Objects.{object_members};
 ghost use Rattle.rest_pages.specs.Patroni.{named_members, pauses, is_sync_standby, role_text, server_word, streams, with_last_read, with_streaming, location_members, replica_members, with_position, with_xlog, patroni_members, patroni_members_of};
 
 use crate::standbys::names_standby;
@@ -34,7 +34,7 @@ fn patroni_object(
     view: &AgentView<'_>,
     seen: Option<&Snapshot>,
 ) -> Result<Object, AllocError>
-    ensures { IfOk result (λ members. members_in members ≡ patroni_members_of view.now (option_copied seen.entry)) }
+    ensures { IfOk result (λ members. object_members members ≡ patroni_members_of view.now (option_copied seen.entry)) }
 {
     let mut members = Object::new(alloc);
     put_last_read(&mut members, alloc, view.last_read)?;
@@ -56,7 +56,7 @@ fn patroni_object(
 
 /// The member and its cluster.
 fn named_object(alloc: Global, name: &Name, scope: &Name) -> Result<Object, AllocError>
-    ensures { IfOk result (λ members. members_in members ≡ named_members name.now scope.now) }
+    ensures { IfOk result (λ members. object_members members ≡ named_members name.now scope.now) }
 {
     let mut members = Object::new(alloc);
     members.put_text(alloc, "name", name.as_str())?;
@@ -124,7 +124,7 @@ fn put_last_read(
     alloc: Global,
     last_read: Option<Ticks>,
 ) -> Result<(), AllocError>
-    ensures { OnOk result (members_in members.new ≡ with_last_read last_read (members_in members.old)) }
+    ensures { OnOk result (object_members members.new ≡ with_last_read last_read (object_members members.old)) }
 {
     match last_read {
         None => Ok(()),
@@ -139,7 +139,7 @@ fn put_streaming(
     state: State,
     receives: bool,
 ) -> Result<(), AllocError>
-    ensures { OnOk result (members_in members.new ≡ with_streaming state receives (members_in members.old)) }
+    ensures { OnOk result (object_members members.new ≡ with_streaming state receives (object_members members.old)) }
 {
     if !streams(state, receives) {
         return Ok(());
@@ -154,7 +154,7 @@ fn put_xlog(
     state: State,
     end: Option<Lsn>,
 ) -> Result<(), AllocError>
-    ensures { OnOk result (members_in members.new ≡ with_xlog state end (members_in members.old)) }
+    ensures { OnOk result (object_members members.new ≡ with_xlog state end (object_members members.old)) }
 {
     match end {
         None => Ok(()),
@@ -169,7 +169,7 @@ fn put_position(
     state: State,
     end: Lsn,
 ) -> Result<(), AllocError>
-    ensures { OnOk result (members_in members.new ≡ with_position state end (members_in members.old)) }
+    ensures { OnOk result (object_members members.new ≡ with_position state end (object_members members.old)) }
 {
     match state {
         State::Primary => members.put_object(alloc, "xlog", location_object(alloc, end)?),
@@ -180,7 +180,7 @@ fn put_position(
 
 /// Where the log of a primary ends.
 fn location_object(alloc: Global, end: Lsn) -> Result<Object, AllocError>
-    ensures { IfOk result (λ members. members_in members ≡ location_members end) }
+    ensures { IfOk result (λ members. object_members members ≡ location_members end) }
 {
     let mut members = Object::new(alloc);
     members.put_number(alloc, "location", end.position)?;
@@ -189,7 +189,7 @@ fn location_object(alloc: Global, end: Lsn) -> Result<Object, AllocError>
 
 /// Where the log of a replica ends, which has replayed all that it received.
 fn replica_object(alloc: Global, end: Lsn) -> Result<Object, AllocError>
-    ensures { IfOk result (λ members. members_in members ≡ replica_members end) }
+    ensures { IfOk result (λ members. object_members members ≡ replica_members end) }
 {
     let mut members = Object::new(alloc);
     members.put_number(alloc, "received_location", end.position)?;

@@ -1,7 +1,7 @@
 //! The members that tell of themselves, in the order of their names.
 ghost use Rattle.std.specs.Prelude.{◌≡◌, ◌≤◌, length, IfOk, OnOk, option_copied};
 ghost use Rattle.std.specs.List.{position, position_or_len};
-ghost use Rattle.rest_pages.specs.Rows.{with_found, declared_in, told_by, told_of_entry, told_in, row_by, row_in, row_numbered, is_before, placed, rows_of};
+ghost use Rattle.rest_pages.specs.Rows.{with_found, declared_in, info_by, info_of_entry, info_in, row_by, row_in, row_numbered, is_before, placed, rows_of};
 
 use cluster_config::Snapshot;
 use lease_store::{Key, KeyEntry, MemberInfo, Value};
@@ -85,7 +85,7 @@ fn row_in(snapshot: &Snapshot, member: MemberId) -> Option<Row>
     row_by(
         member,
         declared_in(snapshot, member),
-        told_in(snapshot, member),
+        info_in(snapshot, member),
     )
 }
 
@@ -106,23 +106,23 @@ pub(crate) fn declared_in(snapshot: &Snapshot, member: MemberId) -> Option<(Name
 }
 
 /// What a member tells of itself. `None` exactly where its key is absent.
-fn told_in(snapshot: &Snapshot, member: MemberId) -> Option<MemberInfo>
-    ensures { result ≡ told_in snapshot.now member }
+fn info_in(snapshot: &Snapshot, member: MemberId) -> Option<MemberInfo>
+    ensures { result ≡ info_in snapshot.now member }
 {
-    told_of_entry(snapshot.entry(Key::Member(member)))
+    info_of_entry(snapshot.entry(Key::Member(member)))
 }
 
-fn told_of_entry(found: Option<&KeyEntry>) -> Option<MemberInfo>
-    ensures { result ≡ told_of_entry (option_copied found.entry) }
+fn info_of_entry(found: Option<&KeyEntry>) -> Option<MemberInfo>
+    ensures { result ≡ info_of_entry (option_copied found.entry) }
 {
     match found {
         None => None,
-        Some(found) => told_by(&found.value),
+        Some(found) => info_by(&found.value),
     }
 }
 
-fn told_by(value: &Value) -> Option<MemberInfo>
-    ensures { result ≡ told_by value.now }
+fn info_by(value: &Value) -> Option<MemberInfo>
+    ensures { result ≡ info_by value.now }
 {
     match value {
         Value::Member(info) => Some(*info),

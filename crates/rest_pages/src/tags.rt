@@ -1,6 +1,6 @@
 //! The tags of a member, as JSON (Patroni documentation, "YAML Configuration Settings", "Tags").
 ghost use Rattle.std.specs.Prelude.{◌≡◌, IfOk, OnOk};
-ghost use Rattle.json_build.specs.Objects.{members_in};
+ghost use Rattle.json_build.specs.Objects.{object_members};
 ghost use Rattle.rest_pages.specs.Tags.{has_priority, has_tags, tags_members, with_tags};
 
 use json_build::Object;
@@ -12,7 +12,7 @@ const USUAL_PRIORITY: i64 = 1;
 
 /// Puts the tags that are set, if one is.
 pub(crate) fn put_tags(object: &mut Object, alloc: Global, tags: &Tags) -> Result<(), AllocError>
-    ensures { OnOk result (members_in object.new ≡ with_tags tags.now (members_in object.old)) }
+    ensures { OnOk result (object_members object.new ≡ with_tags tags.now (object_members object.old)) }
 {
     if !has_tags(tags) {
         return Ok(());
@@ -35,7 +35,7 @@ fn has_priority(tags: &Tags) -> bool
 }
 
 fn tags_object(alloc: Global, tags: &Tags) -> Result<Object, AllocError>
-    ensures { IfOk result (λ object. members_in object ≡ tags_members tags.now) }
+    ensures { IfOk result (λ object. object_members object ≡ tags_members tags.now) }
 {
     let mut object = Object::new(alloc);
     object.put_flag(alloc, "nofailover", tags.nofailover)?;

@@ -1,6 +1,6 @@
 use Rattle.std.proofs.Common.{◌∙◌, ap, length, unwrap_or}
 use Rattle.rest_pages.specs.Rows.{is_before}
-use Rattle.rest_pages.proofs.Walks.{position-or-length}
+use Rattle.rest_pages.proofs.Placing.{position-or-length}
 use Rattle.rest_pages.proofs.rows.place_of.Goals as goal
 
 pub returns-clause-place : goal.returns-clause-place
