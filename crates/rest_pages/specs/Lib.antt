@@ -1,0 +1,9 @@
+pub mod Cluster
+pub mod Configuration
+pub mod Failsafe
+pub mod History
+pub mod Laws
+pub mod Patroni
+pub mod Rows
+pub mod Standbys
+pub mod Tags

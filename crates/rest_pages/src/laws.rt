@@ -1,0 +1,77 @@
+//! Laws of the pages. Each is a function without a body whose contract is what is proved.
+ghost use Rattle.std.specs.Prelude.{ℕ, ◌≡◌, ◌≤◌, ◌+◌, true, false, All, List, Option, Some, None, codes, count_by, map, IsSortedBy, if◌then◌else◌};
+ghost use Rattle.std.specs.List.Sorted.{IsStrictlySortedBy};
+ghost use Rattle.std.specs.Ordering.{nat_cmp};
+ghost use Rattle.serde_json.specs.Data.{boolean, object, string, no_members};
+ghost use Rattle.serde_json.specs.Find.{get_member};
+ghost use Rattle.json_build.specs.Members.{natural};
+ghost use Rattle.pat_base.specs.declared.host.Host.{Host};
+ghost use Rattle.pat_base.specs.declared.lsn.Lsn.{Lsn};
+ghost use Rattle.pat_base.specs.declared.member_id.MemberId.{MemberId};
+ghost use Rattle.pat_base.specs.declared.name.Name.{Name};
+ghost use Rattle.lease_store.specs.Settings.{Settings};
+ghost use Rattle.lease_store.specs.declared.key.Key.TheVariants as keys;
+ghost use Rattle.lease_store.specs.declared.value.HistoryRow.{HistoryRow};
+ghost use Rattle.lease_store.specs.declared.value.KeyEntry.{KeyEntry};
+ghost use Rattle.lease_store.specs.declared.value.MemberInfo.{MemberInfo};
+ghost use Rattle.lease_store.specs.declared.value.Value.TheVariants as values;
+ghost use Rattle.cluster_config.specs.KeyValues.{config_in};
+ghost use Rattle.cluster_config.specs.Snapshots.{IsRead, SnapshotFacts, entry_in, failsafe_in};
+ghost use Rattle.cluster_config.specs.declared.view.AgentView.{AgentView};
+ghost use Rattle.rest_pages.specs.Cluster.{lag_data, leads, row_members};
+ghost use Rattle.rest_pages.specs.Configuration.{config_text};
+ghost use Rattle.rest_pages.specs.Failsafe.{failsafe_data};
+ghost use Rattle.rest_pages.specs.History.{endings};
+ghost use Rattle.rest_pages.specs.Laws.{is_row_of};
+ghost use Rattle.rest_pages.specs.Patroni.{is_sync_standby, patroni_members_of, role_text};
+ghost use Rattle.rest_pages.specs.Rows.{declared_in, is_before, row_in, rows_of, info_in};
+ghost use Rattle.rest_pages.specs.declared.cluster.ClusterKeys.{ClusterKeys};
+ghost use Rattle.rest_pages.specs.declared.rows.Row.{Row};
+
+/// Each member of the cluster with a member key stands in `/cluster` just once, and nothing else does: each row is that of its member.
+pub fn each_member_stands_once()
+    ensures once { (snapshot : SnapshotFacts) (member : MemberId) (declared : Name × Host) (info : MemberInfo)
+        → declared_in snapshot member ≡ Some declared → info_in snapshot member ≡ Some info
+        → count_by (is_row_of member) (rows_of snapshot) ≡ 1 }
+    ensures rows { (snapshot : SnapshotFacts) → All (λ row. row_in snapshot row.member ≡ Some row) (rows_of snapshot) }
+{}
+
+/// The members stand in `/cluster` in the byte order of their names.
+pub fn members_stand_by_name()
+    ensures { (snapshot : SnapshotFacts) → IsSortedBy is_before (rows_of snapshot) }
+{}
+
+/// In `/cluster` the leader has no lag, and each other member has one: what its log lacks of the position that the leader told last, where
+/// both ends are known.
+pub fn all_but_the_leader_lag()
+    ensures leader { (keys : ClusterKeys) (row : Row) → leads row.member keys.leader ≡ true → get_member (codes "lag") (row_members keys row) ≡ None }
+    ensures others { (keys : ClusterKeys) (row : Row) → leads row.member keys.leader ≡ false
+        → get_member (codes "lag") (row_members keys row) ≡ Some (lag_data keys.status row.info.end) }
+    ensures behind { (status end : Lsn) (lag : ℕ) → end.position + lag ≡ status.position → lag_data (Some status) (Some end) ≡ natural lag }
+    ensures ahead { (status end : Lsn) → status.position ≤ end.position → lag_data (Some status) (Some end) ≡ natural 0 }
+{}
+
+/// The timelines rise in `/history`.
+pub fn timelines_rise()
+    ensures { (snapshot : SnapshotFacts) → IsRead snapshot.entries → IsStrictlySortedBy nat_cmp (map (λ row. row.timeline) (endings snapshot)) }
+{}
+
+/// `/patroni` always tells a role, which is `master` for a primary alone, and that the member is a synchronous standby just where it is.
+pub fn patroni_tells_the_role()
+    ensures role { (view : AgentView) (seen : Option SnapshotFacts)
+        → get_member (codes "role") (patroni_members_of view seen) ≡ Some (string (role_text view.state)) }
+    ensures standby { (view : AgentView) (seen : Option SnapshotFacts)
+        → get_member (codes "sync_standby") (patroni_members_of view seen) ≡ (if is_sync_standby view.me seen then Some (boolean true) else None) }
+{}
+
+/// `/config` answers the text of the configuration that the snapshot has, which each has that was read.
+pub fn config_is_that_of_the_snapshot()
+    ensures { (snapshot : SnapshotFacts) → IsRead snapshot.entries
+        → (found : KeyEntry) × (config : Settings) × (entry_in keys.Config snapshot ≡ Some found) × (found.value ≡ values.Config config) × (config_text snapshot ≡ config.text) }
+{}
+
+/// `/failsafe` is an object without members where failsafe mode is on and the failsafe key is absent.
+pub fn nobody_is_listed_without_the_key()
+    ensures { (snapshot : SnapshotFacts) → (config_in snapshot).failsafe_mode ≡ true → failsafe_in snapshot ≡ None
+        → failsafe_data snapshot ≡ Some (object no_members) }
+{}

@@ -1,0 +1,26 @@
+//! The pages of the REST interface of an agent: the JSON that each answers.
+#![tactic(auto)]
+
+mod cluster;
+mod configuration;
+mod failsafe;
+mod history;
+mod laws;
+mod patroni;
+mod rows;
+mod standbys;
+mod tags;
+
+pub use cluster::cluster_text;
+pub use configuration::config_text;
+pub use failsafe::failsafe_text;
+pub use history::history_text;
+pub use laws::{
+    all_but_the_leader_lag, config_is_that_of_the_snapshot, each_member_stands_once,
+    members_stand_by_name, nobody_is_listed_without_the_key, patroni_tells_the_role,
+    timelines_rise,
+};
+pub use patroni::patroni_text;
+
+#[cfg(test)]
+mod tests;
