@@ -33,7 +33,8 @@ pub fn standbys_serve_as_named()
     ensures named { (view : AgentView) (seen : Option SnapshotFacts) (lag : Option (List ℕ))
         → IsOkWhere (health_of_view paths.Synchronous view seen lag) (TakesLoad view × IsNamed view seen) }
     ensures unnamed { (view : AgentView) (seen : Option SnapshotFacts) (lag : Option (List ℕ))
-        → IsOkWhere (health_of_view paths.Asynchronous view seen lag) (TakesLoad view × (IsNamed view seen → ⊥) × KeepsUp view seen lag) }
+        → IsOkWhere (health_of_view paths.Asynchronous view seen lag)
+        (TakesLoad view × (IsNamed view seen → ⊥) × KeepsUp view seen lag) }
 {}
 
 /// `/liveness` is healthy exactly where a turn of this run began, and the last one at most the ttl ago on a primary, and at most twice the
@@ -51,8 +52,8 @@ pub fn refused_values_set_no_limit()
 
 /// The lag of a query counts on `/replica`, `/async` and `/asynchronous` alone.
 pub fn lag_counts_on_three_paths()
-    ensures { (endpoint : Endpoint) (view : AgentView) (seen : Option SnapshotFacts) (lag other : Option (List ℕ)) → counts_lag endpoint ≡ false
-        → health_of_view endpoint view seen lag ≡ health_of_view endpoint view seen other }
+    ensures { (endpoint : Endpoint) (view : AgentView) (seen : Option SnapshotFacts) (lag other : Option (List ℕ))
+        → counts_lag endpoint ≡ false → health_of_view endpoint view seen lag ≡ health_of_view endpoint view seen other }
 {}
 
 /// Who is healthy as a primary is unavailable as a replica, on each of their paths: a balancer finds no member on both sides.

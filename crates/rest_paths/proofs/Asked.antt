@@ -1,5 +1,5 @@
 -- What is asked for at paths with a query, and at unknown ones.
-use Rattle.std.proofs.Common.{◌≡◌, ℕ, ◌+◌, not, Bool, true, false, cond, List, [], ◌∷◌, ◌++◌, take, Option, Some, None, suc, arith, refl, ap, sym, subst, ◌∙◌}
+use Rattle.std.proofs.Common.{◌≡◌, ℕ, ◌+◌, not, Bool, true, false, cond, List, [], ◌∷◌, codes, ◌++◌, take, Option, Some, None, suc, arith, refl, ap, sym, subst, ◌∙◌}
 use Rattle.std.specs.List.{IsDistinct}
 use Rattle.std.specs.Map.{keys_of}
 use Rattle.std.specs.Option.{IsSome}
@@ -26,10 +26,10 @@ path-by true byte n m longer target same = take-next n byte longer ∙ (ap (λ r
 path-by false byte n m longer target same = refl
 
 -- the path stands before the first question mark
-pub path_of-query : (target query : List ℕ) → path_of (target ++ 63 ∷ query) ≡ path_of target
+pub path_of-query : (target query : List ℕ) → path_of (target ++ (codes "?" ++ query)) ≡ path_of target
 path_of-query [] query = refl
 path_of-query (byte ∷ target) query =
-    path-by (not (is_query_sign byte)) byte _ _ (target ++ 63 ∷ query) target (path_of-query target query)
+    path-by (not (is_query_sign byte)) byte _ _ (target ++ (codes "?" ++ query)) target (path_of-query target query)
 
 unknown-by : (found : Option Resource) (verb : Verb) (path : List ℕ) → resource_at path ≡ found → (IsKnown path → ⊥) → ask_where verb found ≡ NotFound
 unknown-by None verb path is unknown = refl

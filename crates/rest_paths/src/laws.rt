@@ -30,7 +30,8 @@ pub fn known_paths_are_found()
 
 /// Each path of the table stands for what its row says: no two rows have one path.
 pub fn paths_stand_for_themselves()
-    ensures found { (path : List ℕ) (resource : Resource) → Contains path_table (path, resource) → resource_at path ≡ Some resource }
+    ensures found { (path : List ℕ) (resource : Resource)
+        → Contains path_table (path, resource) → resource_at path ≡ Some resource }
     ensures distinct { IsDistinct bytes_eq (keys_of path_table) }
 {}
 
