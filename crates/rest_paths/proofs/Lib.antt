@@ -1,0 +1,4 @@
+pub mod Asked
+pub mod Filling
+pub mod Literals
+pub mod Parsing
