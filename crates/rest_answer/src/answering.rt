@@ -4,11 +4,11 @@ ghost use Rattle.rest_request.specs.Requests.{asked_by};
 ghost use Rattle.rest_answer.specs.Answers.{answered, answer_to, answer_by, health_reply};
 ghost use Rattle.rest_answer.specs.Replies.{reply_text};
 
+use crate::Answer;
 use crate::deciding::{call_of, decided};
 use crate::pages::page_reply;
 use crate::replies::{json_reply, status_reply};
 use crate::status::METHOD_NOT_ALLOWED;
-use crate::Answer;
 use cluster_config::AgentView;
 use operator_keys::NOT_FOUND;
 use rest_api::RestCall;

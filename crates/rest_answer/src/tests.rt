@@ -1,0 +1,107 @@
+use super::*;
+use cluster_config::{AgentView, RoleWord};
+use pat_base::{Lsn, MemberId, Name, State, Tags, Ticks};
+use rest_paths::Routes;
+use rest_request::{Request, Verb};
+use std::alloc::{AllocError, Global};
+use std::process::Abort;
+use std::test::Fail;
+
+/// What `/patroni` tells of the member before its first snapshot.
+const PATRONI: &str =
+    "{\"patroni\":{\"name\":\"b\",\"scope\":\"demo\"},\"replication_state\":\"streaming\",\"role\":\"replica\",\"state\":\"running\",\"timeline\":2,\"xlog\":{\"received_location\":83886080,\"replayed_location\":83886080}}";
+
+fn name(rt: &impl Abort, text: &[u8]) -> Name {
+    Name::read(text).expect(rt, "a name")
+}
+
+/// A replica that streams, and whose agent has read nothing of the key store yet.
+fn replica(rt: &impl Abort) -> AgentView<'static> {
+    AgentView {
+        moment: Ticks(7),
+        scope: name(rt, b"demo"),
+        me: MemberId { number: 1 },
+        name: name(rt, b"b"),
+        tags: Tags {
+            nofailover: false,
+            nosync: false,
+            noloadbalance: false,
+            failover_priority: 1,
+        },
+        state: State::Replica,
+        timeline: 2,
+        end: Some(Lsn {
+            position: 83_886_080,
+        }),
+        receives: true,
+        diverged: false,
+        was_primary: false,
+        role: RoleWord::Follower,
+        seen: None,
+        last_read: None,
+        last_turn: None,
+        hold: None,
+        waits: false,
+    }
+}
+
+fn request(alloc: Global, method: Verb, target: &str) -> Result<Request, AllocError> {
+    Ok(Request {
+        method,
+        target: String::from_str(alloc, target)?,
+        body: Vec::new(alloc),
+    })
+}
+
+#[test]
+fn a_replica_answers(rt: HostRuntime) -> Result<(), Fail> {
+    let view = replica(&rt);
+    let routes = Routes::new(rt.alloc())?;
+    let cases: [(Verb, &str, u16, bool, &str); 8] = [
+        (Verb::Get, "/nothing", 404, false, ""),
+        (Verb::Post, "/primary", 405, false, ""),
+        (Verb::Head, "/patroni", 405, false, ""),
+        (Verb::Get, "/primary", 503, true, PATRONI),
+        (Verb::Head, "/replica?lag=1", 200, false, ""),
+        (Verb::Get, "/cluster", 503, false, "No key store answer yet"),
+        (
+            Verb::Delete,
+            "/switchover",
+            404,
+            false,
+            "No scheduled switchover",
+        ),
+        (
+            Verb::Patch,
+            "/config",
+            503,
+            false,
+            "No key store answer yet",
+        ),
+    ];
+    for (method, target, status, json, body) in cases {
+        let request = request(rt.alloc(), method, target)?;
+        match answer(rt.alloc(), &view, &routes, &request)? {
+            Answer::Now(reply) => {
+                assert_eq!(rt; reply.status, status, "{target}");
+                assert_eq!(rt; reply.json, json, "{target}");
+                assert_eq!(rt; reply.body.as_slice(), body.as_bytes(), "{target}");
+            }
+            Answer::Act(_) => assert!(rt; false, "{target}"),
+        }
+    }
+    Ok(())
+}
+
+#[test]
+fn a_replica_restarts(rt: HostRuntime) -> Result<(), Fail> {
+    let routes = Routes::new(rt.alloc())?;
+    let request = request(rt.alloc(), Verb::Post, "/restart")?;
+    match answer(rt.alloc(), &replica(&rt), &routes, &request)? {
+        Answer::Act(_) => Ok(()),
+        Answer::Now(_) => {
+            assert!(rt; false, "the agent is to restart its server");
+            Ok(())
+        }
+    }
+}
