@@ -21,8 +21,8 @@ use Rattle.rest_paths.specs.declared.resource.Operation.TheVariants as operation
 use Rattle.rest_paths.specs.Asking.{ask_of}
 use Rattle.rest_request.specs.Requests.{Asked}
 use Rattle.rest_request.specs.Targets.{lag_of, path_of}
-use Rattle.rest_answer.specs.declared.answer.Answer.{Answer}
-use Rattle.rest_answer.specs.declared.answer.Answer.TheVariants as answers
+use Rattle.rest_answer.specs.declared.answers.Answer.{Answer}
+use Rattle.rest_answer.specs.declared.answers.Answer.TheVariants as ways
 use Rattle.rest_answer.specs.Pages.{page_reply}
 use Rattle.rest_answer.specs.Replies.{ReplyText, json_of, reply_text, status_alone, text_of}
 use Rattle.rest_answer.specs.Statuses.{method_not_allowed}
@@ -34,8 +34,8 @@ pub data Answered : Type 0 where
 
 -- what an answer tells
 abbrev pub answered : Answer → Answered
-answered (answers.Now reply) = Replies (reply_text reply)
-answered (answers.Act request) = Acts request
+answered (ways.Now reply) = Replies (reply_text reply)
+answered (ways.Act request) = Acts request
 
 -- it is a reply at once
 abbrev pub IsReplied : Answered → Type 0
