@@ -2,9 +2,11 @@
 ghost use Rattle.std.specs.Prelude.{ℕ, ◌≡◌, ◌≤◌, ◌+◌, true, false, All, List, Option, Some, None, codes, count_by, map, IsSortedBy, if◌then◌else◌};
 ghost use Rattle.std.specs.List.Sorted.{IsStrictlySortedBy};
 ghost use Rattle.std.specs.Ordering.{nat_cmp};
-ghost use Rattle.serde_json.specs.Data.{boolean, object, string, no_members};
+ghost use Rattle.serde_json.specs.Data.{boolean, string, no_members};
 ghost use Rattle.serde_json.specs.Find.{get_member};
 ghost use Rattle.json_build.specs.Members.{natural};
+ghost use Rattle.pat_base.specs.Host.{host_bytes};
+ghost use Rattle.pat_base.specs.Name.{name_bytes};
 ghost use Rattle.pat_base.specs.declared.host.Host.{Host};
 ghost use Rattle.pat_base.specs.declared.lsn.Lsn.{Lsn};
 ghost use Rattle.pat_base.specs.declared.member_id.MemberId.{MemberId};
@@ -15,14 +17,13 @@ ghost use Rattle.lease_store.specs.declared.value.HistoryRow.{HistoryRow};
 ghost use Rattle.lease_store.specs.declared.value.KeyEntry.{KeyEntry};
 ghost use Rattle.lease_store.specs.declared.value.MemberInfo.{MemberInfo};
 ghost use Rattle.lease_store.specs.declared.value.Value.TheVariants as values;
-ghost use Rattle.cluster_config.specs.KeyValues.{config_in};
 ghost use Rattle.cluster_config.specs.Snapshots.{IsRead, SnapshotFacts, entry_in, failsafe_in};
 ghost use Rattle.cluster_config.specs.declared.view.AgentView.{AgentView};
 ghost use Rattle.rest_pages.specs.Cluster.{lag_data, leads, row_members};
 ghost use Rattle.rest_pages.specs.Configuration.{config_text};
-ghost use Rattle.rest_pages.specs.Failsafe.{failsafe_data};
+ghost use Rattle.rest_pages.specs.Failsafe.{host_members, listed_of, lists_member};
 ghost use Rattle.rest_pages.specs.History.{endings};
-ghost use Rattle.rest_pages.specs.Laws.{is_row_of};
+ghost use Rattle.rest_pages.specs.Laws.{HasOwnName, is_row_of};
 ghost use Rattle.rest_pages.specs.Patroni.{is_sync_standby, patroni_members_of, role_text};
 ghost use Rattle.rest_pages.specs.Rows.{declared_in, is_before, row_in, rows_of, info_in};
 ghost use Rattle.rest_pages.specs.declared.cluster.ClusterKeys.{ClusterKeys};
@@ -70,8 +71,12 @@ pub fn config_is_that_of_the_snapshot()
         → (found : KeyEntry) × (config : Settings) × (entry_in keys.Config snapshot ≡ Some found) × (found.value ≡ values.Config config) × (config_text snapshot ≡ config.text) }
 {}
 
-/// `/failsafe` is an object without members where failsafe mode is on and the failsafe key is absent.
-pub fn nobody_is_listed_without_the_key()
-    ensures { (snapshot : SnapshotFacts) → (config_in snapshot).failsafe_mode ≡ true → failsafe_in snapshot ≡ None
-        → failsafe_data snapshot ≡ Some (object no_members) }
+/// `/failsafe` has the host of a member at its name just where the failsafe key lists it, if no other member has that name; and it has
+/// nobody's where the key is absent.
+pub fn failsafe_has_who_is_listed()
+    ensures listed { (snapshot : SnapshotFacts) (member : MemberId) (declared : Name × Host)
+        → declared_in snapshot member ≡ Some declared → HasOwnName snapshot member
+        → get_member (name_bytes declared.0) (host_members (listed_of snapshot (failsafe_in snapshot)))
+        ≡ (if lists_member (failsafe_in snapshot) member then Some (string (host_bytes declared.1)) else None) }
+    ensures nobody { (snapshot : SnapshotFacts) → failsafe_in snapshot ≡ None → host_members (listed_of snapshot (failsafe_in snapshot)) ≡ no_members }
 {}
