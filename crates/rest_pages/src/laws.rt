@@ -26,6 +26,7 @@ ghost use Rattle.rest_pages.specs.History.{endings};
 ghost use Rattle.rest_pages.specs.Laws.{HasOwnName, is_row_of};
 ghost use Rattle.rest_pages.specs.Patroni.{is_sync_standby, patroni_members_of, role_text};
 ghost use Rattle.rest_pages.specs.Rows.{declared_in, is_before, row_in, rows_of, info_in};
+ghost use Rattle.rest_pages.specs.Standbys.{names_standby};
 ghost use Rattle.rest_pages.specs.declared.cluster.ClusterKeys.{ClusterKeys};
 ghost use Rattle.rest_pages.specs.declared.rows.Row.{Row};
 
@@ -50,6 +51,17 @@ pub fn all_but_the_leader_lag()
         → get_member (codes "lag") (row_members keys row) ≡ Some (lag_data keys.status row.info.end) }
     ensures behind { (status end : Lsn) (lag : ℕ) → end.position + lag ≡ status.position → lag_data (Some status) (Some end) ≡ natural lag }
     ensures ahead { (status end : Lsn) → status.position ≤ end.position → lag_data (Some status) (Some end) ≡ natural 0 }
+{}
+
+/// In `/cluster` a member is told as the leader where the leader key names it, and else as a synchronous standby just where the sync key
+/// names it as standby.
+pub fn roles_are_those_of_the_keys()
+    ensures leader { (keys : ClusterKeys) (row : Row) → leads row.member keys.leader ≡ true
+        → get_member (codes "role") (row_members keys row) ≡ Some (string (codes "leader")) }
+    ensures standby { (keys : ClusterKeys) (row : Row) → leads row.member keys.leader ≡ false → names_standby keys.sync row.member ≡ true
+        → get_member (codes "role") (row_members keys row) ≡ Some (string (codes "sync_standby")) }
+    ensures replica { (keys : ClusterKeys) (row : Row) → leads row.member keys.leader ≡ false → names_standby keys.sync row.member ≡ false
+        → get_member (codes "role") (row_members keys row) ≡ Some (string (codes "replica")) }
 {}
 
 /// The timelines rise in `/history`.
