@@ -20,7 +20,7 @@ ghost use Rattle.lease_store.specs.declared.value.Value.TheVariants as values;
 ghost use Rattle.cluster_config.specs.Snapshots.{IsRead, SnapshotFacts, entry_in, failsafe_in};
 ghost use Rattle.cluster_config.specs.declared.view.AgentView.{AgentView};
 ghost use Rattle.rest_pages.specs.Cluster.{lag_data, leads, row_members};
-ghost use Rattle.rest_pages.specs.Configuration.{config_text};
+ghost use Rattle.rest_pages.specs.Configuration.{configuration_text};
 ghost use Rattle.rest_pages.specs.Failsafe.{host_members, listed_of, lists_member};
 ghost use Rattle.rest_pages.specs.History.{endings};
 ghost use Rattle.rest_pages.specs.Laws.{HasOwnName, is_row_of};
@@ -80,7 +80,7 @@ pub fn patroni_tells_the_role()
 /// `/config` answers the text of the configuration that the snapshot has, which each has that was read.
 pub fn config_is_that_of_the_snapshot()
     ensures { (snapshot : SnapshotFacts) → IsRead snapshot.entries
-        → (found : KeyEntry) × (config : Settings) × (entry_in keys.Config snapshot ≡ Some found) × (found.value ≡ values.Config config) × (config_text snapshot ≡ config.text) }
+        → (found : KeyEntry) × (config : Settings) × (entry_in keys.Config snapshot ≡ Some found) × (found.value ≡ values.Config config) × (configuration_text snapshot ≡ config.text) }
 {}
 
 /// `/failsafe` has the host of a member at its name just where the failsafe key lists it, if no other member has that name; and it has
