@@ -1,3 +1,4 @@
+pub mod Listing
 pub mod Placing
 pub mod Standing
 pub mod Texts

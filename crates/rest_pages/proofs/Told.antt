@@ -40,6 +40,20 @@ leader-has-none keys row is = lag-of-row keys row ∙ rw is refl
 pub others-have-one : (keys : ClusterKeys) (row : Row) → leads row.member keys.leader ≡ false → get_member (codes "lag") (row_members keys row) ≡ Some (lag_data keys.status row.info.end)
 others-have-one keys row is = lag-of-row keys row ∙ rw is refl
 
+-- what stands at `role` in the row of a member, by whether it leads
+role-at : (leader : Bool) (timeline : Option ℕ) (state role name lag host : Data)
+    → get_member (codes "role") (with_timeline timeline (put (codes "state") state (put (codes "role") role (put (codes "name") name
+    (if leader then put (codes "host") host no_members else put (codes "lag") lag (put (codes "host") host no_members))))))
+    ≡ Some role
+role-at true None state role name lag host = refl
+role-at true (Some timeline) state role name lag host = refl
+role-at false None state role name lag host = refl
+role-at false (Some timeline) state role name lag host = refl
+
+pub role-of-row : (keys : ClusterKeys) (row : Row) → get_member (codes "role") (row_members keys row) ≡ Some (string (member_role keys row.member))
+role-of-row keys row =
+    role-at (leads row.member keys.leader) row.info.timeline (string (word_text row.info.state)) (string (member_role keys row.member)) (string (name_bytes row.name)) (lag_data keys.status row.info.end) (string (host_bytes row.info.host))
+
 true-false : true ≡ false → ⊥
 true-false e = cc
 

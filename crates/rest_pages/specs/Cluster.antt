@@ -57,7 +57,7 @@ row_members keys row =
     (put (codes "host") (string (host_bytes row.info.host))
     no_members)))))
 
--- the same as an object
+-- what the page has of a member, as an object
 abbrev pub row_data : ClusterKeys → Row → Data
 row_data keys row = object (row_members keys row)
 
@@ -65,7 +65,7 @@ row_data keys row = object (row_members keys row)
 abbrev pub cluster_rows : SnapshotFacts → List Data
 cluster_rows snapshot = map (row_data (keys_in snapshot)) (rows_of snapshot)
 
--- the members of the page
+-- the page, as the members of an object
 abbrev pub cluster_members : SnapshotFacts → Members
 cluster_members snapshot =
     put (codes "scope") (string (name_bytes snapshot.scope))

@@ -17,5 +17,5 @@ text_of_entry None = []
 text_of_entry (Some found) = text_by found.value
 
 -- the text of the configuration
-abbrev pub config_text : SnapshotFacts → List ℕ
-config_text snapshot = text_of_entry (entry_in keys.Config snapshot)
+abbrev pub configuration_text : SnapshotFacts → List ℕ
+configuration_text snapshot = text_of_entry (entry_in keys.Config snapshot)

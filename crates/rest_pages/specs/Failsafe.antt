@@ -24,11 +24,12 @@ lists_member (Some members) member = is_one_of member members
 abbrev pub listed_in : SnapshotFacts → Option MemberSet → MemberId → Option (Name × Host)
 listed_in snapshot members member = if lists_member members member then declared_in snapshot member else None
 
--- the name and the host of the member of this number, where the set lists it
+-- the name and the host of a member, if there is one and the set lists it
 abbrev pub listed_by : SnapshotFacts → Option MemberSet → Option MemberId → Option (Name × Host)
 listed_by snapshot members None = None
 listed_by snapshot members (Some member) = listed_in snapshot members member
 
+-- the name and the host of the member of this number, where the set lists it
 abbrev pub listed_numbered : SnapshotFacts → Option MemberSet → ℕ → Option (Name × Host)
 listed_numbered snapshot members number = listed_by snapshot members (member_of number)
 

@@ -24,7 +24,7 @@ abbrev pub ended_by : Value → Option HistoryRow
 ended_by (values.History row) = Some row
 ended_by _ = None
 
--- the same by a key with its entry
+-- how a timeline ended, by a key with its entry, if that is a row of the history
 abbrev pub ended_of : Key × KeyEntry → Option HistoryRow
 ended_of pair = ended_by pair.1.value
 
@@ -42,10 +42,10 @@ abbrev pub ending_items : SnapshotFacts → HistoryRow → List Data
 ending_items snapshot row =
     with_leader (natural row.timeline ∷ natural row.at.position ∷ string end_reason ∷ natural row.tick.0 ∷ []) (declared_in snapshot row.leader)
 
--- the same as a list of JSON
+-- a row of the page, as a list
 abbrev pub ending_data : SnapshotFacts → HistoryRow → Data
 ending_data snapshot row = array (items_of (ending_items snapshot row))
 
--- the items of the page
+-- the page, as the items of a list
 abbrev pub history_items : SnapshotFacts → List Data
 history_items snapshot = map (ending_data snapshot) (endings snapshot)

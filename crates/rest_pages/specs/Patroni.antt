@@ -81,7 +81,7 @@ abbrev pub with_xlog : State → Option Lsn → Members → Members
 with_xlog state None members = members
 with_xlog state (Some end) members = with_position state end members
 
--- the members of the page, by what the agent shows and by its newest snapshot, if it has one
+-- the page, by what the agent shows and by its newest snapshot, if it has one, as the members of an object
 abbrev pub patroni_members_of : AgentView → Option SnapshotFacts → Members
 patroni_members_of view seen =
     with_xlog view.state view.end
@@ -96,6 +96,6 @@ patroni_members_of view seen =
     (with_last_read view.last_read
     no_members)))))))))
 
--- the members of the page
+-- the page, as the members of an object
 abbrev pub patroni_members : AgentView → Members
 patroni_members view = patroni_members_of view (option_copied view.seen)

@@ -17,7 +17,7 @@ use Rattle.lease_store.specs.declared.value.Value.TheVariants as values
 use Rattle.cluster_config.specs.Snapshots.{SnapshotFacts, entry_in}
 use Rattle.rest_pages.specs.declared.rows.Row.{Row}
 
--- with what was found, if something was
+-- what there was, with what was found added, if something was
 abbrev pub with_found : {A B : Type 0} → (B → A → B) → B → Option A → B
 with_found add before None = before
 with_found add before (Some found) = add before found

@@ -1,13 +1,13 @@
 //! `/config`: the configuration (Patroni documentation, "Patroni REST API", "Config endpoint").
 ghost use Rattle.std.specs.Prelude.{◌≡◌, option_copied};
-ghost use Rattle.rest_pages.specs.Configuration.{text_by, text_of_entry, config_text};
+ghost use Rattle.rest_pages.specs.Configuration.{text_by, text_of_entry, configuration_text};
 
 use cluster_config::Snapshot;
 use lease_store::{Key, KeyEntry, Value};
 
 /// The body of `/config`: the text of the configuration, as it stands in the key store.
 pub fn config_text(snapshot: &Snapshot) -> &str
-    ensures { result.now ≡ config_text snapshot.now }
+    ensures { result.now ≡ configuration_text snapshot.now }
 {
     text_of_entry(snapshot.entry(Key::Config))
 }

@@ -2,9 +2,11 @@
 ghost use Rattle.std.specs.Prelude.{ℕ, ◌≡◌, ◌≤◌, ◌+◌, true, false, All, List, Option, Some, None, codes, count_by, map, IsSortedBy, if◌then◌else◌};
 ghost use Rattle.std.specs.List.Sorted.{IsStrictlySortedBy};
 ghost use Rattle.std.specs.Ordering.{nat_cmp};
-ghost use Rattle.serde_json.specs.Data.{boolean, object, string, no_members};
+ghost use Rattle.serde_json.specs.Data.{boolean, string, no_members};
 ghost use Rattle.serde_json.specs.Find.{get_member};
 ghost use Rattle.json_build.specs.Members.{natural};
+ghost use Rattle.pat_base.specs.Host.{host_bytes};
+ghost use Rattle.pat_base.specs.Name.{name_bytes};
 ghost use Rattle.pat_base.specs.declared.host.Host.{Host};
 ghost use Rattle.pat_base.specs.declared.lsn.Lsn.{Lsn};
 ghost use Rattle.pat_base.specs.declared.member_id.MemberId.{MemberId};
@@ -15,16 +17,16 @@ ghost use Rattle.lease_store.specs.declared.value.HistoryRow.{HistoryRow};
 ghost use Rattle.lease_store.specs.declared.value.KeyEntry.{KeyEntry};
 ghost use Rattle.lease_store.specs.declared.value.MemberInfo.{MemberInfo};
 ghost use Rattle.lease_store.specs.declared.value.Value.TheVariants as values;
-ghost use Rattle.cluster_config.specs.KeyValues.{config_in};
 ghost use Rattle.cluster_config.specs.Snapshots.{IsRead, SnapshotFacts, entry_in, failsafe_in};
 ghost use Rattle.cluster_config.specs.declared.view.AgentView.{AgentView};
 ghost use Rattle.rest_pages.specs.Cluster.{lag_data, leads, row_members};
-ghost use Rattle.rest_pages.specs.Configuration.{config_text};
-ghost use Rattle.rest_pages.specs.Failsafe.{failsafe_data};
+ghost use Rattle.rest_pages.specs.Configuration.{configuration_text};
+ghost use Rattle.rest_pages.specs.Failsafe.{host_members, listed_of, lists_member};
 ghost use Rattle.rest_pages.specs.History.{endings};
-ghost use Rattle.rest_pages.specs.Laws.{is_row_of};
+ghost use Rattle.rest_pages.specs.Laws.{HasOwnName, is_row_of};
 ghost use Rattle.rest_pages.specs.Patroni.{is_sync_standby, patroni_members_of, role_text};
 ghost use Rattle.rest_pages.specs.Rows.{declared_in, is_before, row_in, rows_of, info_in};
+ghost use Rattle.rest_pages.specs.Standbys.{names_standby};
 ghost use Rattle.rest_pages.specs.declared.cluster.ClusterKeys.{ClusterKeys};
 ghost use Rattle.rest_pages.specs.declared.rows.Row.{Row};
 
@@ -51,6 +53,17 @@ pub fn all_but_the_leader_lag()
     ensures ahead { (status end : Lsn) → status.position ≤ end.position → lag_data (Some status) (Some end) ≡ natural 0 }
 {}
 
+/// In `/cluster` a member is told as the leader where the leader key names it, and else as a synchronous standby just where the sync key
+/// names it as standby.
+pub fn roles_are_those_of_the_keys()
+    ensures leader { (keys : ClusterKeys) (row : Row) → leads row.member keys.leader ≡ true
+        → get_member (codes "role") (row_members keys row) ≡ Some (string (codes "leader")) }
+    ensures standby { (keys : ClusterKeys) (row : Row) → leads row.member keys.leader ≡ false → names_standby keys.sync row.member ≡ true
+        → get_member (codes "role") (row_members keys row) ≡ Some (string (codes "sync_standby")) }
+    ensures replica { (keys : ClusterKeys) (row : Row) → leads row.member keys.leader ≡ false → names_standby keys.sync row.member ≡ false
+        → get_member (codes "role") (row_members keys row) ≡ Some (string (codes "replica")) }
+{}
+
 /// The timelines rise in `/history`.
 pub fn timelines_rise()
     ensures { (snapshot : SnapshotFacts) → IsRead snapshot.entries → IsStrictlySortedBy nat_cmp (map (λ row. row.timeline) (endings snapshot)) }
@@ -67,11 +80,15 @@ pub fn patroni_tells_the_role()
 /// `/config` answers the text of the configuration that the snapshot has, which each has that was read.
 pub fn config_is_that_of_the_snapshot()
     ensures { (snapshot : SnapshotFacts) → IsRead snapshot.entries
-        → (found : KeyEntry) × (config : Settings) × (entry_in keys.Config snapshot ≡ Some found) × (found.value ≡ values.Config config) × (config_text snapshot ≡ config.text) }
+        → (found : KeyEntry) × (config : Settings) × (entry_in keys.Config snapshot ≡ Some found) × (found.value ≡ values.Config config) × (configuration_text snapshot ≡ config.text) }
 {}
 
-/// `/failsafe` is an object without members where failsafe mode is on and the failsafe key is absent.
-pub fn nobody_is_listed_without_the_key()
-    ensures { (snapshot : SnapshotFacts) → (config_in snapshot).failsafe_mode ≡ true → failsafe_in snapshot ≡ None
-        → failsafe_data snapshot ≡ Some (object no_members) }
+/// `/failsafe` has the host of a member at its name just where the failsafe key lists it, if no other member has that name; and it has
+/// nobody's where the key is absent.
+pub fn failsafe_has_who_is_listed()
+    ensures listed { (snapshot : SnapshotFacts) (member : MemberId) (declared : Name × Host)
+        → declared_in snapshot member ≡ Some declared → HasOwnName snapshot member
+        → get_member (name_bytes declared.0) (host_members (listed_of snapshot (failsafe_in snapshot)))
+        ≡ (if lists_member (failsafe_in snapshot) member then Some (string (host_bytes declared.1)) else None) }
+    ensures nobody { (snapshot : SnapshotFacts) → failsafe_in snapshot ≡ None → host_members (listed_of snapshot (failsafe_in snapshot)) ≡ no_members }
 {}

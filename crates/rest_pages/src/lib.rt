@@ -17,8 +17,8 @@ pub use failsafe::failsafe_text;
 pub use history::history_text;
 pub use laws::{
     all_but_the_leader_lag, config_is_that_of_the_snapshot, each_member_stands_once,
-    members_stand_by_name, nobody_is_listed_without_the_key, patroni_tells_the_role,
-    timelines_rise,
+    failsafe_has_who_is_listed, members_stand_by_name, patroni_tells_the_role,
+    roles_are_those_of_the_keys, timelines_rise,
 };
 pub use patroni::patroni_text;
 

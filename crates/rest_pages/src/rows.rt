@@ -12,7 +12,7 @@ use std::alloc::{AllocError, Global};
 #[derive(Clone, Copy, Debug, PartialEq, Eq)]
 pub(crate) struct Row {
     pub member: MemberId,
-    /// Its name, as the script declares it.
+    /// Its name, by the cluster's list of members.
     pub name: Name,
     /// What it tells of itself.
     pub info: MemberInfo,

@@ -127,8 +127,20 @@ fn ended(timeline: u64, tick: u64, leader: MemberId) -> HistoryRow
     }
 }
 
+/// What a read gives of a cluster of a and b with the default configuration, and with no other key.
+fn quiet(rt: &impl Abort, alloc: Global) -> Snapshot {
+    let members = [
+        (name(rt, b"a"), Host::local()),
+        (name(rt, b"b"), Host::local()),
+    ];
+    let config = ConfigValue::defaults(alloc).expect(rt, "memory");
+    let entries = vec![in alloc; (Key::Config, entry(Value::Config(config)))];
+    let entries = entries.expect(rt, "memory");
+    Snapshot::read(alloc, name(rt, b"demo"), &members, entries).expect(rt, "memory")
+}
+
 /// What the agent of b shows, whose server is a replica that receives.
-fn shown(rt: &impl Abort) -> AgentView<'static> {
+fn shown<'a>(rt: &impl Abort, seen: &'a Snapshot) -> AgentView<'a> {
     AgentView {
         moment: Ticks(50),
         scope: name(rt, b"demo"),
@@ -142,7 +154,7 @@ fn shown(rt: &impl Abort) -> AgentView<'static> {
         diverged: false,
         was_primary: false,
         role: RoleWord::Follower,
-        seen: None,
+        seen: Some(seen),
         last_read: Some(Ticks(2)),
         last_turn: Some(Ticks(2)),
         hold: None,
@@ -152,11 +164,47 @@ fn shown(rt: &impl Abort) -> AgentView<'static> {
 
 #[test]
 fn what_a_replica_tells(rt: HostRuntime) -> Result<(), Fail> {
-    let text = patroni_text(rt.alloc(), &shown(&rt))?;
+    let snapshot = quiet(&rt, rt.alloc());
+    let text = patroni_text(rt.alloc(), &shown(&rt, &snapshot))?;
     has_text(
         &rt,
         text.as_str(),
         r#"{"dcs_last_seen":2,"patroni":{"name":"b","scope":"demo"},"replication_state":"streaming","role":"replica","state":"running","timeline":2,"xlog":{"received_location":83886080,"replayed_location":83886080}}"#,
+    );
+    Ok(())
+}
+
+/// A primary without a snapshot, and a standby with tags in a pause, whose server starts.
+#[test]
+fn what_others_tell(rt: HostRuntime) -> Result<(), Fail> {
+    let snapshot = cluster(&rt, rt.alloc());
+    let mut view = shown(&rt, &snapshot);
+    view.state = State::Primary;
+    view.seen = None;
+    let text = patroni_text(rt.alloc(), &view)?;
+    has_text(
+        &rt,
+        text.as_str(),
+        r#"{"dcs_last_seen":2,"patroni":{"name":"b","scope":"demo"},"role":"master","state":"running","timeline":2,"xlog":{"location":83886080}}"#,
+    );
+    let mut view = shown(&rt, &snapshot);
+    view.me = C;
+    view.tags = Tags {
+        nofailover: true,
+        nosync: false,
+        noloadbalance: false,
+        failover_priority: -1,
+    };
+    view.state = State::Starting {
+        as_primary: false,
+        at: Ticks(60),
+    };
+    view.last_read = None;
+    let text = patroni_text(rt.alloc(), &view)?;
+    has_text(
+        &rt,
+        text.as_str(),
+        r#"{"patroni":{"name":"b","scope":"demo"},"pause":true,"role":"replica","state":"starting","sync_standby":true,"tags":{"failover_priority":-1,"nofailover":true},"timeline":2}"#,
     );
     Ok(())
 }
