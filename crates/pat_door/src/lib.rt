@@ -1,0 +1,10 @@
+//! Where connections come from, for a program that serves one agent's REST interface: in memory, or on a TCP socket.
+#![tactic(auto)]
+
+mod answers;
+mod door;
+mod memory;
+mod unread;
+
+pub use door::Door;
+pub use memory::MemoryDoor;
