@@ -3,8 +3,10 @@
 
 mod answers;
 mod door;
+mod listener;
 mod memory;
 mod unread;
 
 pub use door::Door;
+pub use listener::ListenerDoor;
 pub use memory::MemoryDoor;
