@@ -10,3 +10,6 @@ mod unread;
 pub use door::Door;
 pub use listener::ListenerDoor;
 pub use memory::MemoryDoor;
+
+#[cfg(test)]
+mod tests;

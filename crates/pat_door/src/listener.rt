@@ -139,3 +139,6 @@ impl<R: Net + Drop> Door for ListenerDoor<R> {
         self.shut();
     }
 }
+
+#[cfg(test)]
+mod tests;
