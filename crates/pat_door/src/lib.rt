@@ -3,11 +3,13 @@
 
 mod answers;
 mod door;
+mod laws;
 mod listener;
 mod memory;
 mod unread;
 
 pub use door::Door;
+pub use laws::{earlier_answers_stay, pieces_make_the_whole};
 pub use listener::ListenerDoor;
 pub use memory::MemoryDoor;
 
