@@ -3,7 +3,7 @@ use Rattle.std.specs.Prelude.{ℕ, ◌-◌, ◌≤◌, List, [], ◌∷◌, take
 use Rattle.pat_door.specs.Doors.{DoorFacts}
 
 -- the connections and the answers, the room left for answers, the numbers of the calls that are to fail, and how many calls and faults there were
-pub record Hall : Type 0 where
+pub record DoorState : Type 0 where
   pub facts : DoorFacts
   pub room : ℕ
   pub fails : List ℕ
@@ -12,7 +12,7 @@ pub record Hall : Type 0 where
   pub line_faults : ℕ
 
 -- the answers so far, the room left for their bytes, and how many more may begin
-pub record Answered : Type 0 where
+pub record AnswerState : Type 0 where
   pub answers : List (List ℕ)
   pub room : ℕ
   pub unbegun : ℕ

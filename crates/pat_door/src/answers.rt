@@ -17,9 +17,9 @@ pub struct Answers {
 
 impl Model for Answers {
     ghost use Rattle.std.specs.Prelude.{◌≤◌, ◌-◌, length, vec_len, vec_capacity};
-    ghost use Rattle.pat_door.specs.Memory.{Answered, AreInOrder, cut_at};
+    ghost use Rattle.pat_door.specs.Memory.{AnswerState, AreInOrder, cut_at};
 
-    ghost Value = { Answered };
+    ghost Value = { AnswerState };
 
     ghost view = { λ s. record { answers = cut_at s.starts.items s.bytes.items; room = s.room - vec_len s.bytes; unbegun = s.most - vec_len s.starts } };
 

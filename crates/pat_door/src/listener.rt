@@ -54,24 +54,24 @@ fn listen<R: Net>(net: &R, address: &[u8]) -> Option<R::Listener> {
 }
 
 /// The next connection that comes to a listener.
-fn next_stream<L: OpenListener>(listener: &Option<L>) -> Option<L::Stream> {
-    let (stream, _) = listener.as_ref()?.accept().ok()?;
+fn next_stream<L: OpenListener>(listener: Option<&L>) -> Option<L::Stream> {
+    let (stream, _) = listener?.accept().ok()?;
     Some(stream)
 }
 
 /// How many bytes were read. `None`: the call failed, or there is no connection.
-fn read_some<S: Read>(stream: &mut Option<S>, buf: &mut [u8]) -> Option<usize>
+fn read_some<S: Read>(stream: Option<&mut S>, buf: &mut [u8]) -> Option<usize>
     ensures { IfSome result (λ count. count ≤ length buf.old) }
 {
-    stream.as_mut()?.read(buf).ok()
+    stream?.read(buf).ok()
 }
 
 /// How many bytes were written. `None`: the call failed or took nothing of a piece that has bytes, or there is no connection.
-fn write_some<S: Write>(stream: &mut Option<S>, piece: &[u8]) -> Option<usize>
+fn write_some<S: Write>(stream: Option<&mut S>, piece: &[u8]) -> Option<usize>
     ensures within { IfSome result (λ count. count ≤ length piece.now) }
     ensures some { IfSome result (λ count. 0 < length piece.now → 0 < count) }
 {
-    match stream.as_mut()?.write(piece) {
+    match stream?.write(piece) {
         Ok(count) if count > 0 || piece.is_empty() => Some(count),
         _ => None,
     }
@@ -102,7 +102,7 @@ impl<R: Net + Drop> Door for ListenerDoor<R> {
     }
 
     fn accept(&mut self) -> Result<(), Failed> {
-        match next_stream(&self.listener) {
+        match next_stream(self.listener.as_ref()) {
             Some(stream) => {
                 self.shut();
                 self.stream = Some(stream);
@@ -116,7 +116,7 @@ impl<R: Net + Drop> Door for ListenerDoor<R> {
     }
 
     fn read(&mut self, buf: &mut [u8]) -> Result<usize, Failed> {
-        match read_some(&mut self.stream, buf) {
+        match read_some(self.stream.as_mut(), buf) {
             Some(count) => Ok(count),
             None => {
                 self.line_faults = self.line_faults.saturating_add(1);
@@ -126,7 +126,7 @@ impl<R: Net + Drop> Door for ListenerDoor<R> {
     }
 
     fn write(&mut self, piece: &[u8]) -> Result<usize, Failed> {
-        match write_some(&mut self.stream, piece) {
+        match write_some(self.stream.as_mut(), piece) {
             Some(count) => Ok(count),
             None => {
                 self.line_faults = self.line_faults.saturating_add(1);

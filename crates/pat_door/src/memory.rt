@@ -12,10 +12,10 @@ use std::alloc::{AllocError, Global};
 use std::collections::VecDeque;
 use std::marker::Model;
 
-/// Connections that come in order, and what is answered on them. It gives as much as fits, takes a whole piece at each
-/// call, and listens at any address. It fails exactly at the calls of the listed numbers, counted from 1 over `open`,
-/// `accept`, `read` and `write`; for `accept` with no connection left, also while one is accepted; for `read` and `write`
-/// without an accepted connection; and for a piece longer than the room left.
+/// Connections that come in order, and what is answered on them. It listens at any address, gives as much as fits, and takes
+/// a whole piece at each call. It fails exactly at the calls of the listed numbers, counted from 1 over `open`, `accept`,
+/// `read` and `write`; for `accept` with no connection left; for `read` and `write` without an accepted connection; and for
+/// a piece longer than the room left. To accept while a connection is accepted is no fault: it ends that one.
 #[derive(Drop)]
 pub struct MemoryDoor {
     coming: VecDeque<Vec<u8>>,
@@ -30,9 +30,9 @@ pub struct MemoryDoor {
 impl Model for MemoryDoor {
     ghost use Rattle.std.specs.Prelude.{◌≤◌, map};
     ghost use Rattle.std.specs.VecDeque.{deque_len};
-    ghost use Rattle.pat_door.specs.Memory.{Hall};
+    ghost use Rattle.pat_door.specs.Memory.{DoorState};
 
-    ghost Value = { Hall };
+    ghost Value = { DoorState };
 
     ghost view = { λ s. record {
       facts = record { coming = map (λ v. v.items) s.coming.items; here = s.here; answered = s.answers.answers };

@@ -1,6 +1,6 @@
 use Rattle.std.proofs.Common.{ℕ, ◌≡◌, ◌<◌, ◌+◌, List, length, arith, slice_get, slice_range, unwrap_or, Option, Some, None, sym, ◌∙◌, ap, subst}
 use Rattle.std.proofs.lemmas.Option.{slice_get_within}
-use Rattle.pat_door.specs.Memory.{Answered, AreInOrder}
+use Rattle.pat_door.specs.Memory.{AnswerState, AreInOrder}
 use Rattle.pat_door.proofs.Cuts.{IsPart, cut_at-part, cut_at-none}
 use Rattle.pat_door.proofs.answers.Answers.get.Goals as goal
 
@@ -14,7 +14,7 @@ part-between starts first second bytes all n start end found next order is-first
 pub returns-in_err-start : goal.returns-in_err-start
 returns-in_err-start c =
     let none : slice_get c.self.inside.starts.items c.args.number ≡ None = sym (ap (λ (t : List _). slice_get t c.args.number) c.deref.ensures.value) ∙ sym c.place_at.ensures ∙ c.in_err-start.was {u = tt} in
-    let P : Answered → Type 0 = λ a. None ≡ slice_get a.answers c.args.number in
+    let P : AnswerState → Type 0 = λ a. None ≡ slice_get a.answers c.args.number in
     rw c.from_residual.ensures (subst P c.self.view_is (sym (cut_at-none c.self.inside.starts.items c.self.inside.bytes.items c.args.number none)))
 
 pub overflow_add-number : goal.overflow_add-number
@@ -37,5 +37,5 @@ pub returns : goal.returns
 returns c =
     let there = part-between _ _ _ _ _ c.args.number _ _ _ _ c.self.invariant.0 c.deref.ensures.value c.deref-2.ensures.value c.as_slice-bytes.ensures.value
     c.place_at.ensures (c.in_ok-start.was {u = tt}) c.place_at-2.ensures c.unwrap_or-end.ensures in
-    let P : Answered → Type 0 = λ a. Some c.part.result.now ≡ slice_get a.answers c.args.number in
+    let P : AnswerState → Type 0 = λ a. Some c.part.result.now ≡ slice_get a.answers c.args.number in
     subst P c.self.view_is (ap Some c.part.ensures ∙ ap (λ (t : List ℕ). Some (slice_range t c.in_ok-start.start c.unwrap_or-end.result)) c.as_slice-bytes.ensures.value ∙ sym there.is)
