@@ -27,7 +27,7 @@ abbrev pub cut_at : List ℕ → List ℕ → List (List ℕ)
 cut_at [] bytes = []
 cut_at (start ∷ more) bytes = cut_from start more bytes
 
--- none of the places lies before the one that it follows, and none past the end
+-- from this place on no place lies before the one that it follows, and none past the end
 abbrev pub AreInOrderFrom : ℕ → List ℕ → ℕ → Type 0
 AreInOrderFrom start [] end = start ≤ end
 AreInOrderFrom start (next ∷ more) end = (start ≤ next) × AreInOrderFrom next more end

@@ -24,7 +24,7 @@ pub trait Door {
     // There is a present connection: the next so many bytes written on it are taken without a fault, and no read of it fails.
     ghost takes: { Self → ℕ → Type 0 };
 
-    /// Begins to listen at an address, as `127.0.0.1:8008`.
+    /// Begins to listen at an address, as `127.0.0.1:8008`. It fails where that can't be had.
     fn open(&mut self, address: &[u8]) -> Result<(), Failed>
         ensures same { told self.new ≡ told self.old }
         ensures failed { OnErr result (Rose (door_faults self.old) (door_faults self.new)) }
@@ -33,7 +33,8 @@ pub trait Door {
         ensures served { (n : ℕ) → serves self.old n → IsOk result × serves self.new n };
 
     /// Waits for the next connection, and makes it the present one, with an empty answer. Where one is accepted already, that
-    /// one ends: what it still had to bring is lost, and what was answered on it stays.
+    /// one ends: what it still had to bring is lost, and what was answered on it stays. It fails where none can be had, and
+    /// then the present one stays.
     fn accept(&mut self) -> Result<(), Failed>
         ensures some { OnOk result (Tells (told self.old) (λ facts. 0 < length facts.coming)) }
         ensures after { OnOk result (Tells (told self.old) (λ facts. told self.new ≡ Some (after_accept facts))) }

@@ -1,7 +1,5 @@
 //! The trusted edge: a TCP listener as a door. It tells nothing of what comes or of what was answered.
-ghost use Rattle.std.specs.Prelude.{ℕ, ◌≡◌, ◌<◌, ◌≤◌, ◌+◌, ◌-◌, length, take, None, Some, IfOk, IfSome, IsOk, IsSome, IsOkAnd, OnOk, OnErr};
-ghost use Rattle.pat_base.specs.Outside.{Known, Rose};
-ghost use Rattle.pat_door.specs.Doors.{Tells, bytes_here, after_accept, after_read, after_write, after_hang_up};
+ghost use Rattle.std.specs.Prelude.{◌≡◌, ◌<◌, ◌≤◌, length, None, IfSome};
 
 use crate::Door;
 use pat_base::Failed;
@@ -9,8 +7,8 @@ use std::io::{Read, Write};
 use std::net::{Net, OpenListener, OpenStream, Shutdown, TcpListener};
 use std::str;
 
-/// A door over a TCP listener of the network `R`. Each error is a fault, and so are an address that is no UTF-8, a call that
-/// comes before the one that it needs, and a write of 0 bytes of a piece that has some.
+/// A door over a TCP listener of the network `R`. Each error is a fault, and so are an address that is no UTF-8, an `accept`
+/// before it listens, a `read` or a `write` without an accepted connection, and a write of 0 bytes of a piece that has some.
 #[derive(Drop)]
 pub struct ListenerDoor<R: Net + Drop> {
     net: R,
@@ -36,7 +34,7 @@ impl<R: Net + Drop> ListenerDoor<R> {
         }
     }
 
-    /// Shuts the present connection, where there is one. Nobody is told where that fails: the connection is given up.
+    /// Shuts the present connection, where there is one. An error of that is no fault: nothing more is done with it.
     fn shut(&mut self)
         ensures door { self.new.door_faults ≡ self.old.door_faults }
         ensures line { self.new.line_faults ≡ self.old.line_faults }
