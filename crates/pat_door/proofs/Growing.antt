@@ -1,5 +1,5 @@
 -- Answers that grow piece by piece, and connections that are read piece by piece.
-use Rattle.std.proofs.Common.{ℕ, ◌≡◌, ◌+◌, List, [], ◌∷◌, ◌++◌, drop, Option, Some, None, option_map, refl, ap, append_assoc, drop-drop}
+use Rattle.std.proofs.Common.{ℕ, ◌≡◌, ◌+◌, List, [], ◌∷◌, ◌++◌, drop, Option, Some, None, option_map, refl, ap, append_assoc, append-nil, drop-drop}
 use Rattle.pat_door.specs.Doors.{DoorFacts, grow_last, grow_last_from, after_read, after_write}
 
 -- a piece goes to the end of the last answer, and the others stay
@@ -13,6 +13,18 @@ grow_last-last piece (first ∷ more) answer = grow_last_from-last piece first m
 
 pub after_write-last : (facts : DoorFacts) (piece : List ℕ) (earlier : List (List ℕ)) (answer : List ℕ) → facts.answered ≡ earlier ++ answer ∷ [] → (after_write piece facts).answered ≡ earlier ++ (answer ++ piece) ∷ []
 after_write-last facts piece earlier answer is = rw is (grow_last-last piece earlier answer)
+
+-- a piece of nothing changes nothing
+pub grow_last_from-nothing : (first : List ℕ) (more : List (List ℕ)) → grow_last_from [] first more ≡ first ∷ more
+grow_last_from-nothing first [] = ap (λ t. t ∷ []) (append-nil first)
+grow_last_from-nothing first (second ∷ more) = ap (λ t. first ∷ t) (grow_last_from-nothing second more)
+
+pub grow_last-nothing : (answers : List (List ℕ)) → grow_last [] answers ≡ answers
+grow_last-nothing [] = refl
+grow_last-nothing (first ∷ more) = grow_last_from-nothing first more
+
+pub after_write-nothing : (facts : DoorFacts) → after_write [] facts ≡ facts
+after_write-nothing facts = ap (λ t. record facts { answered = t }) (grow_last-nothing facts.answered)
 
 -- two pieces are as good as one
 pub grow_last_from-twice : (piece then first : List ℕ) (more : List (List ℕ)) → grow_last then (grow_last_from piece first more) ≡ grow_last_from (piece ++ then) first more

@@ -9,8 +9,9 @@ pub fn earlier_answers_stay()
         → (after_write piece facts).answered ≡ earlier ++ (answer ++ piece) ∷ [] }
 {}
 
-/// It doesn't matter in how many pieces a connection is answered, or read.
+/// It doesn't matter in how many pieces a connection is answered, or read; and a piece of nothing changes nothing.
 pub fn pieces_make_the_whole()
+    ensures nothing { (facts : DoorFacts) → after_write [] facts ≡ facts }
     ensures written { (facts : DoorFacts) (piece next : List ℕ) → after_write next (after_write piece facts) ≡ after_write (piece ++ next) facts }
     ensures read { (facts : DoorFacts) (count more : ℕ) → after_read more (after_read count facts) ≡ after_read (count + more) facts }
 {}
