@@ -1,6 +1,6 @@
 //! Where connections come from, by three meanings: two counts of faults that never fall and, where they are told, the
 //! connections to come and what was answered.
-ghost use Rattle.std.specs.Prelude.{ℕ, ◌≡◌, ◌<◌, ◌≤◌, ◌+◌, ◌-◌, length, take, Option, Some, IfOk, IsOk, IsSome, IsOkAnd, OnOk, OnErr};
+ghost use Rattle.std.specs.Prelude.{ℕ, ◌≡◌, ◌<◌, ◌≤◌, ◌-◌, length, take, Option, Some, IfOk, IsOk, IsSome, IsOkAnd, OnOk, OnErr};
 ghost use Rattle.pat_base.specs.Outside.{Known, Rose};
 ghost use Rattle.pat_door.specs.Doors.{DoorFacts, Tells, bytes_here, after_accept, after_read, after_write, after_hang_up};
 
@@ -42,7 +42,7 @@ pub trait Door {
         ensures failed { OnErr result (Rose (door_faults self.old) (door_faults self.new)) }
         ensures grows { door_faults self.old ≤ door_faults self.new }
         ensures line { line_faults self.new ≡ line_faults self.old }
-        ensures served { (n : ℕ) → serves self.old (n + 1) → IsOk result × serves self.new n };
+        ensures served { (n : ℕ) → serves self.old n → 0 < n → IsOk result × serves self.new (n - 1) };
 
     /// Reads some of the next bytes of the present connection into the front of the buffer, and answers how many. A call with
     /// a buffer that isn't empty answers 0 exactly at the end of what the connection brings, where that is told. It fails

@@ -1,5 +1,5 @@
 //! A door in memory, with the calls that are to fail: for tests and for callers that embed the program.
-ghost use Rattle.std.specs.Prelude.{ℕ, ◌≡◌, ◌<◌, ◌≤◌, ◌+◌, ◌-◌, ◌↔◌, ◌⊎◌, [], length, map, take, Some, None, Contains, min, IfOk, IsOk, IsSome, IsOkAnd, IsErr, IsTrue, OnOk, OnErr, option_copied, slice_get};
+ghost use Rattle.std.specs.Prelude.{ℕ, ◌≡◌, ◌<◌, ◌≤◌, ◌-◌, ◌↔◌, ◌⊎◌, [], length, map, take, Some, None, Contains, min, IfOk, IsOk, IsSome, IsOkAnd, IsErr, IsTrue, OnOk, OnErr, option_copied, slice_get};
 ghost use Rattle.pat_base.specs.Outside.{Known, Rose};
 ghost use Rattle.pat_base.specs.Memory.{counted};
 ghost use Rattle.pat_door.specs.Doors.{Tells, bytes_here, after_accept, after_read, after_write, after_hang_up};
@@ -148,8 +148,8 @@ impl Door for MemoryDoor {
         ensures failed { OnErr result (Rose self.old.door_faults self.new.door_faults) }
         ensures grows { self.old.door_faults ≤ self.new.door_faults }
         ensures line { self.new.line_faults ≡ self.old.line_faults }
-        ensures served { (n : ℕ) → (self.old.fails ≡ []) × (n + 1 ≤ length self.old.facts.coming)
-            → IsOk result × ((self.new.fails ≡ []) × (n ≤ length self.new.facts.coming)) }
+        ensures served { (n : ℕ) → (self.old.fails ≡ []) × (n ≤ length self.old.facts.coming) → 0 < n
+            → IsOk result × ((self.new.fails ≡ []) × (n - 1 ≤ length self.new.facts.coming)) }
 
         // Beyond a door's promise: which calls fail, and all that each call leaves.
         ensures fails { IsErr result ↔ ((Contains self.old.fails (counted self.old.calls)) ⊎ (self.old.facts.coming ≡ [])) }
