@@ -1,0 +1,38 @@
+-- What a door in memory holds.
+use Rattle.std.specs.Prelude.{ℕ, ◌-◌, ◌≤◌, List, [], ◌∷◌, take, drop}
+use Rattle.pat_door.specs.Doors.{DoorFacts}
+
+-- the connections and the answers, the room left for answers, the numbers of the calls that are to fail, and how many calls and faults there were
+pub record DoorState : Type 0 where
+  pub facts : DoorFacts
+  pub room : ℕ
+  pub fails : List ℕ
+  pub calls : ℕ
+  pub door_faults : ℕ
+  pub line_faults : ℕ
+
+-- the answers so far, the room left for their bytes, and how many more may begin
+pub record AnswerState : Type 0 where
+  pub answers : List (List ℕ)
+  pub room : ℕ
+  pub unbegun : ℕ
+
+-- the bytes from one place to the next of these places, from that to the one after it, and from the last to the end
+abbrev pub cut_from : ℕ → List ℕ → List ℕ → List (List ℕ)
+cut_from start [] bytes = drop start bytes ∷ []
+cut_from start (next ∷ more) bytes = take (next - start) (drop start bytes) ∷ cut_from next more bytes
+
+-- the bytes from each of these places to the next, and from the last to the end
+abbrev pub cut_at : List ℕ → List ℕ → List (List ℕ)
+cut_at [] bytes = []
+cut_at (start ∷ more) bytes = cut_from start more bytes
+
+-- from this place on no place lies before the one that it follows, and none past the end
+abbrev pub AreInOrderFrom : ℕ → List ℕ → ℕ → Type 0
+AreInOrderFrom start [] end = start ≤ end
+AreInOrderFrom start (next ∷ more) end = (start ≤ next) × AreInOrderFrom next more end
+
+-- none of the places lies before the one that it follows, and none past the end
+abbrev pub AreInOrder : List ℕ → ℕ → Type 0
+AreInOrder [] end = Unit {0}
+AreInOrder (start ∷ more) end = AreInOrderFrom start more end
