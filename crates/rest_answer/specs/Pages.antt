@@ -9,7 +9,7 @@ use Rattle.operator_keys.specs.AnswerTexts.{answer_text}
 use Rattle.operator_keys.specs.declared.answer_text.Text.TheVariants.{NoStoreAnswer}
 use Rattle.operator_keys.specs.Statuses.{ok, service_unavailable}
 use Rattle.rest_pages.specs.Cluster.{cluster_members}
-use Rattle.rest_pages.specs.Configuration.{config_text}
+use Rattle.rest_pages.specs.Configuration.{configuration_text}
 use Rattle.rest_pages.specs.Failsafe.{failsafe_data}
 use Rattle.rest_pages.specs.History.{history_items}
 use Rattle.rest_pages.specs.Patroni.{patroni_members_of}
@@ -37,7 +37,7 @@ history_reply seen = json_of ok (compact_text (array (items_of (history_items se
 
 -- the configuration, as it was written
 abbrev pub config_reply : SnapshotFacts → ReplyText
-config_reply seen = json_of ok (config_text seen)
+config_reply seen = json_of ok (configuration_text seen)
 
 -- these members of the failsafe key; nobody where the mode is off
 abbrev pub members_reply : Option Data → ReplyText
