@@ -10,6 +10,7 @@ use Rattle.operator_keys.specs.declared.refusal.Refused.{Refused}
 use Rattle.operator_keys.specs.Statuses.{not_found}
 use Rattle.rest_api.specs.declared.call.RestCall.{RestCall}
 use Rattle.rest_api.specs.declared.call.RestCall.TheVariants as calls
+use Rattle.rest_api.specs.Calls.{request_words}
 use Rattle.rest_api.specs.Decisions.{decision_on_call}
 use Rattle.rest_facts.specs.Checks.{health_of_view}
 use Rattle.rest_health.specs.declared.endpoint.Endpoint.{Endpoint}
@@ -21,6 +22,7 @@ use Rattle.rest_paths.specs.declared.resource.Operation.TheVariants as operation
 use Rattle.rest_paths.specs.Asking.{ask_of}
 use Rattle.rest_request.specs.Requests.{Asked}
 use Rattle.rest_request.specs.Targets.{lag_of, path_of}
+use Rattle.rest_request.specs.Verbs.{verb_of}
 use Rattle.rest_answer.specs.declared.answers.Answer.{Answer}
 use Rattle.rest_answer.specs.declared.answers.Answer.TheVariants as ways
 use Rattle.rest_answer.specs.Pages.{page_reply}
@@ -73,3 +75,7 @@ answer_by view seen lag body asks.DropSwitchover = decided (decision_on_call vie
 -- what is answered to a request
 abbrev pub answer_to : AgentView → Option SnapshotFacts → Asked → Answered
 answer_to view seen asked = answer_by view seen (lag_of asked.target) asked.content (ask_of asked.verb (path_of asked.target))
+
+-- what a call asks with this content, as a client would
+abbrev pub asked_in : RestCall → List ℕ → Asked
+asked_in call body = record { verb = verb_of (request_words call).0; target = (request_words call).1; content = body }
