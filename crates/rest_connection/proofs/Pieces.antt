@@ -1,8 +1,12 @@
 -- What a connection asks, read piece by piece.
-use Rattle.std.proofs.Common.{ℕ, ◌≡◌, ◌≢◌, ◌⊎◌, inl, inr, ◌<◌, ◌≤◌, ◌+◌, nat_lt, Bool, true, false, List, [], ◌∷◌, ◌++◌, length, map, take, drop, Option, Some, None, option_map, Result, Ok, Err, IsErrAnd, arith, refl, ap, sym, ◌∙◌, subst, length-append, length-take, length-drop, take-append-drop, take_all}
+use Rattle.std.proofs.Common.{ℕ, zero, suc, ◌≡◌, ◌≢◌, ◌⊎◌, inl, inr, ◌<◌, ◌≤◌, ◌+◌, nat_lt, Bool, true, false, List, [], ◌∷◌, ◌++◌, length, map, take, drop, Option, Some, None, option_map, Result, Ok, Err, IsErrAnd, IsSome, IsTrue, arith, refl, ap, sym, ◌∙◌, subst, length-append, length-take, length-drop, take-append-drop, take_all}
 use Rattle.std.specs.Str.Parse.{digits_value}
 use Rattle.std.proofs.lemmas.Bool.{ltb-true, ltb-false}
-use Rattle.httparse.specs.Grammar.{RequestHead, print_request, EndsInTarget}
+use Rattle.std.specs.Prelude.{codes}
+use Rattle.std.specs.Str.{IsAscii}
+use Rattle.std.proofs.lemmas.Str.{IsUtf8-from_ascii}
+use Rattle.std.proofs.lemmas.List.Elements.{All-nil, All-cons}
+use Rattle.httparse.specs.Grammar.{RequestHead, IsRequestHead, HasNoRequest, IsField, lf, is_token_byte, is_uri_byte, print_request, EndsInTarget}
 use Rattle.httparse.specs.Spans.{name_and_value}
 use Rattle.httparse.proofs.GrammarLemmas.{request_unique, ReadsRequest-append}
 use Rattle.pat_base.specs.Outside.{Known}
@@ -15,7 +19,7 @@ use Rattle.rest_request.specs.declared.request.Request.{Request}
 use Rattle.rest_request.specs.declared.request.RequestFault.{RequestFault}
 use Rattle.rest_request.specs.declared.request.RequestFault.TheVariants.{BadHead, TooLong, BadLength, Memory}
 use Rattle.rest_request.specs.ContentLength.{within_limit, is_decimal, length_by_all, length_values, content_length}
-use Rattle.rest_request.specs.Requests.{Asked, asked_by}
+use Rattle.rest_request.specs.Requests.{Asked, asked_by, answer_seen}
 use Rattle.rest_request.specs.Reading.{Begun, Whole, Incomplete, Malformed, IsBegun, head_room, behind, answer_by, answer_of, Reads}
 use Rattle.rest_request.proofs.Readings.{one-thing, stays}
 use Rattle.rest_connection.specs.declared.asking.TheConstants.{PIECE}
@@ -31,6 +35,7 @@ most-read = HEAD_LIMIT + (BODY_LIMIT + PIECE)
 pub record Reading {D : Type 0} (door : Ghosts D) (before after : D) (bytes : List ℕ) : Type 0 where
   pub facts : Tells (door.told before) (λ facts. door.told after ≡ Some (after_read (length bytes) facts))
   pub read : HasRead (bytes_here (door.told before)) (bytes_here (door.told after)) (door.line_faults before) (door.line_faults after) bytes most-read
+  pub present : 0 < length bytes → Tells (door.told before) (λ facts. IsSome facts.here)
   pub calm : door.door_faults after ≡ door.door_faults before
   pub served : (n : ℕ) → door.serves before n → door.serves after n
   pub reliable : (n : ℕ) → door.takes before n → door.takes after n
@@ -54,12 +59,22 @@ pub here-after : (before after : Option DoorFacts) (count : ℕ) → Tells befor
 here-after None after count had all is = cc
 here-after (Some facts) after count had all is = ap bytes_here (had facts refl) ∙ ap (option_map (drop count)) is
 
+-- what was present after a read was so before
+here-before : (count : ℕ) (here : Option (List ℕ)) → IsSome (option_map (drop count) here) → IsSome here
+here-before count None is = is
+here-before count (Some bytes) is = cc
+
+pub present-before : (before mid : Option DoorFacts) (count : ℕ) → Tells before (λ facts. mid ≡ Some (after_read count facts))
+    → Tells mid (λ facts. IsSome facts.here) → Tells before (λ facts. IsSome facts.here)
+present-before before mid count had is facts told = here-before count facts.here (is (after_read count facts) (had facts told))
+
 -- one more piece was read, as its call says
 pub record ReadsPiece {D : Type 0} (door : Ghosts D) (mid after : D) (bytes longer : List ℕ) (count : ℕ) : Type 0 where
   pub within : count ≤ PIECE
   pub added : length longer ≡ length bytes + count
   pub bytes_are : Known (bytes_here (door.told mid)) (λ all. (count ≤ length all) × (longer ≡ bytes ++ take count all))
   pub facts : Tells (door.told mid) (λ facts. door.told after ≡ Some (after_read count facts))
+  pub present : Tells (door.told mid) (λ facts. IsSome facts.here)
   pub grows : door.line_faults mid ≤ door.line_faults after
   pub calm : door.door_faults after ≡ door.door_faults mid
   pub served : (n : ℕ) → door.serves mid n → door.serves after n
@@ -72,6 +87,7 @@ reading-more door before mid after bytes longer count had short more = record {
   read = HasRead-more _ _ _ _ _ _ _ _ _ _ had.read
       (record { added = more.added; bytes_are = more.bytes_are; after = here-after _ _ count more.facts })
       (omega (arith, more.within, short)) more.grows;
+  present = λ some. present-before _ _ (length bytes) had.facts more.present;
   calm = more.calm ∙ had.calm;
   served = λ n serves. more.served n (had.served n serves);
   reliable = λ n takes. more.reliable n (had.reliable n takes);
@@ -139,6 +155,50 @@ reading_seen (Ok None) = None
 reading_seen (Ok (Some request)) = Some (Ok (asked_by request))
 reading_seen (Err fault) = fault_seen fault
 
+-- a head has a byte
+no-request-yet : HasNoRequest []
+unfolding print_request
+no-request-yet h rest reads = omega (arith, simp length-append at (ap length reads.1), reads.0.method.0)
+
+-- the shortest head
+shortest : RequestHead
+shortest = record { blank = []; method = codes "G"; target = codes "/"; minor = 1; line_end = lf; fields = []; last = lf }
+
+slash-is-ascii : IsAscii (codes "/")
+slash-is-ascii zero = omega arith
+slash-is-ascii (suc i) = omega arith
+
+shortest-is : IsRequestHead shortest
+unfolding shortest is_token_byte
+shortest-is = record {
+  method = (omega arith, All-cons (λ b. IsTrue (is_token_byte b)) _ [] refl (All-nil (λ b. IsTrue (is_token_byte b))));
+  target = (omega arith, All-cons (λ b. IsTrue (is_uri_byte b)) _ [] refl (All-nil (λ b. IsTrue (is_uri_byte b))));
+  target_text = IsUtf8-from_ascii (codes "/") slash-is-ascii;
+  minor = omega arith;
+  fields = All-nil IsField;
+}
+
+-- to no bytes nothing is answered
+nothing-yet : (begun : Begun) → IsBegun [] begun → answer_of [] begun ≡ Ok None
+nothing-yet (Whole h) x = absurd (no-request-yet h x.0 x.1)
+nothing-yet Incomplete x = refl
+nothing-yet Malformed x = absurd (x (print_request shortest ++ []) shortest [] (shortest-is, refl))
+
+unanswered : (result : Result (Option Request) RequestFault) (answer : Result Asked RequestFault) → answer_seen result ≡ Ok None → reading_seen result ≡ Some answer → ⊥
+unanswered (Ok None) answer none is = cc
+unanswered (Ok (Some request)) answer none is = cc
+unanswered (Err fault) answer none is = cc
+
+no-memory : (result : Result (Option Request) RequestFault) (answer : Result Asked RequestFault) → reading_seen result ≡ Some answer → result ≢ Err Memory
+no-memory result answer is e = cc
+
+-- what was answered to bytes was answered to some
+pub answered-some : (bytes : List ℕ) (result : Result (Option Request) RequestFault) (answer : Result Asked RequestFault) → Reads bytes result → reading_seen result ≡ Some answer → 0 < length bytes
+answered-some [] result answer reads is =
+    let begins = reads (no-memory result answer is) in
+    absurd (unanswered result answer (begins.2 ∙ nothing-yet begins.0 begins.1) is)
+answered-some (byte ∷ bytes) result answer reads is = omega arith
+
 -- what was answered to a front is asked by all
 early : (all bytes : List ℕ) (found : Result (Option Asked) RequestFault) (answer : Result Asked RequestFault) → bytes ≡ take (length bytes) all
     → (begun : Begun) × IsBegun bytes begun × (found ≡ answer_of bytes begun) → found ≢ Ok None → answer ≡ at_end found → IsAsked all answer
@@ -163,6 +223,13 @@ asked-by-fault all bytes fault (Ok request) answer front reads fails is = absurd
 asked-by-fault all bytes fault (Err error) answer front reads fails is =
     let same : error ≡ Bytes fault = fails in
     asked-early all bytes (Err fault) answer front reads (rw same at is)
+
+pub fault-answered-some : (bytes : List ℕ) (fault : RequestFault) (result : Result Request AskError) (answer : Result Asked RequestFault)
+    → Reads bytes (Err fault) → IsErrAnd result (λ error. error ≡ Bytes fault) → seen result ≡ Some answer → 0 < length bytes
+fault-answered-some bytes fault (Ok request) answer reads fails is = absurd fails
+fault-answered-some bytes fault (Err error) answer reads fails is =
+    let same : error ≡ Bytes fault = fails in
+    answered-some bytes (Err fault) answer reads (rw same at is)
 
 -- want of memory and a failed read tell nothing
 pub unseen : (error : AskError) (result : Result Request AskError) (answer : Result Asked RequestFault) → (error ≡ Bytes Memory) ⊎ (error ≡ Line)

@@ -1,5 +1,5 @@
 -- Bytes that are written on a connection piece by piece.
-use Rattle.std.proofs.Common.{ℕ, ◌≡◌, ◌≤◌, ◌+◌, ◌-◌, List, [], ◌++◌, length, take, drop, Option, Some, arith, refl, ap, sym, ◌∙◌, take-add, length-drop, take-append-drop, take_all}
+use Rattle.std.proofs.Common.{ℕ, ◌≡◌, ◌≤◌, ◌<◌, ◌+◌, ◌-◌, List, [], ◌++◌, length, take, drop, Option, Some, IsSome, arith, refl, ap, sym, ◌∙◌, take-add, length-drop, take-append-drop, take_all}
 use Rattle.pat_base.proofs.Contents.{slice_rest}
 use Rattle.pat_door.specs.Doors.{DoorFacts, Tells, after_write}
 use Rattle.pat_door.specs.declared.door.Door.{Ghosts}
@@ -10,6 +10,7 @@ use Rattle.rest_connection.specs.Answers.{WritesFront}
 pub record Written {D : Type 0} (door : Ghosts D) (before after : D) (bytes : List ℕ) (at : ℕ) : Type 0 where
   pub within : at ≤ length bytes
   pub grew : Tells (door.told before) (λ facts. door.told after ≡ Some (after_write (take at bytes) facts))
+  pub present : 0 < at → Tells (door.told before) (λ facts. IsSome facts.here)
   pub grows : door.line_faults before ≤ door.line_faults after
   pub calm : door.door_faults after ≡ door.door_faults before
   pub served : (n : ℕ) → door.serves before n → door.serves after n

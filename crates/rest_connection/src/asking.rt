@@ -59,6 +59,7 @@ impl From<Failed> for AskError {
 /// unless they end within a target that never becomes whole. Some bytes behind the request may be read too, and are lost.
 pub fn read_request_from<D: Door>(alloc: Global, door: &mut D) -> Result<Request, AskError>
     ensures asked { Known (bytes_here (D.told door.old)) (λ all. (answer : Result Asked RequestFault) → seen result ≡ Some answer → IsAsked all answer) }
+    ensures present { (answer : Result Asked RequestFault) → seen result ≡ Some answer → Tells (D.told door.old) (λ facts. IsSome facts.here) }
     ensures left { Tells (D.told door.old) (λ facts. (count : ℕ) × (count ≤ HEAD_LIMIT + (BODY_LIMIT + PIECE)) × (D.told door.new ≡ Some (after_read count facts))) }
     ensures failed { IsErrOf result Line → Rose (D.line_faults door.old) (D.line_faults door.new) }
     ensures grows { D.line_faults door.old ≤ D.line_faults door.new }

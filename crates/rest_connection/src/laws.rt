@@ -8,7 +8,7 @@ ghost use Rattle.rest_request.specs.Requests.{Asked};
 ghost use Rattle.rest_connection.specs.Connections.{IsAsked};
 
 /// However a connection cuts its bytes, they ask one thing. Only where there are more of them than a head may have, and
-/// those within that limit end within a target, may there be two answers, and both are faults.
+/// those within that limit end within a target, may they ask one thing or another.
 pub fn cuts_change_nothing()
     ensures { (all : List ℕ) (one other : Result Asked RequestFault) → IsAsked all one → IsAsked all other
         → (one ≡ other) ⊎ (EndsInTarget (head_room all) × (HEAD_LIMIT < length all)) }

@@ -1,5 +1,5 @@
 //! What is answered on a connection.
-ghost use Rattle.std.specs.Prelude.{ℕ, ◌≡◌, ◌≢◌, ◌≤◌, ◌-◌, ◌++◌, List, length, Some, Result, Err, IsOk, MatchResult, OnOk, OnErr, IsErrOf};
+ghost use Rattle.std.specs.Prelude.{ℕ, ◌≡◌, ◌≢◌, ◌≤◌, ◌<◌, ◌-◌, length, Some, Result, Err, IsOk, IsSome, MatchResult, OnOk, OnErr, IsErrOf};
 ghost use Rattle.pat_base.specs.Outside.{Rose};
 ghost use Rattle.pat_door.specs.Doors.{Tells, after_write};
 ghost use Rattle.rest_reply.specs.Replies.{reply_bytes};
@@ -48,6 +48,7 @@ pub fn write_reply_to<D: Door>(
     head_only: bool,
 ) -> Result<(), ReplyError>
     ensures written { OnOk result (Tells (D.told door.old) (λ facts. D.told door.new ≡ Some (after_write (reply_bytes reply.now head_only) facts))) }
+    ensures present { OnOk result (Tells (D.told door.old) (λ facts. IsSome facts.here)) }
     ensures front { OnErr result (WritesFront (D.told door.old) (D.told door.new) (reply_bytes reply.now head_only)) }
     ensures memory { IsErrOf result Memory → (D.told door.new ≡ D.told door.old) × (D.line_faults door.new ≡ D.line_faults door.old) }
     ensures failed { IsErrOf result Line → Rose (D.line_faults door.old) (D.line_faults door.new) }
@@ -65,6 +66,7 @@ pub fn write_reply_to<D: Door>(
 /// Writes all bytes on the present connection.
 fn write_whole<D: Door>(door: &mut D, bytes: &[u8]) -> Result<(), Failed>
     ensures written { OnOk result (Tells (D.told door.old) (λ facts. D.told door.new ≡ Some (after_write bytes.now facts))) }
+    ensures present { 0 < length bytes.now → OnOk result (Tells (D.told door.old) (λ facts. IsSome facts.here)) }
     ensures front { OnErr result (WritesFront (D.told door.old) (D.told door.new) bytes.now) }
     ensures failed { OnErr result (Rose (D.line_faults door.old) (D.line_faults door.new)) }
     ensures grows { D.line_faults door.old ≤ D.line_faults door.new }

@@ -1,5 +1,5 @@
 use Rattle.std.proofs.Common.{length, arith, Ok, Some}
-use Rattle.rest_connection.proofs.Pieces.{asked-early, asked-by-fault, asked-at-end, unseen, left-more, reading-more, still-wanted}
+use Rattle.rest_connection.proofs.Pieces.{asked-early, asked-by-fault, asked-at-end, unseen, answered-some, fault-answered-some, left-more, present-before, reading-more, still-wanted}
 use Rattle.rest_connection.proofs.asking.read_request_from.Goals as goal
 
 pub returns-in_err-request-clause-asked : goal.returns-in_err-request-clause-asked
@@ -7,16 +7,30 @@ returns-in_err-request-clause-asked g c all is answer seen_is =
     asked-by-fault all c.loop-bytes.bytes.items c.in_err-request.field-0.0 c.from_residual.result answer (c.loop-bytes.invariant.read.front all is).1
     (rw c.deref.ensures.value at c.in_err-request.ensures) c.from_residual.ensures.1 seen_is
 
+pub returns-in_err-request-clause-present : goal.returns-in_err-request-clause-present
+returns-in_err-request-clause-present g c answer seen_is =
+    c.loop-bytes.invariant.present
+    (fault-answered-some c.loop-bytes.bytes.items c.in_err-request.field-0.0 c.from_residual.result answer (rw c.deref.ensures.value at c.in_err-request.ensures) c.from_residual.ensures.1 seen_is)
+
 pub returns-in-Some-clause-asked : goal.returns-in-Some-clause-asked
 returns-in-Some-clause-asked g c all is answer seen_is =
     asked-early all c.loop-bytes.bytes.items (Ok (Some c.in-Some.request)) answer (c.loop-bytes.invariant.read.front all is).1
     (rw (c.deref.ensures.value, c.in-Some.is) at c.in_ok-request.ensures) seen_is
+
+pub returns-in-Some-clause-present : goal.returns-in-Some-clause-present
+returns-in-Some-clause-present g c answer seen_is =
+    c.loop-bytes.invariant.present
+    (answered-some c.loop-bytes.bytes.items (Ok (Some c.in-Some.request)) answer (rw (c.deref.ensures.value, c.in-Some.is) at c.in_ok-request.ensures) seen_is)
 
 pub returns-in-Some-clause-left : goal.returns-in-Some-clause-left
 returns-in-Some-clause-left g c facts is = (length c.loop-bytes.bytes.items, c.loop-bytes.invariant.read.within, c.loop-bytes.invariant.facts facts is)
 
 pub returns-in_err-read_more-clause-asked : goal.returns-in_err-read_more-clause-asked
 returns-in_err-read_more-clause-asked g c all is answer seen_is =
+    absurd (unseen c.in_err-read_more.field-0.0 c.from_residual-in_err-read_more.result answer c.in_err-read_more.ensures.errors c.from_residual-in_err-read_more.ensures.1 seen_is)
+
+pub returns-in_err-read_more-clause-present : goal.returns-in_err-read_more-clause-present
+returns-in_err-read_more-clause-present g c answer seen_is =
     absurd (unseen c.in_err-read_more.field-0.0 c.from_residual-in_err-read_more.result answer c.in_err-read_more.ensures.errors c.from_residual-in_err-read_more.ensures.1 seen_is)
 
 pub returns-in_err-read_more-clause-left : goal.returns-in_err-read_more-clause-left
@@ -29,6 +43,10 @@ returns-then-branch-eq0-clause-asked g c all is answer seen_is =
     asked-at-end all c.loop-bytes.bytes.items answer (c.loop-bytes.invariant.read.front all is).1
     (c.in_ok-read_more.ensures.end _ (c.loop-bytes.invariant.read.rest all is) c.if-branch-eq0.true)
     (rw (c.deref.ensures.value, c.in_default.is) at c.in_ok-request.ensures) cc
+
+pub returns-then-branch-eq0-clause-present : goal.returns-then-branch-eq0-clause-present
+returns-then-branch-eq0-clause-present g c answer seen_is =
+    present-before _ _ (length c.loop-bytes.bytes.items) c.loop-bytes.invariant.facts c.in_ok-read_more.ensures.present
 
 pub returns-then-branch-eq0-clause-left : goal.returns-then-branch-eq0-clause-left
 returns-then-branch-eq0-clause-left g c =
@@ -51,6 +69,7 @@ loop-bytes-preserved g c =
       within = c.in_ok-read_more.ensures.within;
       added = c.in_ok-read_more.ensures.added;
       bytes_are = c.in_ok-read_more.ensures.bytes;
+      present = c.in_ok-read_more.ensures.present;
       facts = c.in_ok-read_more.ensures.after;
       grows = c.read_more.ensures.grows;
       calm = c.read_more.ensures.door;
