@@ -25,7 +25,7 @@ use Rattle.rest_request.proofs.Readings.{one-thing, stays}
 use Rattle.rest_connection.specs.declared.asking.TheConstants.{PIECE}
 use Rattle.rest_connection.specs.declared.asking.AskError.{AskError}
 use Rattle.rest_connection.specs.declared.asking.AskError.TheVariants.{Bytes, Line}
-use Rattle.rest_connection.specs.Connections.{IsAsked, at_end, fault_seen, seen}
+use Rattle.rest_connection.specs.Connections.{IsAsked, LeavesRest, at_end, fault_seen, seen}
 
 -- the most bytes that are read of a connection
 abbrev pub most-read : ℕ
@@ -40,15 +40,8 @@ pub record Reading {D : Type 0} (door : Ghosts D) (before after : D) (bytes : Li
   pub served : (n : ℕ) → door.serves before n → door.serves after n
   pub reliable : (n : ℕ) → door.takes before n → door.takes after n
 
--- a read of nothing changes nothing
-here-same : (here : Option (List ℕ)) → here ≡ option_map (drop 0) here
-here-same None = refl
-here-same (Some bytes) = refl
-
-pub read-nothing : (before after : Option DoorFacts) → after ≡ before → Tells before (λ facts. after ≡ Some (after_read 0 facts))
-read-nothing before after same facts is = same ∙ is ∙ ap (λ (here : Option (List ℕ)). Some (record facts { here = here })) (here-same facts.here)
-
-pub read-more : (before mid after : Option DoorFacts) (count more : ℕ)
+-- two reads are as good as one
+read-more : (before mid after : Option DoorFacts) (count more : ℕ)
     → Tells before (λ facts. mid ≡ Some (after_read count facts)) → Tells mid (λ facts. after ≡ Some (after_read more facts))
     → Tells before (λ facts. after ≡ Some (after_read (count + more) facts))
 read-more before mid after count more had next facts is = next (after_read count facts) (had facts is) ∙ ap Some (after_read-twice facts count more)
@@ -92,14 +85,6 @@ reading-more door before mid after bytes longer count had short more = record {
   served = λ n serves. more.served n (had.served n serves);
   reliable = λ n takes. more.reliable n (had.reliable n takes);
 }
-
--- at most one more piece was taken
-pub left-more : {D : Type 0} (door : Ghosts D) (before mid after : D) (bytes : List ℕ) → Reading door before mid bytes → length bytes < HEAD_LIMIT + BODY_LIMIT
-    → Tells (door.told mid) (λ facts. (count : ℕ) × (count ≤ PIECE) × (door.told after ≡ Some (after_read count facts)))
-    → Tells (door.told before) (λ facts. (count : ℕ) × (count ≤ most-read) × (door.told after ≡ Some (after_read count facts)))
-left-more door before mid after bytes had short more facts is =
-    let next = more (after_read (length bytes) facts) (had.facts facts is) in
-    (length bytes + next.0, omega (arith, next.1, short), next.2 ∙ ap Some (after_read-twice facts (length bytes) next.0))
 
 -- content that is wanted is within its limit
 within-limit : (test : Bool) (value n : ℕ) → nat_lt BODY_LIMIT value ≡ test → within_limit value ≡ Ok n → n ≤ BODY_LIMIT
@@ -248,6 +233,59 @@ asked-at-end all bytes answer front none reads is =
     let begins = reads (λ e. cc) in
     let whole : bytes ≡ all = front ∙ take_all (length bytes) all (omega (arith, length-drop (length bytes) all, none)) in
     subst (λ t. IsAsked t answer) whole (begins.0, begins.1, is ∙ ap at_end begins.2)
+
+-- what was read asks by itself what it was answered
+front-of-itself : (bytes : List ℕ) → bytes ≡ take (length bytes) bytes
+front-of-itself bytes = sym (take_all (length bytes) bytes (omega arith))
+
+here-of : (before : Option DoorFacts) (facts : DoorFacts) (all : List ℕ) → before ≡ Some facts → facts.here ≡ Some all → bytes_here before ≡ Some all
+here-of before facts all is here = ap bytes_here is ∙ here
+
+left-early : {D : Type 0} (door : Ghosts D) (before after : D) (bytes : List ℕ) (told : Option (Result Asked RequestFault)) → Reading door before after bytes
+    → ((answer : Result Asked RequestFault) → told ≡ Some answer → IsAsked bytes answer) → Tells (door.told before) (λ facts. LeavesRest most-read facts (door.told after) told)
+left-early door before after bytes told had own facts is = (
+  length bytes,
+  had.read.within,
+  had.facts facts is,
+  λ all here answer told_is. subst (λ t. IsAsked t answer) (had.read.front all (here-of (door.told before) facts all is here)).1 (own answer told_is),
+)
+
+pub left-request : {D : Type 0} (door : Ghosts D) (before after : D) (bytes : List ℕ) (request : Request) → Reading door before after bytes → Reads bytes (Ok (Some request))
+    → Tells (door.told before) (λ facts. LeavesRest most-read facts (door.told after) (seen (Ok request)))
+left-request door before after bytes request had reads =
+    left-early door before after bytes (seen (Ok request)) had (λ answer told_is. asked-early bytes bytes (Ok (Some request)) answer (front-of-itself bytes) reads told_is)
+
+pub left-fault : {D : Type 0} (door : Ghosts D) (before after : D) (bytes : List ℕ) (fault : RequestFault) (result : Result Request AskError) → Reading door before after bytes
+    → Reads bytes (Err fault) → IsErrAnd result (λ error. error ≡ Bytes fault) → Tells (door.told before) (λ facts. LeavesRest most-read facts (door.told after) (seen result))
+left-fault door before after bytes fault result had reads fails =
+    left-early door before after bytes (seen result) had (λ answer told_is. asked-by-fault bytes bytes fault result answer (front-of-itself bytes) reads fails told_is)
+
+-- at most one more piece was taken, and nothing was told
+pub left-untold : {D : Type 0} (door : Ghosts D) (before mid after : D) (bytes : List ℕ) (told : Option (Result Asked RequestFault)) → Reading door before mid bytes → length bytes < HEAD_LIMIT + BODY_LIMIT
+    → Tells (door.told mid) (λ facts. (count : ℕ) × (count ≤ PIECE) × (door.told after ≡ Some (after_read count facts)))
+    → ((answer : Result Asked RequestFault) → told ≡ Some answer → ⊥) → Tells (door.told before) (λ facts. LeavesRest most-read facts (door.told after) told)
+left-untold door before mid after bytes told had short more none facts is =
+    let next = more (after_read (length bytes) facts) (had.facts facts is) in (
+      length bytes + next.0,
+      omega (arith, next.1, short),
+      next.2 ∙ ap Some (after_read-twice facts (length bytes) next.0),
+      λ all here answer told_is. absurd (none answer told_is),
+    )
+
+-- no more bytes came
+pub left-at-end : {D : Type 0} (door : Ghosts D) (before mid after : D) (bytes : List ℕ) (count : ℕ) → Reading door before mid bytes → length bytes < HEAD_LIMIT + BODY_LIMIT → count ≤ PIECE
+    → Tells (door.told mid) (λ facts. door.told after ≡ Some (after_read count facts)) → Known (bytes_here (door.told mid)) (λ rest. length rest ≡ 0) → Reads bytes (Ok None)
+    → Tells (door.told before) (λ facts. LeavesRest most-read facts (door.told after) (Some (Err BadHead)))
+left-at-end door before mid after bytes count had short within more ended reads facts is = (
+  length bytes + count,
+  omega (arith, short, within),
+  read-more (door.told before) (door.told mid) (door.told after) (length bytes) count had.facts more facts is,
+  λ all here answer told_is.
+      let all_is : bytes_here (door.told before) ≡ Some all = here-of (door.told before) facts all is here in
+      let none : length (drop (length bytes) all) ≡ 0 = ended (drop (length bytes) all) (had.read.rest all all_is) in
+      let whole : all ≡ take (length bytes + count) all = sym (take_all (length bytes + count) all (omega (arith, length-drop (length bytes) all, none))) in
+      subst (λ t. IsAsked t answer) whole (asked-at-end all bytes answer (had.read.front all all_is).1 none reads cc),
+)
 
 -- no more bytes than a head may have ask one thing, whatever they begin with
 one-short : (all : List ℕ) (one other : Begun) → nat_lt HEAD_LIMIT (length all) ≡ false → IsBegun all one → IsBegun all other → at_end (answer_of all one) ≡ at_end (answer_of all other)

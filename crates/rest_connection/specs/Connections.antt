@@ -1,5 +1,7 @@
 -- What a connection asks, and what a call tells of it.
-use Rattle.std.specs.Prelude.{ℕ, ◌≡◌, List, Option, Some, None, Result, Ok, Err}
+use Rattle.std.specs.Prelude.{ℕ, ◌≡◌, ◌≤◌, List, take, Option, Some, None, Result, Ok, Err}
+use Rattle.pat_base.specs.Outside.{Known}
+use Rattle.pat_door.specs.Doors.{DoorFacts, after_read}
 use Rattle.rest_request.specs.declared.request.Request.{Request}
 use Rattle.rest_request.specs.declared.request.RequestFault.{RequestFault}
 use Rattle.rest_request.specs.declared.request.RequestFault.TheVariants.{BadHead, TooLong, BadLength, Memory}
@@ -30,3 +32,8 @@ abbrev pub seen : Result Request AskError → Option (Result Asked RequestFault)
 seen (Ok request) = Some (Ok (asked_by request))
 seen (Err (Bytes fault)) = fault_seen fault
 seen (Err Line) = None
+
+-- of the bytes to come these at most were read, the rest is left, and what was told is asked by those that were read alone
+abbrev pub LeavesRest : ℕ → DoorFacts → Option DoorFacts → Option (Result Asked RequestFault) → Type 0
+LeavesRest most facts after told = (count : ℕ) × (count ≤ most) × (after ≡ Some (after_read count facts))
+    × Known facts.here (λ all. (answer : Result Asked RequestFault) → told ≡ Some answer → IsAsked (take count all) answer)

@@ -8,7 +8,7 @@ ghost use Rattle.rest_request.specs.declared.limits.TheConstants.{HEAD_LIMIT, BO
 ghost use Rattle.rest_request.specs.Requests.{Asked};
 ghost use Rattle.rest_connection.specs.declared.asking.AskError.TheVariants.{Bytes, Line};
 ghost use Rattle.rest_connection.specs.declared.asking.TheConstants.{PIECE};
-ghost use Rattle.rest_connection.specs.Connections.{IsAsked, seen};
+ghost use Rattle.rest_connection.specs.Connections.{IsAsked, LeavesRest, seen};
 
 use pat_base::Failed;
 use pat_door::Door;
@@ -56,11 +56,12 @@ impl From<Failed> for AskError {
 
 /// The request with which the bytes of the present connection begin, read in as many pieces as it takes (RFC 9112,
 /// section 2.2). Where they end before it is whole the fault is `BadHead`. Nothing depends on how the connection cuts them,
-/// unless they end within a target that never becomes whole. Some bytes behind the request may be read too, and are lost.
+/// but for those that end within a target that never becomes whole (`cuts_change_nothing`). Bytes behind the request may be
+/// read too, and are lost.
 pub fn read_request_from<D: Door>(alloc: Global, door: &mut D) -> Result<Request, AskError>
     ensures asked { Known (bytes_here (D.told door.old)) (λ all. (answer : Result Asked RequestFault) → seen result ≡ Some answer → IsAsked all answer) }
     ensures present { (answer : Result Asked RequestFault) → seen result ≡ Some answer → Tells (D.told door.old) (λ facts. IsSome facts.here) }
-    ensures left { Tells (D.told door.old) (λ facts. (count : ℕ) × (count ≤ HEAD_LIMIT + (BODY_LIMIT + PIECE)) × (D.told door.new ≡ Some (after_read count facts))) }
+    ensures left { Tells (D.told door.old) (λ facts. LeavesRest (HEAD_LIMIT + (BODY_LIMIT + PIECE)) facts (D.told door.new) (seen result)) }
     ensures failed { IsErrOf result Line → Rose (D.line_faults door.old) (D.line_faults door.new) }
     ensures grows { D.line_faults door.old ≤ D.line_faults door.new }
     ensures door { D.door_faults door.new ≡ D.door_faults door.old }
