@@ -1,0 +1,102 @@
+//! What a connection asks.
+ghost use Rattle.std.specs.Prelude.{ℕ, ◌≡◌, ◌≢◌, ◌≤◌, ◌+◌, ◌++◌, ◌⊎◌, ⊤, length, take, Some, Result, Err, IfOk, OnOk, IsErrOf, MatchResult, IsSome};
+ghost use Rattle.pat_base.specs.Outside.{Known, Rose};
+ghost use Rattle.pat_door.specs.Doors.{Tells, bytes_here, after_read};
+ghost use Rattle.rest_request.specs.declared.request.RequestFault.{RequestFault};
+ghost use Rattle.rest_request.specs.declared.request.RequestFault.TheVariants as faults;
+ghost use Rattle.rest_request.specs.declared.limits.TheConstants.{HEAD_LIMIT, BODY_LIMIT};
+ghost use Rattle.rest_request.specs.Requests.{Asked};
+ghost use Rattle.rest_connection.specs.declared.asking.AskError.TheVariants.{Bytes, Line};
+ghost use Rattle.rest_connection.specs.declared.asking.TheConstants.{PIECE};
+ghost use Rattle.rest_connection.specs.Connections.{IsAsked, LeavesRest, seen};
+
+use pat_base::Failed;
+use pat_door::Door;
+use rest_request::{Request, RequestFault, read_request};
+use std::alloc::{AllocError, Global};
+use thiserror::Error;
+
+/// How many bytes of a connection are asked for in one read.
+const PIECE: usize = 4_096;
+
+/// Why no request was read from a connection.
+#[derive(Clone, Copy, Debug, PartialEq, Eq, Error)]
+pub enum AskError {
+    /// The bytes are no request, which is answered 400 (RFC 9110, section 15.5.1), or memory was wanting.
+    #[error("{0}")]
+    Bytes(RequestFault),
+    /// A read of the door failed.
+    #[error("connection failed")]
+    Line,
+}
+
+impl From<AllocError> for AskError {
+    ghost from_gives = { λ _ e. e ≡ Bytes faults.Memory };
+
+    fn from(_: AllocError) -> Self {
+        AskError::Bytes(RequestFault::Memory)
+    }
+}
+
+impl From<RequestFault> for AskError {
+    ghost from_gives = { λ fault e. e ≡ Bytes fault };
+
+    fn from(fault: RequestFault) -> Self {
+        AskError::Bytes(fault)
+    }
+}
+
+impl From<Failed> for AskError {
+    ghost from_gives = { λ _ e. e ≡ Line };
+
+    fn from(_: Failed) -> Self {
+        AskError::Line
+    }
+}
+
+/// The request with which the bytes of the present connection begin, read in as many pieces as it takes (RFC 9112,
+/// section 2.2). Where they end before it is whole the fault is `BadHead`. Nothing depends on how the connection cuts them,
+/// but for those that end within a target that never becomes whole (`cuts_change_nothing`). Bytes behind the request may be
+/// read too, and are lost.
+pub fn read_request_from<D: Door>(alloc: Global, door: &mut D) -> Result<Request, AskError>
+    ensures asked { Known (bytes_here (D.told door.old)) (λ all. (answer : Result Asked RequestFault) → seen result ≡ Some answer → IsAsked all answer) }
+    ensures present { (answer : Result Asked RequestFault) → seen result ≡ Some answer → Tells (D.told door.old) (λ facts. IsSome facts.here) }
+    ensures left { Tells (D.told door.old) (λ facts. LeavesRest (HEAD_LIMIT + (BODY_LIMIT + PIECE)) facts (D.told door.new) (seen result)) }
+    ensures failed { IsErrOf result Line → Rose (D.line_faults door.old) (D.line_faults door.new) }
+    ensures grows { D.line_faults door.old ≤ D.line_faults door.new }
+    ensures door { D.door_faults door.new ≡ D.door_faults door.old }
+    ensures served { (n : ℕ) → D.serves door.old n → D.serves door.new n }
+    ensures reliable { (n : ℕ) → D.takes door.old n → D.takes door.new n × (result ≢ Err Line) }
+{
+    let mut bytes = Vec::new(alloc);
+    loop {
+        if let Some(request) = read_request(alloc, &bytes)? {
+            return Ok(request);
+        }
+        if read_more(door, &mut bytes)? == 0 {
+            return Err(AskError::Bytes(RequestFault::BadHead));
+        }
+    }
+}
+
+/// Reads some of the next bytes of the present connection to the end of the list. No bytes: the connection is at its end.
+fn read_more<D: Door>(door: &mut D, bytes: &mut Vec<u8>) -> Result<usize, AskError>
+    ensures within { IfOk result (λ count. count ≤ PIECE) }
+    ensures added { IfOk result (λ count. length bytes.new.items ≡ length bytes.old.items + count) }
+    ensures present { OnOk result (Tells (D.told door.old) (λ facts. IsSome facts.here)) }
+    ensures bytes { IfOk result (λ count. Known (bytes_here (D.told door.old)) (λ all. (count ≤ length all) × (bytes.new.items ≡ bytes.old.items ++ take count all))) }
+    ensures after { IfOk result (λ count. Tells (D.told door.old) (λ facts. D.told door.new ≡ Some (after_read count facts))) }
+    ensures end { IfOk result (λ count. Known (bytes_here (D.told door.old)) (λ all. count ≡ 0 → length all ≡ 0)) }
+    ensures left { Tells (D.told door.old) (λ facts. (count : ℕ) × (count ≤ PIECE) × (D.told door.new ≡ Some (after_read count facts))) }
+    ensures errors { MatchResult result (λ _. ⊤) (λ error. (error ≡ Bytes faults.Memory) ⊎ (error ≡ Line)) }
+    ensures failed { IsErrOf result Line → Rose (D.line_faults door.old) (D.line_faults door.new) }
+    ensures grows { D.line_faults door.old ≤ D.line_faults door.new }
+    ensures door { D.door_faults door.new ≡ D.door_faults door.old }
+    ensures served { (n : ℕ) → D.serves door.old n → D.serves door.new n }
+    ensures reliable { (n : ℕ) → D.takes door.old n → D.takes door.new n × (result ≢ Err Line) }
+{
+    let mut buf = [0u8; PIECE];
+    let count = door.read(&mut buf)?;
+    bytes.extend_from_slice(&buf[..count])?;
+    Ok(count)
+}
