@@ -50,7 +50,7 @@ pub fn write_reply_to<D: Door>(
     ensures written { OnOk result (Tells (D.told door.old) (λ facts. D.told door.new ≡ Some (after_write (reply_bytes reply.now head_only) facts))) }
     ensures present { OnOk result (Tells (D.told door.old) (λ facts. IsSome facts.here)) }
     ensures front { OnErr result (WritesFront (D.told door.old) (D.told door.new) (reply_bytes reply.now head_only)) }
-    ensures memory { IsErrOf result Memory → (D.told door.new ≡ D.told door.old) × (D.line_faults door.new ≡ D.line_faults door.old) }
+    ensures memory { IsErrOf result Memory → door.new ≡ door.old }
     ensures failed { IsErrOf result Line → Rose (D.line_faults door.old) (D.line_faults door.new) }
     ensures grows { D.line_faults door.old ≤ D.line_faults door.new }
     ensures door { D.door_faults door.new ≡ D.door_faults door.old }
