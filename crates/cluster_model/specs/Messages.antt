@@ -1,7 +1,6 @@
 -- What messages bring: how they are sent, come, and are decided on.
 use Rattle.std.specs.Prelude.{ℕ, ◌+◌, nat_le, Bool, true, false, if◌then◌else◌, List, [], ◌∷◌, Option, Some, None, Result, Ok, Err, option_and_then, option_map, length, slice_get}
 use Rattle.lease_store.specs.declared.action.OperatorAction.{OperatorAction}
-use Rattle.lease_store.specs.declared.action.OperatorRequest.{OperatorRequest}
 use Rattle.lease_store.specs.declared.txn.Txn.{Txn}
 use Rattle.lease_store.specs.declared.txn.Txn.TheVariants as txns
 use Rattle.lease_store.specs.Decision.{Decision, Grant, Refusal, decision_on}
@@ -28,8 +27,8 @@ use Rattle.event_book.specs.declared.message.Body.TheVariants as bodies
 use Rattle.event_book.specs.declared.message.Message.{Message}
 use Rattle.event_book.specs.Flight.{InFlightFacts, in_flight}
 use Rattle.event_book.specs.declared.reason.Reason.{Reason}
-use Rattle.rest_api.specs.declared.call.RestCall.{RestCall}
-use Rattle.operator_keys.specs.declared.refusal.Refused.{Refused}
+use Rattle.rest_answer.specs.Answers.{Answered, Acts, Replies}
+use Rattle.script_model.specs.declared.request_words.RequestWords.{RequestWords}
 use Rattle.agent_model.specs.declared.heard.Heard.{Heard}
 use Rattle.agent_model.specs.declared.heard.Heard.TheVariants.{Wake, Operated as HearsOperator}
 use Rattle.agent_model.specs.declared.output.Output.{Output}
@@ -49,7 +48,7 @@ use Rattle.cluster_model.specs.Inputs.{agent_at, moment_of, outcome_of, outcome_
 use Rattle.cluster_model.specs.Limits.{most_in_flight}
 use Rattle.cluster_model.specs.Orders.{arming, declared_member, feed_kinds, feeding, handing_over, hold_taken, not_racing, repair_over, replica_start_kinds, require_of, server_at, stop_kinds, stop_of, upstream_of, wipe_of}
 use Rattle.cluster_model.specs.Parts.{event_of, events_of, events_then, for_some, each}
-use Rattle.cluster_model.specs.Requests.{action_of, decision_at, refusing, told_kind}
+use Rattle.cluster_model.specs.Requests.{action_of, answer_at, answering, told_kind}
 use Rattle.cluster_model.specs.State.{Cluster}
 
 -- the loss of the message of this number, where as many are in flight as may be
@@ -171,22 +170,22 @@ answer_message message body = record { from = link_ends.Store; to = message.from
 abbrev pub operate_events : Cluster → Member → OperatorAction → List Event
 operate_events cluster member action = own_input_events cluster member (Operated member action) (HearsOperator action)
 
--- it does so, or answers what refuses the request
-abbrev pub decided_events : Cluster → Member → Outcome → Result OperatorRequest Refused → List Event
-decided_events cluster member o (Ok asked) = operate_events cluster member (action_of o asked)
-decided_events cluster member o (Err refused) = event_of cluster (refusing member refused)
+-- it does so, or replies at once
+abbrev pub answered_events : Cluster → Member → Outcome → Answered → List Event
+answered_events cluster member o (Acts asked) = operate_events cluster member (action_of o asked)
+answered_events cluster member o (Replies reply) = event_of cluster (answering member reply.status reply.body)
 
--- the agent of a member that stands so hears a call with this body
-abbrev pub call_events_of : Cluster → RestCall → List ℕ → Member → Outcome → List Event
-call_events_of cluster call body member o = decided_events cluster member o (decision_at (moment_of cluster) o call body)
+-- the agent of a member that stands so hears a request
+abbrev pub request_events_of : Cluster → RequestWords → Member → Outcome → List Event
+request_events_of cluster request member o = answered_events cluster member o (answer_at (moment_of cluster) o request)
 
--- a call to the agent of a member: one that doesn't run or is suspended gives no answer
-abbrev pub call_events_if : Cluster → RestCall → List ℕ → Member → AgentProcess → List Event
-call_events_if cluster call body member process = if may_act process then for_some (standing_of cluster member) (call_events_of cluster call body member) else event_of cluster (kinds.Note (NoAnswer member))
+-- a request to the agent of a member: one that doesn't run or is suspended gives no answer
+abbrev pub request_events_if : Cluster → RequestWords → Member → AgentProcess → List Event
+request_events_if cluster request member process = if may_act process then for_some (standing_of cluster member) (request_events_of cluster request member) else event_of cluster (kinds.Note (NoAnswer member))
 
 -- a script makes a request of the agent of a member
-abbrev pub call_events : Cluster → RestCall → List ℕ → Member → List Event
-call_events cluster call body member = for_some (slice_get cluster.facts.processes member.id.number) (call_events_if cluster call body member)
+abbrev pub request_events : Cluster → RequestWords → Member → List Event
+request_events cluster request member = for_some (slice_get cluster.facts.processes member.id.number) (request_events_if cluster request member)
 
 -- the names of the standbys that a request publishes
 abbrev pub published_names : List Member → Txn → List Name

@@ -1,5 +1,5 @@
 -- Requests to the REST interface of agents: what each comes to, and what is answered.
-use Rattle.std.specs.Prelude.{ℕ, ◌+◌, List, Option, Some, Result, option_and_then, option_map}
+use Rattle.std.specs.Prelude.{ℕ, ◌+◌, List, Option, Some, option_and_then, option_map}
 use Rattle.pat_base.specs.declared.ticks.Ticks.{Ticks}
 use Rattle.lease_store.specs.declared.action.OperatorAction.{OperatorAction}
 use Rattle.lease_store.specs.declared.action.OperatorRequest.{OperatorRequest}
@@ -8,20 +8,25 @@ use Rattle.event_book.specs.declared.event.EventKind.{EventKind}
 use Rattle.event_book.specs.declared.event.EventKind.TheVariants as kinds
 use Rattle.event_book.specs.declared.event.Note.TheVariants as notes
 use Rattle.event_book.specs.declared.member.Member.{Member}
-use Rattle.rest_api.specs.declared.call.RestCall.{RestCall}
-use Rattle.operator_keys.specs.declared.refusal.Refused.{Refused}
 use Rattle.operator_keys.specs.AnswerTexts.{answer_text}
 use Rattle.operator_keys.specs.ConfigChecks.{configuration_in}
-use Rattle.rest_api.specs.Decisions.{decision_on_call}
+use Rattle.rest_answer.specs.Answers.{Answered, answer_to}
+use Rattle.rest_request.specs.Requests.{Asked}
+use Rattle.rest_request.specs.Verbs.{verb_of}
+use Rattle.script_model.specs.declared.request_words.RequestWords.{RequestWords}
 use Rattle.agent_model.specs.declared.operating.Told.{Told}
 use Rattle.agent_model.specs.declared.operating.Told.TheVariants as tolds
 use Rattle.agent_model.specs.Agents.{AgentFacts, Outcome}
 use Rattle.operator_keys.specs.Statuses.{ok}
 use Rattle.agent_model.specs.Views.{shown}
 
--- what an agent that stands so is to do on this call with this body, or what the call is refused with
-abbrev pub decision_at : Ticks → Outcome → RestCall → List ℕ → Result OperatorRequest Refused
-decision_at now o call body = decision_on_call (shown now o) o.knows.seen call body
+-- what the words of a line ask
+abbrev pub asked_in_words : RequestWords → Asked
+asked_in_words words = record { verb = verb_of words.method; target = words.target; content = words.body }
+
+-- what an agent that stands so answers to a request, or what it is to do for it
+abbrev pub answer_at : Ticks → Outcome → RequestWords → Answered
+answer_at now o request = answer_to (shown now o) o.knows.seen (asked_in_words request)
 
 -- what the agent is to do as an action, under the number that its next message has
 abbrev pub action_of : Outcome → OperatorRequest → OperatorAction
@@ -30,10 +35,6 @@ action_of o asked = record { request = o.knows.sequence + 1; asked = asked }
 -- the agent of a member answers with this status and this body
 abbrev pub answering : Member → ℕ → List ℕ → EventKind
 answering member status body = kinds.Note (notes.Answered member status body)
-
--- it answers what refuses a request
-abbrev pub refusing : Member → Refused → EventKind
-refusing member refused = answering member refused.status (answer_text refused.text)
 
 -- the configuration that an agent read last
 abbrev pub configuration_read : AgentFacts → Option Settings

@@ -11,12 +11,12 @@ use Rattle.pat_base.specs.declared.name.Name.{Name}
 use Rattle.pat_base.specs.declared.member_id.MemberId.{MemberId}
 use Rattle.pat_base.proofs.Members.{number-member_of}
 use Rattle.pat_base.proofs.Names.{name_of-text}
-use Rattle.cluster_script.specs.Arguments.{number_in, switch_in, slowed_call_in, commit_size_in, delay_in, known_member, member_in, end_in, line_end, last_word, one_word, word_behind, two_words, words_behind, three_words, same_end, apart, two_ends, commit_in, stream_in, slow_in, command, call_words, body_in, rest_line, plain_line, line_of_words}
+use Rattle.cluster_script.specs.Arguments.{number_in, switch_in, slowed_call_in, commit_size_in, delay_in, known_member, member_in, end_in, line_end, last_word, one_word, word_behind, two_words, words_behind, three_words, same_end, apart, two_ends, commit_in, stream_in, slow_in, command, asked_member, behind_word, request_behind, rest_line, plain_line, line_of_words}
 use Rattle.script_words.specs.Faults.{on_ok, both}
 use Rattle.cluster_script.specs.Members.{place_of, member_named}
 use Rattle.script_words.specs.Numbers.{number}
 use Rattle.script_model.specs.Ranges.{commit_size_of, delay_of}
-use Rattle.script_model.specs.Script.{text_of_name, member_text, end_word, switch_text, slowed_call_text, two_texts, line_text, IsMember, IsEnd, IsLink, IsLine}
+use Rattle.script_model.specs.Script.{text_of_name, member_text, end_word, switch_text, slowed_call_text, two_texts, line_text, IsWholeLine, IsMember, IsEnd, IsLink, IsLine}
 use Rattle.script_model.specs.Spelling.{SpellsLine, OwnText}
 use Rattle.script_model.specs.Keywords.{spelled}
 use Rattle.script_words.specs.Words.{cut_word}
@@ -34,11 +34,12 @@ use Rattle.script_model.specs.declared.line.SlowedCall.{SlowedCall}
 use Rattle.script_model.specs.declared.line.SlowedCall.TheVariants as slowed_calls
 use Rattle.script_model.specs.declared.ranges.CommitSize.{CommitSize}
 use Rattle.script_model.specs.declared.ranges.Delay.{Delay}
+use Rattle.script_model.specs.declared.request_words.RequestWords.{RequestWords}
 use Rattle.cluster_script.proofs.NameLaws.{place_of-Some}
 use Rattle.script_words.proofs.NumberLaws.{number-is, number-below}
 use Rattle.script_words.proofs.Outcomes.{ok_is, err_is, and_then-Some, on_ok-Ok, on_ok-made, ok_or-Ok, both-Ok, cond-Err}
 use Rattle.script_model.proofs.RangeLaws.{commit_size_of-bytes, delay_of-ticks}
-use Rattle.cluster_script.proofs.RequestLaws.{MayBeLine, words_with, call_words-Ok, request-SpellsLine, request-IsRequest}
+use Rattle.cluster_script.proofs.RequestLaws.{words_with, asked_member-Ok, request-SpellsLine, request-IsRequest}
 use Rattle.script_words.proofs.WordLaws.{cut_word-None, cut_word-Some}
 
 -- a member that a word names
@@ -358,21 +359,21 @@ pub record SaysLine (members : List Name) (keyword : Keyword) (rest : Option (Li
   pub words : List ℕ
   pub is : rest ≡ Some words
   pub text : SpellsLine members (spelled keyword words) line
-  pub fits : MayBeLine (spelled keyword words) → IsLine members line
+  pub fits : IsWholeLine (spelled keyword words) → IsLine members line
 
 own : (members : List Name) (keyword : Keyword) (rest : Option (List ℕ)) (line : Line) → Says members keyword rest line → SaysLine members keyword rest line
 own members keyword rest line says = record { words = says.words; is = says.is; text = OwnText (sym says.text); fits = λ _. says.fits }
 
 rest_line-Ok : (members : List Name) (rest : Option (List ℕ)) (line : Line) → rest_line members rest ≡ Ok line → SaysLine members words.Rest rest line
 rest_line-Ok members rest line e =
-    on_ok-made (SaysLine members words.Rest rest) (call_words members rest) (λ said. lines.Command (commands.Rest said.0.0 said.1 (body_in rest))) line e (λ said is.
-    let c = call_words-Ok members rest said is in
-    let m = member_in-Ok members c.word said.0.0 c.value in
-    subst (λ (body : List ℕ). SaysLine members words.Rest rest (lines.Command (commands.Rest said.0.0 said.1 body))) (sym c.body) (record {
-      words = two_texts (member_text members said.0.0) (words_with said.1 c.behind);
-      is = c.is ∙ ap (λ t. Some (two_texts t (words_with said.1 c.behind))) (sym m.text);
-      text = request-SpellsLine members said.0.0 said.1 c.behind;
-      fits = λ line. request-IsRequest members said.0.0 said.1 c.behind m.member line;
+    on_ok-made (SaysLine members words.Rest rest) (asked_member members rest) (λ said. lines.Command (commands.Rest said.0 (request_behind (behind_word rest)))) line e (λ said is.
+    let r = asked_member-Ok members rest said is in
+    let m = member_in-Ok members r.word said.0 r.value in
+    subst (λ (request : RequestWords). SaysLine members words.Rest rest (lines.Command (commands.Rest said.0 request))) (sym r.request) (record {
+      words = two_texts (member_text members said.0) (words_with r.method r.target r.behind);
+      is = r.is ∙ ap (λ t. Some (two_texts t (words_with r.method r.target r.behind))) (sym m.text);
+      text = request-SpellsLine members said.0 r.method r.target r.behind;
+      fits = λ line. request-IsRequest members said.0 r.method r.target r.behind m.member r.token r.target_is line;
     }))
 
 pub line_of_words-Ok : (members : List Name) (keyword : Keyword) (rest : Option (List ℕ)) (line : Line) → line_of_words members keyword rest ≡ Ok line → SaysLine members keyword rest line

@@ -1,5 +1,6 @@
 pub mod ArgumentLaws
 pub mod Behind
+pub mod BlankLaws
 pub mod Counting
 pub mod Finishing
 pub mod FirstWordLaws

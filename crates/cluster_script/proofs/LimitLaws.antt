@@ -51,7 +51,7 @@ line-ticks members (lines.Command c) h = omega arith
 
 text-ticks : (members : List Name) (text : List ℕ) (line : Line) → IsLine members line → SpellsLine members text line → ticks_of_line line ≤ ticks_in_line text
 text-ticks members text line h (OwnText own) = subst (λ (t : List ℕ). ticks_of_line line ≤ ticks_in_line t) (sym own) (line-ticks members line h)
-text-ticks members text line h (BlankBehind m call request blank) = omega (arith, ap ticks_of_line request)
+text-ticks members text line h (BlankBehind m request empty asks blank) = omega (arith, ap ticks_of_line asks)
 
 body-ticks : (members : List Name) (texts : List (List ℕ)) (body : List Line) → AllAreLines members body → SpellBody members texts body → total_ticks body ≤ sum_by ticks_in_line texts
 body-ticks members [] [] h spell = omega arith

@@ -24,7 +24,7 @@ use Rattle.member_options.specs.OptionReading.{options_in}
 use Rattle.cluster_script.specs.Reading.{name_in, declared_in_head, declared_once, named_member, new_member, next_member, ranged_base, base_in, head_end, base_end, next_base, addition_of, with_addition, config_if_read, next_config, is_config, with_config, with_other, with_line, alone, cluster_named, cluster_in, cluster_by_keyword, first_line, first_draft, after_counted, after_text, after_line, after_lines, at_line, with_some, finished, script_of}
 use Rattle.script_model.specs.Bounds.{longest_line, greatest_base}
 use Rattle.pat_base.specs.declared.member_id.TheConstants.{MOST_MEMBERS}
-use Rattle.script_model.specs.Script.{AreDifferent, MemberText, ScriptText, member_names, names_of, member_of_entry, IsScript, IsLine, AllAreLines, cluster_text, base_text, config_text, base_or_default, IsInForm}
+use Rattle.script_model.specs.Script.{AreDifferent, MemberText, ScriptText, member_names, names_of, member_of_entry, IsScript, IsLine, AllAreLines, cluster_text, base_text, config_text, base_or_default, IsInForm, IsWholeLine}
 use Rattle.script_model.specs.Spelling.{MemberLine, member_of_line, member_line_text, HeadLine, ConfigLine, BaseLine, MembersLine, head_line_text, config_said, base_said, member_said, configs_said, bases_said, members_said, read_at_most_once, head_with, IsHeadLines, AllInForm, SpellsLine, SpellBody, Spells}
 use Rattle.cluster_script.specs.FirstWords.{keyword_of}
 use Rattle.script_model.specs.Keywords.{spelled}
@@ -45,7 +45,6 @@ use Rattle.script_words.proofs.NumberLaws.{number-is}
 use Rattle.member_options.proofs.OptionReadLaws.{options_in-Ok}
 use Rattle.member_options.proofs.OptionWords.{options-behind}
 use Rattle.script_words.proofs.Outcomes.{none_is, ok_is, err_is, on_ok-Ok, on_ok-made, ok_or-Ok, both-Ok, cond-Ok, cond-Err}
-use Rattle.cluster_script.proofs.RequestLaws.{MayBeLine}
 use Rattle.script_words.proofs.WordLaws.{cut_word-None, cut_word-Some}
 use Rattle.cluster_script.proofs.FirstWordLaws.{keyword_of-is}
 
@@ -163,13 +162,13 @@ line-is : (line : List ℕ) (keyword : Keyword) (words : List ℕ) → keyword_o
 line-is line keyword words k r =
     sym (cut_word-Some line words r ∙ ap (λ t. t ++ (32 ∷ words)) (keyword_of-is (cut_word line).0 keyword k))
 
-body-Ok : (base : Option ℕ) (members : List Name) (body : List Line) (line : List ℕ) (keyword : Keyword) (a : Addition) → MayBeLine line → keyword_of (cut_word line).0 ≡ Some keyword → on_ok (line_of_words members keyword (cut_word line).1) (λ l. Ok (additions.Body l)) ≡ Ok a
+body-Ok : (base : Option ℕ) (members : List Name) (body : List Line) (line : List ℕ) (keyword : Keyword) (a : Addition) → IsWholeLine line → keyword_of (cut_word line).0 ≡ Some keyword → on_ok (line_of_words members keyword (cut_word line).1) (λ l. Ok (additions.Body l)) ≡ Ok a
     → IsAddition base members body line a
 body-Ok base members body line keyword a may k e =
     on_ok-made (IsAddition base members body line) (line_of_words members keyword (cut_word line).1) additions.Body a e (λ l is.
     let s = line_of_words-Ok members keyword (cut_word line).1 l is in
     let same : spelled keyword s.words ≡ line = line-is line keyword s.words k s.is in
-    (subst (λ (t : List ℕ). SpellsLine members t l) same s.text, s.fits (subst MayBeLine (sym same) may)))
+    (subst (λ (t : List ℕ). SpellsLine members t l) same s.text, s.fits (subst IsWholeLine (sym same) may)))
 
 member-Ok : (base : Option ℕ) (members : List Name) (body : List Line) (line : List ℕ) (a : Addition) → keyword_of (cut_word line).0 ≡ Some words.Member
     → on_ok (next_member members body (cut_word line).1) (λ member. Ok (additions.Member member.0 member.1)) ≡ Ok a → IsAddition base members body line a
@@ -193,7 +192,7 @@ base-Ok base members body line a k e =
     let s = next_base-Ok base body (cut_word line).1 n is in
     (ap (spelled words.Base) s.text ∙ line-is line words.Base s.words k s.is, s.least, s.most, s.first, s.in_head))
 
-of-Ok : (base : Option ℕ) (members : List Name) (body : List Line) (line : List ℕ) (keyword : Keyword) (a : Addition) → MayBeLine line → keyword_of (cut_word line).0 ≡ Some keyword → addition_of base members body keyword (cut_word line).1 ≡ Ok a → IsAddition base members body line a
+of-Ok : (base : Option ℕ) (members : List Name) (body : List Line) (line : List ℕ) (keyword : Keyword) (a : Addition) → IsWholeLine line → keyword_of (cut_word line).0 ≡ Some keyword → addition_of base members body keyword (cut_word line).1 ≡ Ok a → IsAddition base members body line a
 of-Ok base members body line words.Cluster a may k e = absurd (err_is _ a e)
 of-Ok base members body line words.Base a may k e = base-Ok base members body line a k e
 of-Ok base members body line words.Member a may k e = member-Ok base members body line a k e
@@ -360,7 +359,7 @@ config-line-Adds d e ls line h k is =
     (subst (λ (l : List ℕ). Adds (record d { config = Some p.0 }) (ls ++ l ∷ [])) (line-is line words.Config s.bytes k s.is)
     (config-Adds d.cluster s.bytes d.config p.0 d.base d.members d.body ls s.read s.first s.in_head h))
 
-known-Adds : (d e : DraftText) (ls : List (List ℕ)) (line : List ℕ) (o : Option Keyword) → MayBeLine line → Adds d ls → keyword_of (cut_word line).0 ≡ o → with_other d o (cut_word line).1 ≡ Ok e → Adds e (ls ++ line ∷ [])
+known-Adds : (d e : DraftText) (ls : List (List ℕ)) (line : List ℕ) (o : Option Keyword) → IsWholeLine line → Adds d ls → keyword_of (cut_word line).0 ≡ o → with_other d o (cut_word line).1 ≡ Ok e → Adds e (ls ++ line ∷ [])
 known-Adds d e ls line None may h k is = absurd (err_is _ e is)
 known-Adds d e ls line (Some keyword) may h k is =
     let p = on_ok-Ok (addition_of d.base (member_names d.members) d.body keyword (cut_word line).1) (λ added. Ok (with_addition d added)) e is in
@@ -371,12 +370,12 @@ config-is : (o : Option Keyword) → is_config o ≡ true → o ≡ Some words.C
 config-is (Some words.Config) e = refl
 config-is _ e = cc
 
-keyword-Adds : (d e : DraftText) (ls : List (List ℕ)) (line : List ℕ) (t : Bool) → is_config (keyword_of (cut_word line).0) ≡ t → MayBeLine line → Adds d ls
+keyword-Adds : (d e : DraftText) (ls : List (List ℕ)) (line : List ℕ) (t : Bool) → is_config (keyword_of (cut_word line).0) ≡ t → IsWholeLine line → Adds d ls
     → cond t (with_config d (cut_word line).1) (with_other d (keyword_of (cut_word line).0) (cut_word line).1) ≡ Ok e → Adds e (ls ++ line ∷ [])
 keyword-Adds d e ls line true k may h is = config-line-Adds d e ls line h (config-is (keyword_of (cut_word line).0) k) is
 keyword-Adds d e ls line false k may h is = known-Adds d e ls line (keyword_of (cut_word line).0) may h refl is
 
-line-Adds : (d e : DraftText) (ls : List (List ℕ)) (line : List ℕ) → MayBeLine line → Adds d ls → with_line d line ≡ Ok e → Adds e (ls ++ line ∷ [])
+line-Adds : (d e : DraftText) (ls : List (List ℕ)) (line : List ℕ) → IsWholeLine line → Adds d ls → with_line d line ≡ Ok e → Adds e (ls ++ line ∷ [])
 line-Adds d e ls line may h is = keyword-Adds d e ls line (is_config (keyword_of (cut_word line).0)) refl may h is
 
 -- the first line
@@ -417,7 +416,7 @@ abbrev AddsIfAny : Option DraftText → List (List ℕ) → Type 0
 AddsIfAny None ls = ls ≡ []
 AddsIfAny (Some d) ls = Adds d ls
 
-counted-Adds : (o p : Option DraftText) (ls : List (List ℕ)) (line : List ℕ) → MayBeLine line → AddsIfAny o ls → after_counted o line ≡ Ok p → AddsIfAny p (ls ++ line ∷ [])
+counted-Adds : (o p : Option DraftText) (ls : List (List ℕ)) (line : List ℕ) → IsWholeLine line → AddsIfAny o ls → after_counted o line ≡ Ok p → AddsIfAny p (ls ++ line ∷ [])
 counted-Adds None p ls line may h e =
     let q = on_ok-Ok (first_line line) (λ name. Ok (Some (first_draft name))) p e in
     let all : cluster_text q.0 ∷ [] ≡ ls ++ line ∷ [] = ap (λ t. t ∷ []) (first_line-Ok line q.0 q.1) ∙ ap (λ t. t ++ line ∷ []) (sym h) in
@@ -426,7 +425,7 @@ counted-Adds (Some d) p ls line may h e =
     let q = on_ok-Ok (with_line d line) (λ t. Ok (Some t)) p e in
     subst (λ (x : Option DraftText). AddsIfAny x (ls ++ line ∷ [])) (ok_is (Some q.0) p q.2) (line-Adds d q.0 ls line may h q.1)
 
-text-Adds : (o p : Option DraftText) (ls : List (List ℕ)) (line : List ℕ) (t : Bool) → MayBeLine line → AddsIfAny o ls → cond t (Ok o) (after_counted o line) ≡ Ok p → AddsIfAny p (ls ++ cond t [] (line ∷ []))
+text-Adds : (o p : Option DraftText) (ls : List (List ℕ)) (line : List ℕ) (t : Bool) → IsWholeLine line → AddsIfAny o ls → cond t (Ok o) (after_counted o line) ≡ Ok p → AddsIfAny p (ls ++ cond t [] (line ∷ []))
 text-Adds o p ls line true may h e = subst (λ (x : Option DraftText). AddsIfAny x (ls ++ [])) (ok_is o p e) (subst (AddsIfAny o) (sym (append-nil ls)) h)
 text-Adds o p ls line false may h e = counted-Adds o p ls line may h e
 

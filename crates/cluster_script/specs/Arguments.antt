@@ -10,7 +10,6 @@ use Rattle.cluster_script.specs.Members.{member_named}
 use Rattle.script_words.specs.Numbers.{number}
 use Rattle.script_model.specs.Ranges.{commit_size_of, delay_of}
 use Rattle.rest_api.specs.Tokens.{is_token}
-use Rattle.rest_api.specs.Calls.{call_of}
 use Rattle.script_words.specs.Words.{cut_word}
 use Rattle.script_words.specs.declared.fault.Fault.{Fault}
 use Rattle.script_words.specs.declared.fault.Fault.TheVariants as faults
@@ -26,7 +25,7 @@ use Rattle.script_model.specs.declared.line.Line.{Line}
 use Rattle.script_model.specs.declared.line.Line.TheVariants as lines
 use Rattle.script_model.specs.declared.ranges.CommitSize.{CommitSize}
 use Rattle.script_model.specs.declared.ranges.Delay.{Delay}
-use Rattle.rest_api.specs.declared.call.RestCall.{RestCall}
+use Rattle.script_model.specs.declared.request_words.RequestWords.{RequestWords}
 
 -- a number
 abbrev pub number_in : List ℕ → Result ℕ Fault
@@ -141,28 +140,29 @@ slow_in members rest = on_ok (three_words members (member_in members) slowed_cal
 abbrev pub method_in : List ℕ → Result (Unit {0}) Fault
 method_in word = if is_token word then Ok tt else Err faults.BadOption
 
--- a call that is built
-abbrev pub call_in : List ℕ → List ℕ → Result RestCall Fault
-call_in method target = ok_or (call_of method target) faults.NotBuilt
-
--- the member and the call of a request, from the words behind its method; no byte behind the method's blank is no target
-abbrev pub target_in : List Name → Result (MemberId × Unit {0}) Fault → List ℕ → List ℕ → Result ((MemberId × Unit {0}) × RestCall) Fault
-target_in members before method words = if length words == 0 then Err (missing_behind members before) else both before (call_in method (cut_word words).0)
+-- a target is any word, behind what the words before it say; an empty one is missing
+abbrev pub target_in : List Name → Result (MemberId × Unit {0}) Fault → List ℕ → Result (MemberId × Unit {0}) Fault
+target_in members before target = if length target == 0 then Err (missing_behind members before) else before
 
 -- the same, from what stands behind the method
-abbrev pub target_behind : List Name → Result (MemberId × Unit {0}) Fault → List ℕ → Option (List ℕ) → Result ((MemberId × Unit {0}) × RestCall) Fault
-target_behind members before method None = Err (missing_behind members before)
-target_behind members before method (Some words) = target_in members before method words
+abbrev pub target_behind : List Name → Result (MemberId × Unit {0}) Fault → Option (List ℕ) → Result (MemberId × Unit {0}) Fault
+target_behind members before None = Err (missing_behind members before)
+target_behind members before (Some words) = target_in members before (cut_word words).0
 
--- what a method and the target behind it call, behind the member
-abbrev pub method_behind : List Name → Result MemberId Fault → Option (List ℕ) → Result ((MemberId × Unit {0}) × RestCall) Fault
+-- the method and the target, behind the member
+abbrev pub method_behind : List Name → Result MemberId Fault → Option (List ℕ) → Result (MemberId × Unit {0}) Fault
 method_behind members before None = Err (missing_behind members before)
-method_behind members before (Some words) = target_behind members (both before (method_in (cut_word words).0)) (cut_word words).0 (cut_word words).1
+method_behind members before (Some words) = target_behind members (both before (method_in (cut_word words).0)) (cut_word words).1
 
--- the member and the call of a request
-abbrev pub call_words : List Name → Option (List ℕ) → Result ((MemberId × Unit {0}) × RestCall) Fault
-call_words members None = Err (missing_word members)
-call_words members (Some words) = method_behind members (member_in members (cut_word words).0) (cut_word words).1
+-- the member that a request is for, where its words are in form
+abbrev pub asked_member : List Name → Option (List ℕ) → Result (MemberId × Unit {0}) Fault
+asked_member members None = Err (missing_word members)
+asked_member members (Some words) = method_behind members (member_in members (cut_word words).0) (cut_word words).1
+
+-- the next word, or no bytes
+abbrev pub next_word : Option (List ℕ) → List ℕ
+next_word None = []
+next_word (Some words) = (cut_word words).0
 
 -- what stands behind the next word and its blank
 abbrev pub behind_word : Option (List ℕ) → Option (List ℕ)
@@ -174,13 +174,13 @@ abbrev pub bytes_or_none : Option (List ℕ) → List ℕ
 bytes_or_none None = []
 bytes_or_none (Some bytes) = bytes
 
--- the body of a request: all that stands behind the target's blank, which is the third
-abbrev pub body_in : Option (List ℕ) → List ℕ
-body_in rest = bytes_or_none (behind_word (behind_word (behind_word rest)))
+-- a request, from what stands behind the member: its method, its target, and as its body all that stands behind the target's blank
+abbrev pub request_behind : Option (List ℕ) → RequestWords
+request_behind rest = record { method = next_word rest; target = next_word (behind_word rest); body = bytes_or_none (behind_word (behind_word rest)) }
 
 -- the line of a request
 abbrev pub rest_line : List Name → Option (List ℕ) → Result Line Fault
-rest_line members rest = on_ok (call_words members rest) (λ said. Ok (lines.Command (commands.Rest said.0.0 said.1 (body_in rest))))
+rest_line members rest = on_ok (asked_member members rest) (λ said. Ok (lines.Command (commands.Rest said.0 (request_behind (behind_word rest)))))
 
 -- a line that is a command
 abbrev pub command : Command → Result Line Fault

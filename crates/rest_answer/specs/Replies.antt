@@ -1,5 +1,5 @@
 -- Replies by their parts.
-use Rattle.std.specs.Prelude.{ℕ, Bool, true, false, List, []}
+use Rattle.std.specs.Prelude.{ℕ, Bool, true, false, List, [], string_bytes}
 use Rattle.rest_reply.specs.declared.reply.Reply.{Reply}
 
 -- a status and a content, which is JSON or plain text
@@ -10,7 +10,7 @@ pub record ReplyText : Type 0 where
 
 -- what a reply tells
 abbrev pub reply_text : Reply → ReplyText
-reply_text reply = record { status = reply.status; json = reply.json; body = reply.body.items }
+reply_text reply = record { status = reply.status; json = reply.json; body = string_bytes reply.body }
 
 -- JSON with this status
 abbrev pub json_of : ℕ → List ℕ → ReplyText

@@ -1,6 +1,5 @@
 //! What is answered to a request.
 ghost use Rattle.std.specs.Prelude.{◌≡◌, IfOk, option_copied};
-ghost use Rattle.rest_request.specs.Requests.{asked_by};
 ghost use Rattle.rest_answer.specs.Answers.{answered, answer_to, answer_by, health_reply};
 ghost use Rattle.rest_answer.specs.Replies.{reply_text};
 
@@ -17,27 +16,24 @@ use rest_health::Endpoint;
 use rest_pages::patroni_text;
 use rest_paths::{Ask, Routes};
 use rest_reply::Reply;
-use rest_request::{Request, lag_of};
+use rest_request::{Verb, lag_of};
 use std::alloc::{AllocError, Global};
 
-/// What an agent that shows this answers to a request, or what it is to do for it (Patroni documentation, "Patroni REST API"). An unknown
-/// path is answered 404, and a known one with another method 405, both with no content. It fails only for want of memory.
+/// What an agent that shows this answers to a request with this method, target and content, or what it is to do for it (Patroni
+/// documentation, "Patroni REST API"). An unknown path is answered 404, and a known one with another method 405, both with no
+/// content. It fails only for want of memory.
 pub fn answer(
     alloc: Global,
     view: &AgentView<'_>,
     routes: &Routes,
-    request: &Request,
+    verb: Verb,
+    target: &str,
+    body: &[u8],
 ) -> Result<Answer, AllocError>
-    ensures { IfOk result (λ answer. answered answer ≡ answer_to view.now (option_copied view.now.seen) (asked_by request.now)) }
+    ensures { IfOk result (λ answer. answered answer ≡ answer_to view.now (option_copied view.now.seen) (record { verb = verb; target = target.now; content = body.now })) }
 {
-    let ask = routes.ask(request.method, request.target.as_str());
-    answer_by(
-        alloc,
-        view,
-        lag_of(request.target.as_str()),
-        request.body.as_slice(),
-        ask,
-    )
+    let ask = routes.ask(verb, target);
+    answer_by(alloc, view, lag_of(target), body, ask)
 }
 
 /// What is answered to this, by the parameter `lag` and the content that the request has.

@@ -14,7 +14,7 @@ pub(crate) fn json_reply(status: u16, text: String) -> Reply
     Reply {
         status,
         json: true,
-        body: text.into_bytes(),
+        body: text,
     }
 }
 
@@ -26,7 +26,7 @@ pub(crate) fn text_reply(alloc: Global, status: u16, text: Text) -> Result<Reply
     Ok(Reply {
         status,
         json: false,
-        body: words.into_bytes(),
+        body: words,
     })
 }
 
@@ -37,6 +37,6 @@ pub(crate) fn status_reply(alloc: Global, status: u16) -> Reply
     Reply {
         status,
         json: false,
-        body: Vec::new(alloc),
+        body: String::new(alloc),
     }
 }

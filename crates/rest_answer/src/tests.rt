@@ -2,8 +2,7 @@ use super::*;
 use cluster_config::{AgentView, RoleWord};
 use pat_base::{Lsn, MemberId, Name, State, Tags, Ticks};
 use rest_paths::Routes;
-use rest_request::{Request, Verb};
-use std::alloc::{AllocError, Global};
+use rest_request::Verb;
 use std::process::Abort;
 use std::test::Fail;
 
@@ -45,14 +44,6 @@ fn replica(rt: &impl Abort) -> AgentView<'static> {
     }
 }
 
-fn request(alloc: Global, method: Verb, target: &str) -> Result<Request, AllocError> {
-    Ok(Request {
-        method,
-        target: String::from_str(alloc, target)?,
-        body: Vec::new(alloc),
-    })
-}
-
 #[test]
 fn a_replica_answers(rt: HostRuntime) -> Result<(), Fail> {
     let view = replica(&rt);
@@ -80,12 +71,11 @@ fn a_replica_answers(rt: HostRuntime) -> Result<(), Fail> {
         ),
     ];
     for (method, target, status, json, body) in cases {
-        let request = request(rt.alloc(), method, target)?;
-        match answer(rt.alloc(), &view, &routes, &request)? {
+        match answer(rt.alloc(), &view, &routes, method, target, b"")? {
             Answer::Now(reply) => {
                 assert_eq!(rt; reply.status, status, "{target}");
                 assert_eq!(rt; reply.json, json, "{target}");
-                assert_eq!(rt; reply.body.as_slice(), body.as_bytes(), "{target}");
+                assert_eq!(rt; reply.body.as_str(), body, "{target}");
             }
             Answer::Act(_) => assert!(rt; false, "{target}"),
         }
@@ -96,8 +86,14 @@ fn a_replica_answers(rt: HostRuntime) -> Result<(), Fail> {
 #[test]
 fn a_replica_restarts(rt: HostRuntime) -> Result<(), Fail> {
     let routes = Routes::new(rt.alloc())?;
-    let request = request(rt.alloc(), Verb::Post, "/restart")?;
-    match answer(rt.alloc(), &replica(&rt), &routes, &request)? {
+    match answer(
+        rt.alloc(),
+        &replica(&rt),
+        &routes,
+        Verb::Post,
+        "/restart",
+        b"",
+    )? {
         Answer::Act(_) => Ok(()),
         Answer::Now(_) => {
             assert!(rt; false, "the agent is to restart its server");

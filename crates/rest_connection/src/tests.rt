@@ -85,7 +85,7 @@ fn replies(rt: HostRuntime) -> Result<(), Fail> {
     let reply = Reply {
         status: 200,
         json: true,
-        body: Vec::from_slice(rt.alloc(), b"{}")?,
+        body: String::from_str(rt.alloc(), "{}")?,
     };
     // The reply has 91 bytes.
     let cases: [(bool, usize, Result<(), ReplyError>, &[u8]); 3] = [

@@ -1,5 +1,5 @@
 -- Replies as they are sent (RFC 9112, sections 2.1, 4 and 5; RFC 9110, sections 8.3 and 8.6).
-use Rattle.std.specs.Prelude.{◌≡◌, ℕ, Bool, List, [], ◌++◌, length, codes, decimal, unwrap_or, if◌then◌else◌}
+use Rattle.std.specs.Prelude.{◌≡◌, ℕ, Bool, List, [], ◌++◌, length, codes, decimal, unwrap_or, if◌then◌else◌, string_bytes}
 use Rattle.http.specs.StatusCode.{reason_phrase}
 use Rattle.rest_reply.specs.declared.reply.Reply.{Reply}
 
@@ -34,11 +34,11 @@ head_bytes status phrase kind length =
 
 -- the head of a reply
 abbrev pub head_of : Reply → List ℕ
-head_of reply = head_bytes reply.status (phrase_of reply.status) (kind_of reply.json) (length reply.body.items)
+head_of reply = head_bytes reply.status (phrase_of reply.status) (kind_of reply.json) (length (string_bytes reply.body))
 
 -- a reply, or its head alone
 abbrev pub reply_bytes : Reply → Bool → List ℕ
-reply_bytes reply head_only = head_of reply ++ (if head_only then [] else reply.body.items)
+reply_bytes reply head_only = head_of reply ++ (if head_only then [] else string_bytes reply.body)
 
 -- a line of a head is that of this field
 abbrev pub HasField : List ℕ → List ℕ → List ℕ → Type 0

@@ -20,7 +20,7 @@ pub fn print_reply(alloc: Global, reply: &Reply, head_only: bool) -> Result<Vec<
     if head_only {
         return Ok(bytes);
     }
-    bytes.extend_from_slice(&reply.body)?;
+    bytes.extend_from_slice(reply.body.as_bytes())?;
     Ok(bytes)
 }
 

@@ -8,5 +8,5 @@ pub struct Reply {
     /// Whether the content is JSON (RFC 8259), and not plain text.
     pub json: bool,
     /// The content, also where it isn't sent.
-    pub body: Vec<u8>,
+    pub body: String,
 }

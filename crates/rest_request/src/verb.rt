@@ -35,24 +35,36 @@ pub(crate) fn verb_of(alloc: Global, token: &[u8]) -> Result<Verb, AllocError>
     ensures { IfOk result (λ verb. verb ≡ verb_of token.now) }
 {
     match Method::from_bytes(alloc, token) {
-        Ok(method) => Ok(verb_by(method.as_str())),
+        Ok(method) => Ok(Verb::of(method.as_str().as_bytes())),
         Err(MethodError::Invalid) => unreachable!(),
         Err(MethodError::OutOfMemory) => Err(AllocError),
     }
 }
 
-/// The verb that has this method.
-fn verb_by(method: &str) -> Verb
-    ensures { result ≡ verb_of method.now }
-{
-    match method {
-        "GET" => Verb::Get,
-        "HEAD" => Verb::Head,
-        "OPTIONS" => Verb::Options,
-        "PATCH" => Verb::Patch,
-        "PUT" => Verb::Put,
-        "POST" => Verb::Post,
-        "DELETE" => Verb::Delete,
-        _ => Verb::Other,
+impl Verb {
+    ghost use Rattle.std.specs.Prelude.{◌≡◌};
+    ghost use Rattle.rest_request.specs.Verbs.{verb_of};
+
+    /// The verb of these bytes, which are a method where they are its name in capitals.
+    pub fn of(token: &[u8]) -> Verb
+        ensures { result ≡ verb_of token.now }
+    {
+        if token == b"GET".as_slice() {
+            Verb::Get
+        } else if token == b"HEAD".as_slice() {
+            Verb::Head
+        } else if token == b"OPTIONS".as_slice() {
+            Verb::Options
+        } else if token == b"PATCH".as_slice() {
+            Verb::Patch
+        } else if token == b"PUT".as_slice() {
+            Verb::Put
+        } else if token == b"POST".as_slice() {
+            Verb::Post
+        } else if token == b"DELETE".as_slice() {
+            Verb::Delete
+        } else {
+            Verb::Other
+        }
     }
 }

@@ -1,8 +1,6 @@
 -- Each run tells before each feed from when it is measured, and is fenced.
 use Rattle.std.proofs.Common.{ℕ, ◌≡◌, List, [], ◌∷◌, slice_get, Option, Some, None, Result, Ok, Err, zero, suc, refl}
-use Rattle.lease_store.specs.declared.action.OperatorRequest.{OperatorRequest}
-use Rattle.operator_keys.specs.declared.refusal.Refused.{Refused}
-use Rattle.rest_api.specs.declared.call.RestCall.{RestCall}
+use Rattle.rest_answer.specs.Answers.{Answered, Acts, Replies}
 use Rattle.event_book.specs.declared.event.EventKind.TheVariants as kinds
 use Rattle.event_book.specs.declared.event.Note.TheVariants.{NoAnswer}
 use Rattle.agent_model.specs.Agents.{Outcome}
@@ -16,15 +14,16 @@ use Rattle.script_model.specs.declared.line.Command.{Command}
 use Rattle.script_model.specs.declared.line.Command.TheVariants as commands
 use Rattle.script_model.specs.declared.line.Step.{Step}
 use Rattle.script_model.specs.declared.line.Step.TheVariants as steps
+use Rattle.script_model.specs.declared.request_words.RequestWords.{RequestWords}
 use Rattle.cluster_model.specs.declared.delivery.Delivery.{Delivery}
 use Rattle.cluster_model.specs.declared.delivery.Delivery.TheVariants as deliveries
 use Rattle.cluster_model.specs.Deliveries.{delivery_of}
 use Rattle.cluster_model.specs.Inputs.{is_to_wake, may_act, moment_of, standing_of}
 use Rattle.cluster_model.specs.Limits.{most_rounds}
-use Rattle.cluster_model.specs.Messages.{arrival_events_at, call_events, call_events_if, call_events_of, decided_events, deliver_events, deliver_events_by, message_events, message_events_by, turn_events, turn_events_if, wake_events, wake_events_if, wake_events_of}
+use Rattle.cluster_model.specs.Messages.{answered_events, arrival_events_at, deliver_events, deliver_events_by, message_events, message_events_by, request_events, request_events_if, request_events_of, turn_events, turn_events_if, wake_events, wake_events_if, wake_events_of}
 use Rattle.cluster_model.specs.Next.{acknowledge_events, command_events, declared, next_events, promote_events, receive_events_at_most, receive_events_of, agent_start_events, round_events, rounds_events, run_events, scheduled_events, step_events}
 use Rattle.cluster_model.specs.Parts.{each, event_of, for_some, is_empty}
-use Rattle.cluster_model.specs.Requests.{action_of, decision_at}
+use Rattle.cluster_model.specs.Requests.{action_of, answer_at}
 use Rattle.cluster_model.specs.Starting.{cluster_of}
 use Rattle.cluster_model.specs.State.{Cluster}
 use Rattle.cluster_model.specs.Ticking.{tick_events}
@@ -49,16 +48,16 @@ tells-turn member moments cluster knows =
     told-for_some moments cluster (slice_get cluster.facts.processes member.id.number) (turn_events_if cluster member) (λ process is.
     told-if moments cluster (may_act process) (wake_events_of cluster member) [] (told-wake moments cluster member) (tells-none moments cluster))
 
--- a call is answered, or its agent does what it asks
-told-decided : (moments : Moments) (cluster : Cluster) (member : Member) (o : Outcome) (decision : Result OperatorRequest Refused) → Measures moments cluster (decided_events cluster member o decision)
-told-decided moments cluster member o (Ok asked) = told-operated moments cluster member (action_of o asked)
-told-decided moments cluster member o (Err refused) = told-plain moments cluster _ (tt, tt)
+-- a request is replied to at once, or its agent does what it asks
+told-answered : (moments : Moments) (cluster : Cluster) (member : Member) (o : Outcome) (answer : Answered) → Measures moments cluster (answered_events cluster member o answer)
+told-answered moments cluster member o (Acts asked) = told-operated moments cluster member (action_of o asked)
+told-answered moments cluster member o (Replies reply) = told-plain moments cluster _ (tt, tt)
 
-tells-call : (call : RestCall) (body : List ℕ) (member : Member) → Tells (λ cluster. call_events cluster call body member)
-tells-call call body member moments cluster knows =
-    told-for_some moments cluster (slice_get cluster.facts.processes member.id.number) (call_events_if cluster call body member) (λ process is.
-    told-if moments cluster (may_act process) (for_some (standing_of cluster member) (call_events_of cluster call body member)) (event_of cluster (kinds.Note (NoAnswer member)))
-    (told-for_some moments cluster (standing_of cluster member) (call_events_of cluster call body member) (λ o is. told-decided moments cluster member o (decision_at (moment_of cluster) o call body)))
+tells-request : (request : RequestWords) (member : Member) → Tells (λ cluster. request_events cluster request member)
+tells-request request member moments cluster knows =
+    told-for_some moments cluster (slice_get cluster.facts.processes member.id.number) (request_events_if cluster request member) (λ process is.
+    told-if moments cluster (may_act process) (for_some (standing_of cluster member) (request_events_of cluster request member)) (event_of cluster (kinds.Note (NoAnswer member)))
+    (told-for_some moments cluster (standing_of cluster member) (request_events_of cluster request member) (λ o is. told-answered moments cluster member o (answer_at (moment_of cluster) o request)))
     (told-plain moments cluster _ (tt, tt)))
 
 told-arrival : (moments : Moments) (cluster : Cluster) (number : ℕ) (message : InFlightFacts) (to : LinkEnd) → KnowsSending moments cluster.facts → in_flight cluster.facts.flight number ≡ Some message
@@ -113,7 +112,7 @@ tells-command (commands.Deliver number) moments cluster knows = told-deliver mom
 tells-command (commands.Lose number) moments cluster knows = told-lose moments cluster number (in_flight cluster.facts.flight number)
 tells-command (commands.StartAgent id) moments cluster knows = told-for_some moments cluster (declared cluster id) (agent_start_events cluster) (λ m is. tells-restart m moments cluster knows)
 tells-command (commands.Promote id) moments cluster knows = told-for_some moments cluster (declared cluster id) (promote_events cluster) (λ m is. tells-promote m moments cluster knows)
-tells-command (commands.Rest id call body) moments cluster knows = told-for_some moments cluster (declared cluster id) (call_events cluster call body) (λ m is. tells-call call body m moments cluster knows)
+tells-command (commands.Rest id request) moments cluster knows = told-for_some moments cluster (declared cluster id) (request_events cluster request) (λ m is. tells-request request m moments cluster knows)
 tells-command (commands.Stream id most) moments cluster knows = told-for_some moments cluster (declared cluster id) (receive_events_at_most cluster most) (λ m is. tells-receive-at-most most m moments cluster knows)
 tells-command command moments cluster knows = tells-kind command moments cluster knows
 

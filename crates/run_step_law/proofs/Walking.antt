@@ -1,8 +1,5 @@
 -- Each step of a script upholds a promise, where its parts do.
 use Rattle.std.proofs.Common.{ℕ, ◌≡◌, ◌≤◌, List, [], ◌∷◌, length, slice_get, Option, Some, None, Result, Ok, Err, true, zero, suc, refl, sym, subst}
-use Rattle.lease_store.specs.declared.action.OperatorRequest.{OperatorRequest}
-use Rattle.operator_keys.specs.declared.refusal.Refused.{Refused}
-use Rattle.operator_keys.specs.AnswerTexts.{answer_text}
 use Rattle.std.specs.Map.{keys_of}
 use Rattle.event_book.specs.declared.agent_process.AgentProcess.{AgentProcess}
 use Rattle.event_book.specs.declared.event.Event.{Event}
@@ -15,7 +12,8 @@ use Rattle.event_book.specs.Flight.{InFlightFacts, in_flight}
 use Rattle.script_model.specs.declared.line.Command.{Command}
 use Rattle.script_model.specs.declared.line.Command.TheVariants as commands
 use Rattle.script_model.specs.declared.line.Step.{Step}
-use Rattle.rest_api.specs.declared.call.RestCall.{RestCall}
+use Rattle.rest_answer.specs.Answers.{Answered, Acts, Replies}
+use Rattle.script_model.specs.declared.request_words.RequestWords.{RequestWords}
 use Rattle.agent_model.specs.Agents.{Outcome}
 use Rattle.script_model.specs.declared.line.Step.TheVariants as steps
 use Rattle.cluster_model.specs.declared.delivery.Delivery.{Delivery}
@@ -24,10 +22,10 @@ use Rattle.cluster_model.specs.Deliveries.{delivery_of}
 use Rattle.script_model.specs.Script.{HeadText, names_of}
 use Rattle.cluster_model.specs.Inputs.{has_work, is_to_wake, may_act, moment_of, standing_of}
 use Rattle.cluster_model.specs.Limits.{most_rounds}
-use Rattle.cluster_model.specs.Messages.{arrival_events_at, call_events, call_events_if, call_events_of, decided_events, deliver_events, deliver_events_by, lose_events, message_events, message_events_by, turn_events, turn_events_if, wake_events, wake_events_if, wake_events_of}
+use Rattle.cluster_model.specs.Messages.{answered_events, arrival_events_at, deliver_events, deliver_events_by, lose_events, message_events, message_events_by, request_events, request_events_if, request_events_of, turn_events, turn_events_if, wake_events, wake_events_if, wake_events_of}
 use Rattle.cluster_model.specs.Next.{acknowledge_events, all_entries, command_events, declared, next_events, promote_events, receive_events_at_most, receive_events_of, round_events, rounds_events, run_events, scheduled_events, step_events}
 use Rattle.cluster_model.specs.Parts.{each, event_of, for_some, is_empty}
-use Rattle.cluster_model.specs.Requests.{action_of, decision_at}
+use Rattle.cluster_model.specs.Requests.{action_of, answer_at}
 use Rattle.cluster_model.specs.State.{Cluster}
 use Rattle.cluster_model.specs.Ticking.{tick_events}
 use Rattle.lease_law.proofs.Tools.{and-first}
@@ -52,18 +50,18 @@ module _ (head : HeadText) (few : length (names_of head) ≤ MOST_MEMBERS) (prom
       (λ process found. upheld-if promise composable book cluster (may_act process) (wake_events_of cluster member) []
       (λ acts. parts.inputs.wakes book cluster member process good is found acts) (λ rests. upheld-none promise composable book cluster good))
 
-  -- a call to the agent of a member, which may be refused
-  upheld-decided : (member : Member) (process : AgentProcess) (o : Outcome) (decision : Result OperatorRequest Refused) → IsDeclared head member → (book : List Event) (cluster : Cluster) → promise.between book cluster
-      → slice_get cluster.facts.processes member.id.number ≡ Some process → may_act process ≡ true → Upholds promise book cluster (decided_events cluster member o decision)
-  upheld-decided member process o (Ok asked) is book cluster good found acts = parts.inputs.operates book cluster member process (action_of o asked) good is found acts
-  upheld-decided member process o (Err refused) is book cluster good found acts = parts.notes (notes.Answered member refused.status (answer_text refused.text)) book cluster good
+  -- a request to the agent of a member, which may be replied to at once
+  upheld-answered : (member : Member) (process : AgentProcess) (o : Outcome) (answer : Answered) → IsDeclared head member → (book : List Event) (cluster : Cluster) → promise.between book cluster
+      → slice_get cluster.facts.processes member.id.number ≡ Some process → may_act process ≡ true → Upholds promise book cluster (answered_events cluster member o answer)
+  upheld-answered member process o (Acts asked) is book cluster good found acts = parts.inputs.operates book cluster member process (action_of o asked) good is found acts
+  upheld-answered member process o (Replies reply) is book cluster good found acts = parts.notes (notes.Answered member reply.status reply.body) book cluster good
 
-  upheld-call : (call : RestCall) (body : List ℕ) (member : Member) → IsDeclared head member → UpholdsAlways promise (λ cluster. call_events cluster call body member)
-  upheld-call call body member is book cluster good =
-      upheld-for_some promise composable book cluster (slice_get cluster.facts.processes member.id.number) (call_events_if cluster call body member) good
-      (λ process found. upheld-if promise composable book cluster (may_act process) (for_some (standing_of cluster member) (call_events_of cluster call body member)) (event_of cluster (kinds.Note (notes.NoAnswer member)))
-      (λ acts. upheld-for_some promise composable book cluster (standing_of cluster member) (call_events_of cluster call body member) good
-      (λ o stands. upheld-decided member process o (decision_at (moment_of cluster) o call body) is book cluster good found acts))
+  upheld-request : (request : RequestWords) (member : Member) → IsDeclared head member → UpholdsAlways promise (λ cluster. request_events cluster request member)
+  upheld-request request member is book cluster good =
+      upheld-for_some promise composable book cluster (slice_get cluster.facts.processes member.id.number) (request_events_if cluster request member) good
+      (λ process found. upheld-if promise composable book cluster (may_act process) (for_some (standing_of cluster member) (request_events_of cluster request member)) (event_of cluster (kinds.Note (notes.NoAnswer member)))
+      (λ acts. upheld-for_some promise composable book cluster (standing_of cluster member) (request_events_of cluster request member) good
+      (λ o stands. upheld-answered member process o (answer_at (moment_of cluster) o request) is book cluster good found acts))
       (λ rests. parts.notes (notes.NoAnswer member) book cluster good))
 
   -- a message comes to its receiver
@@ -137,8 +135,8 @@ module _ (head : HeadText) (few : length (names_of head) ≤ MOST_MEMBERS) (prom
   upheld-command (commands.StartAgent id) book cluster good = parts.restarts id book cluster good
   upheld-command (commands.Promote id) book cluster good =
       upheld-for_some promise composable book cluster (declared cluster id) (promote_events cluster) good (λ m is. parts.promotions m (declared-now head few cluster (parts.members book cluster good) id m is) book cluster good)
-  upheld-command (commands.Rest id call body) book cluster good =
-      upheld-for_some promise composable book cluster (declared cluster id) (call_events cluster call body) good (λ m is. upheld-call call body m (declared-now head few cluster (parts.members book cluster good) id m is) book cluster good)
+  upheld-command (commands.Rest id request) book cluster good =
+      upheld-for_some promise composable book cluster (declared cluster id) (request_events cluster request) good (λ m is. upheld-request request m (declared-now head few cluster (parts.members book cluster good) id m is) book cluster good)
   upheld-command (commands.Stream id most) book cluster good =
       upheld-for_some promise composable book cluster (declared cluster id) (receive_events_at_most cluster most) good (λ m is. parts.receipts most m book cluster good)
   upheld-command command book cluster good = parts.commands command book cluster good

@@ -37,12 +37,11 @@ use Rattle.script_model.specs.declared.line.Line.TheVariants as lines
 use Rattle.script_model.specs.declared.line.SlowedCall.{SlowedCall}
 use Rattle.script_model.specs.declared.line.SlowedCall.TheVariants as slowed_calls
 use Rattle.member_options.specs.declared.member_option.MemberOption.{MemberOption}
-use Rattle.rest_api.specs.declared.call.RestCall.{RestCall}
+use Rattle.script_model.specs.declared.request_words.RequestWords.{RequestWords}
 use Rattle.member_options.proofs.OptionCanonLaws.{few-options, options-enough}
 use Rattle.member_options.proofs.OptionTexts.{options-IsPlain}
 use Rattle.script_words.proofs.PlainTexts.{IsPlain, IsPlain-append, IsPlain-most, blank-IsPlain, name-IsPlain, decimal-IsPlain, plain-is_utf8, no-feeds}
 use Rattle.cluster_script.proofs.FirstWordLaws.{longest_word, some_name-IsPlain, word-IsPlain}
-use Rattle.cluster_script.proofs.RequestLaws.{request-one-line}
 use Rattle.script_law.proofs.SpellLaws.{size-fits, delay-fits, base-fits, spelled-is-read}
 use Rattle.script_law.proofs.FirstWords.{spelled-counts}
 
@@ -105,9 +104,9 @@ delay-IsPlain members m slowed n fits =
     IsPlain-most (two_texts (member_text members m) (two_texts (slowed_call_text slowed) (decimal n))) (32 + ((5 + (20 + 1)) + 1)) 500 (omega arith)
     (IsPlain-append (member_text members m) (32 ∷ two_texts (slowed_call_text slowed) (decimal n)) 32 ((5 + (20 + 1)) + 1) (some_name-IsPlain (slice_get members m.number)) (blank-IsPlain (two_texts (slowed_call_text slowed) (decimal n)) (5 + (20 + 1)) behind))
 
--- the line of a request, whose body is on one line
-request-IsLineText : (members : List Name) (m : MemberId) (call : RestCall) (body : List ℕ) → IsRequest members m call body → IsLineText (rest_text members m call body)
-request-IsLineText members m call body is = record { text = is.form.text; alone = request-one-line members m call body is.one_line; short = is.form.short; counts = spelled-counts words.Rest (two_texts (member_text members m) (request_text call body)) }
+-- the line of a request
+request-IsLineText : (members : List Name) (m : MemberId) (request : RequestWords) → IsRequest members m request → IsLineText (rest_text members m request)
+request-IsLineText members m request is = record { text = is.line.form.text; alone = is.line.one_line; short = is.line.form.short; counts = spelled-counts words.Rest (two_texts (member_text members m) (request_text request)) }
 
 command-IsLineText : (members : List Name) (c : Command) → IsCommand members c → IsLineText (command_text members c)
 command-IsLineText members (commands.Turn m) is = spelled-IsLineText words.Turn (member_text members m) (member-IsPlain members m)
@@ -126,7 +125,7 @@ command-IsLineText members (commands.Thaw m) is = spelled-IsLineText words.Thaw 
 command-IsLineText members (commands.Slow m slowed delay) is = spelled-IsLineText words.Slow (two_texts (member_text members m) (two_texts (slowed_call_text slowed) (decimal delay.ticks))) (delay-IsPlain members m slowed delay.ticks (delay-fits delay))
 command-IsLineText members (commands.Cut x y) is = spelled-IsLineText words.Cut (two_texts (end_word members x) (end_word members y)) (link-IsPlain members x y)
 command-IsLineText members (commands.Join x y) is = spelled-IsLineText words.Join (two_texts (end_word members x) (end_word members y)) (link-IsPlain members x y)
-command-IsLineText members (commands.Rest m call body) is = request-IsLineText members m call body is
+command-IsLineText members (commands.Rest m request) is = request-IsLineText members m request is
 command-IsLineText members (commands.Trace on) is = spelled-IsLineText words.Trace (switch_text on) (switch-IsPlain on)
 
 line-IsLineText : (members : List Name) (line : Line) → IsLine members line → IsLineText (line_text members line)

@@ -1,17 +1,16 @@
 -- What is spelled as a script is read as it.
-use Rattle.std.proofs.Common.{◌≡◌, ◌≢◌, ℕ, ◌+◌, ◌^◌, ◌≤◌, ◌<◌, ◌&&◌, ◌==◌, nat_le, Bool, true, false, cond, List, [], ◌∷◌, ◌++◌, length, map, slice_get, Option, Some, None, Result, Ok, Err, codes, refl, ◌∙◌, ap, sym, subst, zero, suc, arith, append_assoc, append-nil, length-append}
+use Rattle.std.proofs.Common.{◌≡◌, ◌≢◌, ℕ, ◌+◌, ◌^◌, ◌≤◌, ◌<◌, ◌&&◌, nat_le, Bool, true, false, cond, List, [], ◌∷◌, ◌++◌, length, map, slice_get, Option, Some, None, Result, Ok, Err, codes, refl, ◌∙◌, ap, sym, subst, zero, suc, arith, append_assoc, append-nil, length-append}
 use Rattle.std.specs.Fmt.{decimal}
-use Rattle.std.specs.List.{list_all}
 use Rattle.std.specs.Option.{ok_or, option_and_then, option_to_list}
 use Rattle.std.specs.Str.{bytes_eq}
-use Rattle.std.proofs.lemmas.Bool.{and_parts, eqb-true}
+use Rattle.std.proofs.lemmas.Bool.{eqb-true}
 use Rattle.std.proofs.lemmas.Bool.Decides.{nat_tests}
 use Rattle.std.proofs.lemmas.List.{map-append, length-map}
 use Rattle.std.proofs.lemmas.Option.{slice_get_within}
 use Rattle.std.proofs.lemmas.Slice.Eq.{bytes_eq-Decides}
 use Rattle.pat_base.specs.Bounded.{is_text-bytes}
 use Rattle.pat_base.specs.MemberId.{member_of}
-use Rattle.pat_base.specs.NameText.{is_name, is_name_byte}
+use Rattle.pat_base.specs.NameText.{is_name_byte}
 use Rattle.pat_base.specs.declared.member_id.MemberId.{MemberId}
 use Rattle.pat_base.proofs.Members.{number-injective, member_of-number}
 use Rattle.pat_base.proofs.Names.{name_of-name_bytes}
@@ -26,7 +25,7 @@ use Rattle.script_model.specs.Ranges.{commit_size_of, delay_of}
 use Rattle.cluster_script.specs.Arguments.{number_in, switch_in, slowed_call_in, commit_size_in, delay_in, known_member, member_in, end_in, line_end, last_word, one_word, word_behind, two_words, words_behind, same_end, apart, two_ends, commit_in, stream_in, slow_in, command}
 use Rattle.cluster_script.specs.Draft.{DraftText, script_so_far}
 use Rattle.script_words.specs.Faults.{both}
-use Rattle.script_model.specs.Script.{end_word, switch_text, slowed_call_text, two_texts, base_text, config_text, config_or_default, base_or_default, AreDifferent, MemberText, ScriptText, member_names, names_of, IsScript, IsMember, IsEnd, IsLink, IsCommand, IsLine, AllAreLines, cluster_text, line_text, IsInForm, IsRequest, request_text, member_text, text_of_name}
+use Rattle.script_model.specs.Script.{end_word, switch_text, slowed_call_text, two_texts, base_text, config_text, config_or_default, base_or_default, AreDifferent, MemberText, ScriptText, member_names, names_of, IsScript, IsMember, IsEnd, IsLink, IsCommand, IsLine, AllAreLines, cluster_text, line_text, IsInForm, IsRequest, request_text, rest_text, member_text, text_of_name}
 use Rattle.script_model.specs.Spelling.{HeadLine, ConfigLine, BaseLine, MembersLine, head_line_text, configs_said, bases_said, members_said, read_at_most_once, head_with, IsHeadLines, MemberLine, member_of_line, member_line_text, AllInForm, SpellsLine, OwnText, BlankBehind, SpellBody, Spells}
 use Rattle.pat_base.specs.Name.{name_bytes, name_of}
 use Rattle.pat_base.specs.declared.name.Name.{Name}
@@ -55,31 +54,21 @@ use Rattle.script_model.specs.declared.line.SlowedCall.{SlowedCall}
 use Rattle.script_model.specs.declared.line.SlowedCall.TheVariants as slowed_calls
 use Rattle.script_model.specs.declared.ranges.CommitSize.{CommitSize}
 use Rattle.script_model.specs.declared.ranges.Delay.{Delay}
+use Rattle.script_model.specs.declared.request_words.RequestWords.{RequestWords}
 use Rattle.script_words.proofs.Outcomes.{err_is}
 use Rattle.cluster_script.proofs.NameLaws.{place_of-Some, place_of-None}
 use Rattle.script_words.proofs.NumberLaws.{number-decimal, first_at-decimal}
 use Rattle.member_options.proofs.OptionSpellLaws.{options_in-again}
 use Rattle.member_options.proofs.OptionWords.{options-cut}
 use Rattle.script_model.proofs.RangeLaws.{commit_size_of-Some, delay_of-Some}
-use Rattle.cluster_script.proofs.RequestLaws.{words_with, blank-text, request-again, own-again}
+use Rattle.cluster_script.proofs.BlankLaws.{first_at-all}
+use Rattle.cluster_script.proofs.RequestLaws.{words_with, request_with, blank-text, request-again, own-again}
 use Rattle.script_words.proofs.WordLaws.{cut_word-again, cut_word-alone}
 use Rattle.script_law.proofs.FirstWords.{cut_word-spelled, keyword_of-word_of}
 
 -- no blank stands in a name
-byte-other : (b : ℕ) → is_name_byte b ≡ true → (b == 32) ≡ false
-byte-other b h = grind (arith, nat_tests)
-
-first_at-bytes : (v : List ℕ) → list_all is_name_byte v ≡ true → first_at 32 v ≡ None
-first_at-bytes [] h = refl
-first_at-bytes (b ∷ bs) h =
-    let both = and_parts (is_name_byte b) (list_all is_name_byte bs) h in
-    rw (byte-other b both.0, first_at-bytes bs both.1) refl
-
-first_at-text : (v : List ℕ) → is_name v ≡ true → first_at 32 v ≡ None
-first_at-text v h = first_at-bytes v (is_text-bytes 32 is_name_byte v h)
-
 pub first_at-name : (name : Name) → first_at 32 (name_bytes name) ≡ None
-first_at-name name = first_at-text (name_bytes name) name.legal
+first_at-name name = first_at-all is_name_byte (name_bytes name) refl (is_text-bytes 32 is_name_byte (name_bytes name) name.legal)
 
 first_at-some_name : (o : Option Name) → first_at 32 (text_of_name o) ≡ None
 first_at-some_name None = refl
@@ -263,7 +252,7 @@ command-IsSaid members (commands.Stream m n) some h is = record { keyword = word
 command-IsSaid members (commands.Slow m slowed delay) some h is = record { keyword = words.Slow; words = two_texts (member_text members m) (two_texts (slowed_call_text slowed) (decimal delay.ticks)); text = refl; in_body = λ base body. added _ _ (ap (λ r. on_ok r command) (slow-again members m slowed delay some h is)) }
 command-IsSaid members (commands.Cut x y) some h is = record { keyword = words.Cut; words = two_texts (end_word members x) (end_word members y); text = refl; in_body = λ base body. added _ _ (ap (λ r. on_ok r (λ link. command (commands.Cut link.0 link.1))) (two_ends-again members x y some h is)) }
 command-IsSaid members (commands.Join x y) some h is = record { keyword = words.Join; words = two_texts (end_word members x) (end_word members y); text = refl; in_body = λ base body. added _ _ (ap (λ r. on_ok r (λ link. command (commands.Join link.0 link.1))) (two_ends-again members x y some h is)) }
-command-IsSaid members (commands.Rest m call body) some h is = record { keyword = words.Rest; words = two_texts (member_text members m) (request_text call body); text = refl; in_body = λ base rest. added _ _ (own-again members (member_text members m) m (first_at-member members m) (member_in-again members m h is.declared) call body) }
+command-IsSaid members (commands.Rest m request) some h is = record { keyword = words.Rest; words = two_texts (member_text members m) (request_text request); text = refl; in_body = λ base rest. added _ _ (own-again members (member_text members m) m (first_at-member members m) (member_in-again members m h is.declared) request.method request.target is.method is.target request.body) }
 command-IsSaid members (commands.Trace on) some h is = record { keyword = words.Trace; words = switch_text on; text = refl; in_body = λ base body. added _ _ (ap (λ r. on_ok r (λ on. command (commands.Trace on))) (switch-again members on some)) }
 
 line-IsSaid : (members : List Name) (line : Line) → 0 < length members → AreDifferent members → IsLine members line → IsSaid members line
@@ -293,14 +282,16 @@ line-again d line some h is =
 line_text-again : (d : DraftText) (text : List ℕ) (line : Line) → 0 < length (member_names d.members) → AreDifferent (member_names d.members) → IsLine (member_names d.members) line → SpellsLine (member_names d.members) text line
     → with_line d text ≡ Ok (record d { body = d.body ++ line ∷ [] })
 line_text-again d text line some h is (OwnText own) = ap (with_line d) own ∙ line-again d line some h is
-line_text-again d text line some h is (BlankBehind m call request blank) =
+line_text-again d text line some h is (BlankBehind m request empty asks blank) =
     let members : List Name = member_names d.members in
-    let declared : IsRequest members m call [] = subst (IsLine members) request is in
-    let behind : List ℕ = two_texts (member_text members m) (words_with call (Some [])) in
-    let read = request-again members (member_text members m) m (first_at-member members m) (member_in-again members m h declared.declared) call (Some []) in
-    ap (with_line d) (blank ∙ sym (blank-text members m call))
-    ∙ addition-again d words.Rest behind (additions.Body (lines.Command (commands.Rest m call []))) (added _ _ read)
-    ∙ ap (λ (l : Line). Ok (record d { body = d.body ++ l ∷ [] })) (sym request)
+    let asked : IsRequest members m request = subst (IsLine members) asks is in
+    let behind : List ℕ = two_texts (member_text members m) (words_with request.method request.target (Some [])) in
+    let bare : request_with request.method request.target None ≡ request = ap (λ (body : List ℕ). record request { body = body }) (sym empty) in
+    let read = request-again members (member_text members m) m (first_at-member members m) (member_in-again members m h asked.declared) request.method request.target asked.method asked.target (Some []) in
+    ap (with_line d) (blank ∙ ap (λ (r : RequestWords). rest_text members m r ++ 32 ∷ []) (sym bare) ∙ sym (blank-text members m request.method request.target))
+    ∙ addition-again d words.Rest behind (additions.Body (lines.Command (commands.Rest m (request_with request.method request.target None)))) (added _ _ read)
+    ∙ ap (λ (r : RequestWords). Ok (record d { body = d.body ++ lines.Command (commands.Rest m r) ∷ [] })) bare
+    ∙ ap (λ (l : Line). Ok (record d { body = d.body ++ l ∷ [] })) (sym asks)
 
 -- a member's line is read again
 few : (n : ℕ) → n < MOST_MEMBERS → nat_le MOST_MEMBERS n ≡ false

@@ -1,15 +1,15 @@
 -- What a script says, and how it is spelled.
 use Rattle.std.specs.Prelude.{ℕ, ◌≡◌, ◌≢◌, ◌≤◌, ◌<◌, ◌^◌, ◌==◌, Bool, true, false, if◌then◌else◌, List, [], ◌∷◌, ◌++◌, Option, Some, None, codes, length, map, slice_get}
 use Rattle.std.specs.Fmt.{decimal}
-use Rattle.std.specs.Str.{is_utf8, bytes_eq}
+use Rattle.std.specs.Str.{is_utf8, bytes_eq, IsUtf8}
 use Rattle.pat_base.specs.Name.{name_bytes}
 use Rattle.pat_base.specs.declared.name.Name.{Name}
 use Rattle.pat_base.specs.declared.member_id.MemberId.{MemberId}
 use Rattle.lease_store.specs.Defaults.{default_settings}
 use Rattle.lease_store.specs.Settings.{Settings}
-use Rattle.script_words.specs.Lines.{ended, is_one_line}
+use Rattle.script_words.specs.Lines.{ended, first_at, is_one_line}
 use Rattle.member_options.specs.Options.{option_text, behind_blanks, options_to_say}
-use Rattle.rest_api.specs.Calls.{request_words}
+use Rattle.rest_api.specs.Tokens.{is_token}
 use Rattle.script_model.specs.Bounds.{longest_line, greatest_base}
 use Rattle.pat_base.specs.declared.member_id.TheConstants.{MOST_MEMBERS}
 use Rattle.script_model.specs.Keywords.{spelled}
@@ -23,8 +23,8 @@ use Rattle.script_model.specs.declared.line.SlowedCall.{SlowedCall}
 use Rattle.script_model.specs.declared.line.SlowedCall.TheVariants as slowed_calls
 use Rattle.script_model.specs.declared.line.Line.{Line}
 use Rattle.script_model.specs.declared.line.Line.TheVariants as lines
+use Rattle.script_model.specs.declared.request_words.RequestWords.{RequestWords}
 use Rattle.member_options.specs.declared.member_option.MemberOption.{MemberOption}
-use Rattle.rest_api.specs.declared.call.RestCall.{RestCall}
 
 -- what a script declares of a member
 pub record MemberText : Type 0 where
@@ -113,12 +113,12 @@ body_text [] = []
 body_text (b ∷ bs) = 32 ∷ b ∷ bs
 
 -- the method, the target and the body of a request
-abbrev pub request_text : RestCall → List ℕ → List ℕ
-request_text call body = two_texts (request_words call).0 ((request_words call).1 ++ body_text body)
+abbrev pub request_text : RequestWords → List ℕ
+request_text request = two_texts request.method (request.target ++ body_text request.body)
 
 -- the line of a request to the agent of a member
-abbrev pub rest_text : List Name → MemberId → RestCall → List ℕ → List ℕ
-rest_text members member call body = spelled words.Rest (two_texts (member_text members member) (request_text call body))
+abbrev pub rest_text : List Name → MemberId → RequestWords → List ℕ
+rest_text members member request = spelled words.Rest (two_texts (member_text members member) (request_text request))
 
 -- the line of a command
 abbrev pub command_text : List Name → Command → List ℕ
@@ -138,7 +138,7 @@ command_text members (commands.Thaw member) = spelled words.Thaw (member_text me
 command_text members (commands.Slow member slowed delay) = spelled words.Slow (two_texts (member_text members member) (two_texts (slowed_call_text slowed) (decimal delay.ticks)))
 command_text members (commands.Cut first second) = spelled words.Cut (two_texts (end_word members first) (end_word members second))
 command_text members (commands.Join first second) = spelled words.Join (two_texts (end_word members first) (end_word members second))
-command_text members (commands.Rest member call body) = rest_text members member call body
+command_text members (commands.Rest member request) = rest_text members member request
 command_text members (commands.Trace on) = spelled words.Trace (switch_text on)
 
 -- a line of the body
@@ -204,6 +204,11 @@ pub record IsInForm (line : List ℕ) : Type 0 where
   pub text : is_utf8 line ≡ true
   pub short : IsShort line
 
+-- such a line, without a line feed
+pub record IsWholeLine (line : List ℕ) : Type 0 where
+  pub form : IsInForm line
+  pub one_line : is_one_line line ≡ true
+
 -- no name stands at two places
 abbrev pub AreDifferent : List Name → Type 0
 AreDifferent members = (i j : ℕ) (name : Name) → slice_get members i ≡ Some name → slice_get members j ≡ Some name → i ≡ j
@@ -231,11 +236,18 @@ pub record IsLink (members : List Name) (first second : End) : Type 0 where
   pub second_is : IsEnd members second
   pub apart : first ≢ second
 
--- a request that a line may be: to the agent of a declared member, with a body on one line, which is in form
-pub record IsRequest (members : List Name) (member : MemberId) (call : RestCall) (body : List ℕ) : Type 0 where
+-- bytes between blanks: at least one, and no blank
+pub record IsWord (word : List ℕ) : Type 0 where
+  pub some : 0 < length word
+  pub unbroken : first_at 32 word ≡ None
+
+-- a request that a line may be: to the agent of a declared member, by a token of HTTP as its method and a word of text as its target, all of it on one line, which is in form
+pub record IsRequest (members : List Name) (member : MemberId) (request : RequestWords) : Type 0 where
   pub declared : IsMember members member
-  pub one_line : is_one_line body ≡ true
-  pub form : IsInForm (rest_text members member call body)
+  pub method : is_token request.method ≡ true
+  pub target : IsWord request.target
+  pub target_text : IsUtf8 request.target
+  pub line : IsWholeLine (rest_text members member request)
 
 -- a command that a line may be
 abbrev pub IsCommand : List Name → Command → Type 0
@@ -255,7 +267,7 @@ IsCommand members (commands.Thaw member) = IsMember members member
 IsCommand members (commands.Slow member slowed delay) = IsMember members member
 IsCommand members (commands.Cut first second) = IsLink members first second
 IsCommand members (commands.Join first second) = IsLink members first second
-IsCommand members (commands.Rest member call body) = IsRequest members member call body
+IsCommand members (commands.Rest member request) = IsRequest members member request
 IsCommand members (commands.Trace on) = Unit {0}
 
 -- a line that a body may have

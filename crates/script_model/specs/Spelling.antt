@@ -7,7 +7,6 @@ use Rattle.pat_base.specs.declared.member_id.MemberId.{MemberId}
 use Rattle.lease_store.specs.Settings.{Settings}
 use Rattle.cluster_config.specs.ConfigReading.{config_read}
 use Rattle.cluster_config.specs.declared.config_fault.ConfigFault.{ConfigFault}
-use Rattle.rest_api.specs.declared.call.RestCall.{RestCall}
 use Rattle.script_words.specs.Lines.{lines_in, counted_lines}
 use Rattle.member_options.specs.Options.{SayOnce, options_or_default}
 use Rattle.member_options.specs.declared.member_option.MemberOption.{MemberOption}
@@ -16,6 +15,7 @@ use Rattle.script_model.specs.Script.{MemberText, HeadText, ScriptText, names_of
 use Rattle.script_model.specs.declared.line.Command.TheVariants as commands
 use Rattle.script_model.specs.declared.line.Line.{Line}
 use Rattle.script_model.specs.declared.line.Line.TheVariants as lines
+use Rattle.script_model.specs.declared.request_words.RequestWords.{RequestWords}
 
 -- a line of a member: its name, its options in the line's order, and what they say, each at most once
 pub record MemberLine : Type 0 where
@@ -103,7 +103,7 @@ AllInForm (line ∷ lines) = IsInForm line × AllInForm lines
 -- a text that spells a line of a body: the line's own, or, of a request with the empty body, that with one blank behind it
 pub data SpellsLine (members : List Name) (text : List ℕ) (line : Line) : Type 0 where
   OwnText : (is : text ≡ line_text members line) → SpellsLine members text line
-  BlankBehind : (member : MemberId) → (call : RestCall) → (request : line ≡ lines.Command (commands.Rest member call [])) → (is : text ≡ rest_text members member call [] ++ 32 ∷ []) → SpellsLine members text line
+  BlankBehind : (member : MemberId) → (request : RequestWords) → (empty : request.body ≡ []) → (asks : line ≡ lines.Command (commands.Rest member request)) → (is : text ≡ rest_text members member request ++ 32 ∷ []) → SpellsLine members text line
 
 -- texts that spell the lines of a body, one for each, in order
 abbrev pub SpellBody : List Name → List (List ℕ) → List Line → Type 0

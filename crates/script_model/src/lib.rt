@@ -5,10 +5,12 @@ mod head;
 mod keyword;
 mod line;
 mod ranges;
+mod request_words;
 mod script;
 
 pub use head::{DEFAULT_BASE, Head};
 pub use keyword::Keyword;
 pub use line::{Command, End, Line, SlowedCall, Step};
 pub use ranges::{CommitSize, Delay};
+pub use request_words::{RequestBytes, RequestWords};
 pub use script::Script;

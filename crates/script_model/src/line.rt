@@ -1,9 +1,8 @@
 //! What a script tells the run to do.
 ghost use Rattle.std.specs.Prelude.{◌≡◌, IfOk};
 
-use crate::{CommitSize, Delay};
+use crate::{CommitSize, Delay, RequestWords};
 use pat_base::MemberId;
-use rest_api::{RequestBody, RestCall};
 use std::alloc::AllocError;
 
 /// One end of a link: a member, or the key store.
@@ -59,9 +58,8 @@ pub enum Command {
     Cut(End, End),
     /// `join X Y`: the link between two ends, which differ, carries messages again.
     Join(End, End),
-    /// `rest M METHOD TARGET`, `rest M METHOD TARGET BODY`: a request to the REST interface of this member's agent, by its
-    /// method and its target, and its body, which may be empty.
-    Rest(MemberId, RestCall, RequestBody),
+    /// `rest M METHOD TARGET`, `rest M METHOD TARGET BODY`: a request to the REST interface of this member's agent.
+    Rest(MemberId, RequestWords),
     /// `trace on`, `trace off`: whether lines of messages are printed.
     Trace(bool),
 }
@@ -88,7 +86,7 @@ impl Command {
             Command::Slow(member, slowed, delay) => Command::Slow(*member, *slowed, *delay),
             Command::Cut(first, second) => Command::Cut(*first, *second),
             Command::Join(first, second) => Command::Join(*first, *second),
-            Command::Rest(member, call, body) => Command::Rest(*member, *call, body.try_clone()?),
+            Command::Rest(member, request) => Command::Rest(*member, request.try_clone()?),
             Command::Trace(on) => Command::Trace(*on),
         };
         Ok(command)

@@ -1,17 +1,20 @@
--- Requests of operators: what they are decided to, and what they bring.
-use Rattle.std.proofs.Common.{◌≡◌, ℕ, ◌+◌, ◌<◌, List, [], Option, Some, None, Result, Ok, Err, arith, refl, ◌∙◌, ap, sym, subst}
+-- Requests to agents: what is answered, and what that brings.
+use Rattle.std.proofs.Common.{◌≡◌, ℕ, ◌+◌, ◌<◌, true, false, List, [], Option, Some, None, arith, refl, ◌∙◌, ap, sym, subst}
 use Rattle.std.specs.Prelude.{option_and_then, option_copied, slice_get}
 use Rattle.pat_base.specs.declared.ticks.Ticks.{Ticks}
 use Rattle.lease_store.specs.declared.action.OperatorRequest.{OperatorRequest}
 use Rattle.cluster_config.specs.declared.view.AgentView.{AgentView}
 use Rattle.cluster_config.specs.Snapshots.{SnapshotFacts}
-use Rattle.rest_api.specs.declared.call.RestCall.{RestCall}
-use Rattle.rest_api.specs.declared.call.RestCall.TheVariants as calls
-use Rattle.operator_keys.specs.declared.refusal.CheckFault.TheVariants as faults
-use Rattle.operator_keys.specs.declared.refusal.Refused.{Refused}
-use Rattle.operator_keys.specs.Refusals.{Answers, with_fault}
-use Rattle.rest_api.specs.Decisions.{decision_on_call}
-use Rattle.rest_api.proofs.Deciding.{no-err, same-err, same-ok}
+use Rattle.rest_answer.specs.Answers.{Answered, Acts, Replies, answer_by, answer_to}
+use Rattle.rest_answer.specs.Replies.{ReplyText}
+use Rattle.rest_paths.specs.declared.asking.Ask.{Ask}
+use Rattle.rest_paths.specs.declared.asking.Ask.TheVariants as asks
+use Rattle.rest_paths.specs.declared.resource.Operation.TheVariants as operations
+use Rattle.rest_paths.specs.declared.resource.Page.TheVariants as pages
+use Rattle.rest_paths.specs.Asking.{ask_of}
+use Rattle.rest_request.specs.Targets.{lag_of, path_of}
+use Rattle.rest_request.specs.Verbs.{verb_of}
+use Rattle.script_model.specs.declared.request_words.RequestWords.{RequestWords}
 use Rattle.event_book.specs.declared.event.Event.{Event}
 use Rattle.event_book.specs.declared.event.EventKind.{EventKind}
 use Rattle.event_book.specs.declared.member.Member.{Member}
@@ -20,45 +23,41 @@ use Rattle.agent_model.specs.Agents.{AgentFacts, Outcome, made, most_messages}
 use Rattle.agent_model.specs.Views.{shown}
 use Rattle.cluster_model.specs.Inputs.{agent_at, moment_of, standing, standing_of}
 use Rattle.cluster_model.specs.Machines.{machine_of}
-use Rattle.cluster_model.specs.Messages.{call_events_of, decided_events, operate_events}
+use Rattle.cluster_model.specs.Messages.{answered_events, operate_events, request_events_of}
 use Rattle.cluster_model.specs.Parts.{event_of, for_some}
-use Rattle.cluster_model.specs.Requests.{decision_at, refusing}
+use Rattle.cluster_model.specs.Requests.{answer_at, answering, asked_in_words}
 use Rattle.cluster_model.specs.State.{Cluster}
 use Rattle.world_model.specs.Emits.{Emits}
 use Rattle.world_model.specs.Room.{HasNumbers, HasRoom, call_cost}
 use Rattle.world_model.proofs.ServerRooms.{All-at}
 use Rattle.world_model.proofs.Taking.{Emits-weaker, found-took}
 
-same-refused : (x y : Refused) → faults.Refused x ≡ faults.Refused y → x ≡ y
-same-refused x y e = cc
-
-refused-memory : (refused : Refused) → faults.Refused refused ≡ faults.Memory → ⊥
-refused-memory refused e = cc
-
 -- the snapshot that an agent shows is read beside the view alone
-without-seen : (view : AgentView) (seen : Option SnapshotFacts) (call : RestCall) (body : List ℕ) → decision_on_call (record view { seen = None }) seen call body ≡ decision_on_call view seen call body
-without-seen view seen calls.Switchover body = refl
-without-seen view seen calls.DropSwitchover body = refl
-without-seen view seen calls.Failover body = refl
-without-seen view seen calls.Restart body = refl
-without-seen view seen calls.Reinitialize body = refl
-without-seen view seen calls.PatchConfiguration body = refl
-without-seen view seen calls.ReplaceConfiguration body = refl
+reply-without-seen : (view : AgentView) (seen : Option SnapshotFacts) (lag : Option (List ℕ)) (body : List ℕ) (ask : Ask) → answer_by (record view { seen = None }) seen lag body ask ≡ answer_by view seen lag body ask
+reply-without-seen view seen lag body asks.NotFound = refl
+reply-without-seen view seen lag body asks.NotAllowed = refl
+reply-without-seen view seen lag body (asks.Health endpoint true) = refl
+reply-without-seen view seen lag body (asks.Health endpoint false) = refl
+reply-without-seen view seen lag body (asks.Page pages.Patroni) = refl
+reply-without-seen view seen lag body (asks.Page pages.Cluster) = refl
+reply-without-seen view seen lag body (asks.Page pages.History) = refl
+reply-without-seen view seen lag body (asks.Page pages.Config) = refl
+reply-without-seen view seen lag body (asks.Page pages.Failsafe) = refl
+reply-without-seen view seen lag body asks.PatchConfiguration = refl
+reply-without-seen view seen lag body asks.ReplaceConfiguration = refl
+reply-without-seen view seen lag body (asks.Operation operations.Switchover) = refl
+reply-without-seen view seen lag body (asks.Operation operations.Failover) = refl
+reply-without-seen view seen lag body (asks.Operation operations.Restart) = refl
+reply-without-seen view seen lag body (asks.Operation operations.Reinitialize) = refl
+reply-without-seen view seen lag body asks.DropSwitchover = refl
 
--- an agent decides by what it shows
-decided-same : (view : AgentView) (now : Ticks) (o : Outcome) (call : RestCall) (body : List ℕ) → record view { seen = None } ≡ shown now o → option_copied view.seen ≡ o.knows.seen → decision_on_call view (option_copied view.seen) call body ≡ decision_at now o call body
-decided-same view now o call body shows seen =
-    sym (without-seen view (option_copied view.seen) call body)
-    ∙ ap (λ (v : AgentView). decision_on_call v (option_copied view.seen) call body) shows
-    ∙ ap (λ (s : Option SnapshotFacts). decision_on_call (shown now o) s call body) seen
-
-answered-ok : (answer : Result OperatorRequest Refused) (asked : OperatorRequest) → Ok asked ≡ with_fault answer → answer ≡ Ok asked
-answered-ok (Ok other) asked is = ap Ok (sym (same-ok asked other is))
-answered-ok (Err refused) asked is = absurd (no-err asked (faults.Refused refused) is)
-
-answered-refused : (answer : Result OperatorRequest Refused) (refused : Refused) → Err (faults.Refused refused) ≡ with_fault answer → answer ≡ Err refused
-answered-refused (Ok other) refused is = absurd (no-err other (faults.Refused refused) (sym is))
-answered-refused (Err other) refused is = ap Err (sym (same-refused refused other (same-err (faults.Refused refused) (faults.Refused other) is)))
+-- an agent answers by what it shows
+answered-same : (view : AgentView) (now : Ticks) (o : Outcome) (request : RequestWords) → record view { seen = None } ≡ shown now o → option_copied view.seen ≡ o.knows.seen
+    → answer_to view (option_copied view.seen) (asked_in_words request) ≡ answer_at now o request
+answered-same view now o request shows seen =
+    sym (reply-without-seen view (option_copied view.seen) (lag_of request.target) request.body (ask_of (verb_of request.method) (path_of request.target)))
+    ∙ ap (λ (v : AgentView). answer_to v (option_copied view.seen) (asked_in_words request)) shows
+    ∙ ap (λ (s : Option SnapshotFacts). answer_to (shown now o) s (asked_in_words request)) seen
 
 no-agent : (agent : AgentFacts) → ◌≡◌ {A = Option AgentFacts} None (Some agent) → ⊥
 no-agent agent e = cc
@@ -101,23 +100,23 @@ module _ (cluster : Cluster) (member : Member) (agent : AgentFacts) (machine : M
   stands-so : standing_of cluster member ≡ Some stands
   stands-so = ap (λ (a : Option AgentFacts). standing a (machine_of cluster member)) asks.agent_is ∙ ap (λ (m : Option Machine). standing (Some agent) m) asks.machine_is
 
-  decided-took : (after : Cluster) (call : RestCall) (body : List ℕ) (decided : Result OperatorRequest Refused) (had has : List Event) → decision_on_call view (option_copied view.seen) call body ≡ decided
-      → Emits cluster after had has (decided_events cluster member stands decided) call_cost → Emits cluster after had has (for_some (standing_of cluster member) (call_events_of cluster call body member)) call_cost
-  decided-took after call body decided had has is took =
-      found-took Outcome cluster after had has (call_events_of cluster call body member) (standing_of cluster member) stands call_cost stands-so
-      (subst (λ (d : Result OperatorRequest Refused). Emits cluster after had has (decided_events cluster member stands d) call_cost) (sym is ∙ decided-same view (moment_of cluster) stands call body asks.shows asks.seen) took)
+  answered-took : (after : Cluster) (request : RequestWords) (answer : Answered) (had has : List Event) → answer ≡ answer_to view (option_copied view.seen) (asked_in_words request)
+      → Emits cluster after had has (answered_events cluster member stands answer) call_cost → Emits cluster after had has (for_some (standing_of cluster member) (request_events_of cluster request member)) call_cost
+  answered-took after request answer had has is took =
+      found-took Outcome cluster after had has (request_events_of cluster request member) (standing_of cluster member) stands call_cost stands-so
+      (subst (λ (a : Answered). Emits cluster after had has (answered_events cluster member stands a) call_cost) (is ∙ answered-same view (moment_of cluster) stands request asks.shows asks.seen) took)
 
   -- it does what it is asked
-  pub operates-took : (after : Cluster) (call : RestCall) (body : List ℕ) (asked : OperatorRequest) (had has : List Event) → Answers (Ok asked) (decision_on_call view (option_copied view.seen) call body)
+  pub acts-took : (after : Cluster) (words : RequestWords) (asked : OperatorRequest) (had has : List Event) → Acts asked ≡ answer_to view (option_copied view.seen) (asked_in_words words)
       → Emits cluster after had has (operate_events cluster member (record { request = request; asked = asked })) call_cost
-      → Emits cluster after had has (for_some (standing_of cluster member) (call_events_of cluster call body member)) call_cost
-  operates-took after call body asked had has answers took =
-      decided-took after call body (Ok asked) had has (answered-ok (decision_on_call view (option_copied view.seen) call body) asked (answers (no-err asked faults.Memory)))
+      → Emits cluster after had has (for_some (standing_of cluster member) (request_events_of cluster words member)) call_cost
+  acts-took after words asked had has is took =
+      answered-took after words (Acts asked) had has is
       (subst (λ (n : ℕ). Emits cluster after had has (operate_events cluster member (record { request = n; asked = asked })) call_cost) asks.next took)
 
-  -- or answers what refuses it
-  pub refuses-took : (after : Cluster) (call : RestCall) (body : List ℕ) (refused : Refused) (kind : EventKind) (had has : List Event) → Answers (Err (faults.Refused refused)) (decision_on_call view (option_copied view.seen) call body) → kind ≡ refusing member refused
-      → Emits cluster after had has (event_of cluster kind) 1 → Emits cluster after had has (for_some (standing_of cluster member) (call_events_of cluster call body member)) call_cost
-  refuses-took after call body refused kind had has answers kind_is took =
-      decided-took after call body (Err refused) had has (answered-refused (decision_on_call view (option_copied view.seen) call body) refused (answers (λ e. refused-memory refused (same-err (faults.Refused refused) faults.Memory e))))
-      (Emits-weaker cluster after had has (event_of cluster (refusing member refused)) 1 call_cost (subst (λ (k : EventKind). Emits cluster after had has (event_of cluster k) 1) kind_is took) (omega arith))
+  -- or replies at once
+  pub replies-took : (after : Cluster) (words : RequestWords) (reply : ReplyText) (kind : EventKind) (had has : List Event) → Replies reply ≡ answer_to view (option_copied view.seen) (asked_in_words words) → kind ≡ answering member reply.status reply.body
+      → Emits cluster after had has (event_of cluster kind) 1 → Emits cluster after had has (for_some (standing_of cluster member) (request_events_of cluster words member)) call_cost
+  replies-took after words reply kind had has is kind_is took =
+      answered-took after words (Replies reply) had has is
+      (Emits-weaker cluster after had has (event_of cluster (answering member reply.status reply.body)) 1 call_cost (subst (λ (k : EventKind). Emits cluster after had has (event_of cluster k) 1) kind_is took) (omega arith))

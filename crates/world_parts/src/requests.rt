@@ -1,23 +1,15 @@
 //! What agents answer operators.
 ghost use Rattle.std.specs.Prelude.{◌≡◌, IfOk, IfSome, option_copied, string_bytes};
 ghost use Rattle.operator_keys.specs.AnswerTexts.{answer_text};
-ghost use Rattle.cluster_model.specs.Requests.{answering, config_text_of, refusing, told_kind};
+ghost use Rattle.cluster_model.specs.Requests.{answering, config_text_of, told_kind};
 ghost use Rattle.cluster_model.specs.State.{Cluster};
 ghost use Rattle.world_model.specs.Comes.{MayCome};
 
 use agent_model::Told;
 use event_book::{Bytes, EventKind, Member, Note};
 use ha_loop::Agent;
-use operator_keys::{OK, Refused, Text, configuration_in};
+use operator_keys::{OK, Text, configuration_in};
 use std::alloc::{AllocError, Global};
-
-/// The agent of a member answers what refuses a request. It fails only for want of memory.
-pub fn refusing(alloc: Global, member: Member, refused: Refused) -> Result<EventKind, AllocError>
-    ensures kind { IfOk result (λ kind. kind ≡ refusing member refused) }
-    ensures comes { IfOk result (λ kind. (cluster : Cluster) → MayCome cluster kind) }
-{
-    answer_in_words(alloc, member, refused.status, refused.text)
-}
 
 /// The agent of a member answers in these words. It fails only for want of memory.
 fn answer_in_words(
@@ -34,7 +26,7 @@ fn answer_in_words(
 }
 
 /// The agent of a member answers with this status and this text.
-fn answering(member: Member, status: u16, text: String) -> EventKind
+pub fn answering(member: Member, status: u16, text: String) -> EventKind
     ensures kind { result ≡ answering member status (string_bytes text) }
     ensures comes { (cluster : Cluster) → MayCome cluster result }
 {

@@ -1,12 +1,12 @@
 //! What happens on the stage of a world in a step of a script: its parts, one after another, each by the events of the model.
 #![tactic(auto)]
 
-mod calls;
 mod carrying;
 mod idling;
 mod messages;
 mod receiving;
 mod repairing;
+mod requests;
 mod servers;
 mod steps;
 mod telling;

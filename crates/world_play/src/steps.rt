@@ -10,9 +10,9 @@ ghost use Rattle.world_model.specs.Comes.{MayCome};
 ghost use Rattle.world_model.specs.Emits.{Emits};
 ghost use Rattle.world_model.specs.Room.{HasRoom, HasRoomFor, command_cost, round_cost, rounds_cost, schedule_cost, step_cost};
 
-use crate::calls::make_call;
 use crate::messages::{deliver, lose, pass_messages};
 use crate::receiving::{all_receive, receive};
+use crate::requests::make_request;
 use crate::servers::promote;
 use crate::ticks::tick;
 use crate::wakes::{start_agent, turn, wakes};
@@ -93,9 +93,9 @@ fn take_command(
             let member = stage.declared(*id);
             receive(stage, member, *most, events)
         }
-        Command::Rest(id, call, body) => {
+        Command::Rest(id, request) => {
             let member = stage.declared(*id);
-            make_call(stage, member, *call, body.as_slice(), events)
+            make_request(stage, member, request, events)
         }
         _ => {
             let kind = command_kind(stage, command);

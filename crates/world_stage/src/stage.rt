@@ -22,6 +22,7 @@ use lease_store::Store;
 use member_options::MemberOptions;
 use pat_base::{Host, MemberId, Name, Ticks};
 use pg_model::Servers;
+use rest_paths::Routes;
 use script_model::{End, Head};
 use std::alloc::{AllocError, Global};
 use std::marker::Model;
@@ -65,6 +66,8 @@ pub struct Stage {
     index: FlightIndex,
     /// A buffer for what agents do, empty between two inputs.
     outputs: Outputs,
+    /// The paths of the REST interface of agents.
+    routes: Routes,
 }
 
 impl Model for Stage {
@@ -105,6 +108,13 @@ impl Stage {
     pub fn new(alloc: Global, head: &Head) -> Result<Stage, AllocError>
         ensures { IfOk result (λ stage. stage ≡ cluster_of head.now) }
     {
+        Stage::of_head(alloc, head, Routes::new(alloc)?)
+    }
+
+    /// The stage of a script's head, over these routes.
+    fn of_head(alloc: Global, head: &Head, routes: Routes) -> Result<Stage, AllocError>
+        ensures { IfOk result (λ stage. stage ≡ cluster_of head.now) }
+    {
         let count = head.member_count();
         let members = members_of(alloc, head)?;
         let options = options_of(alloc, head)?;
@@ -142,6 +152,7 @@ impl Stage {
             acknowledged: Vec::new(alloc),
             index,
             outputs: Outputs::new(alloc),
+            routes,
         })
     }
 
@@ -168,8 +179,14 @@ impl Stage {
             acknowledged: _,
             index: _,
             outputs: _,
+            routes: _,
         } = self;
         close_all(agents);
+    }
+
+    /// The paths of the REST interface of agents.
+    pub fn routes(&self) -> &Routes {
+        &self.routes
     }
 
     /// The moment, in ticks of 100 ms.

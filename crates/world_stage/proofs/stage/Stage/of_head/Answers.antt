@@ -1,7 +1,7 @@
 use Rattle.std.proofs.Common.{◌∙◌, ap, sym, rules}
 use Rattle.std.proofs.lemmas.Option.{none-some}
 use Rattle.event_book.specs.Flight.{Flight, in_flight}
-use Rattle.world_stage.proofs.stage.Stage.new.Goals as goal
+use Rattle.world_stage.proofs.stage.Stage.of_head.Goals as goal
 
 pub invariant_of-result : goal.invariant_of-result
 invariant_of-result c = (

@@ -1,7 +1,8 @@
 //! Requests that a script makes of agents.
 ghost use Rattle.std.specs.Prelude.{OnOk, Some};
+ghost use Rattle.std.specs.Str.{IsUtf8};
 ghost use Rattle.cluster_model.specs.Inputs.{standing_of};
-ghost use Rattle.cluster_model.specs.Messages.{call_events, call_events_of, operate_events};
+ghost use Rattle.cluster_model.specs.Messages.{operate_events, request_events, request_events_of};
 ghost use Rattle.cluster_model.specs.Parts.{for_some};
 ghost use Rattle.world_model.specs.Emits.{Emits};
 ghost use Rattle.world_model.specs.Room.{HasRoom, call_cost};
@@ -10,45 +11,46 @@ use crate::carrying::carry_out;
 use crate::wakes::NO_MESSAGE;
 use event_book::{Event, EventKind, Member, Note};
 use lease_store::OperatorAction;
-use operator_keys::CheckFault;
-use rest_api::{RestCall, decision_on_call};
+use rest_answer::{Answer, answer};
+use rest_request::Verb;
+use script_model::RequestWords;
 use std::alloc::AllocError;
 use world_parts::processes::may_act;
-use world_parts::requests::refusing;
+use world_parts::requests::answering;
 use world_stage::Stage;
 
 /// A script makes a request of the agent of a member: one that doesn't run or is suspended gives no answer.
-pub fn make_call(
+pub fn make_request(
     stage: &mut Stage,
     member: Member,
-    call: RestCall,
-    body: &[u8],
+    request: &RequestWords,
     events: &mut Vec<Event>,
 ) -> Result<(), AllocError>
-    requires { HasRoom stage.old call_cost }
-    ensures { OnOk result (Emits stage.old stage.new events.old.items events.new.items (call_events stage.old call body.now member) call_cost) }
+    requires room { HasRoom stage.old call_cost }
+    requires text { IsUtf8 request.now.target }
+    ensures { OnOk result (Emits stage.old stage.new events.old.items events.new.items (request_events stage.old request.now member) call_cost) }
 {
     let Some(process) = stage.process(member) else {
         return Ok(());
     };
     if may_act(process) {
-        call_agent(stage, member, call, body, events)
+        ask_agent(stage, member, request, events)
     } else {
         let silent = Note::NoAnswer { agent: member };
         stage.happen(EventKind::Note(silent), events)
     }
 }
 
-/// The agent of a member, which may act, does what a request asks, or answers what refuses it.
-fn call_agent(
+/// The agent of a member, which may act, does what a request asks, or replies at once.
+fn ask_agent(
     stage: &mut Stage,
     member: Member,
-    call: RestCall,
-    body: &[u8],
+    words: &RequestWords,
     events: &mut Vec<Event>,
 ) -> Result<(), AllocError>
-    requires { HasRoom stage.old call_cost }
-    ensures { OnOk result (Emits stage.old stage.new events.old.items events.new.items (for_some (standing_of stage.old member) (call_events_of stage.old call body.now member)) call_cost) }
+    requires room { HasRoom stage.old call_cost }
+    requires text { IsUtf8 words.now.target }
+    ensures { OnOk result (Emits stage.old stage.new events.old.items events.new.items (for_some (standing_of stage.old member) (request_events_of stage.old words.now member)) call_cost) }
 {
     let Some(machine) = stage.machine(member) else {
         return Ok(());
@@ -58,13 +60,17 @@ fn call_agent(
     };
     let request = agent.next_number();
     let view = agent.view(stage.clock(), &machine);
-    match decision_on_call(stage.alloc(), &view, call, body) {
-        Ok(asked) => operate(stage, member, OperatorAction { request, asked }, events),
-        Err(CheckFault::Refused(refused)) => {
-            let answer = refusing(stage.alloc(), member, refused)?;
-            stage.happen(answer, events)
-        }
-        Err(CheckFault::Memory) => Err(AllocError),
+    let answered = answer(
+        stage.alloc(),
+        &view,
+        stage.routes(),
+        Verb::of(words.method.as_slice()),
+        words.target_text(),
+        words.body.as_slice(),
+    )?;
+    match answered {
+        Answer::Act(asked) => operate(stage, member, OperatorAction { request, asked }, events),
+        Answer::Now(reply) => stage.happen(answering(member, reply.status, reply.body), events),
     }
 }
 

@@ -9,7 +9,7 @@ use Rattle.world_model.specs.Emits.{Emits}
 use Rattle.world_model.specs.Room.{HasRoom, call_cost, outputs_cost}
 use Rattle.agent_model.specs.Asked.{AsksShortly}
 use Rattle.world_play.proofs.Waking.{operate-took, input-few}
-use Rattle.world_play.proofs.calls.operate.Goals as goal
+use Rattle.world_play.proofs.requests.operate.Goals as goal
 
 pub carry_out-requires-clause-room : goal.carry_out-requires-clause-room
 carry_out-requires-clause-room c = c.in_ok-obey.ensures.emits.room outputs_cost (subst (λ (b : Cluster). HasRoom b call_cost) (sym c.take_outputs.ensures.world) c.requires)
