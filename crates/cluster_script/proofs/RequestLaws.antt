@@ -9,7 +9,7 @@ use Rattle.pat_base.specs.declared.member_id.MemberId.{MemberId}
 use Rattle.cluster_script.specs.Arguments.{member_in, missing_behind, method_in, target_in, target_behind, method_behind, asked_member, next_word, behind_word, bytes_or_none, request_behind, rest_line}
 use Rattle.script_words.specs.Faults.{on_ok, both}
 use Rattle.script_words.specs.Lines.{first_at}
-use Rattle.rest_api.specs.Tokens.{is_token, is_token_byte}
+use Rattle.script_words.specs.Tokens.{is_token, is_token_byte}
 use Rattle.script_model.specs.Script.{member_text, two_texts, body_text, rest_text, IsWholeLine, IsMember, IsWord, IsRequest}
 use Rattle.script_model.specs.Spelling.{SpellsLine, OwnText, BlankBehind}
 use Rattle.script_model.specs.Keywords.{spelled, word_of}

@@ -9,7 +9,7 @@ use Rattle.script_words.specs.Faults.{on_ok, both}
 use Rattle.cluster_script.specs.Members.{member_named}
 use Rattle.script_words.specs.Numbers.{number}
 use Rattle.script_model.specs.Ranges.{commit_size_of, delay_of}
-use Rattle.rest_api.specs.Tokens.{is_token}
+use Rattle.script_words.specs.Tokens.{is_token}
 use Rattle.script_words.specs.Words.{cut_word}
 use Rattle.script_words.specs.declared.fault.Fault.{Fault}
 use Rattle.script_words.specs.declared.fault.Fault.TheVariants as faults

@@ -8,9 +8,8 @@ ghost use Rattle.pat_base.specs.declared.member_id.TheConstants.{MOST_MEMBERS};
 use crate::arguments::{member_in, missing_behind, missing_word};
 use crate::members::Members;
 use pat_base::MemberId;
-use rest_api::is_token;
 use script_model::{Command, Line, RequestWords};
-use script_words::{Fault, both, cut_word};
+use script_words::{Fault, both, cut_word, is_token};
 use std::alloc::{AllocError, Global};
 
 /// A method: any token of HTTP.

@@ -8,23 +8,17 @@ use Rattle.cluster_config.specs.Snapshots.{SnapshotFacts}
 use Rattle.operator_keys.specs.AnswerTexts.{answer_text}
 use Rattle.operator_keys.specs.declared.refusal.Refused.{Refused}
 use Rattle.operator_keys.specs.Statuses.{not_found}
-use Rattle.rest_api.specs.declared.call.RestCall.{RestCall}
-use Rattle.rest_api.specs.declared.call.RestCall.TheVariants as calls
-use Rattle.rest_api.specs.Calls.{request_words}
-use Rattle.rest_api.specs.Decisions.{decision_on_call}
 use Rattle.rest_facts.specs.Checks.{health_of_view}
 use Rattle.rest_health.specs.declared.endpoint.Endpoint.{Endpoint}
 use Rattle.rest_pages.specs.Patroni.{patroni_members_of}
 use Rattle.rest_paths.specs.declared.asking.Ask.{Ask}
 use Rattle.rest_paths.specs.declared.asking.Ask.TheVariants as asks
-use Rattle.rest_paths.specs.declared.resource.Operation.{Operation}
-use Rattle.rest_paths.specs.declared.resource.Operation.TheVariants as operations
 use Rattle.rest_paths.specs.Asking.{ask_of}
 use Rattle.rest_request.specs.Requests.{Asked}
 use Rattle.rest_request.specs.Targets.{lag_of, path_of}
-use Rattle.rest_request.specs.Verbs.{verb_of}
 use Rattle.rest_answer.specs.declared.answers.Answer.{Answer}
 use Rattle.rest_answer.specs.declared.answers.Answer.TheVariants as ways
+use Rattle.rest_answer.specs.Decisions.{decision_on}
 use Rattle.rest_answer.specs.Pages.{page_reply}
 use Rattle.rest_answer.specs.Replies.{ReplyText, json_of, reply_text, status_alone, text_of}
 use Rattle.rest_answer.specs.Statuses.{method_not_allowed}
@@ -49,13 +43,6 @@ abbrev pub decided : Result OperatorRequest Refused → Answered
 decided (Ok request) = Acts request
 decided (Err refused) = Replies (text_of refused.status (answer_text refused.text))
 
--- the call that an operation is
-abbrev pub call_of : Operation → RestCall
-call_of operations.Switchover = calls.Switchover
-call_of operations.Failover = calls.Failover
-call_of operations.Restart = calls.Restart
-call_of operations.Reinitialize = calls.Reinitialize
-
 -- what a health check answers: its status, and with a body what the page of the member tells
 abbrev pub health_reply : AgentView → Option SnapshotFacts → Endpoint → Option (List ℕ) → Bool → ReplyText
 health_reply view seen endpoint lag true = json_of (health_of_view endpoint view seen lag) (compact_text (object (patroni_members_of view seen)))
@@ -67,15 +54,8 @@ answer_by view seen lag body asks.NotFound = Replies (status_alone not_found)
 answer_by view seen lag body asks.NotAllowed = Replies (status_alone method_not_allowed)
 answer_by view seen lag body (asks.Health endpoint told) = Replies (health_reply view seen endpoint lag told)
 answer_by view seen lag body (asks.Page page) = Replies (page_reply page view seen)
-answer_by view seen lag body asks.PatchConfiguration = decided (decision_on_call view seen calls.PatchConfiguration body)
-answer_by view seen lag body asks.ReplaceConfiguration = decided (decision_on_call view seen calls.ReplaceConfiguration body)
-answer_by view seen lag body (asks.Operation operation) = decided (decision_on_call view seen (call_of operation) body)
-answer_by view seen lag body asks.DropSwitchover = decided (decision_on_call view seen calls.DropSwitchover body)
+answer_by view seen lag body (asks.Change change) = decided (decision_on view seen change body)
 
 -- what is answered to a request
 abbrev pub answer_to : AgentView → Option SnapshotFacts → Asked → Answered
 answer_to view seen asked = answer_by view seen (lag_of asked.target) asked.content (ask_of asked.verb (path_of asked.target))
-
--- what a call asks with this content, as a client would
-abbrev pub asked_in : RestCall → List ℕ → Asked
-asked_in call body = record { verb = verb_of (request_words call).0; target = (request_words call).1; content = body }

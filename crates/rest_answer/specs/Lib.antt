@@ -1,4 +1,5 @@
 pub mod Answers
+pub mod Decisions
 pub mod Pages
 pub mod Replies
 pub mod Statuses

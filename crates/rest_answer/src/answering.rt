@@ -1,20 +1,20 @@
 //! What is answered to a request.
 ghost use Rattle.std.specs.Prelude.{◌≡◌, IfOk, option_copied};
-ghost use Rattle.rest_answer.specs.Answers.{answered, answer_to, answer_by, health_reply};
+ghost use Rattle.rest_answer.specs.Answers.{answered, answer_to, answer_by, health_reply, decided};
+ghost use Rattle.rest_answer.specs.Decisions.{decision_on};
 ghost use Rattle.rest_answer.specs.Replies.{reply_text};
 
 use crate::Answer;
-use crate::deciding::{call_of, decided};
+use crate::decisions::decision_on;
 use crate::pages::page_reply;
-use crate::replies::{json_reply, status_reply};
+use crate::replies::{json_reply, status_reply, text_reply};
 use crate::status::METHOD_NOT_ALLOWED;
 use cluster_config::AgentView;
-use operator_keys::NOT_FOUND;
-use rest_api::RestCall;
+use operator_keys::{CheckFault, NOT_FOUND};
 use rest_facts::health_of_view;
 use rest_health::Endpoint;
 use rest_pages::patroni_text;
-use rest_paths::{Ask, Routes};
+use rest_paths::{Ask, Change, Routes};
 use rest_reply::Reply;
 use rest_request::{Verb, lag_of};
 use std::alloc::{AllocError, Global};
@@ -54,10 +54,7 @@ fn answer_by(
             body: told,
         } => Ok(Answer::Now(health_reply(alloc, view, endpoint, lag, told)?)),
         Ask::Page(page) => Ok(Answer::Now(page_reply(alloc, view, page)?)),
-        Ask::PatchConfiguration => decided(alloc, view, RestCall::PatchConfiguration, body),
-        Ask::ReplaceConfiguration => decided(alloc, view, RestCall::ReplaceConfiguration, body),
-        Ask::Operation(operation) => decided(alloc, view, call_of(operation), body),
-        Ask::DropSwitchover => decided(alloc, view, RestCall::DropSwitchover, body),
+        Ask::Change(change) => decided(alloc, view, change, body),
     }
 }
 
@@ -76,4 +73,23 @@ fn health_reply(
         return Ok(json_reply(status, patroni_text(alloc, view)?));
     }
     Ok(status_reply(alloc, status))
+}
+
+/// What comes of a request to change something: the agent is to do it, or it is refused.
+fn decided(
+    alloc: Global,
+    view: &AgentView<'_>,
+    change: Change,
+    body: &[u8],
+) -> Result<Answer, AllocError>
+    ensures { IfOk result (λ answer. answered answer ≡ decided (decision_on view.now (option_copied view.now.seen) change body.now)) }
+{
+    match decision_on(alloc, view, change, body) {
+        Ok(request) => Ok(Answer::Act(request)),
+        Err(CheckFault::Refused(refused)) => {
+            let reply = text_reply(alloc, refused.status, refused.text)?;
+            Ok(Answer::Now(reply))
+        }
+        Err(CheckFault::Memory) => Err(AllocError),
+    }
 }

@@ -11,9 +11,7 @@ ghost use Rattle.rest_paths.specs.Asking.{ask_of};
 ghost use Rattle.rest_paths.specs.Laws.{IsSafe};
 ghost use Rattle.rest_request.specs.Requests.{Asked};
 ghost use Rattle.rest_request.specs.Targets.{path_of};
-ghost use Rattle.rest_api.specs.declared.call.RestCall.{RestCall};
-ghost use Rattle.rest_api.specs.Decisions.{decision_on_call};
-ghost use Rattle.rest_answer.specs.Answers.{IsReplied, Replies, answer_to, asked_in, decided, health_reply};
+ghost use Rattle.rest_answer.specs.Answers.{IsReplied, Replies, answer_to, health_reply};
 ghost use Rattle.rest_answer.specs.Pages.{no_store_answer, page_reply, tells_of_the_cluster};
 ghost use Rattle.rest_answer.specs.Replies.{status_alone};
 ghost use Rattle.rest_answer.specs.Statuses.{method_not_allowed};
@@ -40,11 +38,4 @@ pub fn health_checks_without_a_body_tell_the_same()
 /// Before the first snapshot no page tells of the cluster: all but `/patroni` answer that there is no answer of the key store yet.
 pub fn nothing_is_told_before_the_first_snapshot()
     ensures { (view : AgentView) (page : Page) → tells_of_the_cluster page ≡ true → page_reply page view None ≡ no_store_answer }
-{}
-
-/// The requests that a line of a script can make are answered as their decision has it: what an agent does on a request doesn't hang on
-/// whether a line or a client makes it.
-pub fn lines_ask_as_clients_do()
-    ensures { (view : AgentView) (seen : Option SnapshotFacts) (call : RestCall) (body : List ℕ)
-        → answer_to view seen (asked_in call body) ≡ decided (decision_on_call view seen call body) }
 {}

@@ -3,7 +3,7 @@
 
 mod answering;
 mod answers;
-mod deciding;
+mod decisions;
 mod laws;
 mod pages;
 mod replies;
@@ -12,8 +12,7 @@ mod status;
 pub use answering::answer;
 pub use answers::Answer;
 pub use laws::{
-    health_checks_without_a_body_tell_the_same, lines_ask_as_clients_do,
-    nothing_is_told_before_the_first_snapshot, requests_for_nothing_have_no_content,
+    health_checks_without_a_body_tell_the_same, nothing_is_told_before_the_first_snapshot, requests_for_nothing_have_no_content,
     safe_methods_are_answered_at_once,
 };
 pub use status::{BAD_GATEWAY, METHOD_NOT_ALLOWED};

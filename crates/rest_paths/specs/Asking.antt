@@ -5,6 +5,8 @@ use Rattle.rest_request.specs.declared.verb.Verb.{Verb}
 use Rattle.rest_request.specs.declared.verb.Verb.TheVariants as verbs
 use Rattle.rest_paths.specs.declared.asking.Ask.{Ask}
 use Rattle.rest_paths.specs.declared.asking.Ask.TheVariants as asks
+use Rattle.rest_paths.specs.declared.change.Change.{Change}
+use Rattle.rest_paths.specs.declared.change.Change.TheVariants as changes
 use Rattle.rest_paths.specs.declared.resource.Operation.{Operation}
 use Rattle.rest_paths.specs.declared.resource.Operation.TheVariants as operations
 use Rattle.rest_paths.specs.declared.resource.Page.{Page}
@@ -23,14 +25,21 @@ health_ask _ endpoint = asks.NotAllowed
 -- a page is told by GET; the configuration alone is changed, by PATCH or PUT
 abbrev pub page_ask : Verb → Page → Ask
 page_ask verbs.Get page = asks.Page page
-page_ask verbs.Patch pages.Config = asks.PatchConfiguration
-page_ask verbs.Put pages.Config = asks.ReplaceConfiguration
+page_ask verbs.Patch pages.Config = asks.Change changes.PatchConfiguration
+page_ask verbs.Put pages.Config = asks.Change changes.ReplaceConfiguration
 page_ask _ _ = asks.NotAllowed
+
+-- what an operation changes
+abbrev pub change_by : Operation → Change
+change_by operations.Switchover = changes.Switchover
+change_by operations.Failover = changes.Failover
+change_by operations.Restart = changes.Restart
+change_by operations.Reinitialize = changes.Reinitialize
 
 -- an operation is asked for by POST, and a scheduled switchover is dropped by DELETE
 abbrev pub operation_ask : Verb → Operation → Ask
-operation_ask verbs.Post operation = asks.Operation operation
-operation_ask verbs.Delete operations.Switchover = asks.DropSwitchover
+operation_ask verbs.Post operation = asks.Change (change_by operation)
+operation_ask verbs.Delete operations.Switchover = asks.Change changes.DropSwitchover
 operation_ask _ _ = asks.NotAllowed
 
 -- what is asked for where a path stands for this

@@ -4,7 +4,7 @@ use Rattle.std.specs.Map.{keys_of}
 use Rattle.rest_request.specs.declared.verb.Verb.{Verb}
 use Rattle.rest_request.specs.declared.verb.Verb.TheVariants.{Get, Head, Options}
 use Rattle.rest_paths.specs.declared.asking.Ask.{Ask}
-use Rattle.rest_paths.specs.declared.asking.Ask.TheVariants.{PatchConfiguration, ReplaceConfiguration, Operation, DropSwitchover}
+use Rattle.rest_paths.specs.declared.asking.Ask.TheVariants.{Change}
 use Rattle.rest_paths.specs.Paths.{path_table}
 
 -- a path is one of the table
@@ -24,8 +24,5 @@ IsSafe verb = IsTrue (is_safe verb)
 
 -- whether something is to be changed
 abbrev pub changes_something : Ask → Bool
-changes_something PatchConfiguration = true
-changes_something ReplaceConfiguration = true
-changes_something (Operation operation) = true
-changes_something DropSwitchover = true
+changes_something (Change change) = true
 changes_something _ = false

@@ -2,7 +2,8 @@
 ghost use Rattle.std.specs.Prelude.{◌≡◌};
 ghost use Rattle.rest_paths.specs.Asking.{health_ask, page_ask, operation_ask, ask_at, ask_where};
 
-use crate::{Operation, Page, Resource};
+use crate::change::change_by;
+use crate::{Change, Operation, Page, Resource};
 use rest_health::Endpoint;
 use rest_request::Verb;
 
@@ -18,14 +19,8 @@ pub enum Ask {
     Health { endpoint: Endpoint, body: bool },
     /// A page, by `GET`.
     Page(Page),
-    /// That the configuration is changed where the content says so, by `PATCH`.
-    PatchConfiguration,
-    /// That the content takes the place of the configuration, by `PUT`.
-    ReplaceConfiguration,
-    /// An operation, by `POST`.
-    Operation(Operation),
-    /// That a scheduled switchover is dropped, by `DELETE`.
-    DropSwitchover,
+    /// A change, by `POST`, `DELETE`, `PATCH` or `PUT`.
+    Change(Change),
 }
 
 /// What is asked for where a path stands for this, or for nothing.
@@ -69,8 +64,8 @@ fn page_ask(verb: Verb, page: Page) -> Ask
 {
     match (verb, page) {
         (Verb::Get, page) => Ask::Page(page),
-        (Verb::Patch, Page::Config) => Ask::PatchConfiguration,
-        (Verb::Put, Page::Config) => Ask::ReplaceConfiguration,
+        (Verb::Patch, Page::Config) => Ask::Change(Change::PatchConfiguration),
+        (Verb::Put, Page::Config) => Ask::Change(Change::ReplaceConfiguration),
         _ => Ask::NotAllowed,
     }
 }
@@ -79,8 +74,8 @@ fn operation_ask(verb: Verb, operation: Operation) -> Ask
     ensures { result ≡ operation_ask verb operation }
 {
     match (verb, operation) {
-        (Verb::Post, operation) => Ask::Operation(operation),
-        (Verb::Delete, Operation::Switchover) => Ask::DropSwitchover,
+        (Verb::Post, operation) => Ask::Change(change_by(operation)),
+        (Verb::Delete, Operation::Switchover) => Ask::Change(Change::DropSwitchover),
         _ => Ask::NotAllowed,
     }
 }

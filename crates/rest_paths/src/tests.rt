@@ -47,9 +47,9 @@ fn page(page: Page, patch: Ask, put: Ask) -> [Ask; 8] {
     ]
 }
 
-/// What is asked for at an operation, where `DELETE` asks for this.
-fn operation(operation: Operation, delete: Ask) -> [Ask; 8] {
-    let post = Ask::Operation(operation);
+/// What is asked for at an operation, where `POST` asks for this change and `DELETE` for that.
+fn operation(change: Change, delete: Ask) -> [Ask; 8] {
+    let post = Ask::Change(change);
     [
         REFUSED, REFUSED, REFUSED, post, REFUSED, REFUSED, delete, REFUSED,
     ]
@@ -67,7 +67,10 @@ fn compare(rt: &impl Abort, routes: &Routes, table: &[(&str, [Ask; 8])]) {
 #[test]
 fn asks_by_method_and_path(rt: HostRuntime) -> Result<(), Fail> {
     let routes = Routes::new(rt.alloc())?;
-    let [patch, put] = [Ask::PatchConfiguration, Ask::ReplaceConfiguration];
+    let [patch, put] = [
+        Ask::Change(Change::PatchConfiguration),
+        Ask::Change(Change::ReplaceConfiguration),
+    ];
     let table = [
         ("/", health(Endpoint::Root)),
         ("/primary", health(Endpoint::Primary)),
@@ -90,11 +93,11 @@ fn asks_by_method_and_path(rt: HostRuntime) -> Result<(), Fail> {
         ("/failsafe", page(Page::Failsafe, REFUSED, REFUSED)),
         (
             "/switchover",
-            operation(Operation::Switchover, Ask::DropSwitchover),
+            operation(Change::Switchover, Ask::Change(Change::DropSwitchover)),
         ),
-        ("/failover", operation(Operation::Failover, REFUSED)),
-        ("/restart", operation(Operation::Restart, REFUSED)),
-        ("/reinitialize", operation(Operation::Reinitialize, REFUSED)),
+        ("/failover", operation(Change::Failover, REFUSED)),
+        ("/restart", operation(Change::Restart, REFUSED)),
+        ("/reinitialize", operation(Change::Reinitialize, REFUSED)),
     ];
     compare(&rt, &routes, &table);
     Ok(())
@@ -119,8 +122,8 @@ fn paths_are_compared_byte_for_byte(rt: HostRuntime) -> Result<(), Fail> {
             "/config??",
             page(
                 Page::Config,
-                Ask::PatchConfiguration,
-                Ask::ReplaceConfiguration,
+                Ask::Change(Change::PatchConfiguration),
+                Ask::Change(Change::ReplaceConfiguration),
             ),
         ),
     ];

@@ -9,7 +9,7 @@ use Rattle.lease_store.specs.Defaults.{default_settings}
 use Rattle.lease_store.specs.Settings.{Settings}
 use Rattle.script_words.specs.Lines.{ended, first_at, is_one_line}
 use Rattle.member_options.specs.Options.{option_text, behind_blanks, options_to_say}
-use Rattle.rest_api.specs.Tokens.{is_token}
+use Rattle.script_words.specs.Tokens.{is_token}
 use Rattle.script_model.specs.Bounds.{longest_line, greatest_base}
 use Rattle.pat_base.specs.declared.member_id.TheConstants.{MOST_MEMBERS}
 use Rattle.script_model.specs.Keywords.{spelled}

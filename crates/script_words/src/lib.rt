@@ -4,9 +4,11 @@
 mod fault;
 mod lines;
 mod numbers;
+mod tokens;
 mod words;
 
 pub use fault::{Fault, both, fault_text};
 pub use lines::{first_at, is_skipped, is_text, lines_in};
 pub use numbers::number;
+pub use tokens::is_token;
 pub use words::cut_word;

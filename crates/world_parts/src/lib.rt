@@ -1,6 +1,7 @@
 //! What the world is made of, field by field: what a happening changes of each, and what commands and agents bring of each.
 #![tactic(auto)]
 
+pub mod actions;
 pub mod changes;
 pub mod deliveries;
 pub mod from_head;

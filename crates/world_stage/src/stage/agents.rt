@@ -23,10 +23,10 @@ use event_book::{AgentEvent, AgentProcess, Body, Event, EventKind, LinkEnd, Memb
 use ha_loop::{Agent, Outputs};
 use lease_store::{Key, KeyEntry, OperatorAction};
 use pat_base::{MemberId, Ticks};
-use rest_api::copy_of;
 use std::alloc::AllocError;
 use std::mem;
 use world_flight::flight::InFlight;
+use world_parts::actions::copy_of;
 use world_parts::machines::{item_at, machine_from};
 use world_parts::places;
 use world_parts::replication::replication_of;

@@ -1,54 +1,54 @@
-//! What an agent makes of a request.
+//! What an agent makes of a request for a change.
 ghost use Rattle.std.specs.Prelude.{Result, option_copied};
 ghost use Rattle.lease_store.specs.declared.action.OperatorRequest.TheVariants as requests;
 ghost use Rattle.lease_store.specs.declared.value.FailoverKey.{FailoverKey};
 ghost use Rattle.lease_store.specs.Settings.{Settings};
 ghost use Rattle.operator_keys.specs.declared.refusal.Refused.{Refused};
 ghost use Rattle.operator_keys.specs.Refusals.{Answers};
-ghost use Rattle.rest_api.specs.Decisions.{asking_for, decision_on_call};
+ghost use Rattle.rest_answer.specs.Decisions.{asking_for, decision_on};
 
-use crate::RestCall;
 use cluster_config::AgentView;
 use lease_store::{ConfigValue, FailoverKey, FailoverKind, OperatorRequest};
 use operator_keys::{
     CheckFault, ConfigChange, NOT_FOUND, Refused, Text, check_configuration, check_failover,
     check_reinit, check_restart, check_switchover,
 };
+use rest_paths::Change;
 use std::alloc::Global;
 
-/// What an agent that shows this is to do on this call with this body, or what the call is refused with.
-pub fn decision_on_call(
+/// What an agent that shows this is to do to make this change with this content, or what it is refused with.
+pub(crate) fn decision_on(
     alloc: Global,
     view: &AgentView<'_>,
-    call: RestCall,
+    change: Change,
     body: &[u8],
 ) -> Result<OperatorRequest, CheckFault>
-    ensures { Answers result (decision_on_call view.now (option_copied view.now.seen) call body.now) }
+    ensures { Answers result (decision_on view.now (option_copied view.now.seen) change body.now) }
 {
-    match call {
-        RestCall::Switchover => failing_over(
+    match change {
+        Change::Switchover => failing_over(
             FailoverKind::Switchover,
             check_switchover(alloc, view, body),
         ),
-        RestCall::Failover => {
+        Change::Failover => {
             failing_over(FailoverKind::Failover, check_failover(alloc, view, body))
         }
-        RestCall::DropSwitchover => Err(CheckFault::Refused(Refused {
+        Change::DropSwitchover => Err(CheckFault::Refused(Refused {
             status: NOT_FOUND,
             text: Text::NoScheduledSwitchover,
         })),
-        RestCall::Restart => {
+        Change::Restart => {
             check_restart(view)?;
             Ok(OperatorRequest::Restart)
         }
-        RestCall::Reinitialize => {
+        Change::Reinitialize => {
             check_reinit(view)?;
             Ok(OperatorRequest::Reinit)
         }
-        RestCall::PatchConfiguration => {
+        Change::PatchConfiguration => {
             configuring(check_configuration(alloc, view, ConfigChange::Patch, body))
         }
-        RestCall::ReplaceConfiguration => {
+        Change::ReplaceConfiguration => {
             configuring(check_configuration(alloc, view, ConfigChange::Replace, body))
         }
     }

@@ -5,7 +5,7 @@ use Rattle.operator_keys.specs.declared.refusal.CheckFault.{CheckFault}
 use Rattle.operator_keys.specs.declared.refusal.CheckFault.TheVariants as faults
 use Rattle.operator_keys.specs.declared.refusal.Refused.{Refused}
 use Rattle.operator_keys.specs.Refusals.{Answers, with_fault}
-use Rattle.rest_api.specs.Decisions.{asking_for}
+use Rattle.rest_answer.specs.Decisions.{asking_for}
 
 pub same-ok : {A E : Type 0} (x y : A) → ◌≡◌ {A = Result A E} (Ok x) (Ok y) → x ≡ y
 same-ok x y e = cc

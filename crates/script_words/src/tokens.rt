@@ -1,7 +1,7 @@
 //! Tokens of HTTP.
 ghost use Rattle.std.specs.Prelude.{◌≡◌};
 ghost use Rattle.std.specs.List.{list_all};
-ghost use Rattle.rest_api.specs.Tokens.{is_token, is_token_byte};
+ghost use Rattle.script_words.specs.Tokens.{is_token, is_token_byte};
 
 /// The signs of a token beside letters and digits.
 const TOKEN_SIGNS: [u8; 15] = *b"!#$%&'*+-.^_`|~";

@@ -3,8 +3,8 @@ use Rattle.lease_store.specs.declared.action.OperatorRequest.TheVariants as requ
 use Rattle.lease_store.specs.declared.value.FailoverKey.{FailoverKey}
 use Rattle.operator_keys.specs.declared.refusal.CheckFault.{CheckFault}
 use Rattle.operator_keys.specs.Refusals.{Answers}
-use Rattle.rest_api.proofs.Deciding.{check-passes, fault-passes}
-use Rattle.rest_api.proofs.decision.failing_over.Goals as goal
+use Rattle.rest_answer.proofs.Deciding.{check-passes, fault-passes}
+use Rattle.rest_answer.proofs.decisions.failing_over.Goals as goal
 
 pub returns-in-Ok : goal.returns-in-Ok
 returns-in-Ok c = λ answer answers. check-passes (requests.Failover c.args.kind) c.in-Ok.failover answer (subst (λ (r : Result FailoverKey CheckFault). Answers r answer) c.in-Ok.is answers)
