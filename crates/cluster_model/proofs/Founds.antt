@@ -34,9 +34,9 @@ holds-mapped P f None all = tt
 holds-mapped P f (Some x) all = all x
 
 -- what an agent answers an operator is an answer
-pub told-holds : (P : EventKind → Type 0) (member : Member) (agent : Option AgentFacts) (told : Told) → ((status : ℕ) (body : List ℕ) → P (answering member status body)) → HoldsIf P (told_kind member agent told)
+pub told-holds : (P : EventKind → Type 0) (member : Member) (agent : Option AgentFacts) (told : Told) → ((status : ℕ) (json : Bool) (body : List ℕ) → P (answering member status json body)) → HoldsIf P (told_kind member agent told)
 told-holds P member agent (tolds.Text status text) answers = answers status _
-told-holds P member agent tolds.Written answers = holds-mapped P (answering member ok) (config_text_of agent) (answers ok)
+told-holds P member agent tolds.Written answers = holds-mapped P (answering member ok true) (config_text_of agent) (answers ok true)
 
 -- a repair of a log changes the log of its member's server alone
 repair-holds : (P : EventKind → Type 0) (known : List ServerFacts) (member : Member) (repair : Repair) (leader : Member) → ((r : Rewound) → P (rewinding member leader r)) → P (copying member leader) → HoldsIf P (repair_by known member repair leader)

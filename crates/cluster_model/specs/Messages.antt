@@ -173,7 +173,7 @@ operate_events cluster member action = own_input_events cluster member (Operated
 -- it does so, or replies at once
 abbrev pub answered_events : Cluster → Member → Outcome → Answered → List Event
 answered_events cluster member o (Acts asked) = operate_events cluster member (action_of o asked)
-answered_events cluster member o (Replies reply) = event_of cluster (answering member reply.status reply.body)
+answered_events cluster member o (Replies reply) = event_of cluster (answering member reply.status reply.json reply.body)
 
 -- the agent of a member that stands so hears a request
 abbrev pub request_events_of : Cluster → RequestWords → Member → Outcome → List Event

@@ -1,5 +1,5 @@
 -- Requests to the REST interface of agents: what each comes to, and what is answered.
-use Rattle.std.specs.Prelude.{ℕ, ◌+◌, List, Option, Some, option_and_then, option_map}
+use Rattle.std.specs.Prelude.{ℕ, ◌+◌, Bool, true, false, List, Option, Some, option_and_then, option_map}
 use Rattle.pat_base.specs.declared.ticks.Ticks.{Ticks}
 use Rattle.lease_store.specs.declared.action.OperatorAction.{OperatorAction}
 use Rattle.lease_store.specs.declared.action.OperatorRequest.{OperatorRequest}
@@ -32,9 +32,9 @@ answer_at now o request = answer_to (shown now o) o.knows.seen (asked_in_words r
 abbrev pub action_of : Outcome → OperatorRequest → OperatorAction
 action_of o asked = record { request = o.knows.sequence + 1; asked = asked }
 
--- the agent of a member answers with this status and this body
-abbrev pub answering : Member → ℕ → List ℕ → EventKind
-answering member status body = kinds.Note (notes.Answered member status body)
+-- the agent of a member answers with this status and this body, which is JSON or plain text
+abbrev pub answering : Member → ℕ → Bool → List ℕ → EventKind
+answering member status json body = kinds.Note (notes.Answered member status json body)
 
 -- the configuration that an agent read last
 abbrev pub configuration_read : AgentFacts → Option Settings
@@ -46,5 +46,5 @@ config_text_of agent = option_map (λ (config : Settings). config.text) (option_
 
 -- what the agent of a member, which stands so, answers an operator
 abbrev pub told_kind : Member → Option AgentFacts → Told → Option EventKind
-told_kind member agent (tolds.Text status text) = Some (answering member status (answer_text text))
-told_kind member agent tolds.Written = option_map (answering member ok) (config_text_of agent)
+told_kind member agent (tolds.Text status text) = Some (answering member status false (answer_text text))
+told_kind member agent tolds.Written = option_map (answering member ok true) (config_text_of agent)

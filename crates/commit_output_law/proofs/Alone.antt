@@ -99,7 +99,7 @@ noted-free note (Some x) = tt
 
 told-free : (member : Member) (agent : Option AgentFacts) (told : Told) → HoldsIf IsFree (told_kind member agent told)
 told-free member agent (tolds.Text status text) = tt
-told-free member agent tolds.Written = noted-free (λ body. notes.Answered member ok body) (config_text_of agent)
+told-free member agent tolds.Written = noted-free (λ body. notes.Answered member ok true body) (config_text_of agent)
 
 starts-free : (member : Member) (leader : Option Member) (test : Bool) → AllKinds IsFree (cond test (kinds.Server (servers.StartsAsReplica (server_of member)) ∷ kinds_of (following_of member leader)) [])
 starts-free member leader true = (tt, one-kind IsFree (following_of member leader) (following-free member leader))

@@ -266,7 +266,7 @@ module _ (member : Member) (message : HeardMessage) where
 
   told-covers : (past : Past) (cluster : Cluster) (agent : Option AgentFacts) (told : OperatorTold) → Covers M past cluster (events_of cluster (kinds_of (told_kind member agent told)))
   told-covers past cluster agent (tolds.Text status text) = record { own = (tt, tt); leaves = (tt, tt); aside = (tt, tt); ordered = (tt, tt); flight = λ i. refl; live = refl; told = refl; held = refl; later = omega arith }
-  told-covers past cluster agent tolds.Written = said-covers past cluster (λ body. notes.Answered member ok body) (config_text_of agent)
+  told-covers past cluster agent tolds.Written = said-covers past cluster (λ body. notes.Answered member ok true body) (config_text_of agent)
 
   pub output-covers : (past : Past) (cluster : Cluster) → NoneAbove past cluster → (output : Output) → IsCarried output → IsOfTable output → Covers M past cluster (output_events member message cluster output)
   output-covers past cluster none (outputs.Send targets.Store sequence body) is table = question-covers past cluster none (slice_get cluster.facts.processes M) sequence body is

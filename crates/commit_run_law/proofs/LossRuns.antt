@@ -171,7 +171,7 @@ module _ (head : HeadText) where
       upheld-loseless head book cluster _ good (none-if cluster (option_map (handing_over member) found) (holds-mapped found (handing_over member) (λ m. tt)))
   upholds-output member heard (outputs.Told request told) book cluster good =
       let agent = agent_at cluster.agents member.id.number in
-      upheld-loseless head book cluster _ good (none-if cluster (told_kind member agent told) (told-holds LosesNone member agent told (λ status body. tt)))
+      upheld-loseless head book cluster _ good (none-if cluster (told_kind member agent told) (told-holds LosesNone member agent told (λ status json body. tt)))
   upholds-output member heard (outputs.HoldTaken until from sequence) book cluster good =
       let found = slice_get cluster.facts.members from.number in
       let hold = hold_taken member until heard.run sequence in

@@ -332,10 +332,11 @@ pub enum Note {
     Undeliverable {
         number: u64,
     },
-    /// What the agent's REST interface answered.
+    /// What the agent's REST interface answered, and whether the body is JSON (RFC 8259), and not plain text; the line doesn't say.
     Answered {
         agent: Member,
         status: u16,
+        json: bool,
         body: Bytes,
     },
     /// The agent is suspended or doesn't run, so its REST interface answers nothing.

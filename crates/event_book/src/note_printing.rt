@@ -85,6 +85,7 @@ fn write_reply_line(line: &mut String, tick: Ticks, note: &Note) -> Result<(), A
             agent,
             status,
             body,
+            ..
         } => write_answered_line(line, tick, agent.name, *status, body),
         Note::NoAnswer { agent } => {
             let name = agent.name;

@@ -54,7 +54,7 @@ module _ (head : HeadText) (few : length (names_of head) ≤ MOST_MEMBERS) (prom
   upheld-answered : (member : Member) (process : AgentProcess) (o : Outcome) (answer : Answered) → IsDeclared head member → (book : List Event) (cluster : Cluster) → promise.between book cluster
       → slice_get cluster.facts.processes member.id.number ≡ Some process → may_act process ≡ true → Upholds promise book cluster (answered_events cluster member o answer)
   upheld-answered member process o (Acts asked) is book cluster good found acts = parts.inputs.operates book cluster member process (action_of o asked) good is found acts
-  upheld-answered member process o (Replies reply) is book cluster good found acts = parts.notes (notes.Answered member reply.status reply.body) book cluster good
+  upheld-answered member process o (Replies reply) is book cluster good found acts = parts.notes (notes.Answered member reply.status reply.json reply.body) book cluster good
 
   upheld-request : (request : RequestWords) (member : Member) → IsDeclared head member → UpholdsAlways promise (λ cluster. request_events cluster request member)
   upheld-request request member is book cluster good =

@@ -9,7 +9,7 @@ use Rattle.rest_answer.specs.Answers.{Answered, Acts, Replies, answer_by, answer
 use Rattle.rest_answer.specs.Replies.{ReplyText}
 use Rattle.rest_paths.specs.declared.asking.Ask.{Ask}
 use Rattle.rest_paths.specs.declared.asking.Ask.TheVariants as asks
-use Rattle.rest_paths.specs.declared.resource.Operation.TheVariants as operations
+use Rattle.rest_paths.specs.declared.change.Change.TheVariants as changes
 use Rattle.rest_paths.specs.declared.resource.Page.TheVariants as pages
 use Rattle.rest_paths.specs.Asking.{ask_of}
 use Rattle.rest_request.specs.Targets.{lag_of, path_of}
@@ -43,13 +43,13 @@ reply-without-seen view seen lag body (asks.Page pages.Cluster) = refl
 reply-without-seen view seen lag body (asks.Page pages.History) = refl
 reply-without-seen view seen lag body (asks.Page pages.Config) = refl
 reply-without-seen view seen lag body (asks.Page pages.Failsafe) = refl
-reply-without-seen view seen lag body asks.PatchConfiguration = refl
-reply-without-seen view seen lag body asks.ReplaceConfiguration = refl
-reply-without-seen view seen lag body (asks.Operation operations.Switchover) = refl
-reply-without-seen view seen lag body (asks.Operation operations.Failover) = refl
-reply-without-seen view seen lag body (asks.Operation operations.Restart) = refl
-reply-without-seen view seen lag body (asks.Operation operations.Reinitialize) = refl
-reply-without-seen view seen lag body asks.DropSwitchover = refl
+reply-without-seen view seen lag body (asks.Change changes.Switchover) = refl
+reply-without-seen view seen lag body (asks.Change changes.DropSwitchover) = refl
+reply-without-seen view seen lag body (asks.Change changes.Failover) = refl
+reply-without-seen view seen lag body (asks.Change changes.Restart) = refl
+reply-without-seen view seen lag body (asks.Change changes.Reinitialize) = refl
+reply-without-seen view seen lag body (asks.Change changes.PatchConfiguration) = refl
+reply-without-seen view seen lag body (asks.Change changes.ReplaceConfiguration) = refl
 
 -- an agent answers by what it shows
 answered-same : (view : AgentView) (now : Ticks) (o : Outcome) (request : RequestWords) → record view { seen = None } ≡ shown now o → option_copied view.seen ≡ o.knows.seen
@@ -115,8 +115,8 @@ module _ (cluster : Cluster) (member : Member) (agent : AgentFacts) (machine : M
       (subst (λ (n : ℕ). Emits cluster after had has (operate_events cluster member (record { request = n; asked = asked })) call_cost) asks.next took)
 
   -- or replies at once
-  pub replies-took : (after : Cluster) (words : RequestWords) (reply : ReplyText) (kind : EventKind) (had has : List Event) → Replies reply ≡ answer_to view (option_copied view.seen) (asked_in_words words) → kind ≡ answering member reply.status reply.body
+  pub replies-took : (after : Cluster) (words : RequestWords) (reply : ReplyText) (kind : EventKind) (had has : List Event) → Replies reply ≡ answer_to view (option_copied view.seen) (asked_in_words words) → kind ≡ answering member reply.status reply.json reply.body
       → Emits cluster after had has (event_of cluster kind) 1 → Emits cluster after had has (for_some (standing_of cluster member) (request_events_of cluster words member)) call_cost
   replies-took after words reply kind had has is kind_is took =
       answered-took after words (Replies reply) had has is
-      (Emits-weaker cluster after had has (event_of cluster (answering member reply.status reply.body)) 1 call_cost (subst (λ (k : EventKind). Emits cluster after had has (event_of cluster k) 1) kind_is took) (omega arith))
+      (Emits-weaker cluster after had has (event_of cluster (answering member reply.status reply.json reply.body)) 1 call_cost (subst (λ (k : EventKind). Emits cluster after had has (event_of cluster k) 1) kind_is took) (omega arith))

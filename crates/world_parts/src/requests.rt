@@ -1,5 +1,5 @@
 //! What agents answer operators.
-ghost use Rattle.std.specs.Prelude.{◌≡◌, IfOk, IfSome, option_copied, string_bytes};
+ghost use Rattle.std.specs.Prelude.{◌≡◌, false, IfOk, IfSome, option_copied, string_bytes};
 ghost use Rattle.operator_keys.specs.AnswerTexts.{answer_text};
 ghost use Rattle.cluster_model.specs.Requests.{answering, config_text_of, told_kind};
 ghost use Rattle.cluster_model.specs.State.{Cluster};
@@ -18,21 +18,22 @@ fn answer_in_words(
     status: u16,
     text: Text,
 ) -> Result<EventKind, AllocError>
-    ensures kind { IfOk result (λ kind. kind ≡ answering member status (answer_text text)) }
+    ensures kind { IfOk result (λ kind. kind ≡ answering member status false (answer_text text)) }
     ensures comes { IfOk result (λ kind. (cluster : Cluster) → MayCome cluster kind) }
 {
     let words = format!(in alloc; "{text}")?;
-    Ok(answering(member, status, words))
+    Ok(answering(member, status, false, words))
 }
 
-/// The agent of a member answers with this status and this text.
-pub fn answering(member: Member, status: u16, text: String) -> EventKind
-    ensures kind { result ≡ answering member status (string_bytes text) }
+/// The agent of a member answers with this status and this text, which is JSON or plain text.
+pub fn answering(member: Member, status: u16, json: bool, text: String) -> EventKind
+    ensures kind { result ≡ answering member status json (string_bytes text) }
     ensures comes { (cluster : Cluster) → MayCome cluster result }
 {
     EventKind::Note(Note::Answered {
         agent: member,
         status,
+        json,
         body: Bytes::new(text),
     })
 }
@@ -54,7 +55,7 @@ pub fn told_kind(
                 return Ok(None);
             };
             let text = String::from_str(alloc, text)?;
-            Ok(Some(answering(member, OK, text)))
+            Ok(Some(answering(member, OK, true, text)))
         }
     }
 }

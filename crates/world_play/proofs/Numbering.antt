@@ -218,7 +218,7 @@ mapped-above last told (Some x) all = all x
 
 told-above : (last : ℕ) (member : Member) (agent : Option AgentFacts) (told : Told) → HoldsIf (IsAbove last) (told_kind member agent told)
 told-above last member agent (tolds.Text status text) = tt
-told-above last member agent tolds.Written = mapped-above last (answering member ok) (config_text_of agent) (λ text. tt)
+told-above last member agent tolds.Written = mapped-above last (answering member ok true) (config_text_of agent) (λ text. tt)
 
 kinds-above : (last : ℕ) (cluster : Cluster) (kind : Option EventKind) → HoldsIf (IsAbove last) kind → AllAre (IsAbove last) (events_of cluster (kinds_of kind))
 kinds-above last cluster kind is = all-kinds (IsAbove last) cluster (kinds_of kind) (one-kind (IsAbove last) kind is)

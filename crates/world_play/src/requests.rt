@@ -70,7 +70,7 @@ fn ask_agent(
     )?;
     match answered {
         Answer::Act(asked) => operate(stage, member, OperatorAction { request, asked }, events),
-        Answer::Now(reply) => stage.happen(answering(member, reply.status, reply.body), events),
+        Answer::Now(reply) => stage.happen(answering(member, reply.status, reply.json, reply.body), events),
     }
 }
 
