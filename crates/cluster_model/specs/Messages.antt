@@ -16,7 +16,7 @@ use Rattle.event_book.specs.declared.event.Event.{Event}
 use Rattle.event_book.specs.declared.event.EventKind.{EventKind}
 use Rattle.event_book.specs.declared.event.EventKind.TheVariants as kinds
 use Rattle.event_book.specs.declared.event.MessageEvent.TheVariants.{Sent, Delivered, Lost}
-use Rattle.event_book.specs.declared.event.Note.TheVariants.{CannotArm, DisablesWatchdog, NoAnswer, NoMessage, PostponesPromotion, RunsWithoutKey, Undeliverable}
+use Rattle.event_book.specs.declared.event.Note.TheVariants.{CannotArm, ConnectionFailed, DisablesWatchdog, NoAnswer, NoMessage, PostponesPromotion, RunsWithoutKey, Undeliverable}
 use Rattle.event_book.specs.declared.event.StoreEvent.TheVariants as stores
 use Rattle.event_book.specs.declared.event.WatchdogEvent.TheVariants.{Disarmed}
 use Rattle.event_book.specs.declared.link.LinkEnd.{LinkEnd}
@@ -27,8 +27,9 @@ use Rattle.event_book.specs.declared.message.Body.TheVariants as bodies
 use Rattle.event_book.specs.declared.message.Message.{Message}
 use Rattle.event_book.specs.Flight.{InFlightFacts, in_flight}
 use Rattle.event_book.specs.declared.reason.Reason.{Reason}
+use Rattle.rest_request.specs.Requests.{Asked, asked_by}
+use Rattle.rest_answer.specs.Refusals.{refusal_reply}
 use Rattle.rest_answer.specs.Answers.{Answered, Acts, Replies}
-use Rattle.script_model.specs.declared.request_words.RequestWords.{RequestWords}
 use Rattle.agent_model.specs.declared.heard.Heard.{Heard}
 use Rattle.agent_model.specs.declared.heard.Heard.TheVariants.{Wake, Operated as HearsOperator}
 use Rattle.agent_model.specs.declared.output.Output.{Output}
@@ -37,6 +38,8 @@ use Rattle.agent_model.specs.declared.output.Repair.{Repair}
 use Rattle.agent_model.specs.declared.output.Target.{Target}
 use Rattle.agent_model.specs.declared.output.Target.TheVariants as targets
 use Rattle.agent_model.specs.Agents.{Outcome}
+use Rattle.cluster_model.specs.declared.step.Visit.{Visit}
+use Rattle.cluster_model.specs.declared.step.Visit.TheVariants as visits
 use Rattle.cluster_model.specs.declared.delivery.Delivery.{Delivery}
 use Rattle.cluster_model.specs.declared.delivery.Delivery.TheVariants as deliveries
 use Rattle.cluster_model.specs.declared.heard_message.HeardMessage.{HeardMessage}
@@ -173,19 +176,25 @@ operate_events cluster member action = own_input_events cluster member (Operated
 -- it does so, or replies at once
 abbrev pub answered_events : Cluster → Member → Outcome → Answered → List Event
 answered_events cluster member o (Acts asked) = operate_events cluster member (action_of o asked)
-answered_events cluster member o (Replies reply) = event_of cluster (answering member reply.status reply.json reply.body)
+answered_events cluster member o (Replies reply) = event_of cluster (answering member reply)
 
 -- the agent of a member that stands so hears a request
-abbrev pub request_events_of : Cluster → RequestWords → Member → Outcome → List Event
-request_events_of cluster request member o = answered_events cluster member o (answer_at (moment_of cluster) o request)
+abbrev pub request_events_of : Cluster → Asked → Member → Outcome → List Event
+request_events_of cluster asked member o = answered_events cluster member o (answer_at (moment_of cluster) o asked)
 
 -- a request to the agent of a member: one that doesn't run or is suspended gives no answer
-abbrev pub request_events_if : Cluster → RequestWords → Member → AgentProcess → List Event
-request_events_if cluster request member process = if may_act process then for_some (standing_of cluster member) (request_events_of cluster request member) else event_of cluster (kinds.Note (NoAnswer member))
+abbrev pub request_events_if : Cluster → Asked → Member → AgentProcess → List Event
+request_events_if cluster asked member process = if may_act process then for_some (standing_of cluster member) (request_events_of cluster asked member) else event_of cluster (kinds.Note (NoAnswer member))
 
--- a script makes a request of the agent of a member
-abbrev pub request_events : Cluster → RequestWords → Member → List Event
-request_events cluster request member = for_some (slice_get cluster.facts.processes member.id.number) (request_events_if cluster request member)
+-- a request is made of the agent of a member
+abbrev pub request_events : Cluster → Asked → Member → List Event
+request_events cluster asked member = for_some (slice_get cluster.facts.processes member.id.number) (request_events_if cluster asked member)
+
+-- what a connection brings to the agent of a member
+abbrev pub visit_events : Cluster → Visit → Member → List Event
+visit_events cluster (visits.Request request) member = request_events cluster (asked_by request) member
+visit_events cluster (visits.Refusal refusal) member = event_of cluster (answering member (refusal_reply refusal))
+visit_events cluster visits.Failure member = event_of cluster (kinds.Note ConnectionFailed)
 
 -- the names of the standbys that a request publishes
 abbrev pub published_names : List Member → Txn → List Name

@@ -16,13 +16,13 @@ use Rattle.event_book.specs.Flight.{in_flight}
 use Rattle.event_book.specs.Members.{server_of}
 use Rattle.script_model.specs.declared.line.Command.{Command}
 use Rattle.script_model.specs.declared.line.Command.TheVariants as commands
-use Rattle.script_model.specs.declared.line.Step.{Step}
-use Rattle.script_model.specs.declared.line.Step.TheVariants as steps
+use Rattle.cluster_model.specs.declared.step.Step.{Step}
+use Rattle.cluster_model.specs.declared.step.Step.TheVariants as steps
 use Rattle.cluster_model.specs.Acknowledging.{acknowledge_kinds}
 use Rattle.cluster_model.specs.Commands.{kinds_of, suspend_of, resume_of, kill_of, agent_started, disarm_at_start, link_of, cut_of, join_of}
 use Rattle.cluster_model.specs.Limits.{most_rounds}
 use Rattle.cluster_model.specs.Machines.{machine_of}
-use Rattle.cluster_model.specs.Messages.{wake_events, turn_events, request_events, message_events, deliver_events, lose_events}
+use Rattle.cluster_model.specs.Messages.{wake_events, turn_events, request_events, visit_events, message_events, deliver_events, lose_events}
 use Rattle.cluster_model.specs.Parts.{event_of, events_of, events_then, for_some, each, is_empty}
 use Rattle.cluster_model.specs.ServerCommands.{promote_kinds, crash_of, freezing_of, slow_of, commit_of}
 use Rattle.cluster_model.specs.State.{Cluster}
@@ -108,7 +108,7 @@ command_events cluster (commands.Deliver number) = deliver_events cluster number
 command_events cluster (commands.Lose number) = lose_events cluster number (in_flight cluster.facts.flight number)
 command_events cluster (commands.StartAgent id) = for_some (declared cluster id) (agent_start_events cluster)
 command_events cluster (commands.Promote id) = for_some (declared cluster id) (promote_events cluster)
-command_events cluster (commands.Rest id request) = for_some (declared cluster id) (request_events cluster request)
+command_events cluster (commands.Rest id request) = for_some (declared cluster id) (request_events cluster (asked_in_words request))
 command_events cluster (commands.Stream id most) = for_some (declared cluster id) (receive_events_at_most cluster most)
 command_events cluster command = events_of cluster (kinds_of (command_kind cluster command))
 
@@ -121,6 +121,7 @@ abbrev pub step_events : Cluster → Step → List Event
 step_events cluster steps.Scheduled = events_then cluster (tick_events cluster) scheduled_events
 step_events cluster steps.Tick = tick_events cluster
 step_events cluster (steps.Command command) = command_events cluster command
+step_events cluster (steps.Connection id visit) = for_some (declared cluster id) (visit_events cluster visit)
 
 -- the events of a step; after each the commits that may be are acknowledged
 abbrev pub next_events : Cluster → Step → List Event

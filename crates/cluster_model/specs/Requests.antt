@@ -1,5 +1,5 @@
 -- Requests to the REST interface of agents: what each comes to, and what is answered.
-use Rattle.std.specs.Prelude.{ℕ, ◌+◌, Bool, true, false, List, Option, Some, option_and_then, option_map}
+use Rattle.std.specs.Prelude.{ℕ, ◌+◌, List, Option, Some, option_and_then, option_map}
 use Rattle.pat_base.specs.declared.ticks.Ticks.{Ticks}
 use Rattle.lease_store.specs.declared.action.OperatorAction.{OperatorAction}
 use Rattle.lease_store.specs.declared.action.OperatorRequest.{OperatorRequest}
@@ -11,6 +11,7 @@ use Rattle.event_book.specs.declared.member.Member.{Member}
 use Rattle.operator_keys.specs.AnswerTexts.{answer_text}
 use Rattle.operator_keys.specs.ConfigChecks.{configuration_in}
 use Rattle.rest_answer.specs.Answers.{Answered, answer_to}
+use Rattle.rest_answer.specs.Replies.{ReplyText, json_of, text_of}
 use Rattle.rest_request.specs.Requests.{Asked}
 use Rattle.rest_request.specs.Verbs.{verb_of}
 use Rattle.script_model.specs.declared.request_words.RequestWords.{RequestWords}
@@ -25,16 +26,16 @@ abbrev pub asked_in_words : RequestWords → Asked
 asked_in_words words = record { verb = verb_of words.method; target = words.target; content = words.body }
 
 -- what an agent that stands so answers to a request, or what it is to do for it
-abbrev pub answer_at : Ticks → Outcome → RequestWords → Answered
-answer_at now o request = answer_to (shown now o) o.knows.seen (asked_in_words request)
+abbrev pub answer_at : Ticks → Outcome → Asked → Answered
+answer_at now o asked = answer_to (shown now o) o.knows.seen asked
 
 -- what the agent is to do as an action, under the number that its next message has
 abbrev pub action_of : Outcome → OperatorRequest → OperatorAction
 action_of o asked = record { request = o.knows.sequence + 1; asked = asked }
 
--- the agent of a member answers with this status and this body, which is JSON or plain text
-abbrev pub answering : Member → ℕ → Bool → List ℕ → EventKind
-answering member status json body = kinds.Note (notes.Answered member status json body)
+-- the agent of a member replies so
+abbrev pub answering : Member → ReplyText → EventKind
+answering member reply = kinds.Note (notes.Answered member reply.status reply.json reply.body)
 
 -- the configuration that an agent read last
 abbrev pub configuration_read : AgentFacts → Option Settings
@@ -46,5 +47,5 @@ config_text_of agent = option_map (λ (config : Settings). config.text) (option_
 
 -- what the agent of a member, which stands so, answers an operator
 abbrev pub told_kind : Member → Option AgentFacts → Told → Option EventKind
-told_kind member agent (tolds.Text status text) = Some (answering member status false (answer_text text))
-told_kind member agent tolds.Written = option_map (answering member ok true) (config_text_of agent)
+told_kind member agent (tolds.Text status text) = Some (answering member (text_of status (answer_text text)))
+told_kind member agent tolds.Written = option_map (λ text. answering member (json_of ok text)) (config_text_of agent)

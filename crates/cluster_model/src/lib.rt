@@ -5,8 +5,10 @@ mod beginning;
 mod delivery;
 mod heard_message;
 mod laws;
+mod step;
 
 pub use beginning::{Beginning, Completion};
 pub use delivery::Delivery;
 pub use heard_message::HeardMessage;
 pub use laws::other_concerns_change_nothing;
+pub use step::{Step, Visit};

@@ -10,7 +10,7 @@ use Rattle.cluster_script.specs.Reading.{script_of}
 use Rattle.pat_base.specs.declared.member_id.TheConstants.{MOST_MEMBERS}
 use Rattle.script_model.specs.Script.{ScriptText, names_of, IsLine, AllAreLines, line_text}
 use Rattle.script_model.specs.Spelling.{SpellsLine, OwnText, BlankBehind, SpellBody}
-use Rattle.script_model.specs.Steps.{ticks_of_line, total_ticks}
+use Rattle.script_model.specs.Ticks.{ticks_of_line, total_ticks}
 use Rattle.script_model.specs.declared.line.Line.{Line}
 use Rattle.script_model.specs.declared.line.Line.TheVariants as lines
 use Rattle.cluster_script.specs.declared.limits.Limit.{Limit}

@@ -4,7 +4,7 @@ ghost use Rattle.std.specs.Option.{option_copied};
 ghost use Rattle.cluster_script.specs.Limits.{most_lines, most_ticks, limit_text, is_member_line, member_line_count, ticks_or_none, ticks_behind, ticks_in_line, ticks_in, limit_of_lines, limit_of};
 ghost use Rattle.cluster_script.specs.Reading.{script_of};
 ghost use Rattle.script_model.specs.Script.{ScriptText};
-ghost use Rattle.script_model.specs.Steps.{total_ticks};
+ghost use Rattle.script_model.specs.Ticks.{total_ticks};
 
 use crate::ScriptLines;
 use crate::first_words::keyword_of;

@@ -1,6 +1,6 @@
 -- Commits are kept, and required lists and sync key in order, at each moment of each run in synchronous mode up to which the premises are met.
 use Rattle.std.proofs.Common.{List, []}
-use Rattle.script_model.specs.declared.line.Step.{Step}
+use Rattle.cluster_model.specs.declared.step.Step.{Step}
 use Rattle.script_model.specs.Script.{HeadText, IsHead}
 use Rattle.cluster_model.specs.Next.{run_events}
 use Rattle.cluster_model.specs.Starting.{cluster_of}

@@ -6,7 +6,7 @@ use Rattle.pat_base.specs.declared.server_state.State.TheVariants as states
 use Rattle.pat_base.specs.ServerState.{live}
 use Rattle.pg_model.specs.Facts.{ServerFacts, is_creating, is_down, is_replica, is_up}
 use Rattle.pg_model.specs.Running.{is_primary, stopped}
-use Rattle.script_model.specs.declared.line.Step.{Step}
+use Rattle.cluster_model.specs.declared.step.Step.{Step}
 use Rattle.script_model.specs.Script.{HeadText, IsHead, names_of}
 use Rattle.event_book.specs.declared.agent_process.AgentProcess.{AgentProcess}
 use Rattle.event_book.specs.declared.event.AgentEvent.TheVariants.{Operated, Woken}
@@ -171,7 +171,7 @@ module _ (head : HeadText) where
       upheld-loseless head book cluster _ good (none-if cluster (option_map (handing_over member) found) (holds-mapped found (handing_over member) (λ m. tt)))
   upholds-output member heard (outputs.Told request told) book cluster good =
       let agent = agent_at cluster.agents member.id.number in
-      upheld-loseless head book cluster _ good (none-if cluster (told_kind member agent told) (told-holds LosesNone member agent told (λ status json body. tt)))
+      upheld-loseless head book cluster _ good (none-if cluster (told_kind member agent told) (told-holds LosesNone member agent told (λ reply. tt)))
   upholds-output member heard (outputs.HoldTaken until from sequence) book cluster good =
       let found = slice_get cluster.facts.members from.number in
       let hold = hold_taken member until heard.run sequence in

@@ -1,6 +1,6 @@
 //! Laws of every run.
 ghost use Rattle.std.specs.Prelude.{List, []};
-ghost use Rattle.script_model.specs.declared.line.Step.{Step};
+ghost use Rattle.cluster_model.specs.declared.step.Step.{Step};
 ghost use Rattle.script_model.specs.Script.{HeadText, IsHead};
 ghost use Rattle.cluster_model.specs.Next.{run_events};
 ghost use Rattle.cluster_model.specs.Starting.{cluster_of};

@@ -2,7 +2,6 @@
 use cluster_script::{Limit, ScriptFault, ScriptLines, limit_passed, read};
 use pat_base::{NotLsn, NotSize, ReadError, State};
 use pg_model::{CommitFault, InState, PgFault};
-use script_model::{Command, Step};
 use script_words::Fault;
 use std::test::Fail;
 use wal_model::WalFault;
@@ -14,7 +13,6 @@ fn a_script_is_read(rt: HostRuntime) -> Result<(), Fail> {
     let script = read(rt.alloc(), bytes)?;
     let is_copied = script.get(0).is_some_and(|line| line.try_clone().is_ok());
     assert_eq!(rt; (limit, is_copied), (None, true));
-    assert!(rt; Step::Command(Command::Trace(true)).try_clone().is_ok());
     Ok(())
 }
 

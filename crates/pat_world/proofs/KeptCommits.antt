@@ -1,6 +1,6 @@
 -- Steps of a world that a run brought keep acknowledged commits.
 use Rattle.std.proofs.Common.{◌≡◌, ℕ, List, [], ◌∷◌, ◌++◌, ◌∙◌, ap, sym, subst}
-use Rattle.script_model.specs.declared.line.Step.{Step}
+use Rattle.cluster_model.specs.declared.step.Step.{Step}
 use Rattle.script_model.specs.Script.{HeadText, IsHead}
 use Rattle.pat_world.specs.Book.{StandsFor}
 use Rattle.event_book.specs.declared.event.Event.{Event}

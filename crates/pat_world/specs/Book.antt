@@ -5,7 +5,7 @@ use Rattle.event_book.specs.Acknowledged.{acknowledged_in}
 use Rattle.event_book.specs.Logs.{logs_in, logs_over}
 use Rattle.event_book.specs.Required.{required_in, required_over, confirmed_in, confirmed_over}
 use Rattle.event_book.specs.Writers.{writes_in, writes_over}
-use Rattle.script_model.specs.declared.line.Step.{Step}
+use Rattle.cluster_model.specs.declared.step.Step.{Step}
 use Rattle.cluster_model.specs.Cluster.{cluster_over}
 use Rattle.cluster_model.specs.State.{Cluster}
 use Rattle.cluster_model.specs.Next.{next_events}

@@ -1,6 +1,6 @@
 -- What a step keeps of acknowledged commits.
 use Rattle.std.specs.Prelude.{◌++◌, List}
-use Rattle.script_model.specs.declared.line.Step.{Step}
+use Rattle.cluster_model.specs.declared.step.Step.{Step}
 use Rattle.script_model.specs.Script.{HeadText, IsHead}
 use Rattle.event_book.specs.declared.event.Event.{Event}
 use Rattle.cluster_model.specs.Next.{run_events}

@@ -22,9 +22,10 @@ ghost use Rattle.world_model.specs.Running.{agent_runs};
 ghost use Rattle.world_stage.specs.AgentViews.{IsViewOf};
 
 use cluster_config::AgentView;
+use cluster_model::Step;
 use event_book::{Event, EventKind};
 use pat_base::{MemberId, Ticks};
-use script_model::{Head, Step};
+use script_model::Head;
 use std::alloc::{AllocError, Global};
 use std::marker::Model;
 use world_play::{due_from, ends_from, take_step};
@@ -50,7 +51,7 @@ pub struct World {
 }
 
 impl Model for World {
-    ghost use Rattle.script_model.specs.declared.line.Step.TheVariants.{Scheduled, Tick};
+    ghost use Rattle.cluster_model.specs.declared.step.Step.TheVariants.{Scheduled, Tick};
     ghost use Rattle.pat_world.specs.Steps.{WorldFacts};
     ghost use Rattle.world_model.specs.Idle.{IsIdleBefore};
 
@@ -234,7 +235,7 @@ impl World {
             Step::Scheduled => self.idle_before,
             Step::Tick if self.ticks_idle_before < self.idle_before => self.idle_before,
             Step::Tick => self.ticks_idle_before,
-            Step::Command(_) => 0,
+            Step::Command(_) | Step::Connection(..) => 0,
         }
     }
 }

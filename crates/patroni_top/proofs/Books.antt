@@ -1,7 +1,7 @@
 -- The book of a run, step by step.
 use Rattle.std.proofs.Common.{ℕ, ◌≡◌, List, [], ◌∷◌, ◌++◌, Option, refl, ap, subst, ◌∙◌}
 use Rattle.pat_base.specs.declared.name.Name.{Name}
-use Rattle.script_model.specs.declared.line.Step.{Step}
+use Rattle.cluster_model.specs.declared.step.Step.{Step}
 use Rattle.script_model.specs.Script.{HeadText, IsHead}
 use Rattle.event_book.specs.declared.event.Event.{Event}
 use Rattle.event_book.specs.Kinds.{AllAre}

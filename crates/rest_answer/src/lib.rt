@@ -6,6 +6,7 @@ mod answers;
 mod decisions;
 mod laws;
 mod pages;
+mod refusal;
 mod replies;
 mod status;
 
@@ -15,6 +16,7 @@ pub use laws::{
     health_checks_without_a_body_tell_the_same, nothing_is_told_before_the_first_snapshot, requests_for_nothing_have_no_content,
     safe_methods_are_answered_at_once,
 };
+pub use refusal::{Refusal, refusal_reply};
 pub use status::{BAD_GATEWAY, METHOD_NOT_ALLOWED};
 
 #[cfg(test)]

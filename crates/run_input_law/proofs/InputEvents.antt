@@ -176,5 +176,5 @@ module _ (member : Member) (run heard : ℕ) (Q : Output → Type 0) where
       kinds-mine cluster (option_map (handing_over member) found) (holds-mapped Mine (handing_over member) found (λ other. tt))
   output-mine cluster message at runs (outputs.Told request told) table is =
       let agent = agent_at cluster.agents member.id.number in
-      kinds-mine cluster (told_kind member agent told) (told-holds Mine member agent told (λ status json body. tt))
+      kinds-mine cluster (told_kind member agent told) (told-holds Mine member agent told (λ reply. tt))
   output-mine cluster message at runs (outputs.HoldTaken until from sequence) table is = absurd table

@@ -674,5 +674,5 @@ module _ (member : Member) where
   output-here cluster message machine (outputs.HandsOver candidate) table none old =
       note-here cluster machine (option_map (handing_over member) (slice_get cluster.facts.members candidate.number)) (holds-mapped IsOfNote (handing_over member) (slice_get cluster.facts.members candidate.number) (λ other. tt)) old
   output-here cluster message machine (outputs.Told request told) table none old =
-      note-here cluster machine (told_kind member (agent_at cluster.agents member.id.number) told) (told-holds IsOfNote member (agent_at cluster.agents member.id.number) told (λ status json body. tt)) old
+      note-here cluster machine (told_kind member (agent_at cluster.agents member.id.number) told) (told-holds IsOfNote member (agent_at cluster.agents member.id.number) told (λ reply. tt)) old
   output-here cluster message machine (outputs.HoldTaken until from sequence) table none old = absurd table

@@ -1,7 +1,7 @@
 -- At most one server accepts writes, at every moment of every run up to which the premises are met.
 use Rattle.std.proofs.Common.{ℕ, Bool, Option, subst, ◌≡◌, ◌++◌, List, []}
 use Rattle.std.proofs.Math.Path.{fun_ext}
-use Rattle.script_model.specs.declared.line.Step.{Step}
+use Rattle.cluster_model.specs.declared.step.Step.{Step}
 use Rattle.event_book.specs.declared.event.Event.{Event}
 use Rattle.event_book.specs.Writers.{HasOneWriter}
 use Rattle.script_model.specs.Script.{HeadText, IsHead}

@@ -1,7 +1,7 @@
 -- Each run names who begins.
 use Rattle.std.proofs.Common.{ℕ, ◌≡◌, ◌≤◌, ◌++◌, List, [], length, slice_get, Option, Some, None, option_map, refl, ◌∙◌, ap, sym, subst}
 use Rattle.pat_base.specs.declared.member_id.TheConstants.{MOST_MEMBERS}
-use Rattle.script_model.specs.declared.line.Step.{Step}
+use Rattle.cluster_model.specs.declared.step.Step.{Step}
 use Rattle.script_model.specs.Script.{HeadText, IsHead, names_of}
 use Rattle.event_book.specs.declared.agent_process.AgentProcess.{AgentProcess}
 use Rattle.event_book.specs.declared.event.AgentEvent.TheVariants.{Operated, Woken}

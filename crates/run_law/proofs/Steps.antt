@@ -1,6 +1,6 @@
 -- Each step of a script keeps the law.
 use Rattle.std.proofs.Common.{◌≤◌, List, length}
-use Rattle.script_model.specs.declared.line.Step.{Step}
+use Rattle.cluster_model.specs.declared.step.Step.{Step}
 use Rattle.script_model.specs.Script.{HeadText, names_of}
 use Rattle.cluster_model.specs.Next.{run_events}
 use Rattle.event_book.specs.declared.event.EventKind.TheVariants as kinds

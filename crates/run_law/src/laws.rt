@@ -1,7 +1,7 @@
 //! Laws of every run.
 ghost use Rattle.std.specs.Prelude.{ℕ, ◌≡◌, ◌++◌, Bool, List, Option, slice_get};
 ghost use Rattle.script_model.specs.Script.{HeadText, IsHead, names_of};
-ghost use Rattle.script_model.specs.declared.line.Step.{Step};
+ghost use Rattle.cluster_model.specs.declared.step.Step.{Step};
 ghost use Rattle.event_book.specs.declared.event.Event.{Event};
 ghost use Rattle.event_book.specs.Kinds.{AllAre};
 ghost use Rattle.event_book.specs.Writers.{HasOneWriter};

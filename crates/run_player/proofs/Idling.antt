@@ -9,8 +9,8 @@ use Rattle.pat_base.proofs.Printing.{Prints-nothing}
 use Rattle.event_book.specs.declared.event.Event.{Event}
 use Rattle.event_book.specs.declared.member.Member.{Member}
 use Rattle.event_book.specs.Text.{lines_of}
-use Rattle.script_model.specs.declared.line.Step.{Step}
-use Rattle.script_model.specs.declared.line.Step.TheVariants as steps
+use Rattle.cluster_model.specs.declared.step.Step.{Step}
+use Rattle.cluster_model.specs.declared.step.Step.TheVariants as steps
 use Rattle.cluster_model.specs.Cluster.{cluster_over}
 use Rattle.cluster_model.specs.Next.{next_events, run_events}
 use Rattle.cluster_model.specs.State.{Cluster}
@@ -29,12 +29,14 @@ traced-once : (trace : Bool) (step : Step) → IsTick step → traced_after trac
 traced-once trace steps.Scheduled is = refl
 traced-once trace steps.Tick is = refl
 traced-once trace (steps.Command command) is = absurd is
+traced-once trace (steps.Connection id visit) is = absurd is
 
 -- ticks are steps that any script may have
 pub tick-declared : (members : List Member) (step : Step) → IsTick step → IsStep members step
 tick-declared members steps.Scheduled is = tt
 tick-declared members steps.Tick is = tt
 tick-declared members (steps.Command command) is = absurd is
+tick-declared members (steps.Connection id visit) is = absurd is
 
 prints-nothing : (step : Step) (world : Cluster) (trace : Bool) (count : ℕ) → IsTick step → BringsTicks world step count → printed_from world trace (replicate count step) ≡ []
 unfolding BringsTicks

@@ -12,9 +12,9 @@ use Rattle.pat_base.proofs.Printing.{Prints-none, Prints-nothing, Prints-ok, Pri
 use Rattle.event_book.specs.declared.event.Event.{Event}
 use Rattle.event_book.specs.Text.{lines_of}
 use Rattle.script_model.specs.declared.line.Line.{Line}
-use Rattle.script_model.specs.declared.line.Step.{Step}
+use Rattle.cluster_model.specs.declared.step.Step.{Step}
 use Rattle.script_model.specs.Script.{AllAreLines, IsLine}
-use Rattle.script_model.specs.Steps.{steps_of, steps_of_line}
+use Rattle.cluster_model.specs.Steps.{steps_of, steps_of_line}
 use Rattle.cluster_model.specs.Cluster.{cluster_over}
 use Rattle.cluster_model.specs.Next.{next_events, run_events}
 use Rattle.cluster_model.specs.State.{Cluster}

@@ -3,10 +3,11 @@ use Rattle.std.proofs.Common.{◌≡◌, ℕ, ◌+◌, ◌-◌, ◌≤◌, sym, 
 use Rattle.std.proofs.lemmas.List.{length-replicate}
 use Rattle.script_model.specs.declared.line.Line.{Line}
 use Rattle.script_model.specs.declared.line.Line.TheVariants as lines
-use Rattle.script_model.specs.declared.line.Step.{Step}
-use Rattle.script_model.specs.declared.line.Step.TheVariants as steps
+use Rattle.cluster_model.specs.declared.step.Step.{Step}
+use Rattle.cluster_model.specs.declared.step.Step.TheVariants as steps
 use Rattle.script_model.specs.Script.{ScriptText}
-use Rattle.script_model.specs.Steps.{steps_of, steps_of_line, ticks_of_line, total_ticks}
+use Rattle.cluster_model.specs.Steps.{steps_of, steps_of_line}
+use Rattle.script_model.specs.Ticks.{ticks_of_line, total_ticks}
 use Rattle.cluster_model.specs.Starting.{cluster_of}
 use Rattle.cluster_model.specs.State.{Cluster}
 use Rattle.cluster_model.specs.Cluster.{cluster_over}

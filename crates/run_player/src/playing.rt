@@ -2,11 +2,10 @@
 ghost use Rattle.std.specs.Prelude.{◌≡◌, ◌<◌, ◌∷◌, ◌++◌, [], false, All, List, length, IfOk, IsErrOf, OnOk, replicate, slice_get, Some};
 ghost use Rattle.pat_base.specs.Prints.{Prints};
 ghost use Rattle.script_model.specs.Script.{IsLine, names_of};
-ghost use Rattle.script_model.specs.Steps.{steps_of_line, steps_of};
 ghost use Rattle.cluster_model.specs.Cluster.{cluster_over};
 ghost use Rattle.cluster_model.specs.Next.{run_events};
 ghost use Rattle.cluster_model.specs.Starting.{cluster_of};
-ghost use Rattle.cluster_model.specs.Steps.{IsStep, names_in};
+ghost use Rattle.cluster_model.specs.Steps.{IsStep, names_in, steps_of, steps_of_line};
 ghost use Rattle.event_book.specs.declared.event.Event.{Event};
 ghost use Rattle.summary.specs.Passing.{IsTickAlone};
 ghost use Rattle.summary.specs.Sights.{noted_step, noted_steps};
@@ -22,10 +21,11 @@ ghost use Rattle.run_player.specs.Watches.{first_summary};
 use crate::print_error::PrintError;
 use crate::printing::{print_closing, print_lines, set_text};
 use crate::watches::first_summary;
+use cluster_model::Step;
 use event_book::Event;
 use pat_base::Sink;
 use pat_world::World;
-use script_model::{Command, Head, Line, Script, Step};
+use script_model::{Command, Head, Line, Script};
 use std::alloc::{AllocError, Global};
 use summary::Summary;
 

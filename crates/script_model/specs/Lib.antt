@@ -3,5 +3,5 @@ pub mod Keywords
 pub mod Ranges
 pub mod Script
 pub mod Spelling
-pub mod Steps
+pub mod Ticks
 pub use Rattle.pat_base.specs.Name

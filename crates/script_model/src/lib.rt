@@ -10,7 +10,7 @@ mod script;
 
 pub use head::{DEFAULT_BASE, Head};
 pub use keyword::Keyword;
-pub use line::{Command, End, Line, SlowedCall, Step};
+pub use line::{Command, End, Line, SlowedCall};
 pub use ranges::{CommitSize, Delay};
 pub use request_words::{RequestBytes, RequestWords};
 pub use script::Script;

@@ -116,27 +116,3 @@ impl Line {
         }
     }
 }
-
-/// A step of a run: one tick of a `run` or `tick` line, or another line of the body.
-#[derive(Debug, Drop, PartialEq, Eq)]
-pub enum Step {
-    /// One tick of the default schedule.
-    Scheduled,
-    /// One bare tick.
-    Tick,
-    /// What another line asks for.
-    Command(Command),
-}
-
-impl Step {
-    /// The same step. It fails only for want of memory.
-    pub fn try_clone(&self) -> Result<Step, AllocError>
-        ensures { IfOk result (λ step. step ≡ self.now) }
-    {
-        match self {
-            Step::Scheduled => Ok(Step::Scheduled),
-            Step::Tick => Ok(Step::Tick),
-            Step::Command(command) => Ok(Step::Command(command.try_clone()?)),
-        }
-    }
-}

@@ -33,8 +33,8 @@ use Rattle.event_book.specs.declared.event.EventKind.TheVariants as kinds
 use Rattle.event_book.specs.declared.event.WatchdogEvent.TheVariants as watchdogs
 use Rattle.event_book.specs.declared.member.Member.{Member}
 use Rattle.member_options.specs.declared.member_option.MemberOptions.{MemberOptions}
-use Rattle.script_model.specs.declared.line.Step.{Step}
-use Rattle.script_model.specs.declared.line.Step.TheVariants as steps
+use Rattle.cluster_model.specs.declared.step.Step.{Step}
+use Rattle.cluster_model.specs.declared.step.Step.TheVariants as steps
 use Rattle.agent_model.specs.declared.machine.Replication.{Replication}
 use Rattle.agent_model.specs.Agents.{AgentFacts, Outcome}
 use Rattle.agent_model.specs.Wake.{due_from}
@@ -291,17 +291,20 @@ idle-at steps.Scheduled cluster later now idle = record {
 }
 idle-at steps.Tick cluster later now idle = record { ends = ends-at cluster later now idle.ends; commits = idle.commits }
 idle-at (steps.Command command) cluster later now idle = absurd idle
+idle-at (steps.Connection id visit) cluster later now idle = absurd idle
 
 -- nothing ends in it, and no commit of it may be acknowledged
 pub idle-ends : (step : Step) (cluster : Cluster) (later : ℕ) → IsIdleIn step later cluster → NothingEnds later cluster
 idle-ends steps.Scheduled cluster later idle = idle.due.ends
 idle-ends steps.Tick cluster later idle = idle.ends
 idle-ends (steps.Command command) cluster later idle = absurd idle
+idle-ends (steps.Connection id visit) cluster later idle = absurd idle
 
 pub idle-commits : (step : Step) (cluster : Cluster) (later : ℕ) → IsIdleIn step later cluster → AreAcknowledged cluster.facts.members cluster.facts.servers
 idle-commits steps.Scheduled cluster later idle = idle.moves.commits
 idle-commits steps.Tick cluster later idle = idle.commits
 idle-commits (steps.Command command) cluster later idle = absurd idle
+idle-commits (steps.Connection id visit) cluster later idle = absurd idle
 
 -- where steps of the default schedule bring nothing but their ticks, plain ticks don't either
 pub idle-ticks : (cluster : Cluster) (later : ℕ) → IsIdle later cluster → IsIdleButForAgents later cluster
@@ -324,6 +327,7 @@ next-idle step cluster later h idle =
         ∙ ap (λ (es : List Event). event_of cluster kinds.Tick ++ es) (scheduled-none (cluster_after cluster kinds.Tick) later h (idle-after steps.Scheduled cluster later h idle)) ∙ append-nil (event_of cluster kinds.Tick)
     step-idle steps.Tick cluster later h idle = tick-idle cluster later h idle.ends
     step-idle (steps.Command command) cluster later h idle = absurd idle
+    step-idle (steps.Connection id visit) cluster later h idle = absurd idle
 
 -- an agent with no machine never has anything to do
 no-machine : (agent : Option AgentFacts) → HasWorkFrom (standing agent None) None

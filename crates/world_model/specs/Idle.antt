@@ -14,8 +14,8 @@ use Rattle.event_book.specs.declared.event.EventKind.TheVariants as kinds
 use Rattle.event_book.specs.declared.member.Member.{Member}
 use Rattle.event_book.specs.Flight.{Flight, InFlightFacts, in_flight}
 use Rattle.event_book.specs.Links.{CutLinks}
-use Rattle.script_model.specs.declared.line.Step.{Step}
-use Rattle.script_model.specs.declared.line.Step.TheVariants as steps
+use Rattle.cluster_model.specs.declared.step.Step.{Step}
+use Rattle.cluster_model.specs.declared.step.Step.TheVariants as steps
 use Rattle.member_options.specs.declared.member_option.MemberOptions.{MemberOptions}
 use Rattle.agent_model.specs.Agents.{AgentFacts, Outcome}
 use Rattle.agent_model.specs.Wake.{due_from}
@@ -107,6 +107,7 @@ abbrev pub IsIdleIn : Step → ℕ → Cluster → Type 0
 IsIdleIn steps.Scheduled now cluster = IsIdle now cluster
 IsIdleIn steps.Tick now cluster = IsIdleButForAgents now cluster
 IsIdleIn (steps.Command command) now cluster = ⊥
+IsIdleIn (steps.Connection id visit) now cluster = ⊥
 
 -- so it is at each moment before this one
 abbrev pub IsIdleBefore : Step → ℕ → Cluster → Type 0
@@ -115,6 +116,7 @@ IsIdleBefore step moment cluster = (now : ℕ) → now < moment → IsIdleIn ste
 -- a tick, alone or of the default schedule
 abbrev pub IsTick : Step → Type 0
 IsTick (steps.Command command) = ⊥
+IsTick (steps.Connection id visit) = ⊥
 IsTick _ = Unit {0}
 
 -- each of so many steps of one kind brings its tick and nothing else

@@ -1,6 +1,6 @@
 //! How the parts of a step go together.
 ghost use Rattle.std.specs.Prelude.{ℕ, ◌≡◌, ◌+◌, ◌≤◌, List};
-ghost use Rattle.script_model.specs.declared.line.Step.{Step};
+ghost use Rattle.cluster_model.specs.declared.step.Step.{Step};
 ghost use Rattle.event_book.specs.declared.event.Event.{Event};
 ghost use Rattle.event_book.specs.declared.event.EventKind.{EventKind};
 ghost use Rattle.event_book.specs.declared.event.EventKind.TheVariants as kinds;

@@ -1,6 +1,7 @@
 //! What agents answer operators.
-ghost use Rattle.std.specs.Prelude.{◌≡◌, false, IfOk, IfSome, option_copied, string_bytes};
+ghost use Rattle.std.specs.Prelude.{◌≡◌, IfOk, IfSome, option_copied, string_bytes};
 ghost use Rattle.operator_keys.specs.AnswerTexts.{answer_text};
+ghost use Rattle.rest_answer.specs.Replies.{reply_text, text_of};
 ghost use Rattle.cluster_model.specs.Requests.{answering, config_text_of, told_kind};
 ghost use Rattle.cluster_model.specs.State.{Cluster};
 ghost use Rattle.world_model.specs.Comes.{MayCome};
@@ -9,6 +10,7 @@ use agent_model::Told;
 use event_book::{Bytes, EventKind, Member, Note};
 use ha_loop::Agent;
 use operator_keys::{OK, Text, configuration_in};
+use rest_reply::Reply;
 use std::alloc::{AllocError, Global};
 
 /// The agent of a member answers in these words. It fails only for want of memory.
@@ -18,23 +20,23 @@ fn answer_in_words(
     status: u16,
     text: Text,
 ) -> Result<EventKind, AllocError>
-    ensures kind { IfOk result (λ kind. kind ≡ answering member status false (answer_text text)) }
+    ensures kind { IfOk result (λ kind. kind ≡ answering member (text_of status (answer_text text))) }
     ensures comes { IfOk result (λ kind. (cluster : Cluster) → MayCome cluster kind) }
 {
-    let words = format!(in alloc; "{text}")?;
-    Ok(answering(member, status, false, words))
+    let body = format!(in alloc; "{text}")?;
+    Ok(answering(member, Reply { status, json: false, body }))
 }
 
-/// The agent of a member answers with this status and this text, which is JSON or plain text.
-pub fn answering(member: Member, status: u16, json: bool, text: String) -> EventKind
-    ensures kind { result ≡ answering member status json (string_bytes text) }
+/// The agent of a member replies so.
+pub fn answering(member: Member, reply: Reply) -> EventKind
+    ensures kind { result ≡ answering member (reply_text reply) }
     ensures comes { (cluster : Cluster) → MayCome cluster result }
 {
     EventKind::Note(Note::Answered {
         agent: member,
-        status,
-        json,
-        body: Bytes::new(text),
+        status: reply.status,
+        json: reply.json,
+        body: Bytes::new(reply.body),
     })
 }
 
@@ -54,8 +56,9 @@ pub fn told_kind(
             let Some(text) = config_text_of(agent) else {
                 return Ok(None);
             };
-            let text = String::from_str(alloc, text)?;
-            Ok(Some(answering(member, OK, true, text)))
+            let body = String::from_str(alloc, text)?;
+            let reply = Reply { status: OK, json: true, body };
+            Ok(Some(answering(member, reply)))
         }
     }
 }

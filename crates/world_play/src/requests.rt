@@ -1,40 +1,67 @@
-//! Requests that a script makes of agents.
+//! What agents are asked by requests, and what connections bring.
 ghost use Rattle.std.specs.Prelude.{OnOk, Some};
-ghost use Rattle.std.specs.Str.{IsUtf8};
 ghost use Rattle.cluster_model.specs.Inputs.{standing_of};
-ghost use Rattle.cluster_model.specs.Messages.{operate_events, request_events, request_events_of};
+ghost use Rattle.cluster_model.specs.Messages.{operate_events, request_events, request_events_of, visit_events};
 ghost use Rattle.cluster_model.specs.Parts.{for_some};
 ghost use Rattle.world_model.specs.Emits.{Emits};
 ghost use Rattle.world_model.specs.Room.{HasRoom, call_cost};
 
 use crate::carrying::carry_out;
 use crate::wakes::NO_MESSAGE;
+use cluster_model::Visit;
 use event_book::{Event, EventKind, Member, Note};
 use lease_store::OperatorAction;
-use rest_answer::{Answer, answer};
+use rest_answer::{Answer, answer, refusal_reply};
 use rest_request::Verb;
-use script_model::RequestWords;
 use std::alloc::AllocError;
 use world_parts::processes::may_act;
 use world_parts::requests::answering;
 use world_stage::Stage;
 
-/// A script makes a request of the agent of a member: one that doesn't run or is suspended gives no answer.
+/// What a connection brings to the agent of a member.
+pub fn receive_visit(
+    stage: &mut Stage,
+    member: Member,
+    visit: &Visit,
+    events: &mut Vec<Event>,
+) -> Result<(), AllocError>
+    requires { HasRoom stage.old call_cost }
+    ensures { OnOk result (Emits stage.old stage.new events.old.items events.new.items (visit_events stage.old visit.now member) call_cost) }
+{
+    match visit {
+        Visit::Request(request) => make_request(
+            stage,
+            member,
+            request.method,
+            request.target.as_str(),
+            request.body.as_slice(),
+            events,
+        ),
+        Visit::Refusal(refusal) => {
+            let reply = refusal_reply(stage.alloc(), *refusal)?;
+            stage.happen(answering(member, reply), events)
+        }
+        Visit::Failure => stage.happen(EventKind::Note(Note::ConnectionFailed), events),
+    }
+}
+
+/// A request is made of the agent of a member: one that doesn't run or is suspended gives no answer.
 pub fn make_request(
     stage: &mut Stage,
     member: Member,
-    request: &RequestWords,
+    verb: Verb,
+    target: &str,
+    body: &[u8],
     events: &mut Vec<Event>,
 ) -> Result<(), AllocError>
-    requires room { HasRoom stage.old call_cost }
-    requires text { IsUtf8 request.now.target }
-    ensures { OnOk result (Emits stage.old stage.new events.old.items events.new.items (request_events stage.old request.now member) call_cost) }
+    requires { HasRoom stage.old call_cost }
+    ensures { OnOk result (Emits stage.old stage.new events.old.items events.new.items (request_events stage.old (record { verb = verb; target = target.now; content = body.now }) member) call_cost) }
 {
     let Some(process) = stage.process(member) else {
         return Ok(());
     };
     if may_act(process) {
-        ask_agent(stage, member, request, events)
+        ask_agent(stage, member, verb, target, body, events)
     } else {
         let silent = Note::NoAnswer { agent: member };
         stage.happen(EventKind::Note(silent), events)
@@ -45,12 +72,13 @@ pub fn make_request(
 fn ask_agent(
     stage: &mut Stage,
     member: Member,
-    words: &RequestWords,
+    verb: Verb,
+    target: &str,
+    body: &[u8],
     events: &mut Vec<Event>,
 ) -> Result<(), AllocError>
-    requires room { HasRoom stage.old call_cost }
-    requires text { IsUtf8 words.now.target }
-    ensures { OnOk result (Emits stage.old stage.new events.old.items events.new.items (for_some (standing_of stage.old member) (request_events_of stage.old words.now member)) call_cost) }
+    requires { HasRoom stage.old call_cost }
+    ensures { OnOk result (Emits stage.old stage.new events.old.items events.new.items (for_some (standing_of stage.old member) (request_events_of stage.old (record { verb = verb; target = target.now; content = body.now }) member)) call_cost) }
 {
     let Some(machine) = stage.machine(member) else {
         return Ok(());
@@ -60,17 +88,10 @@ fn ask_agent(
     };
     let request = agent.next_number();
     let view = agent.view(stage.clock(), &machine);
-    let answered = answer(
-        stage.alloc(),
-        &view,
-        stage.routes(),
-        Verb::of(words.method.as_slice()),
-        words.target_text(),
-        words.body.as_slice(),
-    )?;
+    let answered = answer(stage.alloc(), &view, stage.routes(), verb, target, body)?;
     match answered {
         Answer::Act(asked) => operate(stage, member, OperatorAction { request, asked }, events),
-        Answer::Now(reply) => stage.happen(answering(member, reply.status, reply.json, reply.body), events),
+        Answer::Now(reply) => stage.happen(answering(member, reply), events),
     }
 }
 

@@ -12,12 +12,14 @@ ghost use Rattle.world_model.specs.Room.{HasRoom, HasRoomFor, command_cost, roun
 
 use crate::messages::{deliver, lose, pass_messages};
 use crate::receiving::{all_receive, receive};
-use crate::requests::make_request;
+use crate::requests::{make_request, receive_visit};
 use crate::servers::promote;
 use crate::ticks::tick;
 use crate::wakes::{start_agent, turn, wakes};
+use cluster_model::Step;
 use event_book::{Event, EventKind};
-use script_model::{Command, Step};
+use rest_request::Verb;
+use script_model::Command;
 use std::alloc::AllocError;
 use world_parts::links::{cut_of, join_of};
 use world_parts::processes::{kill_of, resume_of, suspend_of};
@@ -52,6 +54,10 @@ fn perform(stage: &mut Stage, step: &Step, events: &mut Vec<Event>) -> Result<()
         }
         Step::Tick => tick(stage, events),
         Step::Command(command) => take_command(stage, command, events),
+        Step::Connection(id, visit) => {
+            let member = stage.declared(*id);
+            receive_visit(stage, member, visit, events)
+        }
     }
 }
 
@@ -95,7 +101,14 @@ fn take_command(
         }
         Command::Rest(id, request) => {
             let member = stage.declared(*id);
-            make_request(stage, member, request, events)
+            make_request(
+                stage,
+                member,
+                Verb::of(request.method.as_slice()),
+                request.target_text(),
+                request.body.as_slice(),
+                events,
+            )
         }
         _ => {
             let kind = command_kind(stage, command);

@@ -2,10 +2,9 @@ use Rattle.std.proofs.Common.{ℕ, Bool, false, List, ap, ◌∙◌, Err, Ok, su
 use Rattle.pat_base.specs.Prints.{Prints}
 use Rattle.std.proofs.lemmas.Result.{err_from_is_err_and}
 use Rattle.pat_base.proofs.Printing.{Prints-none, Prints-ok}
-use Rattle.script_model.specs.Steps.{steps_of}
 use Rattle.cluster_model.specs.Starting.{cluster_of}
 use Rattle.cluster_model.specs.State.{Cluster}
-use Rattle.cluster_model.specs.Steps.{names_in}
+use Rattle.cluster_model.specs.Steps.{names_in, steps_of}
 use Rattle.world_model.proofs.Declaring.{names-start}
 use Rattle.run_player.specs.declared.print_error.PrintError.TheVariants.{Memory, Write}
 use Rattle.run_player.specs.Watches.{first_summary}

@@ -1,7 +1,7 @@
 use Rattle.std.proofs.Common.{◌≡◌, ◌∙◌, arith, ap, rules, sym}
 use Rattle.std.specs.Prelude.{option_copied}
 use Rattle.std.proofs.lemmas.Result.{on_ok_weaker}
-use Rattle.cluster_model.specs.Requests.{asked_in_words}
+use Rattle.rest_request.specs.Requests.{Asked}
 use Rattle.rest_answer.specs.Answers.{Acts, Replies, answer_to}
 use Rattle.rest_answer.specs.Replies.{reply_text}
 use Rattle.world_model.specs.Room.{call_cost}
@@ -13,10 +13,10 @@ pub next_number-request-requires : goal.next_number-request-requires
 next_number-request-requires c =
     let agent = c.in-Some-agent.agent.now in
     let there = sym c.agent.ensures ∙ ap option_copied c.in-Some-agent.is in
-    numbers-left c.args.stage.now c.args.member agent c.requires.room there
+    numbers-left c.args.stage.now c.args.member agent c.requires there
 
 pub happen-requires-clause-room : goal.happen-requires-clause-room
-happen-requires-clause-room c = HasRoom-fewer c.args.stage.now call_cost 1 (omega arith) c.requires.room
+happen-requires-clause-room c = HasRoom-fewer c.args.stage.now call_cost 1 (omega arith) c.requires
 
 pub returns-in-Act : goal.returns-in-Act
 returns-in-Act c =
@@ -26,11 +26,12 @@ returns-in-Act c =
     let machine = c.in-Some.machine in
     let view = c.view-view.result in
     let request = c.next_number-request.result in
+    let call : Asked = record { verb = c.args.verb; target = c.args.target.now; content = c.args.body.now } in
     let asks : IsAsked cluster member agent machine view request =
     found-asked cluster member agent machine view request c.clock.result _ _ c.agent.ensures (ap option_copied c.in-Some-agent.is) c.machine.ensures.machine c.in-Some.is c.clock.ensures c.view-view.ensures.shown c.view-view.ensures.seen c.next_number-request.ensures in
-    let answers : Acts c.in-Act.asked ≡ answer_to view (option_copied view.seen) (asked_in_words c.args.words.now) = search rules in
+    let answers : Acts c.in-Act.asked ≡ answer_to view (option_copied view.seen) call = search rules in
     on_ok_weaker c.operate.result
-    (λ took. acts-took cluster member agent machine view request asks c.operate.new.stage c.args.words.now c.in-Act.asked c.args.events.now.items c.operate.new.events.items answers took)
+    (λ took. acts-took cluster member agent machine view request asks c.operate.new.stage call c.in-Act.asked c.args.events.now.items c.operate.new.events.items answers took)
     c.operate.ensures
 
 pub returns-in-Now : goal.returns-in-Now
@@ -41,10 +42,11 @@ returns-in-Now c =
     let machine = c.in-Some.machine in
     let view = c.view-view.result in
     let request = c.next_number-request.result in
+    let call : Asked = record { verb = c.args.verb; target = c.args.target.now; content = c.args.body.now } in
     let asks : IsAsked cluster member agent machine view request =
     found-asked cluster member agent machine view request c.clock.result _ _ c.agent.ensures (ap option_copied c.in-Some-agent.is) c.machine.ensures.machine c.in-Some.is c.clock.ensures c.view-view.ensures.shown c.view-view.ensures.seen c.next_number-request.ensures in
     let reply = reply_text c.in-Now.reply in
-    let answers : Replies reply ≡ answer_to view (option_copied view.seen) (asked_in_words c.args.words.now) = search rules in
+    let answers : Replies reply ≡ answer_to view (option_copied view.seen) call = search rules in
     on_ok_weaker c.happen.result
-    (λ took. replies-took cluster member agent machine view request asks c.happen.new.self c.args.words.now reply c.answering.result c.args.events.now.items c.happen.new.events.items answers c.answering.ensures.kind took)
+    (λ took. replies-took cluster member agent machine view request asks c.happen.new.self call reply c.answering.result c.args.events.now.items c.happen.new.events.items answers c.answering.ensures.kind took)
     c.happen.ensures

@@ -1,5 +1,5 @@
 use Rattle.std.proofs.Common.{◌≡◌, ◌+◌, replicate, arith, ap, sym, subst, ◌∙◌}
-use Rattle.script_model.specs.declared.line.Step.TheVariants as steps
+use Rattle.cluster_model.specs.declared.step.Step.TheVariants as steps
 use Rattle.cluster_model.specs.Acknowledging.{AreAcknowledged}
 use Rattle.cluster_model.specs.State.{Cluster}
 use Rattle.pat_world.specs.Steps.{WorldFacts}

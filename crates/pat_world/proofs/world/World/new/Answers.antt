@@ -1,5 +1,5 @@
 use Rattle.std.proofs.Common.{[]}
-use Rattle.script_model.specs.declared.line.Step.TheVariants as steps
+use Rattle.cluster_model.specs.declared.step.Step.TheVariants as steps
 use Rattle.cluster_model.specs.Starting.{cluster_of}
 use Rattle.pat_world.proofs.IdleTicks.{idle-before-none}
 use Rattle.pat_world.proofs.Standing.{is-stands}

@@ -1,5 +1,5 @@
 use Rattle.std.proofs.Common.{arith}
-use Rattle.script_model.specs.declared.line.Step.TheVariants as steps
+use Rattle.cluster_model.specs.declared.step.Step.TheVariants as steps
 use Rattle.pat_world.proofs.IdleTicks.{idle-before-none, idle-found, ticks-idle-found}
 use Rattle.pat_world.proofs.world.World.take.Goals as goal
 

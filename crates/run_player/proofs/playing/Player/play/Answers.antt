@@ -3,7 +3,7 @@ use Rattle.std.proofs.lemmas.Result.{err_from_is_err_and}
 use Rattle.pat_base.specs.Outside.{Grew}
 use Rattle.pat_base.specs.Prints.{Prints}
 use Rattle.pat_base.proofs.Printing.{Prints-then, Prints-stop}
-use Rattle.script_model.specs.Steps.{steps_of}
+use Rattle.cluster_model.specs.Steps.{steps_of}
 use Rattle.summary.specs.declared.answers.Closing.{Closing}
 use Rattle.summary.specs.Sights.{SummaryFacts}
 use Rattle.summary.specs.SummaryText.{closing_text}

@@ -3,8 +3,7 @@ use Rattle.std.proofs.lemmas.List.{drop_all}
 use Rattle.std.proofs.lemmas.Result.{err_from_is_err_and}
 use Rattle.pat_base.specs.declared.name.Name.{Name}
 use Rattle.script_model.specs.Script.{IsLine}
-use Rattle.script_model.specs.Steps.{steps_of}
-use Rattle.cluster_model.specs.Steps.{names_in}
+use Rattle.cluster_model.specs.Steps.{names_in, steps_of}
 use Rattle.run_player.proofs.Played.{line-declared, Playing-members, Playing-room, Playing-more, Playing-stop, Playing-end, body-next}
 use Rattle.run_player.proofs.playing.Player.play_body.Goals as goal
 

@@ -1,5 +1,5 @@
 use Rattle.std.proofs.Common.{drop}
-use Rattle.script_model.specs.Steps.{steps_of}
+use Rattle.cluster_model.specs.Steps.{steps_of}
 use Rattle.run_player.proofs.Played.{Playing}
 use Rattle.run_player.proofs.playing.Player.play_body.Given as goal
 

@@ -1,7 +1,7 @@
 use Rattle.std.proofs.Common.{◌-◌, [], ◌∷◌, replicate, ap, append-nil, ◌∙◌, Err, refl, sym, subst, arith}
 use Rattle.std.proofs.lemmas.List.{length-replicate}
 use Rattle.std.proofs.lemmas.Result.{err_from_is_err_and}
-use Rattle.script_model.specs.declared.line.Step.{Step}
+use Rattle.cluster_model.specs.declared.step.Step.{Step}
 use Rattle.pat_world.specs.Steps.{HasStepsLeft}
 use Rattle.run_player.specs.declared.print_error.PrintError.TheVariants.{Memory}
 use Rattle.run_player.proofs.Idling.{Plays-idle, none-left, tick-declared, ticks-first, ticks-split}
