@@ -6,6 +6,8 @@ mod clusters;
 #[cfg(test)]
 mod configurations;
 #[cfg(test)]
+mod health;
+#[cfg(test)]
 mod operators;
 #[cfg(test)]
 mod races;
