@@ -49,10 +49,38 @@ const BY_STATE: [(State, &str, &str); 9] = [
     (State::Creating, "-------------+", "---+--------++"),
     (State::Stopped, "-------------+", "---+--------++"),
     (State::Crashed, "-------------+", "---+--------++"),
-    (State::Starting { as_primary: true, at: LATER }, "-------------+", "---+--------++"),
-    (State::Starting { as_primary: false, at: LATER }, "-------------+", "---+--------++"),
-    (State::Stopping { was_primary: true, at: LATER }, "-------------+", "---+--------++"),
-    (State::Stopping { was_primary: false, at: LATER }, "-------------+", "---+--------++"),
+    (
+        State::Starting {
+            as_primary: true,
+            at: LATER,
+        },
+        "-------------+",
+        "---+--------++",
+    ),
+    (
+        State::Starting {
+            as_primary: false,
+            at: LATER,
+        },
+        "-------------+",
+        "---+--------++",
+    ),
+    (
+        State::Stopping {
+            was_primary: true,
+            at: LATER,
+        },
+        "-------------+",
+        "---+--------++",
+    ),
+    (
+        State::Stopping {
+            was_primary: false,
+            at: LATER,
+        },
+        "-------------+",
+        "---+--------++",
+    ),
 ];
 
 /// The same of a follower whose server is a running replica, by whether it has the tag `noloadbalance` and whether the sync key names it.

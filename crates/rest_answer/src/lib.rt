@@ -13,8 +13,8 @@ mod status;
 pub use answering::answer;
 pub use answers::Answer;
 pub use laws::{
-    health_checks_without_a_body_tell_the_same, nothing_is_told_before_the_first_snapshot, requests_for_nothing_have_no_content,
-    safe_methods_are_answered_at_once,
+    health_checks_without_a_body_tell_the_same, nothing_is_told_before_the_first_snapshot,
+    requests_for_nothing_have_no_content, safe_methods_are_answered_at_once,
 };
 pub use refusal::{Refusal, refusal_reply};
 pub use status::{BAD_GATEWAY, METHOD_NOT_ALLOWED};

@@ -24,7 +24,14 @@ fn answer_in_words(
     ensures comes { IfOk result (λ kind. (cluster : Cluster) → MayCome cluster kind) }
 {
     let body = format!(in alloc; "{text}")?;
-    Ok(answering(member, Reply { status, json: false, body }))
+    Ok(answering(
+        member,
+        Reply {
+            status,
+            json: false,
+            body,
+        },
+    ))
 }
 
 /// The agent of a member replies so.
@@ -57,7 +64,11 @@ pub fn told_kind(
                 return Ok(None);
             };
             let body = String::from_str(alloc, text)?;
-            let reply = Reply { status: OK, json: true, body };
+            let reply = Reply {
+                status: OK,
+                json: true,
+                body,
+            };
             Ok(Some(answering(member, reply)))
         }
     }
