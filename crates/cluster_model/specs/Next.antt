@@ -24,6 +24,7 @@ use Rattle.cluster_model.specs.Limits.{most_rounds}
 use Rattle.cluster_model.specs.Machines.{machine_of}
 use Rattle.cluster_model.specs.Messages.{wake_events, turn_events, request_events, visit_events, message_events, deliver_events, lose_events}
 use Rattle.cluster_model.specs.Parts.{event_of, events_of, events_then, for_some, each, is_empty}
+use Rattle.cluster_model.specs.Requests.{asked_in_words}
 use Rattle.cluster_model.specs.ServerCommands.{promote_kinds, crash_of, freezing_of, slow_of, commit_of}
 use Rattle.cluster_model.specs.State.{Cluster}
 use Rattle.cluster_model.specs.Streaming.{source_of, confirm_of, unconfirmed_end}

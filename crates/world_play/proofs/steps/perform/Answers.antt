@@ -26,4 +26,4 @@ pub returns-in-Command : goal.returns-in-Command
 returns-in-Command c = on_ok_weaker c.take_command.result (λ took. stepped _ _ _ _ _ (steps.Command c.in-Command.command) command_cost c.in-Command.is took (omega arith)) c.take_command.ensures
 
 pub returns-in-Connection : goal.returns-in-Connection
-returns-in-Connection c = on_ok_weaker c.receive_visit.result (λ took. stepped _ _ _ _ _ (steps.Connection c.in-Connection.id.now c.in-Connection.visit.now) call_cost c.in-Connection.is took (omega arith)) c.receive_visit.ensures
+returns-in-Connection c = on_ok_weaker c.receive_visit.result (λ took. stepped _ _ _ _ _ (steps.Connection _ _) call_cost c.in-Connection.is took (omega arith)) c.receive_visit.ensures
