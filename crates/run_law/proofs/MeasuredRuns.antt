@@ -65,8 +65,8 @@ tells-request request member moments cluster knows =
 -- what a connection brings
 tells-visit : (visit : Visit) (member : Member) → Tells (λ cluster. visit_events cluster visit member)
 tells-visit (visits.Request request) member = tells-request (asked_by request) member
-tells-visit (visits.Refusal refusal) member moments cluster knows = told-plain moments cluster _ (tt, tt)
-tells-visit visits.Failure member moments cluster knows = told-plain moments cluster _ (tt, tt)
+tells-visit (visits.Refusal refusal) member = λ moments cluster knows. told-plain moments cluster _ (tt, tt)
+tells-visit visits.Failure member = λ moments cluster knows. told-plain moments cluster _ (tt, tt)
 
 told-arrival : (moments : Moments) (cluster : Cluster) (number : ℕ) (message : InFlightFacts) (to : LinkEnd) → KnowsSending moments cluster.facts → in_flight cluster.facts.flight number ≡ Some message
     → Measures moments cluster (arrival_events_at cluster number message to)
@@ -128,7 +128,7 @@ tells-step : (step : Step) → Tells (λ cluster. step_events cluster step)
 tells-step steps.Scheduled = tells-then tick_events scheduled_events tells-tick tells-scheduled
 tells-step steps.Tick = tells-tick
 tells-step (steps.Command command) = tells-command command
-tells-step (steps.Connection id visit) moments cluster knows = told-for_some moments cluster (declared cluster id) (visit_events cluster visit) (λ m is. tells-visit visit m moments cluster knows)
+tells-step (steps.Connection id visit) = λ moments cluster knows. told-for_some moments cluster (declared cluster id) (visit_events cluster visit) (λ m is. tells-visit visit m moments cluster knows)
 
 tells-next : (step : Step) → Tells (λ cluster. next_events cluster step)
 tells-next step =

@@ -155,7 +155,7 @@ module _ (head : HeadText) (few : length (names_of head) ≤ MOST_MEMBERS) (prom
   upholds-step steps.Scheduled = upholds-then promise composable tick_events scheduled_events parts.ticks upholds-scheduled
   upholds-step steps.Tick = parts.ticks
   upholds-step (steps.Command command) = upheld-command command
-  upholds-step (steps.Connection id visit) book cluster good =
+  upholds-step (steps.Connection id visit) = λ book cluster good.
       upheld-for_some promise composable book cluster (declared cluster id) (visit_events cluster visit) good (λ m is. upheld-visit visit m (declared-now head few cluster (parts.members book cluster good) id m is) book cluster good)
 
   pub upholds-next : (step : Step) → UpholdsAlways promise (λ cluster. next_events cluster step)
