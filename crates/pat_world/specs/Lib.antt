@@ -1,3 +1,4 @@
+pub mod Acting
 pub mod Book
 pub mod Fenced
 pub mod KeptCommits

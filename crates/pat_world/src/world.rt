@@ -10,6 +10,7 @@ ghost use Rattle.cluster_model.specs.Parts.{event_of};
 ghost use Rattle.cluster_model.specs.Starting.{cluster_of};
 ghost use Rattle.cluster_model.specs.State.{Cluster};
 ghost use Rattle.cluster_model.specs.Steps.{IsStep};
+ghost use Rattle.pat_world.specs.Acting.{acts_at};
 ghost use Rattle.pat_world.specs.Book.{StandsFor, left_by, next_of};
 ghost use Rattle.world_model.specs.Idle.{BringsTicks, IsIdleBefore, IsIdleIn, NothingEnds, NothingIsDue};
 ghost use Rattle.pat_world.specs.Fenced.{KeepsFencing};
@@ -28,6 +29,7 @@ use pat_base::{MemberId, Ticks};
 use script_model::Head;
 use std::alloc::{AllocError, Global};
 use std::marker::Model;
+use world_parts::processes::may_act;
 use world_play::{due_from, ends_from, take_step};
 use world_stage::{Stage, write_down};
 
@@ -113,6 +115,19 @@ impl World {
         ensures running { (head : HeadText) (book : List Event) → IsHead head → StandsFor (cluster_of head) book self.now.cluster → is_some result ≡ agent_runs self.now.cluster id }
     {
         self.stage.view(id)
+    }
+
+    /// Whether the agent of a member runs and isn't suspended, so that it answers requests; not that of a number that no member has.
+    pub fn acts(&self, id: MemberId) -> bool
+        ensures { result ≡ acts_at self.now.cluster id }
+    {
+        let Some(member) = self.stage.members().get(id.number as usize) else {
+            return false;
+        };
+        match self.stage.process(*member) {
+            Some(process) => may_act(process),
+            None => false,
+        }
     }
 
     /// One step of a script with these members, into an empty list. The premises: fewer than 2^30 steps were taken, and a command names

@@ -87,6 +87,19 @@ pub fn shown(
     Ok(seen)
 }
 
+/// Whether a member's agent acts at the end of a run.
+pub fn acting(
+    rt: &impl Abort,
+    alloc: Global,
+    script: &str,
+    member: MemberId,
+) -> Result<bool, AllocError> {
+    let world = world_after(rt, alloc, script)?;
+    let acts = world.acts(member);
+    world.close();
+    Ok(acts)
+}
+
 /// Where a member is reached, and what it told of itself, by the snapshot that another member's agent heard last in a run.
 pub fn told(
     rt: &impl Abort,

@@ -19,7 +19,7 @@ use Rattle.commit_run_law.proofs.Losses.{told-back}
 use Rattle.commit_run_law.proofs.LossRuns.{runs-tell}
 use Rattle.pat_world.proofs.OneWriter.{run_events-last}
 use Rattle.world_model.proofs.Taking.{cluster_over-append}
-use Rattle.run_player.specs.Run.{events_by_step}
+use Rattle.pat_world.specs.Book.{events_by_step}
 
 -- the events of all steps are the book
 pub book-by-step : (cluster : Cluster) (steps : List Step) → book_of (events_by_step cluster steps) ≡ run_events cluster steps

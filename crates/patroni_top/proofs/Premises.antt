@@ -33,7 +33,8 @@ use Rattle.cluster_model.specs.State.{Cluster}
 use Rattle.event_book.specs.Writers.{HasOneWriter}
 use Rattle.script_words.specs.declared.fault.Fault.{Fault}
 use Rattle.summary.specs.Sights.{book_of}
-use Rattle.run_player.specs.Run.{Played, closing_of_run, events_by_step, played_of, run_of}
+use Rattle.run_player.specs.Run.{Played, closing_of_run, played_of, run_of}
+use Rattle.pat_world.specs.Book.{events_by_step}
 use Rattle.run_player.specs.Watches.{declared_watch, first_summary, is_off, watches_of}
 use Rattle.patroni_top.specs.declared.order.Order.{Order}
 use Rattle.patroni_top.specs.declared.order.Order.TheVariants as orders

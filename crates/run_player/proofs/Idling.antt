@@ -22,7 +22,8 @@ use Rattle.pat_world.specs.Steps.{TookSteps}
 use Rattle.run_player.specs.declared.playing.Player.{Player}
 use Rattle.run_player.specs.declared.print_error.PrintError.TheVariants.{Write}
 use Rattle.run_player.specs.Playing.{Idles, Plays}
-use Rattle.run_player.specs.Run.{events_by_step, noted_from, printed_from, traced_after, traced_over}
+use Rattle.run_player.specs.Run.{noted_from, printed_from, traced_after, traced_over}
+use Rattle.pat_world.specs.Book.{events_by_step}
 
 -- a tick changes nothing of what is traced
 traced-once : (trace : Bool) (step : Step) → IsTick step → traced_after trace step ≡ trace

@@ -13,6 +13,7 @@ use Rattle.cluster_model.specs.Cluster.{cluster_over}
 use Rattle.cluster_model.specs.Next.{next_events, run_events}
 use Rattle.cluster_model.specs.Starting.{cluster_of}
 use Rattle.cluster_model.specs.State.{Cluster}
+use Rattle.pat_world.specs.Book.{events_by_step}
 use Rattle.summary.specs.declared.answers.Closing.{Closing}
 use Rattle.summary.specs.Sights.{SummaryFacts, noted_steps}
 use Rattle.summary.specs.SummaryText.{closing_text}
@@ -57,13 +58,6 @@ printed_from cluster trace [] = []
 printed_from cluster trace (step ∷ more) =
     let events = next_events cluster step in
     lines_of trace events ++ printed_from (cluster_over cluster events) (traced_after trace step) more
-
--- the events of each of these steps, from a cluster on
-abbrev pub events_by_step : Cluster → List Step → List (List Event)
-events_by_step cluster [] = []
-events_by_step cluster (step ∷ more) =
-    let events = next_events cluster step in
-    events ∷ events_by_step (cluster_over cluster events) more
 
 -- what the summary keeps after these steps, from a cluster on
 abbrev pub noted_from : SummaryFacts → Cluster → List Step → SummaryFacts
