@@ -67,7 +67,7 @@ pub fn run_in_memory(
 }
 
 /// The world at the end of a run of this script.
-pub fn world_after(rt: &impl Abort, alloc: Global, script: &str) -> Result<World, AllocError> {
+fn world_after(rt: &impl Abort, alloc: Global, script: &str) -> Result<World, AllocError> {
     let mut out = MemorySink::new(alloc, 65536, Vec::new(alloc))?;
     let mut err = MemorySink::new(alloc, 4096, Vec::new(alloc))?;
     let Ended { world, status: _ } = ran(alloc, "run", script, NO_FAULTS, &mut out, &mut err)?;

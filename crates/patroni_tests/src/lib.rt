@@ -4,8 +4,6 @@
 #![tactic(auto)]
 
 #[cfg(test)]
-mod connections;
-#[cfg(test)]
 mod faults;
 #[cfg(test)]
 mod in_memory;

@@ -1,3 +1,0 @@
-pub mod Bringing
-pub mod Replied
-pub mod Waiting
