@@ -27,7 +27,7 @@ use Rattle.event_book.specs.declared.message.Body.TheVariants as bodies
 use Rattle.event_book.specs.declared.message.Message.{Message}
 use Rattle.event_book.specs.Flight.{InFlightFacts, in_flight}
 use Rattle.event_book.specs.declared.reason.Reason.{Reason}
-use Rattle.rest_request.specs.Requests.{Asked, asked_by}
+use Rattle.rest_message.specs.Requests.{Asked, asked_by}
 use Rattle.rest_answer.specs.Refusals.{refusal_reply}
 use Rattle.rest_answer.specs.Answers.{Answered, Acts, Replies}
 use Rattle.agent_model.specs.declared.heard.Heard.{Heard}

@@ -12,8 +12,8 @@ use Rattle.operator_keys.specs.AnswerTexts.{answer_text}
 use Rattle.operator_keys.specs.ConfigChecks.{configuration_in}
 use Rattle.rest_answer.specs.Answers.{Answered, answer_to}
 use Rattle.rest_answer.specs.Replies.{ReplyText, json_of, text_of}
-use Rattle.rest_request.specs.Requests.{Asked}
-use Rattle.rest_request.specs.Verbs.{verb_of}
+use Rattle.rest_message.specs.Requests.{Asked}
+use Rattle.rest_message.specs.Verbs.{verb_of}
 use Rattle.script_model.specs.declared.request_words.RequestWords.{RequestWords}
 use Rattle.agent_model.specs.declared.operating.Told.{Told}
 use Rattle.agent_model.specs.declared.operating.Told.TheVariants as tolds

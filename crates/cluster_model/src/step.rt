@@ -1,7 +1,7 @@
 //! Steps of a run.
 use pat_base::MemberId;
 use rest_answer::Refusal;
-use rest_request::Request;
+use rest_message::Request;
 use script_model::Command;
 
 /// A step of a run: one tick of a `run` or `tick` line, another line of a script's body, or what a connection brings.

@@ -5,8 +5,8 @@ use crate::clusters::{ONLY_B, SYNCHRONOUS, follower, has_answer, led_by_a};
 use cluster_config::{AgentView, RoleWord};
 use pat_base::{MemberSet, State, Ticks};
 use rest_answer::{Answer, answer};
+use rest_message::Verb;
 use rest_paths::Routes;
-use rest_request::Verb;
 use std::alloc::Global;
 use std::process::Abort;
 

@@ -14,8 +14,8 @@ use Rattle.rest_pages.specs.Patroni.{patroni_members_of}
 use Rattle.rest_paths.specs.declared.asking.Ask.{Ask}
 use Rattle.rest_paths.specs.declared.asking.Ask.TheVariants as asks
 use Rattle.rest_paths.specs.Asking.{ask_of}
-use Rattle.rest_request.specs.Requests.{Asked}
-use Rattle.rest_request.specs.Targets.{lag_of, path_of}
+use Rattle.rest_message.specs.Requests.{Asked}
+use Rattle.rest_message.specs.Targets.{lag_of, path_of}
 use Rattle.rest_answer.specs.declared.answers.Answer.{Answer}
 use Rattle.rest_answer.specs.declared.answers.Answer.TheVariants as ways
 use Rattle.rest_answer.specs.Decisions.{decision_on}

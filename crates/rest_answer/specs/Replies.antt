@@ -1,6 +1,6 @@
 -- Replies by their parts.
 use Rattle.std.specs.Prelude.{ℕ, Bool, true, false, List, [], string_bytes}
-use Rattle.rest_reply.specs.declared.reply.Reply.{Reply}
+use Rattle.rest_message.specs.declared.reply.Reply.{Reply}
 
 -- a status and a content, which is JSON or plain text
 pub record ReplyText : Type 0 where

@@ -13,10 +13,9 @@ use cluster_config::AgentView;
 use operator_keys::{CheckFault, NOT_FOUND};
 use rest_facts::health_of_view;
 use rest_health::Endpoint;
+use rest_message::{Reply, Verb, lag_of};
 use rest_pages::patroni_text;
 use rest_paths::{Ask, Change, Routes};
-use rest_reply::Reply;
-use rest_request::{Verb, lag_of};
 use std::alloc::{AllocError, Global};
 
 /// What an agent that shows this answers to a request with this method, target and content, or what it is to do for it (Patroni

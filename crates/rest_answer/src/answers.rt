@@ -1,6 +1,6 @@
 //! Answers to requests.
 use lease_store::OperatorRequest;
-use rest_reply::Reply;
+use rest_message::Reply;
 
 /// What comes of a request.
 #[derive(Debug, Drop)]

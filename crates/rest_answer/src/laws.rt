@@ -9,8 +9,8 @@ ghost use Rattle.rest_paths.specs.declared.asking.Ask.TheVariants.{NotAllowed, N
 ghost use Rattle.rest_paths.specs.declared.resource.Page.{Page};
 ghost use Rattle.rest_paths.specs.Asking.{ask_of};
 ghost use Rattle.rest_paths.specs.Laws.{IsSafe};
-ghost use Rattle.rest_request.specs.Requests.{Asked};
-ghost use Rattle.rest_request.specs.Targets.{path_of};
+ghost use Rattle.rest_message.specs.Requests.{Asked};
+ghost use Rattle.rest_message.specs.Targets.{path_of};
 ghost use Rattle.rest_answer.specs.Answers.{IsReplied, Replies, answer_to, health_reply};
 ghost use Rattle.rest_answer.specs.Pages.{no_store_answer, page_reply, tells_of_the_cluster};
 ghost use Rattle.rest_answer.specs.Replies.{status_alone};

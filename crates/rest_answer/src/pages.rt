@@ -7,9 +7,9 @@ use crate::replies::{json_reply, status_reply, text_reply};
 use crate::status::BAD_GATEWAY;
 use cluster_config::{AgentView, Snapshot};
 use operator_keys::{OK, SERVICE_UNAVAILABLE, Text};
+use rest_message::Reply;
 use rest_pages::{cluster_text, config_text, failsafe_text, history_text, patroni_text};
 use rest_paths::Page;
-use rest_reply::Reply;
 use std::alloc::{AllocError, Global};
 
 /// What a page answers.

@@ -4,7 +4,7 @@ ghost use Rattle.rest_answer.specs.Refusals.{refusal_reply, refusal_status, refu
 ghost use Rattle.rest_answer.specs.Replies.{reply_text};
 
 use operator_keys::{BAD_REQUEST, SERVICE_UNAVAILABLE};
-use rest_reply::Reply;
+use rest_message::Reply;
 use std::alloc::{AllocError, Global};
 
 /// Why a connection is replied to without the agent of its member.

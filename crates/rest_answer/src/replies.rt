@@ -4,7 +4,7 @@ ghost use Rattle.operator_keys.specs.AnswerTexts.{answer_text};
 ghost use Rattle.rest_answer.specs.Replies.{reply_text, json_of, text_of, status_alone};
 
 use operator_keys::Text;
-use rest_reply::Reply;
+use rest_message::Reply;
 use std::alloc::{AllocError, Global};
 
 /// A reply with JSON.

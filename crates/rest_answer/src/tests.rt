@@ -1,8 +1,8 @@
 use super::*;
 use cluster_config::{AgentView, RoleWord};
 use pat_base::{Lsn, MemberId, Name, State, Tags, Ticks};
+use rest_message::Verb;
 use rest_paths::Routes;
-use rest_request::Verb;
 use std::process::Abort;
 use std::test::Fail;
 

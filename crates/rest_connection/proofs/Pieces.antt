@@ -15,11 +15,12 @@ use Rattle.pat_door.specs.Doors.{DoorFacts, Tells, bytes_here, after_read}
 use Rattle.pat_door.specs.declared.door.Door.{Ghosts}
 use Rattle.pat_door.proofs.Growing.{after_read-twice}
 use Rattle.rest_request.specs.declared.limits.TheConstants.{HEAD_LIMIT, BODY_LIMIT}
-use Rattle.rest_request.specs.declared.request.Request.{Request}
-use Rattle.rest_request.specs.declared.request.RequestFault.{RequestFault}
-use Rattle.rest_request.specs.declared.request.RequestFault.TheVariants.{BadHead, TooLong, BadLength, Memory}
+use Rattle.rest_message.specs.declared.request.Request.{Request}
+use Rattle.rest_request.specs.declared.fault.RequestFault.{RequestFault}
+use Rattle.rest_request.specs.declared.fault.RequestFault.TheVariants.{BadHead, TooLong, BadLength, Memory}
 use Rattle.rest_request.specs.ContentLength.{within_limit, is_decimal, length_by_all, length_values, content_length}
-use Rattle.rest_request.specs.Requests.{Asked, asked_by, answer_seen}
+use Rattle.rest_message.specs.Requests.{Asked, asked_by}
+use Rattle.rest_request.specs.Answers.{answer_seen}
 use Rattle.rest_request.specs.Reading.{Begun, Whole, Incomplete, Malformed, IsBegun, head_room, behind, answer_by, answer_of, Reads}
 use Rattle.rest_request.proofs.Readings.{one-thing, stays}
 use Rattle.rest_connection.specs.declared.asking.TheConstants.{PIECE}

@@ -2,10 +2,10 @@
 use Rattle.std.specs.Prelude.{ℕ, ◌≡◌, ◌≤◌, List, take, Option, Some, None, Result, Ok, Err}
 use Rattle.pat_base.specs.Outside.{Known}
 use Rattle.pat_door.specs.Doors.{DoorFacts, after_read}
-use Rattle.rest_request.specs.declared.request.Request.{Request}
-use Rattle.rest_request.specs.declared.request.RequestFault.{RequestFault}
-use Rattle.rest_request.specs.declared.request.RequestFault.TheVariants.{BadHead, TooLong, BadLength, Memory}
-use Rattle.rest_request.specs.Requests.{Asked, asked_by}
+use Rattle.rest_message.specs.declared.request.Request.{Request}
+use Rattle.rest_request.specs.declared.fault.RequestFault.{RequestFault}
+use Rattle.rest_request.specs.declared.fault.RequestFault.TheVariants.{BadHead, TooLong, BadLength, Memory}
+use Rattle.rest_message.specs.Requests.{Asked, asked_by}
 use Rattle.rest_request.specs.Reading.{Begun, IsBegun, answer_of}
 use Rattle.rest_connection.specs.declared.asking.AskError.{AskError}
 use Rattle.rest_connection.specs.declared.asking.AskError.TheVariants.{Bytes, Line}

@@ -2,17 +2,18 @@
 ghost use Rattle.std.specs.Prelude.{ℕ, ◌≡◌, ◌≢◌, ◌≤◌, ◌+◌, ◌++◌, ◌⊎◌, ⊤, length, take, Some, Result, Err, IfOk, OnOk, IsErrOf, MatchResult, IsSome};
 ghost use Rattle.pat_base.specs.Outside.{Known, Rose};
 ghost use Rattle.pat_door.specs.Doors.{Tells, bytes_here, after_read};
-ghost use Rattle.rest_request.specs.declared.request.RequestFault.{RequestFault};
-ghost use Rattle.rest_request.specs.declared.request.RequestFault.TheVariants as faults;
+ghost use Rattle.rest_request.specs.declared.fault.RequestFault.{RequestFault};
+ghost use Rattle.rest_request.specs.declared.fault.RequestFault.TheVariants as faults;
 ghost use Rattle.rest_request.specs.declared.limits.TheConstants.{HEAD_LIMIT, BODY_LIMIT};
-ghost use Rattle.rest_request.specs.Requests.{Asked};
+ghost use Rattle.rest_message.specs.Requests.{Asked};
 ghost use Rattle.rest_connection.specs.declared.asking.AskError.TheVariants.{Bytes, Line};
 ghost use Rattle.rest_connection.specs.declared.asking.TheConstants.{PIECE};
 ghost use Rattle.rest_connection.specs.Connections.{IsAsked, LeavesRest, seen};
 
 use pat_base::Failed;
 use pat_door::Door;
-use rest_request::{Request, RequestFault, read_request};
+use rest_message::Request;
+use rest_request::{RequestFault, read_request};
 use std::alloc::{AllocError, Global};
 use thiserror::Error;
 

@@ -2,9 +2,9 @@
 ghost use Rattle.std.specs.Prelude.{ℕ, ◌≡◌, ◌⊎◌, ◌<◌, List, Result, length};
 ghost use Rattle.httparse.specs.Grammar.{EndsInTarget};
 ghost use Rattle.rest_request.specs.declared.limits.TheConstants.{HEAD_LIMIT};
-ghost use Rattle.rest_request.specs.declared.request.RequestFault.{RequestFault};
+ghost use Rattle.rest_request.specs.declared.fault.RequestFault.{RequestFault};
 ghost use Rattle.rest_request.specs.Reading.{head_room};
-ghost use Rattle.rest_request.specs.Requests.{Asked};
+ghost use Rattle.rest_message.specs.Requests.{Asked};
 ghost use Rattle.rest_connection.specs.Connections.{IsAsked};
 
 /// However a connection cuts its bytes, they ask one thing. Only where there are more of them than a head may have, and

@@ -1,8 +1,8 @@
 use super::*;
 use pat_base::Failed;
 use pat_door::{Door, MemoryDoor};
-use rest_reply::Reply;
-use rest_request::{Request, RequestFault, Verb};
+use rest_message::{Reply, Request, Verb};
+use rest_request::RequestFault;
 use std::alloc::{AllocError, Global};
 use std::test::Fail;
 

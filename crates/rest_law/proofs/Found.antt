@@ -24,8 +24,8 @@ use Rattle.rest_health.specs.Laws.{is_for_primaries}
 use Rattle.rest_health.specs.Statuses.{ok}
 use Rattle.rest_facts.specs.Checks.{health_of_view}
 use Rattle.rest_facts.specs.Members.{has_key, is_primary}
-use Rattle.rest_request.specs.Requests.{Asked}
-use Rattle.rest_request.specs.Targets.{lag_of, path_of}
+use Rattle.rest_message.specs.Requests.{Asked}
+use Rattle.rest_message.specs.Targets.{lag_of, path_of}
 use Rattle.rest_paths.specs.declared.asking.Ask.{Ask}
 use Rattle.rest_paths.specs.declared.asking.Ask.TheVariants as asks
 use Rattle.rest_paths.specs.Asking.{ask_of}

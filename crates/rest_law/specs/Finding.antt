@@ -4,8 +4,8 @@ use Rattle.event_book.specs.declared.member.Member.{Member}
 use Rattle.rest_health.specs.declared.endpoint.Endpoint.{Endpoint}
 use Rattle.rest_health.specs.Laws.{is_for_primaries}
 use Rattle.rest_health.specs.Statuses.{ok}
-use Rattle.rest_request.specs.Requests.{Asked}
-use Rattle.rest_request.specs.Targets.{path_of}
+use Rattle.rest_message.specs.Requests.{Asked}
+use Rattle.rest_message.specs.Targets.{path_of}
 use Rattle.rest_paths.specs.declared.asking.Ask.TheVariants.{Health}
 use Rattle.rest_paths.specs.Asking.{ask_of}
 use Rattle.rest_answer.specs.Answers.{Replies}

@@ -8,8 +8,8 @@ use Rattle.std.proofs.lemmas.Cmp.{nat_list_eq_equiv}
 use Rattle.std.proofs.lemmas.Map.Made.{IsDistinct-from_count}
 use Rattle.std.proofs.lemmas.Map.Views.{Contains-keys_from_lookup}
 use Rattle.std.proofs.lemmas.Slice.Eq.{bytes_eq-Decides}
-use Rattle.rest_request.specs.Targets.{path_of, is_query_sign}
-use Rattle.rest_request.specs.declared.verb.Verb.{Verb}
+use Rattle.rest_message.specs.Targets.{path_of, is_query_sign}
+use Rattle.rest_message.specs.declared.verb.Verb.{Verb}
 use Rattle.rest_paths.specs.declared.asking.Ask.TheVariants.{NotFound}
 use Rattle.rest_paths.specs.declared.resource.Resource.{Resource}
 use Rattle.rest_paths.specs.Asking.{ask_of, ask_where}

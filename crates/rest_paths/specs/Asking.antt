@@ -1,8 +1,8 @@
 -- What requests ask for, by method and path (Patroni documentation, "Patroni REST API").
 use Rattle.std.specs.Prelude.{ℕ, true, false, List, Option, Some, None}
 use Rattle.rest_health.specs.declared.endpoint.Endpoint.{Endpoint}
-use Rattle.rest_request.specs.declared.verb.Verb.{Verb}
-use Rattle.rest_request.specs.declared.verb.Verb.TheVariants as verbs
+use Rattle.rest_message.specs.declared.verb.Verb.{Verb}
+use Rattle.rest_message.specs.declared.verb.Verb.TheVariants as verbs
 use Rattle.rest_paths.specs.declared.asking.Ask.{Ask}
 use Rattle.rest_paths.specs.declared.asking.Ask.TheVariants as asks
 use Rattle.rest_paths.specs.declared.change.Change.{Change}

@@ -1,8 +1,8 @@
 -- What laws of what is asked for say.
 use Rattle.std.specs.Prelude.{ℕ, Bool, true, false, List, Contains, IsTrue}
 use Rattle.std.specs.Map.{keys_of}
-use Rattle.rest_request.specs.declared.verb.Verb.{Verb}
-use Rattle.rest_request.specs.declared.verb.Verb.TheVariants.{Get, Head, Options}
+use Rattle.rest_message.specs.declared.verb.Verb.{Verb}
+use Rattle.rest_message.specs.declared.verb.Verb.TheVariants.{Get, Head, Options}
 use Rattle.rest_paths.specs.declared.asking.Ask.{Ask}
 use Rattle.rest_paths.specs.declared.asking.Ask.TheVariants.{Change}
 use Rattle.rest_paths.specs.Paths.{path_table}

@@ -5,7 +5,7 @@ ghost use Rattle.rest_paths.specs.Asking.{health_ask, page_ask, operation_ask, a
 use crate::change::change_by;
 use crate::{Change, Operation, Page, Resource};
 use rest_health::Endpoint;
-use rest_request::Verb;
+use rest_message::Verb;
 
 /// What a request asks for, by its method and its path (Patroni documentation, "Patroni REST API").
 #[derive(Clone, Copy, Debug, PartialEq, Eq)]

@@ -8,9 +8,9 @@ ghost use Rattle.rest_paths.specs.Laws.{IsKnown, IsSafe, changes_something};
 ghost use Rattle.rest_paths.specs.Paths.{path_table, resource_at};
 ghost use Rattle.rest_paths.specs.declared.asking.Ask.TheVariants.{NotFound};
 ghost use Rattle.rest_paths.specs.declared.resource.Resource.{Resource};
-ghost use Rattle.rest_request.specs.Targets as targets;
-ghost use Rattle.rest_request.specs.declared.verb.Verb.{Verb};
-ghost use Rattle.rest_request.specs.declared.verb.Verb.TheVariants.{Head, Options};
+ghost use Rattle.rest_message.specs.Targets as targets;
+ghost use Rattle.rest_message.specs.declared.verb.Verb.{Verb};
+ghost use Rattle.rest_message.specs.declared.verb.Verb.TheVariants.{Head, Options};
 
 /// A query changes nothing of what is asked for: a target asks for the same with any query behind it.
 pub fn queries_change_nothing()

@@ -4,13 +4,13 @@ ghost use Rattle.matchit.specs.declared.error.InsertError.TheVariants.{OutOfMemo
 ghost use Rattle.rest_paths.specs.Asking.{ask_of};
 ghost use Rattle.rest_paths.specs.Paths.{resource_at};
 ghost use Rattle.rest_paths.specs.Serving.{Serves};
-ghost use Rattle.rest_request.specs.Targets as targets;
+ghost use Rattle.rest_message.specs.Targets as targets;
 
 use crate::asking::ask_where;
 use crate::{Ask, Operation, Page, Resource};
 use matchit::{InsertError, Router};
 use rest_health::Endpoint;
-use rest_request::{Verb, path_of};
+use rest_message::{Verb, path_of};
 use std::alloc::{AllocError, Global};
 
 /// Each path with what it stands for.
@@ -54,7 +54,7 @@ impl Routes {
     ghost use Rattle.std.specs.Prelude.{◌≡◌};
     ghost use Rattle.rest_paths.specs.Asking.{ask_of};
     ghost use Rattle.rest_paths.specs.Paths.{resource_at};
-    ghost use Rattle.rest_request.specs.Targets as targets;
+    ghost use Rattle.rest_message.specs.Targets as targets;
 
     /// The routes of all paths. It fails only for want of memory.
     pub fn new(alloc: Global) -> Result<Routes, AllocError> {

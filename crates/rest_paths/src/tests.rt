@@ -1,6 +1,6 @@
 use super::*;
 use rest_health::Endpoint;
-use rest_request::Verb;
+use rest_message::Verb;
 use std::process::Abort;
 use std::test::Fail;
 

@@ -1,7 +1,7 @@
 -- Heads of replies, line by line.
 use Rattle.std.proofs.Common.{◌≡◌, ℕ, List, [], ◌++◌, length, refl, append_assoc}
 use Rattle.std.specs.Prelude.{codes, decimal, string_bytes}
-use Rattle.rest_reply.specs.declared.reply.Reply.{Reply}
+use Rattle.rest_message.specs.declared.reply.Reply.{Reply}
 use Rattle.rest_reply.specs.Replies.{HasField, head_bytes, head_of, kind_of, phrase_of, status_line}
 
 joined : (version status space phrase end type colon kind length size connection close : List ℕ)

@@ -1,7 +1,7 @@
 -- Replies as they are sent (RFC 9112, sections 2.1, 4 and 5; RFC 9110, sections 8.3 and 8.6).
 use Rattle.std.specs.Prelude.{◌≡◌, ℕ, Bool, List, [], ◌++◌, length, codes, decimal, unwrap_or, if◌then◌else◌, string_bytes}
 use Rattle.http.specs.StatusCode.{reason_phrase}
-use Rattle.rest_reply.specs.declared.reply.Reply.{Reply}
+use Rattle.rest_message.specs.declared.reply.Reply.{Reply}
 
 -- the phrase of a status, and nothing where it has none
 unfoldable pub phrase_of : ℕ → List ℕ

@@ -1,6 +1,6 @@
 //! Laws of replies. Each is a function without a body whose contract is what is proved.
 ghost use Rattle.std.specs.Prelude.{◌≡◌, ◌++◌, true, false, codes, decimal, length, string_bytes};
-ghost use Rattle.rest_reply.specs.declared.reply.Reply.{Reply};
+ghost use Rattle.rest_message.specs.declared.reply.Reply.{Reply};
 ghost use Rattle.rest_reply.specs.Replies.{HasField, head_of, reply_bytes};
 
 /// With and without its body a reply has the same head, and the length that this head tells is that of the body: so a client

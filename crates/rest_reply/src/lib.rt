@@ -3,11 +3,9 @@
 
 mod laws;
 mod printing;
-mod reply;
 
 pub use laws::replies_tell_their_length;
 pub use printing::print_reply;
-pub use reply::Reply;
 
 #[cfg(test)]
 mod tests;

@@ -2,8 +2,8 @@
 ghost use Rattle.std.specs.Prelude.{◌≡◌, IfOk, string_bytes};
 ghost use Rattle.rest_reply.specs.Replies.{reply_bytes, head_bytes, kind_of, phrase_of};
 
-use crate::Reply;
 use http::StatusCode;
+use rest_message::Reply;
 use std::alloc::{AllocError, Global};
 
 /// A reply as it is sent (RFC 9112, sections 2.1 and 4): the status line, the fields `Content-Type`, `Content-Length` in

@@ -1,4 +1,5 @@
 use super::*;
+use rest_message::Reply;
 use std::test::Fail;
 
 #[test]

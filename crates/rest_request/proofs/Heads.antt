@@ -8,11 +8,11 @@ use Rattle.httparse.specs.Spans.{RequestExceeds, IsRequestOf, IsRequestAt, name_
 use Rattle.httparse.specs.declared.spans.HeaderSpan.{HeaderSpan}
 use Rattle.httparse.specs.declared.spans.RequestSpans.{RequestSpans}
 use Rattle.rest_request.specs.declared.limits.TheConstants.{LEAST_FIELD}
-use Rattle.rest_request.specs.declared.request.Request.{Request}
-use Rattle.rest_request.specs.declared.request.RequestFault.{RequestFault}
-use Rattle.rest_request.specs.declared.request.RequestFault.TheVariants.{BadHead}
+use Rattle.rest_message.specs.declared.request.Request.{Request}
+use Rattle.rest_request.specs.declared.fault.RequestFault.{RequestFault}
+use Rattle.rest_request.specs.declared.fault.RequestFault.TheVariants.{BadHead}
 use Rattle.rest_request.specs.ContentLength.{content_length}
-use Rattle.rest_request.specs.Requests.{Answers}
+use Rattle.rest_request.specs.Answers.{Answers}
 use Rattle.rest_request.specs.Reading.{Whole, Incomplete, Malformed, head_room, answer_by, answer_before_head, Reads}
 
 end-length : (end : LineEnd) → 1 ≤ length (print_end end)

@@ -4,7 +4,7 @@ use Rattle.std.proofs.Math.Seq.{drop-cons}
 use Rattle.std.proofs.lemmas.Bool.{true≢false, false≢true}
 use Rattle.std.proofs.lemmas.List.{map-append, map_more, take-append-drop}
 use Rattle.std.proofs.lemmas.List.Elements.{filter-append}
-use Rattle.rest_request.specs.declared.request.RequestFault.TheVariants.{BadLength}
+use Rattle.rest_request.specs.declared.fault.RequestFault.TheVariants.{BadLength}
 use Rattle.httparse.specs.declared.spans.HeaderSpan.{HeaderSpan}
 use Rattle.rest_request.specs.ContentLength.{length_values, is_content_length, length_by_all}
 

@@ -1,6 +1,5 @@
 pub mod Digits
 pub mod Heads
 pub mod Lengths
-pub mod Parameters
 pub mod Readings
 pub mod Tokens

@@ -7,10 +7,10 @@ use Rattle.httparse.specs.Grammar.{RequestHead, print_request, ReadsRequest, Has
 use Rattle.httparse.specs.Spans.{name_and_value}
 use Rattle.httparse.proofs.GrammarLemmas.{request_unique, ReadsRequest-append}
 use Rattle.rest_request.specs.declared.limits.TheConstants.{HEAD_LIMIT, BODY_LIMIT}
-use Rattle.rest_request.specs.declared.request.RequestFault.{RequestFault}
-use Rattle.rest_request.specs.declared.request.RequestFault.TheVariants.{TooLong, BadHead, BadLength}
+use Rattle.rest_request.specs.declared.fault.RequestFault.{RequestFault}
+use Rattle.rest_request.specs.declared.fault.RequestFault.TheVariants.{TooLong, BadHead, BadLength}
 use Rattle.rest_request.specs.ContentLength.{within_limit, is_decimal, length_by_all, length_values, content_length}
-use Rattle.rest_request.specs.Requests.{Asked}
+use Rattle.rest_message.specs.Requests.{Asked}
 use Rattle.rest_request.specs.Reading.{Begun, Whole, Incomplete, Malformed, IsBegun, head_room, behind, asked, answer_by, answer_of}
 
 -- no head is there where none can come

@@ -5,8 +5,8 @@ use Rattle.std.specs.List.{list_all}
 use Rattle.std.specs.Str.{bytes_eq}
 use Rattle.std.specs.Str.Parse.{digits_value}
 use Rattle.rest_request.specs.declared.limits.TheConstants.{BODY_LIMIT}
-use Rattle.rest_request.specs.declared.request.RequestFault.{RequestFault}
-use Rattle.rest_request.specs.declared.request.RequestFault.TheVariants.{BadLength, TooLong}
+use Rattle.rest_request.specs.declared.fault.RequestFault.{RequestFault}
+use Rattle.rest_request.specs.declared.fault.RequestFault.TheVariants.{BadLength, TooLong}
 
 -- whether a field, as its name and its value, gives the length: names are the same in any case
 abbrev pub is_content_length : List ℕ × List ℕ → Bool

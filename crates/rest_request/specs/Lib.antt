@@ -1,5 +1,3 @@
+pub mod Answers
 pub mod ContentLength
 pub mod Reading
-pub mod Requests
-pub mod Targets
-pub mod Verbs

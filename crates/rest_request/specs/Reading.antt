@@ -3,12 +3,13 @@ use Rattle.std.specs.Prelude.{◌≡◌, ◌≢◌, ℕ, nat_lt, if◌then◌els
 use Rattle.httparse.specs.Grammar.{RequestHead, print_request, ReadsRequest, HasNoRequest, NeverHasRequest, MayBecomeRequest}
 use Rattle.httparse.specs.Spans.{name_and_value}
 use Rattle.rest_request.specs.declared.limits.TheConstants.{HEAD_LIMIT}
-use Rattle.rest_request.specs.declared.request.Request.{Request}
-use Rattle.rest_request.specs.declared.request.RequestFault.{RequestFault}
-use Rattle.rest_request.specs.declared.request.RequestFault.TheVariants.{BadHead, TooLong, Memory}
+use Rattle.rest_message.specs.declared.request.Request.{Request}
+use Rattle.rest_request.specs.declared.fault.RequestFault.{RequestFault}
+use Rattle.rest_request.specs.declared.fault.RequestFault.TheVariants.{BadHead, TooLong, Memory}
 use Rattle.rest_request.specs.ContentLength.{content_length}
-use Rattle.rest_request.specs.Requests.{Asked, answer_seen}
-use Rattle.rest_request.specs.Verbs.{verb_of}
+use Rattle.rest_message.specs.Requests.{Asked}
+use Rattle.rest_request.specs.Answers.{answer_seen}
+use Rattle.rest_message.specs.Verbs.{verb_of}
 
 -- the bytes within which a head has to end
 abbrev pub head_room : List ℕ → List ℕ

@@ -1,7 +1,7 @@
 //! Laws of what is read from a connection. Each is a function without a body whose contract is what is proved.
 ghost use Rattle.std.specs.Prelude.{◌≡◌, ◌≢◌, ◌⊎◌, ◌++◌, List, ℕ, Ok, Err, None};
 ghost use Rattle.httparse.specs.Grammar.{EndsInTarget, NeverHasRequest};
-ghost use Rattle.rest_request.specs.declared.request.RequestFault.TheVariants.{BadHead};
+ghost use Rattle.rest_request.specs.declared.fault.RequestFault.TheVariants.{BadHead};
 ghost use Rattle.rest_request.specs.Reading.{Begun, IsBegun, answer_of, head_room};
 
 /// Bytes are one thing: they begin with one whole head, or may still become one, or never will. Only where they end within a

@@ -2,22 +2,19 @@
 #![tactic(auto)]
 
 mod content_length;
+mod fault;
 mod laws;
 mod limits;
+mod method;
 mod reading;
-mod request;
-mod target;
-mod verb;
 
+pub use fault::RequestFault;
 pub use laws::{
     answers_stay, bad_heads_never_become_heads, bytes_are_one_thing,
     what_never_becomes_a_head_is_a_bad_head,
 };
 pub use limits::{BODY_LIMIT, HEAD_LIMIT};
 pub use reading::read_request;
-pub use request::{Request, RequestFault};
-pub use target::{lag_of, path_of};
-pub use verb::Verb;
 
 #[cfg(test)]
 mod tests;

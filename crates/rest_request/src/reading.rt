@@ -4,15 +4,16 @@ ghost use Rattle.httparse.specs.Spans.{IsRequestAt, IsRequestOf, IsRequestWithin
 ghost use Rattle.httparse.specs.Grammar.{RequestHead};
 ghost use Rattle.rest_request.specs.declared.limits.TheConstants.{LEAST_FIELD};
 ghost use Rattle.rest_request.specs.ContentLength.{content_length};
-ghost use Rattle.rest_request.specs.Requests.{Answers};
+ghost use Rattle.rest_request.specs.Answers.{Answers};
 ghost use Rattle.rest_request.specs.Reading.{Reads, answer_by, answer_before_head, head_room};
 
+use crate::RequestFault;
 use crate::content_length::content_length;
 use crate::limits::{HEAD_LIMIT, LEAST_FIELD};
-use crate::verb::verb_of;
-use crate::{Request, RequestFault};
+use crate::method::verb_of;
 use httparse::Status;
 use httparse::spans::{EMPTY_HEADER_SPAN, HeaderSpan, RequestSpans, parse_request};
+use rest_message::Request;
 use std::alloc::{AllocError, Global};
 use std::str;
 

@@ -1,4 +1,5 @@
 use super::*;
+use rest_message::Verb;
 use std::alloc::{AllocError, Global};
 use std::process::Abort;
 use std::test::Fail;
@@ -168,25 +169,6 @@ fn verbs(rt: HostRuntime) -> Result<(), Fail> {
         let bytes = format!(in rt.alloc(); "{method} / HTTP/1.1\r\n\r\n")?;
         let request = read_request(rt.alloc(), bytes.as_bytes())?.expect(&rt, "a whole request");
         assert_eq!(rt; request.method, verb, "{method}");
-    }
-    Ok(())
-}
-
-#[test]
-fn targets(rt: HostRuntime) -> Result<(), Fail> {
-    let cases: [(&str, &str, Option<&str>); 8] = [
-        ("/replica", "/replica", None),
-        ("/replica?", "/replica", None),
-        ("/replica?lag", "/replica", None),
-        ("/replica?lag=", "/replica", Some("")),
-        ("/replica?lag=1MB&lag=2", "/replica", Some("1MB")),
-        ("/replica?xlag=1&&lag=a=b?c&d", "/replica", Some("a=b?c")),
-        ("/%72eplica/?Lag=1&lag=%31", "/%72eplica/", Some("%31")),
-        ("?lag=16", "", Some("16")),
-    ];
-    for (target, path, lag) in cases {
-        assert_eq!(rt; path_of(target), path, "{target}");
-        assert_eq!(rt; lag_of(target), lag.map(|text| text.as_bytes()), "{target}");
     }
     Ok(())
 }

@@ -14,7 +14,7 @@ use Rattle.script_model.specs.declared.line.Command.{Command}
 use Rattle.script_model.specs.declared.line.Command.TheVariants as commands
 use Rattle.cluster_model.specs.declared.step.Step.{Step}
 use Rattle.cluster_model.specs.declared.step.Step.TheVariants as steps
-use Rattle.rest_request.specs.Requests.{Asked, asked_by}
+use Rattle.rest_message.specs.Requests.{Asked, asked_by}
 use Rattle.cluster_model.specs.declared.step.Visit.{Visit}
 use Rattle.cluster_model.specs.declared.step.Visit.TheVariants as visits
 use Rattle.cluster_model.specs.declared.delivery.Delivery.{Delivery}

@@ -11,7 +11,7 @@ use Rattle.event_book.specs.declared.member.Member.{Member}
 use Rattle.event_book.specs.Flight.{InFlightFacts, in_flight}
 use Rattle.script_model.specs.declared.line.Command.{Command}
 use Rattle.script_model.specs.declared.line.Command.TheVariants as commands
-use Rattle.rest_request.specs.Requests.{Asked, asked_by}
+use Rattle.rest_message.specs.Requests.{Asked, asked_by}
 use Rattle.rest_answer.specs.Answers.{Answered, Acts, Replies}
 use Rattle.rest_answer.specs.Refusals.{refusal_reply}
 use Rattle.rest_answer.specs.Replies.{ReplyText}

@@ -12,8 +12,8 @@ use Rattle.rest_paths.specs.declared.asking.Ask.TheVariants as asks
 use Rattle.rest_paths.specs.declared.change.Change.TheVariants as changes
 use Rattle.rest_paths.specs.declared.resource.Page.TheVariants as pages
 use Rattle.rest_paths.specs.Asking.{ask_of}
-use Rattle.rest_request.specs.Targets.{lag_of, path_of}
-use Rattle.rest_request.specs.Requests.{Asked}
+use Rattle.rest_message.specs.Targets.{lag_of, path_of}
+use Rattle.rest_message.specs.Requests.{Asked}
 use Rattle.event_book.specs.declared.event.Event.{Event}
 use Rattle.event_book.specs.declared.event.EventKind.{EventKind}
 use Rattle.event_book.specs.declared.member.Member.{Member}

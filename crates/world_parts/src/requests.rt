@@ -10,7 +10,7 @@ use agent_model::Told;
 use event_book::{Bytes, EventKind, Member, Note};
 use ha_loop::Agent;
 use operator_keys::{OK, Text, configuration_in};
-use rest_reply::Reply;
+use rest_message::Reply;
 use std::alloc::{AllocError, Global};
 
 /// The agent of a member answers in these words. It fails only for want of memory.

@@ -12,7 +12,7 @@ use cluster_model::Visit;
 use event_book::{Event, EventKind, Member, Note};
 use lease_store::OperatorAction;
 use rest_answer::{Answer, answer, refusal_reply};
-use rest_request::Verb;
+use rest_message::Verb;
 use std::alloc::AllocError;
 use world_parts::processes::may_act;
 use world_parts::requests::answering;

@@ -18,7 +18,7 @@ use crate::ticks::tick;
 use crate::wakes::{start_agent, turn, wakes};
 use cluster_model::Step;
 use event_book::{Event, EventKind};
-use rest_request::Verb;
+use rest_message::Verb;
 use script_model::Command;
 use std::alloc::AllocError;
 use world_parts::links::{cut_of, join_of};

@@ -1,7 +1,7 @@
 use Rattle.std.proofs.Common.{◌≡◌, ◌∙◌, arith, ap, rules, sym}
 use Rattle.std.specs.Prelude.{option_copied}
 use Rattle.std.proofs.lemmas.Result.{on_ok_weaker}
-use Rattle.rest_request.specs.Requests.{Asked}
+use Rattle.rest_message.specs.Requests.{Asked}
 use Rattle.rest_answer.specs.Answers.{Acts, Replies, answer_to}
 use Rattle.rest_answer.specs.Replies.{reply_text}
 use Rattle.world_model.specs.Room.{call_cost}

@@ -3,7 +3,7 @@ use Rattle.std.specs.Prelude.{ℕ, Bool, ◌==◌, nat_lt, if◌then◌else◌, 
 use Rattle.std.specs.List.{before_first, after_first, position_or_len, slice_split}
 use Rattle.std.specs.Option.{option_or}
 use Rattle.std.specs.Str.{bytes_eq}
-use Rattle.rest_request.specs.declared.target.TheConstants.{QUERY_SIGN, SEPARATOR}
+use Rattle.rest_message.specs.declared.target.TheConstants.{QUERY_SIGN, SEPARATOR}
 
 -- the sign before a query
 abbrev pub is_query_sign : ℕ → Bool

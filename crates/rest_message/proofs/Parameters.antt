@@ -7,7 +7,7 @@ use Rattle.std.proofs.lemmas.List.Elements.{All-from_get_or}
 use Rattle.std.proofs.lemmas.List.Splits.{slice_split_first, slice_split_none}
 use Rattle.std.proofs.lemmas.List.Sums.{fails_before_first}
 use Rattle.std.proofs.lemmas.Option.{cond_some, none-some}
-use Rattle.rest_request.specs.Targets.{is_separator, first_lag, lag_value, lag_in}
+use Rattle.rest_message.specs.Targets.{is_separator, first_lag, lag_value, lag_in}
 
 -- one more parameter
 pub next-parameter : (query : List ℕ) (place : ℕ) → position is_separator query ≡ Some place → lag_in query ≡ option_or (lag_value (take place query)) (lag_in (drop (place + 1) query))

@@ -1,11 +1,4 @@
 //! Methods of requests.
-ghost use Rattle.std.specs.Prelude.{◌≡◌, IfOk};
-ghost use Rattle.httparse.specs.Grammar.{IsToken};
-ghost use Rattle.rest_request.specs.Verbs.{verb_of};
-
-use http::Method;
-use http::method::MethodError;
-use std::alloc::{AllocError, Global};
 
 /// What a request asks to be done with its target: the methods that the REST interface of Patroni has (RFC 9110,
 /// section 9.3, and RFC 5789 for `PATCH`), in capitals.
@@ -29,21 +22,9 @@ pub enum Verb {
     Other,
 }
 
-/// The verb of this token. A token of more than 15 bytes takes memory, and fails only for want of it.
-pub(crate) fn verb_of(alloc: Global, token: &[u8]) -> Result<Verb, AllocError>
-    requires { IsToken token.now }
-    ensures { IfOk result (λ verb. verb ≡ verb_of token.now) }
-{
-    match Method::from_bytes(alloc, token) {
-        Ok(method) => Ok(Verb::of(method.as_str().as_bytes())),
-        Err(MethodError::Invalid) => unreachable!(),
-        Err(MethodError::OutOfMemory) => Err(AllocError),
-    }
-}
-
 impl Verb {
     ghost use Rattle.std.specs.Prelude.{◌≡◌};
-    ghost use Rattle.rest_request.specs.Verbs.{verb_of};
+    ghost use Rattle.rest_message.specs.Verbs.{verb_of};
 
     /// The verb of these bytes, which are a method where they are its name in capitals.
     pub fn of(token: &[u8]) -> Verb

@@ -1,6 +1,6 @@
 use Rattle.std.proofs.Common.{rules}
 use Rattle.rest_request.proofs.Tokens.{same-token}
-use Rattle.rest_request.proofs.verb.verb_of.Goals as goal
+use Rattle.rest_request.proofs.method.verb_of.Goals as goal
 
 pub unreachable-requires : goal.unreachable-requires
 unreachable-requires c =

@@ -1,8 +1,8 @@
 use Rattle.std.proofs.Common.{sym, ◌∙◌, ap, drop, ◌+◌}
 use Rattle.std.specs.Option.{option_or}
-use Rattle.rest_request.specs.Targets.{lag_in, lag_value}
-use Rattle.rest_request.proofs.Parameters.{next-parameter, last-parameter, found-here, found-later}
-use Rattle.rest_request.proofs.target.lag_in.Goals as goal
+use Rattle.rest_message.specs.Targets.{lag_in, lag_value}
+use Rattle.rest_message.proofs.Parameters.{next-parameter, last-parameter, found-here, found-later}
+use Rattle.rest_message.proofs.target.lag_in.Goals as goal
 
 pub returns-then-is_some : goal.returns-then-is_some
 returns-then-is_some c =

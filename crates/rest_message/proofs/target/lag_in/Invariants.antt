@@ -1,6 +1,6 @@
 use Rattle.std.proofs.Common.{◌≡◌, length}
-use Rattle.rest_request.specs.Targets.{lag_in}
-use Rattle.rest_request.proofs.target.lag_in.Given as goal
+use Rattle.rest_message.specs.Targets.{lag_in}
+use Rattle.rest_message.proofs.target.lag_in.Given as goal
 
 abbrev pub decreases-parameters : goal.decreases-parameters
 decreases-parameters l = length l.rest

@@ -1,18 +1,6 @@
-//! Requests, and why bytes are none.
-use crate::Verb;
+//! Why bytes are no request.
 use std::alloc::AllocError;
 use thiserror::Error;
-
-/// A whole request.
-#[derive(Debug, Drop)]
-pub struct Request {
-    /// What is to be done.
-    pub method: Verb,
-    /// With what: the target as it was sent, with its query (RFC 9112, section 3.2).
-    pub target: String,
-    /// The content, as many bytes as `Content-Length` says (RFC 9110, section 6.4).
-    pub body: Vec<u8>,
-}
 
 /// Why bytes are no request, or why one wasn't read. All but `Memory` are answered 400 (RFC 9110, section 15.5.1).
 #[derive(Clone, Copy, Debug, PartialEq, Eq, Error)]
@@ -33,7 +21,7 @@ pub enum RequestFault {
 
 impl From<AllocError> for RequestFault {
     ghost use Rattle.std.specs.Prelude.{◌≡◌};
-    ghost use Rattle.rest_request.specs.declared.request.RequestFault.TheVariants as faults;
+    ghost use Rattle.rest_request.specs.declared.fault.RequestFault.TheVariants as faults;
 
     ghost from_gives = { λ _ e. e ≡ faults.Memory };
 

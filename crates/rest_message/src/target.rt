@@ -1,7 +1,7 @@
 //! Targets of requests: a path, and a query behind the first question mark (RFC 9112, section 3.2.1).
 ghost use Rattle.std.specs.Prelude.{◌≡◌, ◌≤◌, ◌<◌, ◌+◌, take, drop, length, position};
 ghost use Rattle.std.specs.Option.{option_copied};
-ghost use Rattle.rest_request.specs.Targets.{path_of, query_of, lag_of, lag_in, lag_value, is_separator};
+ghost use Rattle.rest_message.specs.Targets.{path_of, query_of, lag_of, lag_in, lag_value, is_separator};
 
 /// What stands before a query.
 const QUERY_SIGN: char = '?';

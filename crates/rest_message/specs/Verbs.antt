@@ -1,8 +1,8 @@
 -- Methods of requests (RFC 9110, section 9.3, and RFC 5789).
 use Rattle.std.specs.Prelude.{ℕ, if◌then◌else◌, List, codes}
 use Rattle.std.specs.Str.{bytes_eq}
-use Rattle.rest_request.specs.declared.verb.Verb.{Verb}
-use Rattle.rest_request.specs.declared.verb.Verb.TheVariants.{Get, Head, Options, Patch, Put, Post, Delete, Other}
+use Rattle.rest_message.specs.declared.verb.Verb.{Verb}
+use Rattle.rest_message.specs.declared.verb.Verb.TheVariants.{Get, Head, Options, Patch, Put, Post, Delete, Other}
 
 -- the verb of a token
 abbrev pub verb_of : List ℕ → Verb

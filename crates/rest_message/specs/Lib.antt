@@ -1,0 +1,3 @@
+pub mod Requests
+pub mod Targets
+pub mod Verbs
