@@ -11,7 +11,8 @@ use Rattle.event_book.specs.declared.member.Member.{Member}
 use Rattle.operator_keys.specs.AnswerTexts.{answer_text}
 use Rattle.operator_keys.specs.ConfigChecks.{configuration_in}
 use Rattle.rest_answer.specs.Answers.{Answered, answer_to}
-use Rattle.rest_answer.specs.Replies.{ReplyText, json_of, text_of}
+use Rattle.rest_message.specs.Replies.{ReplyText}
+use Rattle.rest_answer.specs.Replies.{json_of, text_of}
 use Rattle.rest_message.specs.Requests.{Asked}
 use Rattle.rest_message.specs.Verbs.{verb_of}
 use Rattle.script_model.specs.declared.request_words.RequestWords.{RequestWords}

@@ -20,7 +20,8 @@ use Rattle.rest_answer.specs.declared.answers.Answer.{Answer}
 use Rattle.rest_answer.specs.declared.answers.Answer.TheVariants as ways
 use Rattle.rest_answer.specs.Decisions.{decision_on}
 use Rattle.rest_answer.specs.Pages.{page_reply}
-use Rattle.rest_answer.specs.Replies.{ReplyText, json_of, reply_text, status_alone, text_of}
+use Rattle.rest_message.specs.Replies.{ReplyText, reply_text}
+use Rattle.rest_answer.specs.Replies.{json_of, status_alone, text_of}
 use Rattle.rest_answer.specs.Statuses.{method_not_allowed}
 
 -- a reply at once, or what the agent is to do

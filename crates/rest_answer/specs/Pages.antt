@@ -15,7 +15,8 @@ use Rattle.rest_pages.specs.History.{history_items}
 use Rattle.rest_pages.specs.Patroni.{patroni_members_of}
 use Rattle.rest_paths.specs.declared.resource.Page.{Page}
 use Rattle.rest_paths.specs.declared.resource.Page.TheVariants as pages
-use Rattle.rest_answer.specs.Replies.{ReplyText, json_of, status_alone, text_of}
+use Rattle.rest_message.specs.Replies.{ReplyText}
+use Rattle.rest_answer.specs.Replies.{json_of, status_alone, text_of}
 use Rattle.rest_answer.specs.Statuses.{bad_gateway}
 
 -- the agent has read nothing of the key store

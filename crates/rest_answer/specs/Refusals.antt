@@ -5,7 +5,8 @@ use Rattle.operator_keys.specs.declared.answer_text.Text.TheVariants.{NoResultIn
 use Rattle.operator_keys.specs.Statuses.{bad_request, service_unavailable}
 use Rattle.rest_answer.specs.declared.refusal.Refusal.{Refusal}
 use Rattle.rest_answer.specs.declared.refusal.Refusal.TheVariants as refusals
-use Rattle.rest_answer.specs.Replies.{ReplyText, text_of}
+use Rattle.rest_message.specs.Replies.{ReplyText}
+use Rattle.rest_answer.specs.Replies.{text_of}
 
 -- the status for a reason: what was read is no request, or its agent can't answer it now
 abbrev pub refusal_status : Refusal → ℕ

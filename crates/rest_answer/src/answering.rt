@@ -2,7 +2,7 @@
 ghost use Rattle.std.specs.Prelude.{◌≡◌, IfOk, option_copied};
 ghost use Rattle.rest_answer.specs.Answers.{answered, answer_to, answer_by, health_reply, decided};
 ghost use Rattle.rest_answer.specs.Decisions.{decision_on};
-ghost use Rattle.rest_answer.specs.Replies.{reply_text};
+ghost use Rattle.rest_message.specs.Replies.{reply_text};
 
 use crate::Answer;
 use crate::decisions::decision_on;

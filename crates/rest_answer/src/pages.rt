@@ -1,7 +1,7 @@
 //! The pages of an agent.
 ghost use Rattle.std.specs.Prelude.{◌≡◌, IfOk, option_copied};
 ghost use Rattle.rest_answer.specs.Pages.{page_reply, where_seen, no_store_answer, cluster_reply, history_reply, config_reply, failsafe_reply};
-ghost use Rattle.rest_answer.specs.Replies.{reply_text};
+ghost use Rattle.rest_message.specs.Replies.{reply_text};
 
 use crate::replies::{json_reply, status_reply, text_reply};
 use crate::status::BAD_GATEWAY;

@@ -2,6 +2,7 @@
 ghost use Rattle.std.specs.Prelude.{ℕ, ◌≡◌, ◌≢◌, ◌≤◌, ◌<◌, ◌-◌, length, Some, Result, Err, IsOk, IsSome, MatchResult, OnOk, OnErr, IsErrOf};
 ghost use Rattle.pat_base.specs.Outside.{Rose};
 ghost use Rattle.pat_door.specs.Doors.{Tells, after_write};
+ghost use Rattle.rest_message.specs.Replies.{reply_text};
 ghost use Rattle.rest_reply.specs.Replies.{reply_bytes};
 ghost use Rattle.rest_connection.specs.declared.replying.ReplyError.TheVariants.{Memory, Line};
 ghost use Rattle.rest_connection.specs.Answers.{WritesFront};
@@ -47,16 +48,16 @@ pub fn write_reply_to<D: Door>(
     reply: &Reply,
     head_only: bool,
 ) -> Result<(), ReplyError>
-    ensures written { OnOk result (Tells (D.told door.old) (λ facts. D.told door.new ≡ Some (after_write (reply_bytes reply.now head_only) facts))) }
+    ensures written { OnOk result (Tells (D.told door.old) (λ facts. D.told door.new ≡ Some (after_write (reply_bytes (reply_text reply.now) head_only) facts))) }
     ensures present { OnOk result (Tells (D.told door.old) (λ facts. IsSome facts.here)) }
-    ensures front { OnErr result (WritesFront (D.told door.old) (D.told door.new) (reply_bytes reply.now head_only)) }
+    ensures front { OnErr result (WritesFront (D.told door.old) (D.told door.new) (reply_bytes (reply_text reply.now) head_only)) }
     ensures memory { IsErrOf result Memory → door.new ≡ door.old }
     ensures failed { IsErrOf result Line → Rose (D.line_faults door.old) (D.line_faults door.new) }
     ensures grows { D.line_faults door.old ≤ D.line_faults door.new }
     ensures door { D.door_faults door.new ≡ D.door_faults door.old }
     ensures served { (n : ℕ) → D.serves door.old n → D.serves door.new n }
-    ensures room { (n : ℕ) → D.takes door.old n → length (reply_bytes reply.now head_only) ≤ n
-        → MatchResult result (λ _. D.takes door.new (n - length (reply_bytes reply.now head_only))) (λ error. error ≢ Line) }
+    ensures room { (n : ℕ) → D.takes door.old n → length (reply_bytes (reply_text reply.now) head_only) ≤ n
+        → MatchResult result (λ _. D.takes door.new (n - length (reply_bytes (reply_text reply.now) head_only))) (λ error. error ≢ Line) }
 {
     let bytes = print_reply(alloc, reply, head_only)?;
     write_whole(door, &bytes)?;

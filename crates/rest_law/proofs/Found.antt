@@ -30,7 +30,7 @@ use Rattle.rest_paths.specs.declared.asking.Ask.{Ask}
 use Rattle.rest_paths.specs.declared.asking.Ask.TheVariants as asks
 use Rattle.rest_paths.specs.Asking.{ask_of}
 use Rattle.rest_answer.specs.Answers.{Answered, Replies, answer_by, answer_to, health_reply}
-use Rattle.rest_answer.specs.Replies.{ReplyText}
+use Rattle.rest_message.specs.Replies.{ReplyText}
 use Rattle.agent_model.specs.declared.machine.Machine.{Machine}
 use Rattle.agent_model.specs.declared.machine.Replication.{Replication}
 use Rattle.agent_model.specs.Agents.{AgentFacts, Outcome, made}

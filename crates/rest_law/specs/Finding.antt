@@ -9,7 +9,7 @@ use Rattle.rest_message.specs.Targets.{path_of}
 use Rattle.rest_paths.specs.declared.asking.Ask.TheVariants.{Health}
 use Rattle.rest_paths.specs.Asking.{ask_of}
 use Rattle.rest_answer.specs.Answers.{Replies}
-use Rattle.rest_answer.specs.Replies.{ReplyText}
+use Rattle.rest_message.specs.Replies.{ReplyText}
 use Rattle.agent_model.specs.Agents.{Outcome}
 use Rattle.cluster_model.specs.Inputs.{moment_of, standing_of}
 use Rattle.cluster_model.specs.Requests.{answer_at}

@@ -1,3 +1,4 @@
+pub mod Replies
 pub mod Requests
 pub mod Targets
 pub mod Verbs

@@ -1,7 +1,7 @@
 -- Heads of replies, line by line.
 use Rattle.std.proofs.Common.{◌≡◌, ℕ, List, [], ◌++◌, length, refl, append_assoc}
-use Rattle.std.specs.Prelude.{codes, decimal, string_bytes}
-use Rattle.rest_message.specs.declared.reply.Reply.{Reply}
+use Rattle.std.specs.Prelude.{codes, decimal}
+use Rattle.rest_message.specs.Replies.{ReplyText}
 use Rattle.rest_reply.specs.Replies.{HasField, head_bytes, head_of, kind_of, phrase_of, status_line}
 
 joined : (version status space phrase end type colon kind length size connection close : List ℕ)
@@ -19,7 +19,7 @@ regrouped : (front text end rest : List ℕ) → front ++ ((text ++ end) ++ rest
 regrouped front text end rest = simp append_assoc refl
 
 -- a head has the length of the body
-pub tells-length : (reply : Reply) → HasField (codes "Content-Length") (decimal (length (string_bytes reply.body))) (head_of reply)
+pub tells-length : (reply : ReplyText) → HasField (codes "Content-Length") (decimal (length reply.body)) (head_of reply)
 tells-length reply =
     let type : List ℕ = codes "Content-Type" ++ (codes ": " ++ kind_of reply.json) in
     (status_line reply.status (phrase_of reply.status) ++ type, _, regrouped (status_line reply.status (phrase_of reply.status)) type (codes "\r\n") _)

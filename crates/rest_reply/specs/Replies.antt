@@ -1,7 +1,7 @@
 -- Replies as they are sent (RFC 9112, sections 2.1, 4 and 5; RFC 9110, sections 8.3 and 8.6).
-use Rattle.std.specs.Prelude.{◌≡◌, ℕ, Bool, List, [], ◌++◌, length, codes, decimal, unwrap_or, if◌then◌else◌, string_bytes}
+use Rattle.std.specs.Prelude.{◌≡◌, ℕ, Bool, List, [], ◌++◌, length, codes, decimal, unwrap_or, if◌then◌else◌}
 use Rattle.http.specs.StatusCode.{reason_phrase}
-use Rattle.rest_message.specs.declared.reply.Reply.{Reply}
+use Rattle.rest_message.specs.Replies.{ReplyText}
 
 -- the phrase of a status, and nothing where it has none
 unfoldable pub phrase_of : ℕ → List ℕ
@@ -33,12 +33,12 @@ head_bytes status phrase kind length =
     ++ line [])))
 
 -- the head of a reply
-abbrev pub head_of : Reply → List ℕ
-head_of reply = head_bytes reply.status (phrase_of reply.status) (kind_of reply.json) (length (string_bytes reply.body))
+abbrev pub head_of : ReplyText → List ℕ
+head_of reply = head_bytes reply.status (phrase_of reply.status) (kind_of reply.json) (length reply.body)
 
 -- a reply, or its head alone
-abbrev pub reply_bytes : Reply → Bool → List ℕ
-reply_bytes reply head_only = head_of reply ++ (if head_only then [] else string_bytes reply.body)
+abbrev pub reply_bytes : ReplyText → Bool → List ℕ
+reply_bytes reply head_only = head_of reply ++ (if head_only then [] else reply.body)
 
 -- a line of a head is that of this field
 abbrev pub HasField : List ℕ → List ℕ → List ℕ → Type 0

@@ -1,5 +1,6 @@
 //! Printing of replies.
 ghost use Rattle.std.specs.Prelude.{◌≡◌, IfOk, string_bytes};
+ghost use Rattle.rest_message.specs.Replies.{reply_text};
 ghost use Rattle.rest_reply.specs.Replies.{reply_bytes, head_bytes, kind_of, phrase_of};
 
 use http::StatusCode;
@@ -10,7 +11,7 @@ use std::alloc::{AllocError, Global};
 /// bytes and `Connection`, an empty line, and the body. With `head_only`, as `HEAD` and `OPTIONS` want it, the body is left
 /// out, and its length stays. A status that RFC 9110 doesn't have gets no phrase. It fails only for want of memory.
 pub fn print_reply(alloc: Global, reply: &Reply, head_only: bool) -> Result<Vec<u8>, AllocError>
-    ensures { IfOk result (λ bytes. bytes.items ≡ reply_bytes reply.now head_only) }
+    ensures { IfOk result (λ bytes. bytes.items ≡ reply_bytes (reply_text reply.now) head_only) }
 {
     let phrase = phrase_of(reply.status);
     let kind = kind_of(reply.json);

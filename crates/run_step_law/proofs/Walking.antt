@@ -14,7 +14,7 @@ use Rattle.script_model.specs.declared.line.Command.TheVariants as commands
 use Rattle.rest_message.specs.Requests.{Asked, asked_by}
 use Rattle.rest_answer.specs.Answers.{Answered, Acts, Replies}
 use Rattle.rest_answer.specs.Refusals.{refusal_reply}
-use Rattle.rest_answer.specs.Replies.{ReplyText}
+use Rattle.rest_message.specs.Replies.{ReplyText}
 use Rattle.agent_model.specs.Agents.{Outcome}
 use Rattle.cluster_model.specs.declared.step.Step.{Step}
 use Rattle.cluster_model.specs.declared.step.Step.TheVariants as steps

@@ -6,7 +6,7 @@ use Rattle.lease_store.specs.declared.action.OperatorRequest.{OperatorRequest}
 use Rattle.cluster_config.specs.declared.view.AgentView.{AgentView}
 use Rattle.cluster_config.specs.Snapshots.{SnapshotFacts}
 use Rattle.rest_answer.specs.Answers.{Answered, Acts, Replies, answer_by, answer_to}
-use Rattle.rest_answer.specs.Replies.{ReplyText}
+use Rattle.rest_message.specs.Replies.{ReplyText}
 use Rattle.rest_paths.specs.declared.asking.Ask.{Ask}
 use Rattle.rest_paths.specs.declared.asking.Ask.TheVariants as asks
 use Rattle.rest_paths.specs.declared.change.Change.TheVariants as changes

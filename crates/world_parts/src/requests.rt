@@ -1,7 +1,8 @@
 //! What agents answer operators.
 ghost use Rattle.std.specs.Prelude.{◌≡◌, IfOk, IfSome, option_copied, string_bytes};
 ghost use Rattle.operator_keys.specs.AnswerTexts.{answer_text};
-ghost use Rattle.rest_answer.specs.Replies.{reply_text, text_of};
+ghost use Rattle.rest_message.specs.Replies.{reply_text};
+ghost use Rattle.rest_answer.specs.Replies.{text_of};
 ghost use Rattle.cluster_model.specs.Requests.{answering, config_text_of, told_kind};
 ghost use Rattle.cluster_model.specs.State.{Cluster};
 ghost use Rattle.world_model.specs.Comes.{MayCome};

@@ -3,7 +3,7 @@ use Rattle.std.specs.Prelude.{option_copied}
 use Rattle.std.proofs.lemmas.Result.{on_ok_weaker}
 use Rattle.rest_message.specs.Requests.{Asked}
 use Rattle.rest_answer.specs.Answers.{Acts, Replies, answer_to}
-use Rattle.rest_answer.specs.Replies.{reply_text}
+use Rattle.rest_message.specs.Replies.{reply_text}
 use Rattle.world_model.specs.Room.{call_cost}
 use Rattle.world_parts.proofs.Calling.{IsAsked, acts-took, found-asked, numbers-left, replies-took}
 use Rattle.world_model.proofs.Rooms.{HasRoom-fewer}
