@@ -16,7 +16,7 @@ use Rattle.operator_keys.specs.AnswerTexts.{answer_text}
 use Rattle.rest_message.specs.Replies.{ReplyText}
 use Rattle.rest_answer.specs.Replies.{json_of, text_of}
 use Rattle.cluster_model.specs.Orders.{copying, repair_by, repair_over, rewinding}
-use Rattle.cluster_model.specs.Requests.{answering, config_text_of, told_kind}
+use Rattle.cluster_model.specs.Requests.{replying, config_text_of, told_kind}
 use Rattle.cluster_model.specs.Streaming.{link_of_members}
 use Rattle.cluster_model.proofs.Lists.{HoldsIf}
 
@@ -37,9 +37,9 @@ holds-mapped P f None all = tt
 holds-mapped P f (Some x) all = all x
 
 -- what an agent answers an operator is an answer
-pub told-holds : (P : EventKind → Type 0) (member : Member) (agent : Option AgentFacts) (told : Told) → ((reply : ReplyText) → P (answering member reply)) → HoldsIf P (told_kind member agent told)
+pub told-holds : (P : EventKind → Type 0) (member : Member) (agent : Option AgentFacts) (told : Told) → ((reply : ReplyText) → P (replying member reply)) → HoldsIf P (told_kind member agent told)
 told-holds P member agent (tolds.Text status text) answers = answers (text_of status (answer_text text))
-told-holds P member agent tolds.Written answers = holds-mapped P (λ text. answering member (json_of ok text)) (config_text_of agent) (λ text. answers (json_of ok text))
+told-holds P member agent tolds.Written answers = holds-mapped P (λ text. replying member (json_of ok text)) (config_text_of agent) (λ text. answers (json_of ok text))
 
 -- a repair of a log changes the log of its member's server alone
 repair-holds : (P : EventKind → Type 0) (known : List ServerFacts) (member : Member) (repair : Repair) (leader : Member) → ((r : Rewound) → P (rewinding member leader r)) → P (copying member leader) → HoldsIf P (repair_by known member repair leader)

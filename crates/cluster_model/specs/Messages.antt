@@ -16,7 +16,7 @@ use Rattle.event_book.specs.declared.event.Event.{Event}
 use Rattle.event_book.specs.declared.event.EventKind.{EventKind}
 use Rattle.event_book.specs.declared.event.EventKind.TheVariants as kinds
 use Rattle.event_book.specs.declared.event.MessageEvent.TheVariants.{Sent, Delivered, Lost}
-use Rattle.event_book.specs.declared.event.Note.TheVariants.{CannotArm, ConnectionFailed, DisablesWatchdog, NoAnswer, NoMessage, PostponesPromotion, RunsWithoutKey, Undeliverable}
+use Rattle.event_book.specs.declared.event.Note.TheVariants.{CannotArm, ConnectionFailed, DisablesWatchdog, NoMessage, PostponesPromotion, RunsWithoutKey, Undeliverable}
 use Rattle.event_book.specs.declared.event.StoreEvent.TheVariants as stores
 use Rattle.event_book.specs.declared.event.WatchdogEvent.TheVariants.{Disarmed}
 use Rattle.event_book.specs.declared.link.LinkEnd.{LinkEnd}
@@ -27,7 +27,7 @@ use Rattle.event_book.specs.declared.message.Body.TheVariants as bodies
 use Rattle.event_book.specs.declared.message.Message.{Message}
 use Rattle.event_book.specs.Flight.{InFlightFacts, in_flight}
 use Rattle.event_book.specs.declared.reason.Reason.{Reason}
-use Rattle.rest_message.specs.Requests.{Asked, asked_by}
+use Rattle.rest_message.specs.Requests.{RequestText, request_text}
 use Rattle.rest_answer.specs.Refusals.{refusal_reply}
 use Rattle.rest_answer.specs.Answers.{Answered, Acts, Replies}
 use Rattle.agent_model.specs.declared.heard.Heard.{Heard}
@@ -38,6 +38,8 @@ use Rattle.agent_model.specs.declared.output.Repair.{Repair}
 use Rattle.agent_model.specs.declared.output.Target.{Target}
 use Rattle.agent_model.specs.declared.output.Target.TheVariants as targets
 use Rattle.agent_model.specs.Agents.{Outcome}
+use Rattle.cluster_model.specs.declared.asker.Asker.{Asker}
+use Rattle.cluster_model.specs.declared.asker.Asker.TheVariants as askers
 use Rattle.cluster_model.specs.declared.step.Visit.{Visit}
 use Rattle.cluster_model.specs.declared.step.Visit.TheVariants as visits
 use Rattle.cluster_model.specs.declared.delivery.Delivery.{Delivery}
@@ -51,7 +53,7 @@ use Rattle.cluster_model.specs.Inputs.{agent_at, moment_of, outcome_of, outcome_
 use Rattle.cluster_model.specs.Limits.{most_in_flight}
 use Rattle.cluster_model.specs.Orders.{arming, declared_member, feed_kinds, feeding, handing_over, hold_taken, not_racing, repair_over, replica_start_kinds, require_of, server_at, stop_kinds, stop_of, upstream_of, wipe_of}
 use Rattle.cluster_model.specs.Parts.{event_of, events_of, events_then, for_some, each}
-use Rattle.cluster_model.specs.Requests.{action_of, answer_at, answering, told_kind}
+use Rattle.cluster_model.specs.Requests.{action_of, answer_at, replying, silence, told_kind}
 use Rattle.cluster_model.specs.State.{Cluster}
 
 -- the loss of the message of this number, where as many are in flight as may be
@@ -176,24 +178,24 @@ operate_events cluster member action = own_input_events cluster member (Operated
 -- it does so, or replies at once
 abbrev pub answered_events : Cluster → Member → Outcome → Answered → List Event
 answered_events cluster member o (Acts asked) = operate_events cluster member (action_of o asked)
-answered_events cluster member o (Replies reply) = event_of cluster (answering member reply)
+answered_events cluster member o (Replies reply) = event_of cluster (replying member reply)
 
 -- the agent of a member that stands so hears a request
-abbrev pub request_events_of : Cluster → Asked → Member → Outcome → List Event
+abbrev pub request_events_of : Cluster → RequestText → Member → Outcome → List Event
 request_events_of cluster asked member o = answered_events cluster member o (answer_at (moment_of cluster) o asked)
 
--- a request to the agent of a member: one that doesn't run or is suspended gives no answer
-abbrev pub request_events_if : Cluster → Asked → Member → AgentProcess → List Event
-request_events_if cluster asked member process = if may_act process then for_some (standing_of cluster member) (request_events_of cluster asked member) else event_of cluster (kinds.Note (NoAnswer member))
+-- what a request to the agent of a member comes to, which may act or not
+abbrev pub request_events_if : Cluster → Asker → RequestText → Member → AgentProcess → List Event
+request_events_if cluster asker asked member process = if may_act process then for_some (standing_of cluster member) (request_events_of cluster asked member) else event_of cluster (kinds.Note (silence asker member))
 
--- a request is made of the agent of a member
-abbrev pub request_events : Cluster → Asked → Member → List Event
-request_events cluster asked member = for_some (slice_get cluster.facts.processes member.id.number) (request_events_if cluster asked member)
+-- what a request to the agent of a member comes to
+abbrev pub request_events : Cluster → Asker → RequestText → Member → List Event
+request_events cluster asker asked member = for_some (slice_get cluster.facts.processes member.id.number) (request_events_if cluster asker asked member)
 
 -- what a connection brings to the agent of a member
 abbrev pub visit_events : Cluster → Visit → Member → List Event
-visit_events cluster (visits.Request request) member = request_events cluster (asked_by request) member
-visit_events cluster (visits.Refusal refusal) member = event_of cluster (answering member (refusal_reply refusal))
+visit_events cluster (visits.Request request) member = request_events cluster askers.Connection (request_text request) member
+visit_events cluster (visits.Refusal refusal) member = event_of cluster (replying member (refusal_reply refusal))
 visit_events cluster visits.Failure member = event_of cluster (kinds.Note ConnectionFailed)
 
 -- the names of the standbys that a request publishes

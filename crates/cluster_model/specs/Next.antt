@@ -16,6 +16,7 @@ use Rattle.event_book.specs.Flight.{in_flight}
 use Rattle.event_book.specs.Members.{server_of}
 use Rattle.script_model.specs.declared.line.Command.{Command}
 use Rattle.script_model.specs.declared.line.Command.TheVariants as commands
+use Rattle.cluster_model.specs.declared.asker.Asker.TheVariants as askers
 use Rattle.cluster_model.specs.declared.step.Step.{Step}
 use Rattle.cluster_model.specs.declared.step.Step.TheVariants as steps
 use Rattle.cluster_model.specs.Acknowledging.{acknowledge_kinds}
@@ -109,7 +110,7 @@ command_events cluster (commands.Deliver number) = deliver_events cluster number
 command_events cluster (commands.Lose number) = lose_events cluster number (in_flight cluster.facts.flight number)
 command_events cluster (commands.StartAgent id) = for_some (declared cluster id) (agent_start_events cluster)
 command_events cluster (commands.Promote id) = for_some (declared cluster id) (promote_events cluster)
-command_events cluster (commands.Rest id request) = for_some (declared cluster id) (request_events cluster (asked_in_words request))
+command_events cluster (commands.Rest id request) = for_some (declared cluster id) (request_events cluster askers.Line (asked_in_words request))
 command_events cluster (commands.Stream id most) = for_some (declared cluster id) (receive_events_at_most cluster most)
 command_events cluster command = events_of cluster (kinds_of (command_kind cluster command))
 

@@ -6,37 +6,51 @@ use Rattle.lease_store.specs.declared.action.OperatorRequest.{OperatorRequest}
 use Rattle.lease_store.specs.Settings.{Settings}
 use Rattle.event_book.specs.declared.event.EventKind.{EventKind}
 use Rattle.event_book.specs.declared.event.EventKind.TheVariants as kinds
+use Rattle.event_book.specs.declared.event.Note.{Note}
 use Rattle.event_book.specs.declared.event.Note.TheVariants as notes
 use Rattle.event_book.specs.declared.member.Member.{Member}
 use Rattle.operator_keys.specs.AnswerTexts.{answer_text}
 use Rattle.operator_keys.specs.ConfigChecks.{configuration_in}
 use Rattle.rest_answer.specs.Answers.{Answered, answer_to}
+use Rattle.rest_answer.specs.declared.refusal.Refusal.TheVariants as refusals
+use Rattle.rest_answer.specs.Refusals.{refusal_reply}
 use Rattle.rest_message.specs.Replies.{ReplyText}
 use Rattle.rest_answer.specs.Replies.{json_of, text_of}
-use Rattle.rest_message.specs.Requests.{Asked}
+use Rattle.rest_message.specs.Requests.{RequestText}
 use Rattle.rest_message.specs.Verbs.{verb_of}
 use Rattle.script_model.specs.declared.request_words.RequestWords.{RequestWords}
 use Rattle.agent_model.specs.declared.operating.Told.{Told}
 use Rattle.agent_model.specs.declared.operating.Told.TheVariants as tolds
 use Rattle.agent_model.specs.Agents.{AgentFacts, Outcome}
 use Rattle.operator_keys.specs.Statuses.{ok}
+use Rattle.cluster_model.specs.declared.asker.Asker.{Asker}
+use Rattle.cluster_model.specs.declared.asker.Asker.TheVariants as askers
 use Rattle.agent_model.specs.Views.{shown}
 
 -- what the words of a line ask
-abbrev pub asked_in_words : RequestWords → Asked
-asked_in_words words = record { verb = verb_of words.method; target = words.target; content = words.body }
+abbrev pub asked_in_words : RequestWords → RequestText
+asked_in_words words = record { verb = verb_of words.method; target = words.target; body = words.body }
 
 -- what an agent that stands so answers to a request, or what it is to do for it
-abbrev pub answer_at : Ticks → Outcome → Asked → Answered
+abbrev pub answer_at : Ticks → Outcome → RequestText → Answered
 answer_at now o asked = answer_to (shown now o) o.knows.seen asked
 
 -- what the agent is to do as an action, under the number that its next message has
 abbrev pub action_of : Outcome → OperatorRequest → OperatorAction
 action_of o asked = record { request = o.knows.sequence + 1; asked = asked }
 
+-- that the agent of a member replies so, or that this is replied for it
+abbrev pub reply_note : Member → ReplyText → Note
+reply_note member reply = notes.Answered member reply.status reply.json reply.body
+
 -- the agent of a member replies so
-abbrev pub answering : Member → ReplyText → EventKind
-answering member reply = kinds.Note (notes.Answered member reply.status reply.json reply.body)
+abbrev pub replying : Member → ReplyText → EventKind
+replying member reply = kinds.Note (reply_note member reply)
+
+-- what comes of a request to the agent of a member that doesn't run or is suspended: a line gets no answer, and a connection is told so
+abbrev pub silence : Asker → Member → Note
+silence askers.Line member = notes.NoAnswer member
+silence askers.Connection member = reply_note member (refusal_reply refusals.NoAgent)
 
 -- the configuration that an agent read last
 abbrev pub configuration_read : AgentFacts → Option Settings
@@ -48,5 +62,5 @@ config_text_of agent = option_map (λ (config : Settings). config.text) (option_
 
 -- what the agent of a member, which stands so, answers an operator
 abbrev pub told_kind : Member → Option AgentFacts → Told → Option EventKind
-told_kind member agent (tolds.Text status text) = Some (answering member (text_of status (answer_text text)))
-told_kind member agent tolds.Written = option_map (λ text. answering member (json_of ok text)) (config_text_of agent)
+told_kind member agent (tolds.Text status text) = Some (replying member (text_of status (answer_text text)))
+told_kind member agent tolds.Written = option_map (λ text. replying member (json_of ok text)) (config_text_of agent)

@@ -20,7 +20,7 @@ pub enum Step {
 /// What a connection to the REST interface of an agent brings.
 #[derive(Debug, Drop)]
 pub enum Visit {
-    /// A request of the agent.
+    /// A request to the agent.
     Request(Request),
     /// A reply that the agent has no part in.
     Refusal(Refusal),

@@ -9,7 +9,7 @@ pub record DoorState : Type 0 where
   pub fails : List ℕ
   pub calls : ℕ
   pub door_faults : ℕ
-  pub line_faults : ℕ
+  pub connection_faults : ℕ
 
 -- the answers so far, the room left for their bytes, and how many more may begin
 pub record AnswerState : Type 0 where

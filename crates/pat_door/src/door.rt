@@ -16,7 +16,7 @@ pub trait Door {
     ghost door_faults: { Self → ℕ };
 
     // How many calls of `read` and `write` failed.
-    ghost line_faults: { Self → ℕ };
+    ghost connection_faults: { Self → ℕ };
 
     // No call of `open` fails, nor one of the next so many of `accept`.
     ghost serves: { Self → ℕ → Type 0 };
@@ -29,7 +29,7 @@ pub trait Door {
         ensures same { told self.new ≡ told self.old }
         ensures failed { OnErr result (Rose (door_faults self.old) (door_faults self.new)) }
         ensures grows { door_faults self.old ≤ door_faults self.new }
-        ensures line { line_faults self.new ≡ line_faults self.old }
+        ensures line { connection_faults self.new ≡ connection_faults self.old }
         ensures served { (n : ℕ) → serves self.old n → IsOk result × serves self.new n };
 
     /// Waits for the next connection, and makes it the present one, with an empty answer. Where one is accepted already, that
@@ -41,7 +41,7 @@ pub trait Door {
         ensures same { OnErr result (told self.new ≡ told self.old) }
         ensures failed { OnErr result (Rose (door_faults self.old) (door_faults self.new)) }
         ensures grows { door_faults self.old ≤ door_faults self.new }
-        ensures line { line_faults self.new ≡ line_faults self.old }
+        ensures line { connection_faults self.new ≡ connection_faults self.old }
         ensures served { (n : ℕ) → serves self.old n → 0 < n → IsOk result × serves self.new (n - 1) };
 
     /// Reads some of the next bytes of the present connection into the front of the buffer, and answers how many. A call with
@@ -54,8 +54,8 @@ pub trait Door {
         ensures after { IfOk result (λ count. Tells (told self.old) (λ facts. told self.new ≡ Some (after_read count facts))) }
         ensures end { IfOk result (λ count. Known (bytes_here (told self.old)) (λ all. count ≡ 0 → 0 < length buf.old → length all ≡ 0)) }
         ensures same { OnErr result (told self.new ≡ told self.old) }
-        ensures failed { OnErr result (Rose (line_faults self.old) (line_faults self.new)) }
-        ensures grows { line_faults self.old ≤ line_faults self.new }
+        ensures failed { OnErr result (Rose (connection_faults self.old) (connection_faults self.new)) }
+        ensures grows { connection_faults self.old ≤ connection_faults self.new }
         ensures door { door_faults self.new ≡ door_faults self.old }
         ensures served { (n : ℕ) → serves self.old n → serves self.new n }
         ensures reliable { (n : ℕ) → takes self.old n → IsOk result × takes self.new n };
@@ -68,8 +68,8 @@ pub trait Door {
         ensures present { OnOk result (Tells (told self.old) (λ facts. IsSome facts.here)) }
         ensures grown { IfOk result (λ count. Tells (told self.old) (λ facts. told self.new ≡ Some (after_write (take count piece.now) facts))) }
         ensures same { OnErr result (told self.new ≡ told self.old) }
-        ensures failed { OnErr result (Rose (line_faults self.old) (line_faults self.new)) }
-        ensures grows { line_faults self.old ≤ line_faults self.new }
+        ensures failed { OnErr result (Rose (connection_faults self.old) (connection_faults self.new)) }
+        ensures grows { connection_faults self.old ≤ connection_faults self.new }
         ensures door { door_faults self.new ≡ door_faults self.old }
         ensures served { (n : ℕ) → serves self.old n → serves self.new n }
         ensures room { (n : ℕ) → takes self.old n → length piece.now ≤ n → IsOkAnd result (λ count. takes self.new (n - count)) };
@@ -78,6 +78,6 @@ pub trait Door {
     fn hang_up(&mut self)
         ensures after { Tells (told self.old) (λ facts. told self.new ≡ Some (after_hang_up facts)) }
         ensures door { door_faults self.new ≡ door_faults self.old }
-        ensures line { line_faults self.new ≡ line_faults self.old }
+        ensures line { connection_faults self.new ≡ connection_faults self.old }
         ensures served { (n : ℕ) → serves self.old n → serves self.new n };
 }

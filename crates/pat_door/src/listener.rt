@@ -15,14 +15,14 @@ pub struct ListenerDoor<R: Net + Drop> {
     listener: Option<R::Listener>,
     stream: Option<R::Stream>,
     door_faults: u64,
-    line_faults: u64,
+    connection_faults: u64,
 }
 
 impl<R: Net + Drop> ListenerDoor<R> {
     /// A door that doesn't listen yet, with no fault so far.
     pub fn new(net: R) -> Self
         ensures door_faults { ⟦<ListenerDoor<R> as Door>⟧.door_faults result ≡ 0 }
-        ensures line_faults { ⟦<ListenerDoor<R> as Door>⟧.line_faults result ≡ 0 }
+        ensures connection_faults { ⟦<ListenerDoor<R> as Door>⟧.connection_faults result ≡ 0 }
         ensures untold { ⟦<ListenerDoor<R> as Door>⟧.told result ≡ None }
     {
         ListenerDoor {
@@ -30,14 +30,14 @@ impl<R: Net + Drop> ListenerDoor<R> {
             listener: None,
             stream: None,
             door_faults: 0,
-            line_faults: 0,
+            connection_faults: 0,
         }
     }
 
     /// Shuts the present connection, where there is one. An error of that is no fault: nothing more is done with it.
     fn shut(&mut self)
         ensures door { self.new.door_faults ≡ self.old.door_faults }
-        ensures line { self.new.line_faults ≡ self.old.line_faults }
+        ensures line { self.new.connection_faults ≡ self.old.connection_faults }
     {
         if let Some(stream) = self.stream.take() {
             let _ = stream.shutdown(Shutdown::Both);
@@ -80,7 +80,7 @@ impl<R: Net + Drop> Door for ListenerDoor<R> {
 
     ghost door_faults = { λ s. s.door_faults };
 
-    ghost line_faults = { λ s. s.line_faults };
+    ghost connection_faults = { λ s. s.connection_faults };
 
     ghost serves = { λ _ _. ⊥ };
 
@@ -117,7 +117,7 @@ impl<R: Net + Drop> Door for ListenerDoor<R> {
         match read_some(self.stream.as_mut(), buf) {
             Some(count) => Ok(count),
             None => {
-                self.line_faults = self.line_faults.saturating_add(1);
+                self.connection_faults = self.connection_faults.saturating_add(1);
                 Err(Failed)
             }
         }
@@ -127,7 +127,7 @@ impl<R: Net + Drop> Door for ListenerDoor<R> {
         match write_some(self.stream.as_mut(), piece) {
             Some(count) => Ok(count),
             None => {
-                self.line_faults = self.line_faults.saturating_add(1);
+                self.connection_faults = self.connection_faults.saturating_add(1);
                 Err(Failed)
             }
         }

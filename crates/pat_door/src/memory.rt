@@ -24,7 +24,7 @@ pub struct MemoryDoor {
     fails: Vec<u64>,
     calls: u64,
     door_faults: u64,
-    line_faults: u64,
+    connection_faults: u64,
 }
 
 impl Model for MemoryDoor {
@@ -40,7 +40,7 @@ impl Model for MemoryDoor {
       fails = s.fails.items;
       calls = s.calls;
       door_faults = s.door_faults;
-      line_faults = s.line_faults;
+      connection_faults = s.connection_faults;
     } };
 
     ghost invariant = { λ s. deque_len s.coming ≤ s.answers.unbegun };
@@ -61,7 +61,7 @@ impl MemoryDoor {
           fails = fails.items;
           calls = 0;
           door_faults = 0;
-          line_faults = 0;
+          connection_faults = 0;
         }) }
     {
         let answers = Answers::new(alloc, room, connections.len())?;
@@ -72,7 +72,7 @@ impl MemoryDoor {
             fails,
             calls: 0,
             door_faults: 0,
-            line_faults: 0,
+            connection_faults: 0,
         })
     }
 
@@ -103,10 +103,10 @@ impl MemoryDoor {
 
     /// Counts a fault of `read` or `write`.
     fn line_fault(&mut self) -> Failed
-        ensures after { self.new ≡ record self.old { line_faults = counted self.old.line_faults } }
-        ensures grows { self.old.line_faults ≤ self.new.line_faults }
+        ensures after { self.new ≡ record self.old { connection_faults = counted self.old.connection_faults } }
+        ensures grows { self.old.connection_faults ≤ self.new.connection_faults }
     {
-        self.line_faults = self.line_faults.saturating_add(1);
+        self.connection_faults = self.connection_faults.saturating_add(1);
         Failed
     }
 }
@@ -116,7 +116,7 @@ impl Door for MemoryDoor {
 
     ghost door_faults = { λ s. s.door_faults };
 
-    ghost line_faults = { λ s. s.line_faults };
+    ghost connection_faults = { λ s. s.connection_faults };
 
     ghost serves = { λ s n. (s.fails ≡ []) × (n ≤ length s.facts.coming) };
 
@@ -126,7 +126,7 @@ impl Door for MemoryDoor {
         ensures same { Some self.new.facts ≡ Some self.old.facts }
         ensures failed { OnErr result (Rose self.old.door_faults self.new.door_faults) }
         ensures grows { self.old.door_faults ≤ self.new.door_faults }
-        ensures line { self.new.line_faults ≡ self.old.line_faults }
+        ensures line { self.new.connection_faults ≡ self.old.connection_faults }
         ensures served { (n : ℕ) → (self.old.fails ≡ []) × (n ≤ length self.old.facts.coming)
             → IsOk result × ((self.new.fails ≡ []) × (n ≤ length self.new.facts.coming)) }
 
@@ -147,7 +147,7 @@ impl Door for MemoryDoor {
         ensures same { OnErr result (Some self.new.facts ≡ Some self.old.facts) }
         ensures failed { OnErr result (Rose self.old.door_faults self.new.door_faults) }
         ensures grows { self.old.door_faults ≤ self.new.door_faults }
-        ensures line { self.new.line_faults ≡ self.old.line_faults }
+        ensures line { self.new.connection_faults ≡ self.old.connection_faults }
         ensures served { (n : ℕ) → (self.old.fails ≡ []) × (n ≤ length self.old.facts.coming) → 0 < n
             → IsOk result × ((self.new.fails ≡ []) × (n - 1 ≤ length self.new.facts.coming)) }
 
@@ -176,8 +176,8 @@ impl Door for MemoryDoor {
         ensures after { IfOk result (λ count. Tells (Some self.old.facts) (λ facts. Some self.new.facts ≡ Some (after_read count facts))) }
         ensures end { IfOk result (λ count. Known (bytes_here (Some self.old.facts)) (λ all. count ≡ 0 → 0 < length buf.old → length all ≡ 0)) }
         ensures same { OnErr result (Some self.new.facts ≡ Some self.old.facts) }
-        ensures failed { OnErr result (Rose self.old.line_faults self.new.line_faults) }
-        ensures grows { self.old.line_faults ≤ self.new.line_faults }
+        ensures failed { OnErr result (Rose self.old.connection_faults self.new.connection_faults) }
+        ensures grows { self.old.connection_faults ≤ self.new.connection_faults }
         ensures door { self.new.door_faults ≡ self.old.door_faults }
         ensures served { (n : ℕ) → (self.old.fails ≡ []) × (n ≤ length self.old.facts.coming)
             → (self.new.fails ≡ []) × (n ≤ length self.new.facts.coming) }
@@ -186,7 +186,7 @@ impl Door for MemoryDoor {
 
         // Beyond a door's promise: which calls fail, and all that each call leaves.
         ensures fails { IsErr result ↔ ((Contains self.old.fails (counted self.old.calls)) ⊎ (self.old.facts.here ≡ None)) }
-        ensures err { OnErr result (self.new ≡ record self.old { calls = counted self.old.calls; line_faults = counted self.old.line_faults }) }
+        ensures err { OnErr result (self.new ≡ record self.old { calls = counted self.old.calls; connection_faults = counted self.old.connection_faults }) }
         ensures count { IfOk result (λ count. Known self.old.facts.here (λ all. count ≡ min (length all) (length buf.old))) }
         ensures ok { IfOk result (λ count. self.new ≡ record self.old { facts = after_read count self.old.facts; calls = counted self.old.calls }) }
     {
@@ -205,8 +205,8 @@ impl Door for MemoryDoor {
         ensures present { OnOk result (Tells (Some self.old.facts) (λ facts. IsSome facts.here)) }
         ensures grown { IfOk result (λ count. Tells (Some self.old.facts) (λ facts. Some self.new.facts ≡ Some (after_write (take count piece.now) facts))) }
         ensures same { OnErr result (Some self.new.facts ≡ Some self.old.facts) }
-        ensures failed { OnErr result (Rose self.old.line_faults self.new.line_faults) }
-        ensures grows { self.old.line_faults ≤ self.new.line_faults }
+        ensures failed { OnErr result (Rose self.old.connection_faults self.new.connection_faults) }
+        ensures grows { self.old.connection_faults ≤ self.new.connection_faults }
         ensures door { self.new.door_faults ≡ self.old.door_faults }
         ensures served { (n : ℕ) → (self.old.fails ≡ []) × (n ≤ length self.old.facts.coming)
             → (self.new.fails ≡ []) × (n ≤ length self.new.facts.coming) }
@@ -215,7 +215,7 @@ impl Door for MemoryDoor {
 
         // Beyond a door's promise: which calls fail, and all that each call leaves.
         ensures fails { IsErr result ↔ ((Contains self.old.fails (counted self.old.calls)) ⊎ ((self.old.facts.here ≡ None) ⊎ (self.old.room < length piece.now))) }
-        ensures err { OnErr result (self.new ≡ record self.old { calls = counted self.old.calls; line_faults = counted self.old.line_faults }) }
+        ensures err { OnErr result (self.new ≡ record self.old { calls = counted self.old.calls; connection_faults = counted self.old.connection_faults }) }
         ensures ok { IfOk result (λ count. (count ≡ length piece.now)
             × (self.new ≡ record self.old { facts = after_write piece.now self.old.facts; room = self.old.room - count; calls = counted self.old.calls })) }
     {
@@ -229,7 +229,7 @@ impl Door for MemoryDoor {
     fn hang_up(&mut self)
         ensures after { Tells (Some self.old.facts) (λ facts. Some self.new.facts ≡ Some (after_hang_up facts)) }
         ensures door { self.new.door_faults ≡ self.old.door_faults }
-        ensures line { self.new.line_faults ≡ self.old.line_faults }
+        ensures line { self.new.connection_faults ≡ self.old.connection_faults }
         ensures served { (n : ℕ) → (self.old.fails ≡ []) × (n ≤ length self.old.facts.coming)
             → (self.new.fails ≡ []) × (n ≤ length self.new.facts.coming) }
 

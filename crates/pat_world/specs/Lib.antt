@@ -1,4 +1,3 @@
-pub mod Acting
 pub mod Book
 pub mod Fenced
 pub mod KeptCommits

@@ -1,4 +1,4 @@
-//! The world: a cluster at a moment, which takes the steps of a script and hands out what happens.
+//! The world: a cluster at a moment, which takes the steps of a run and hands out what happens.
 #![tactic(auto)]
 
 mod world;

@@ -1,4 +1,4 @@
-//! The world: it takes the steps of a script and hands out what happens.
+//! The world: it takes the steps of a run and hands out what happens.
 ghost use Rattle.std.specs.Prelude.{ℕ, List, ◌≡◌, ◌<◌, ◌≤◌, ◌+◌, ◌^◌, ◌++◌, [], OnOk, OnErr, IfOk, is_some, replicate};
 ghost use Rattle.script_model.specs.Script.{HeadText, IsHead};
 ghost use Rattle.event_book.specs.declared.event.Event.{Event};
@@ -10,7 +10,6 @@ ghost use Rattle.cluster_model.specs.Parts.{event_of};
 ghost use Rattle.cluster_model.specs.Starting.{cluster_of};
 ghost use Rattle.cluster_model.specs.State.{Cluster};
 ghost use Rattle.cluster_model.specs.Steps.{IsStep};
-ghost use Rattle.pat_world.specs.Acting.{acts_at};
 ghost use Rattle.pat_world.specs.Book.{StandsFor, left_by, next_of};
 ghost use Rattle.world_model.specs.Idle.{BringsTicks, IsIdleBefore, IsIdleIn, NothingEnds, NothingIsDue};
 ghost use Rattle.pat_world.specs.Fenced.{KeepsFencing};
@@ -29,11 +28,10 @@ use pat_base::{MemberId, Ticks};
 use script_model::Head;
 use std::alloc::{AllocError, Global};
 use std::marker::Model;
-use world_parts::processes::may_act;
 use world_play::{due_from, ends_from, take_step};
 use world_stage::{Stage, write_down};
 
-/// A cluster at a moment, which takes the steps of a script. It can't be dropped, since an agent can't: `World::close` ends
+/// A cluster at a moment, which takes the steps of a run. It can't be dropped, since an agent can't: `World::close` ends
 /// one.
 ///
 /// Time is counted in ticks of 100 ms, from 0 on. A world takes at most 2^30 steps: its caller sees to that, and within them no counter
@@ -117,21 +115,8 @@ impl World {
         self.stage.view(id)
     }
 
-    /// Whether the agent of a member runs and isn't suspended, so that it answers requests; not that of a number that no member has.
-    pub fn acts(&self, id: MemberId) -> bool
-        ensures { result ≡ acts_at self.now.cluster id }
-    {
-        let Some(member) = self.stage.members().get(id.number as usize) else {
-            return false;
-        };
-        match self.stage.process(*member) {
-            Some(process) => may_act(process),
-            None => false,
-        }
-    }
-
-    /// One step of a script with these members, into an empty list. The premises: fewer than 2^30 steps were taken, and a command names
-    /// declared members only. On Ok the events are those that come next, and the world is what they leave: a world that stood for a book
+    /// One step of a run with these members, into an empty list. The premises: fewer than 2^30 steps were taken, a command names
+    /// declared members only, and a connection comes to a declared member. On Ok the events are those that come next, and the world is what they leave: a world that stood for a book
     /// stands for that book with them at its end. No commit is left that may be acknowledged. On Err, want of memory, the list is as it
     /// was, and the world isn't to be used any more.
     pub fn step(&mut self, step: &Step, events: &mut Vec<Event>) -> Result<(), AllocError>
@@ -159,7 +144,7 @@ impl World {
     }
 
     /// Takes so many steps of one kind at once as are known to bring nothing but their ticks, at most as many as wanted, and
-    /// answers how many. 0 where the next one may bring more, and for a command. It costs the same however many they are. The premise:
+    /// answers how many. 0 where the next one may bring more, for a command and for a connection. It costs the same however many they are. The premise:
     /// with as many as wanted, at most 2^30 steps are taken.
     pub fn idle_for(&mut self, step: &Step, most: u64) -> u64
         requires { self.old.steps + most ≤ most_steps }

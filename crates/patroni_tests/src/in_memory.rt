@@ -67,7 +67,7 @@ pub fn run_in_memory(
 }
 
 /// The world at the end of a run of this script.
-fn world_after(rt: &impl Abort, alloc: Global, script: &str) -> Result<World, AllocError> {
+pub fn world_after(rt: &impl Abort, alloc: Global, script: &str) -> Result<World, AllocError> {
     let mut out = MemorySink::new(alloc, 65536, Vec::new(alloc))?;
     let mut err = MemorySink::new(alloc, 4096, Vec::new(alloc))?;
     let Ended { world, status: _ } = ran(alloc, "run", script, NO_FAULTS, &mut out, &mut err)?;
@@ -85,19 +85,6 @@ pub fn shown(
     let seen = world.view(member).map(|view| (view.state, view.timeline));
     world.close();
     Ok(seen)
-}
-
-/// Whether a member's agent acts at the end of a run.
-pub fn acting(
-    rt: &impl Abort,
-    alloc: Global,
-    script: &str,
-    member: MemberId,
-) -> Result<bool, AllocError> {
-    let world = world_after(rt, alloc, script)?;
-    let acts = world.acts(member);
-    world.close();
-    Ok(acts)
 }
 
 /// Where a member is reached, and what it told of itself, by the snapshot that another member's agent heard last in a run.

@@ -1,5 +1,5 @@
 //! What the world shows that a run leaves.
-use crate::in_memory::{acting, shown, told};
+use crate::in_memory::{shown, told};
 use pat_base::{MemberId, State};
 use std::alloc::Global;
 use std::process::Abort;
@@ -22,19 +22,6 @@ fn a_view_of_a_killed_member(rt: HostRuntime) -> Result<(), Fail> {
     let script = "cluster demo\nmember a\nrun 5\nkill a\n";
     let shown = shown(&rt, rt.alloc(), script, first_member(&rt))?;
     assert!(rt; shown.is_none());
-    Ok(())
-}
-
-#[test]
-fn agents_that_act(rt: HostRuntime) -> Result<(), Fail> {
-    let member = first_member(&rt);
-    let nobody = MemberId::new(1).expect(&rt, "a member");
-    for (line, wanted) in [("", true), ("hold a\n", false), ("kill a\n", false)] {
-        let script = format!(in rt.alloc(); "cluster demo\nmember a\nrun 5\n{line}")?;
-        let acts = acting(&rt, rt.alloc(), script.as_str(), member)?;
-        assert_eq!(rt; acts, wanted);
-        assert!(rt; !acting(&rt, rt.alloc(), script.as_str(), nobody)?);
-    }
     Ok(())
 }
 

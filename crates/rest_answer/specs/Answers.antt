@@ -14,11 +14,11 @@ use Rattle.rest_pages.specs.Patroni.{patroni_members_of}
 use Rattle.rest_paths.specs.declared.asking.Ask.{Ask}
 use Rattle.rest_paths.specs.declared.asking.Ask.TheVariants as asks
 use Rattle.rest_paths.specs.Asking.{ask_of}
-use Rattle.rest_message.specs.Requests.{Asked}
+use Rattle.rest_message.specs.Requests.{RequestText}
 use Rattle.rest_message.specs.Targets.{lag_of, path_of}
 use Rattle.rest_answer.specs.declared.answers.Answer.{Answer}
 use Rattle.rest_answer.specs.declared.answers.Answer.TheVariants as ways
-use Rattle.rest_answer.specs.Decisions.{decision_on}
+use Rattle.rest_answer.specs.Decisions.{change_on}
 use Rattle.rest_answer.specs.Pages.{page_reply}
 use Rattle.rest_message.specs.Replies.{ReplyText, reply_text}
 use Rattle.rest_answer.specs.Replies.{json_of, status_alone, text_of}
@@ -55,8 +55,8 @@ answer_by view seen lag body asks.NotFound = Replies (status_alone not_found)
 answer_by view seen lag body asks.NotAllowed = Replies (status_alone method_not_allowed)
 answer_by view seen lag body (asks.Health endpoint told) = Replies (health_reply view seen endpoint lag told)
 answer_by view seen lag body (asks.Page page) = Replies (page_reply page view seen)
-answer_by view seen lag body (asks.Change change) = decided (decision_on view seen change body)
+answer_by view seen lag body (asks.Change change) = decided (change_on view seen change body)
 
 -- what is answered to a request
-abbrev pub answer_to : AgentView → Option SnapshotFacts → Asked → Answered
-answer_to view seen asked = answer_by view seen (lag_of asked.target) asked.content (ask_of asked.verb (path_of asked.target))
+abbrev pub answer_to : AgentView → Option SnapshotFacts → RequestText → Answered
+answer_to view seen asked = answer_by view seen (lag_of asked.target) asked.body (ask_of asked.verb (path_of asked.target))

@@ -1,11 +1,11 @@
 //! What is answered to a request.
 ghost use Rattle.std.specs.Prelude.{◌≡◌, IfOk, option_copied};
 ghost use Rattle.rest_answer.specs.Answers.{answered, answer_to, answer_by, health_reply, decided};
-ghost use Rattle.rest_answer.specs.Decisions.{decision_on};
+ghost use Rattle.rest_answer.specs.Decisions.{change_on};
 ghost use Rattle.rest_message.specs.Replies.{reply_text};
 
 use crate::Answer;
-use crate::decisions::decision_on;
+use crate::decisions::change_on;
 use crate::pages::page_reply;
 use crate::replies::{json_reply, status_reply, text_reply};
 use crate::status::METHOD_NOT_ALLOWED;
@@ -29,7 +29,7 @@ pub fn answer(
     target: &str,
     body: &[u8],
 ) -> Result<Answer, AllocError>
-    ensures { IfOk result (λ answer. answered answer ≡ answer_to view.now (option_copied view.now.seen) (record { verb = verb; target = target.now; content = body.now })) }
+    ensures { IfOk result (λ answer. answered answer ≡ answer_to view.now (option_copied view.now.seen) (record { verb = verb; target = target.now; body = body.now })) }
 {
     let ask = routes.ask(verb, target);
     answer_by(alloc, view, lag_of(target), body, ask)
@@ -81,9 +81,9 @@ fn decided(
     change: Change,
     body: &[u8],
 ) -> Result<Answer, AllocError>
-    ensures { IfOk result (λ answer. answered answer ≡ decided (decision_on view.now (option_copied view.now.seen) change body.now)) }
+    ensures { IfOk result (λ answer. answered answer ≡ decided (change_on view.now (option_copied view.now.seen) change body.now)) }
 {
-    match decision_on(alloc, view, change, body) {
+    match change_on(alloc, view, change, body) {
         Ok(request) => Ok(Answer::Act(request)),
         Err(CheckFault::Refused(refused)) => {
             let reply = text_reply(alloc, refused.status, refused.text)?;

@@ -5,7 +5,7 @@ ghost use Rattle.lease_store.specs.declared.value.FailoverKey.{FailoverKey};
 ghost use Rattle.lease_store.specs.Settings.{Settings};
 ghost use Rattle.operator_keys.specs.declared.refusal.Refused.{Refused};
 ghost use Rattle.operator_keys.specs.Refusals.{Answers};
-ghost use Rattle.rest_answer.specs.Decisions.{asking_for, decision_on};
+ghost use Rattle.rest_answer.specs.Decisions.{asking_for, change_on};
 
 use cluster_config::AgentView;
 use lease_store::{ConfigValue, FailoverKey, FailoverKind, OperatorRequest};
@@ -17,13 +17,13 @@ use rest_paths::Change;
 use std::alloc::Global;
 
 /// What an agent that shows this is to do to make this change with this content, or what it is refused with.
-pub(crate) fn decision_on(
+pub(crate) fn change_on(
     alloc: Global,
     view: &AgentView<'_>,
     change: Change,
     body: &[u8],
 ) -> Result<OperatorRequest, CheckFault>
-    ensures { Answers result (decision_on view.now (option_copied view.now.seen) change body.now) }
+    ensures { Answers result (change_on view.now (option_copied view.now.seen) change body.now) }
 {
     match change {
         Change::Switchover => failing_over(

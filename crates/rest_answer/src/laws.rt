@@ -9,7 +9,7 @@ ghost use Rattle.rest_paths.specs.declared.asking.Ask.TheVariants.{NotAllowed, N
 ghost use Rattle.rest_paths.specs.declared.resource.Page.{Page};
 ghost use Rattle.rest_paths.specs.Asking.{ask_of};
 ghost use Rattle.rest_paths.specs.Laws.{IsSafe};
-ghost use Rattle.rest_message.specs.Requests.{Asked};
+ghost use Rattle.rest_message.specs.Requests.{RequestText};
 ghost use Rattle.rest_message.specs.Targets.{path_of};
 ghost use Rattle.rest_answer.specs.Answers.{IsReplied, Replies, answer_to, health_reply};
 ghost use Rattle.rest_answer.specs.Pages.{no_store_answer, page_reply, tells_of_the_cluster};
@@ -18,14 +18,14 @@ ghost use Rattle.rest_answer.specs.Statuses.{method_not_allowed};
 
 /// Whatever is asked by a safe method is answered at once: the agent is to do nothing for it (RFC 9110, section 9.2.1).
 pub fn safe_methods_are_answered_at_once()
-    ensures { (view : AgentView) (seen : Option SnapshotFacts) (asked : Asked) → IsSafe asked.verb → IsReplied (answer_to view seen asked) }
+    ensures { (view : AgentView) (seen : Option SnapshotFacts) (asked : RequestText) → IsSafe asked.verb → IsReplied (answer_to view seen asked) }
 {}
 
 /// Who asks for nothing gets a status with no content: 404 for an unknown path, 405 for a known one with another method.
 pub fn requests_for_nothing_have_no_content()
-    ensures unknown { (view : AgentView) (seen : Option SnapshotFacts) (asked : Asked)
+    ensures unknown { (view : AgentView) (seen : Option SnapshotFacts) (asked : RequestText)
         → ask_of asked.verb (path_of asked.target) ≡ NotFound → answer_to view seen asked ≡ Replies (status_alone not_found) }
-    ensures other_method { (view : AgentView) (seen : Option SnapshotFacts) (asked : Asked)
+    ensures other_method { (view : AgentView) (seen : Option SnapshotFacts) (asked : RequestText)
         → ask_of asked.verb (path_of asked.target) ≡ NotAllowed → answer_to view seen asked ≡ Replies (status_alone method_not_allowed) }
 {}
 

@@ -17,6 +17,7 @@ pub use laws::{
     requests_for_nothing_have_no_content, safe_methods_are_answered_at_once,
 };
 pub use refusal::{Refusal, refusal_reply};
+pub use replies::{json_reply, text_reply};
 pub use status::{BAD_GATEWAY, METHOD_NOT_ALLOWED};
 
 #[cfg(test)]

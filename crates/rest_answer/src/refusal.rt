@@ -10,7 +10,8 @@ use std::alloc::{AllocError, Global};
 /// Why a connection is replied to without the agent of its member.
 #[derive(Clone, Copy, Debug, PartialEq, Eq)]
 pub enum Refusal {
-    /// `BadHead`: what was read begins with no head of a request (RFC 9110, "400 Bad Request").
+    /// `BadHead`: what was read begins with no whole request: it never becomes a head, or ends before head or body does (RFC 9110,
+    /// "400 Bad Request").
     BadHead,
     /// `TooLong`: its head or its content is longer than is read (there too).
     TooLong,

@@ -9,7 +9,7 @@ use rest_message::Reply;
 use std::alloc::{AllocError, Global};
 
 /// A reply with JSON.
-pub(crate) fn json_reply(status: u16, text: String) -> Reply
+pub fn json_reply(status: u16, text: String) -> Reply
     ensures { reply_text result ≡ json_of status (string_bytes text) }
 {
     Reply {
@@ -19,8 +19,8 @@ pub(crate) fn json_reply(status: u16, text: String) -> Reply
     }
 }
 
-/// A reply with the words of an answer to operators.
-pub(crate) fn text_reply(alloc: Global, status: u16, text: Text) -> Result<Reply, AllocError>
+/// A reply with the words of an answer to operators. It fails only for want of memory.
+pub fn text_reply(alloc: Global, status: u16, text: Text) -> Result<Reply, AllocError>
     ensures { IfOk result (λ reply. reply_text reply ≡ text_of status (answer_text text)) }
 {
     let words = format!(in alloc; "{text}")?;

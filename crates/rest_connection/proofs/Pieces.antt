@@ -19,14 +19,14 @@ use Rattle.rest_message.specs.declared.request.Request.{Request}
 use Rattle.rest_request.specs.declared.fault.RequestFault.{RequestFault}
 use Rattle.rest_request.specs.declared.fault.RequestFault.TheVariants.{BadHead, TooLong, BadLength, Memory}
 use Rattle.rest_request.specs.ContentLength.{within_limit, is_decimal, length_by_all, length_values, content_length}
-use Rattle.rest_message.specs.Requests.{Asked, asked_by}
+use Rattle.rest_message.specs.Requests.{RequestText, request_text}
 use Rattle.rest_request.specs.Answers.{answer_seen}
 use Rattle.rest_request.specs.Reading.{Begun, Whole, Incomplete, Malformed, IsBegun, head_room, behind, answer_by, answer_of, Reads}
 use Rattle.rest_request.proofs.Readings.{one-thing, stays}
 use Rattle.rest_connection.specs.declared.asking.TheConstants.{PIECE}
 use Rattle.rest_connection.specs.declared.asking.AskError.{AskError}
-use Rattle.rest_connection.specs.declared.asking.AskError.TheVariants.{Bytes, Line}
-use Rattle.rest_connection.specs.Connections.{IsAsked, LeavesRest, at_end, fault_seen, seen}
+use Rattle.rest_connection.specs.declared.asking.AskError.TheVariants.{Bytes, Connection}
+use Rattle.rest_connection.specs.Connections.{IsRequested, LeavesRest, at_end, fault_seen, seen}
 
 -- the most bytes that are read of a connection
 abbrev pub most-read : ℕ
@@ -35,7 +35,7 @@ most-read = HEAD_LIMIT + (BODY_LIMIT + PIECE)
 -- these bytes have been read, and what the door promised still holds
 pub record Reading {D : Type 0} (door : Ghosts D) (before after : D) (bytes : List ℕ) : Type 0 where
   pub facts : Tells (door.told before) (λ facts. door.told after ≡ Some (after_read (length bytes) facts))
-  pub read : HasRead (bytes_here (door.told before)) (bytes_here (door.told after)) (door.line_faults before) (door.line_faults after) bytes most-read
+  pub read : HasRead (bytes_here (door.told before)) (bytes_here (door.told after)) (door.connection_faults before) (door.connection_faults after) bytes most-read
   pub present : 0 < length bytes → Tells (door.told before) (λ facts. IsSome facts.here)
   pub calm : door.door_faults after ≡ door.door_faults before
   pub served : (n : ℕ) → door.serves before n → door.serves after n
@@ -69,7 +69,7 @@ pub record ReadsPiece {D : Type 0} (door : Ghosts D) (mid after : D) (bytes long
   pub bytes_are : Known (bytes_here (door.told mid)) (λ all. (count ≤ length all) × (longer ≡ bytes ++ take count all))
   pub facts : Tells (door.told mid) (λ facts. door.told after ≡ Some (after_read count facts))
   pub present : Tells (door.told mid) (λ facts. IsSome facts.here)
-  pub grows : door.line_faults mid ≤ door.line_faults after
+  pub grows : door.connection_faults mid ≤ door.connection_faults after
   pub calm : door.door_faults after ≡ door.door_faults mid
   pub served : (n : ℕ) → door.serves mid n → door.serves after n
   pub reliable : (n : ℕ) → door.takes mid n → door.takes after n
@@ -136,9 +136,9 @@ still-wanted bytes reads =
     more-wanted bytes begins.0 begins.1 (sym begins.2)
 
 -- what a reading tells that the bytes ask, and nothing where more are wanted or memory is wanting
-abbrev pub reading_seen : Result (Option Request) RequestFault → Option (Result Asked RequestFault)
+abbrev pub reading_seen : Result (Option Request) RequestFault → Option (Result RequestText RequestFault)
 reading_seen (Ok None) = None
-reading_seen (Ok (Some request)) = Some (Ok (asked_by request))
+reading_seen (Ok (Some request)) = Some (Ok (request_text request))
 reading_seen (Err fault) = fault_seen fault
 
 -- a head has a byte
@@ -170,47 +170,47 @@ nothing-yet (Whole h) x = absurd (no-request-yet h x.0 x.1)
 nothing-yet Incomplete x = refl
 nothing-yet Malformed x = absurd (x (print_request shortest ++ []) shortest [] (shortest-is, refl))
 
-unanswered : (result : Result (Option Request) RequestFault) (answer : Result Asked RequestFault) → answer_seen result ≡ Ok None → reading_seen result ≡ Some answer → ⊥
+unanswered : (result : Result (Option Request) RequestFault) (answer : Result RequestText RequestFault) → answer_seen result ≡ Ok None → reading_seen result ≡ Some answer → ⊥
 unanswered (Ok None) answer none is = cc
 unanswered (Ok (Some request)) answer none is = cc
 unanswered (Err fault) answer none is = cc
 
-no-memory : (result : Result (Option Request) RequestFault) (answer : Result Asked RequestFault) → reading_seen result ≡ Some answer → result ≢ Err Memory
+no-memory : (result : Result (Option Request) RequestFault) (answer : Result RequestText RequestFault) → reading_seen result ≡ Some answer → result ≢ Err Memory
 no-memory result answer is e = cc
 
 -- what was answered to bytes was answered to some
-pub answered-some : (bytes : List ℕ) (result : Result (Option Request) RequestFault) (answer : Result Asked RequestFault) → Reads bytes result → reading_seen result ≡ Some answer → 0 < length bytes
+pub answered-some : (bytes : List ℕ) (result : Result (Option Request) RequestFault) (answer : Result RequestText RequestFault) → Reads bytes result → reading_seen result ≡ Some answer → 0 < length bytes
 answered-some [] result answer reads is =
     let begins = reads (no-memory result answer is) in
     absurd (unanswered result answer (begins.2 ∙ nothing-yet begins.0 begins.1) is)
 answered-some (byte ∷ bytes) result answer reads is = omega arith
 
 -- what was answered to a front is asked by all
-early : (all bytes : List ℕ) (found : Result (Option Asked) RequestFault) (answer : Result Asked RequestFault) → bytes ≡ take (length bytes) all
-    → (begun : Begun) × IsBegun bytes begun × (found ≡ answer_of bytes begun) → found ≢ Ok None → answer ≡ at_end found → IsAsked all answer
+early : (all bytes : List ℕ) (found : Result (Option RequestText) RequestFault) (answer : Result RequestText RequestFault) → bytes ≡ take (length bytes) all
+    → (begun : Begun) × IsBegun bytes begun × (found ≡ answer_of bytes begun) → found ≢ Ok None → answer ≡ at_end found → IsRequested all answer
 early all bytes found answer front begins some is =
     let later = stays bytes (drop (length bytes) all) begins.0 begins.1 (λ e. some (begins.2 ∙ e)) in
     let whole : bytes ++ drop (length bytes) all ≡ all = ap (λ t. t ++ drop (length bytes) all) front ∙ take-append-drop (length bytes) all in
-    subst (λ t. IsAsked t answer) whole (later.0, later.1, is ∙ ap at_end (begins.2 ∙ sym later.2))
+    subst (λ t. IsRequested t answer) whole (later.0, later.1, is ∙ ap at_end (begins.2 ∙ sym later.2))
 
-pub asked-early : (all bytes : List ℕ) (result : Result (Option Request) RequestFault) (answer : Result Asked RequestFault) → bytes ≡ take (length bytes) all
-    → Reads bytes result → reading_seen result ≡ Some answer → IsAsked all answer
+pub asked-early : (all bytes : List ℕ) (result : Result (Option Request) RequestFault) (answer : Result RequestText RequestFault) → bytes ≡ take (length bytes) all
+    → Reads bytes result → reading_seen result ≡ Some answer → IsRequested all answer
 asked-early all bytes (Ok None) answer front reads is = cc
-asked-early all bytes (Ok (Some request)) answer front reads is = early all bytes (Ok (Some (asked_by request))) answer front (reads (λ e. cc)) (λ e. cc) cc
+asked-early all bytes (Ok (Some request)) answer front reads is = early all bytes (Ok (Some (request_text request))) answer front (reads (λ e. cc)) (λ e. cc) cc
 asked-early all bytes (Err BadHead) answer front reads is = early all bytes (Err BadHead) answer front (reads (λ e. cc)) (λ e. cc) cc
 asked-early all bytes (Err TooLong) answer front reads is = early all bytes (Err TooLong) answer front (reads (λ e. cc)) (λ e. cc) cc
 asked-early all bytes (Err BadLength) answer front reads is = early all bytes (Err BadLength) answer front (reads (λ e. cc)) (λ e. cc) cc
 asked-early all bytes (Err Memory) answer front reads is = cc
 
 -- a fault of the reading is one of the call
-pub asked-by-fault : (all bytes : List ℕ) (fault : RequestFault) (result : Result Request AskError) (answer : Result Asked RequestFault) → bytes ≡ take (length bytes) all
-    → Reads bytes (Err fault) → IsErrAnd result (λ error. error ≡ Bytes fault) → seen result ≡ Some answer → IsAsked all answer
+pub asked-by-fault : (all bytes : List ℕ) (fault : RequestFault) (result : Result Request AskError) (answer : Result RequestText RequestFault) → bytes ≡ take (length bytes) all
+    → Reads bytes (Err fault) → IsErrAnd result (λ error. error ≡ Bytes fault) → seen result ≡ Some answer → IsRequested all answer
 asked-by-fault all bytes fault (Ok request) answer front reads fails is = absurd fails
 asked-by-fault all bytes fault (Err error) answer front reads fails is =
     let same : error ≡ Bytes fault = fails in
     asked-early all bytes (Err fault) answer front reads (rw same at is)
 
-pub fault-answered-some : (bytes : List ℕ) (fault : RequestFault) (result : Result Request AskError) (answer : Result Asked RequestFault)
+pub fault-answered-some : (bytes : List ℕ) (fault : RequestFault) (result : Result Request AskError) (answer : Result RequestText RequestFault)
     → Reads bytes (Err fault) → IsErrAnd result (λ error. error ≡ Bytes fault) → seen result ≡ Some answer → 0 < length bytes
 fault-answered-some bytes fault (Ok request) answer reads fails is = absurd fails
 fault-answered-some bytes fault (Err error) answer reads fails is =
@@ -218,22 +218,22 @@ fault-answered-some bytes fault (Err error) answer reads fails is =
     answered-some bytes (Err fault) answer reads (rw same at is)
 
 -- want of memory and a failed read tell nothing
-pub unseen : (error : AskError) (result : Result Request AskError) (answer : Result Asked RequestFault) → (error ≡ Bytes Memory) ⊎ (error ≡ Line)
+pub unseen : (error : AskError) (result : Result Request AskError) (answer : Result RequestText RequestFault) → (error ≡ Bytes Memory) ⊎ (error ≡ Connection)
     → IsErrAnd result (λ given. given ≡ error) → seen result ≡ Some answer → ⊥
 unseen error (Ok request) answer which fails is = absurd fails
 unseen error (Err (Bytes fault)) answer (inl memory) fails is =
     let same : fault ≡ Memory = cc in
     cc
 unseen error (Err (Bytes fault)) answer (inr line) fails is = cc
-unseen error (Err Line) answer which fails is = cc
+unseen error (Err Connection) answer which fails is = cc
 
 -- where more are wanted at the end, a bad head is asked
-pub asked-at-end : (all bytes : List ℕ) (answer : Result Asked RequestFault) → bytes ≡ take (length bytes) all → length (drop (length bytes) all) ≡ 0
-    → Reads bytes (Ok None) → answer ≡ Err BadHead → IsAsked all answer
+pub asked-at-end : (all bytes : List ℕ) (answer : Result RequestText RequestFault) → bytes ≡ take (length bytes) all → length (drop (length bytes) all) ≡ 0
+    → Reads bytes (Ok None) → answer ≡ Err BadHead → IsRequested all answer
 asked-at-end all bytes answer front none reads is =
     let begins = reads (λ e. cc) in
     let whole : bytes ≡ all = front ∙ take_all (length bytes) all (omega (arith, length-drop (length bytes) all, none)) in
-    subst (λ t. IsAsked t answer) whole (begins.0, begins.1, is ∙ ap at_end begins.2)
+    subst (λ t. IsRequested t answer) whole (begins.0, begins.1, is ∙ ap at_end begins.2)
 
 -- what was read asks by itself what it was answered
 front-of-itself : (bytes : List ℕ) → bytes ≡ take (length bytes) bytes
@@ -242,13 +242,13 @@ front-of-itself bytes = sym (take_all (length bytes) bytes (omega arith))
 here-of : (before : Option DoorFacts) (facts : DoorFacts) (all : List ℕ) → before ≡ Some facts → facts.here ≡ Some all → bytes_here before ≡ Some all
 here-of before facts all is here = ap bytes_here is ∙ here
 
-left-early : {D : Type 0} (door : Ghosts D) (before after : D) (bytes : List ℕ) (told : Option (Result Asked RequestFault)) → Reading door before after bytes
-    → ((answer : Result Asked RequestFault) → told ≡ Some answer → IsAsked bytes answer) → Tells (door.told before) (λ facts. LeavesRest most-read facts (door.told after) told)
+left-early : {D : Type 0} (door : Ghosts D) (before after : D) (bytes : List ℕ) (told : Option (Result RequestText RequestFault)) → Reading door before after bytes
+    → ((answer : Result RequestText RequestFault) → told ≡ Some answer → IsRequested bytes answer) → Tells (door.told before) (λ facts. LeavesRest most-read facts (door.told after) told)
 left-early door before after bytes told had own facts is = (
   length bytes,
   had.read.within,
   had.facts facts is,
-  λ all here answer told_is. subst (λ t. IsAsked t answer) (had.read.front all (here-of (door.told before) facts all is here)).1 (own answer told_is),
+  λ all here answer told_is. subst (λ t. IsRequested t answer) (had.read.front all (here-of (door.told before) facts all is here)).1 (own answer told_is),
 )
 
 pub left-request : {D : Type 0} (door : Ghosts D) (before after : D) (bytes : List ℕ) (request : Request) → Reading door before after bytes → Reads bytes (Ok (Some request))
@@ -262,9 +262,9 @@ left-fault door before after bytes fault result had reads fails =
     left-early door before after bytes (seen result) had (λ answer told_is. asked-by-fault bytes bytes fault result answer (front-of-itself bytes) reads fails told_is)
 
 -- at most one more piece was taken, and nothing was told
-pub left-untold : {D : Type 0} (door : Ghosts D) (before mid after : D) (bytes : List ℕ) (told : Option (Result Asked RequestFault)) → Reading door before mid bytes → length bytes < HEAD_LIMIT + BODY_LIMIT
+pub left-untold : {D : Type 0} (door : Ghosts D) (before mid after : D) (bytes : List ℕ) (told : Option (Result RequestText RequestFault)) → Reading door before mid bytes → length bytes < HEAD_LIMIT + BODY_LIMIT
     → Tells (door.told mid) (λ facts. (count : ℕ) × (count ≤ PIECE) × (door.told after ≡ Some (after_read count facts)))
-    → ((answer : Result Asked RequestFault) → told ≡ Some answer → ⊥) → Tells (door.told before) (λ facts. LeavesRest most-read facts (door.told after) told)
+    → ((answer : Result RequestText RequestFault) → told ≡ Some answer → ⊥) → Tells (door.told before) (λ facts. LeavesRest most-read facts (door.told after) told)
 left-untold door before mid after bytes told had short more none facts is =
     let next = more (after_read (length bytes) facts) (had.facts facts is) in (
       length bytes + next.0,
@@ -285,7 +285,7 @@ left-at-end door before mid after bytes count had short within more ended reads 
       let all_is : bytes_here (door.told before) ≡ Some all = here-of (door.told before) facts all is here in
       let none : length (drop (length bytes) all) ≡ 0 = ended (drop (length bytes) all) (had.read.rest all all_is) in
       let whole : all ≡ take (length bytes + count) all = sym (take_all (length bytes + count) all (omega (arith, length-drop (length bytes) all, none))) in
-      subst (λ t. IsAsked t answer) whole (asked-at-end all bytes answer (had.read.front all all_is).1 none reads cc),
+      subst (λ t. IsRequested t answer) whole (asked-at-end all bytes answer (had.read.front all all_is).1 none reads cc),
 )
 
 -- no more bytes than a head may have ask one thing, whatever they begin with
@@ -307,7 +307,7 @@ one-end all true one other is x y =
 one-end all false one other is x y = inl (one-short all one other is x y)
 
 -- bytes ask one thing, but for an end within a target at the limit of a head
-pub asks-one : (all : List ℕ) (one other : Result Asked RequestFault) → IsAsked all one → IsAsked all other
+pub asks-one : (all : List ℕ) (one other : Result RequestText RequestFault) → IsRequested all one → IsRequested all other
     → (one ≡ other) ⊎ (EndsInTarget (head_room all) × (HEAD_LIMIT < length all))
 asks-one all one other x y =
     elim (one-end all (nat_lt HEAD_LIMIT (length all)) x.0 y.0 refl x.1 y.1) [ inl e ↦ inl (x.2 ∙ e ∙ sym y.2) | inr t ↦ inr t ]

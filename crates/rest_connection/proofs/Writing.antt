@@ -11,7 +11,7 @@ pub record Written {D : Type 0} (door : Ghosts D) (before after : D) (bytes : Li
   pub within : at ≤ length bytes
   pub grew : Tells (door.told before) (λ facts. door.told after ≡ Some (after_write (take at bytes) facts))
   pub present : 0 < at → Tells (door.told before) (λ facts. IsSome facts.here)
-  pub grows : door.line_faults before ≤ door.line_faults after
+  pub grows : door.connection_faults before ≤ door.connection_faults after
   pub calm : door.door_faults after ≡ door.door_faults before
   pub served : (n : ℕ) → door.serves before n → door.serves after n
   pub room : (n : ℕ) → door.takes before n → length bytes ≤ n → door.takes after (n - at)

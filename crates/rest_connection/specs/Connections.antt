@@ -5,35 +5,35 @@ use Rattle.pat_door.specs.Doors.{DoorFacts, after_read}
 use Rattle.rest_message.specs.declared.request.Request.{Request}
 use Rattle.rest_request.specs.declared.fault.RequestFault.{RequestFault}
 use Rattle.rest_request.specs.declared.fault.RequestFault.TheVariants.{BadHead, TooLong, BadLength, Memory}
-use Rattle.rest_message.specs.Requests.{Asked, asked_by}
+use Rattle.rest_message.specs.Requests.{RequestText, request_text}
 use Rattle.rest_request.specs.Reading.{Begun, IsBegun, answer_of}
 use Rattle.rest_connection.specs.declared.asking.AskError.{AskError}
-use Rattle.rest_connection.specs.declared.asking.AskError.TheVariants.{Bytes, Line}
+use Rattle.rest_connection.specs.declared.asking.AskError.TheVariants.{Bytes, Connection}
 
 -- what is answered where no more bytes come: a head or a content that isn't whole is a bad head
-abbrev pub at_end : Result (Option Asked) RequestFault → Result Asked RequestFault
+abbrev pub at_end : Result (Option RequestText) RequestFault → Result RequestText RequestFault
 at_end (Ok None) = Err BadHead
 at_end (Ok (Some asked)) = Ok asked
 at_end (Err fault) = Err fault
 
 -- this is asked by all the bytes that a connection brings, by what they begin with
-abbrev pub IsAsked : List ℕ → Result Asked RequestFault → Type 0
-IsAsked all answer = (begun : Begun) × IsBegun all begun × (answer ≡ at_end (answer_of all begun))
+abbrev pub IsRequested : List ℕ → Result RequestText RequestFault → Type 0
+IsRequested all answer = (begun : Begun) × IsBegun all begun × (answer ≡ at_end (answer_of all begun))
 
 -- what a fault of the bytes tells that they ask, and nothing of them where memory was wanting
-abbrev pub fault_seen : RequestFault → Option (Result Asked RequestFault)
+abbrev pub fault_seen : RequestFault → Option (Result RequestText RequestFault)
 fault_seen BadHead = Some (Err BadHead)
 fault_seen TooLong = Some (Err TooLong)
 fault_seen BadLength = Some (Err BadLength)
 fault_seen Memory = None
 
 -- what a call tells that the bytes ask, and nothing where memory was wanting or a read failed
-abbrev pub seen : Result Request AskError → Option (Result Asked RequestFault)
-seen (Ok request) = Some (Ok (asked_by request))
+abbrev pub seen : Result Request AskError → Option (Result RequestText RequestFault)
+seen (Ok request) = Some (Ok (request_text request))
 seen (Err (Bytes fault)) = fault_seen fault
-seen (Err Line) = None
+seen (Err Connection) = None
 
 -- of the bytes to come these at most were read, the rest is left, and what was told is asked by those that were read alone
-abbrev pub LeavesRest : ℕ → DoorFacts → Option DoorFacts → Option (Result Asked RequestFault) → Type 0
+abbrev pub LeavesRest : ℕ → DoorFacts → Option DoorFacts → Option (Result RequestText RequestFault) → Type 0
 LeavesRest most facts after told = (count : ℕ) × (count ≤ most) × (after ≡ Some (after_read count facts))
-    × Known facts.here (λ all. (answer : Result Asked RequestFault) → told ≡ Some answer → IsAsked (take count all) answer)
+    × Known facts.here (λ all. (answer : Result RequestText RequestFault) → told ≡ Some answer → IsRequested (take count all) answer)

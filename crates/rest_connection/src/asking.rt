@@ -5,10 +5,10 @@ ghost use Rattle.pat_door.specs.Doors.{Tells, bytes_here, after_read};
 ghost use Rattle.rest_request.specs.declared.fault.RequestFault.{RequestFault};
 ghost use Rattle.rest_request.specs.declared.fault.RequestFault.TheVariants as faults;
 ghost use Rattle.rest_request.specs.declared.limits.TheConstants.{HEAD_LIMIT, BODY_LIMIT};
-ghost use Rattle.rest_message.specs.Requests.{Asked};
-ghost use Rattle.rest_connection.specs.declared.asking.AskError.TheVariants.{Bytes, Line};
+ghost use Rattle.rest_message.specs.Requests.{RequestText};
+ghost use Rattle.rest_connection.specs.declared.asking.AskError.TheVariants.{Bytes, Connection};
 ghost use Rattle.rest_connection.specs.declared.asking.TheConstants.{PIECE};
-ghost use Rattle.rest_connection.specs.Connections.{IsAsked, LeavesRest, seen};
+ghost use Rattle.rest_connection.specs.Connections.{IsRequested, LeavesRest, seen};
 
 use pat_base::Failed;
 use pat_door::Door;
@@ -28,7 +28,7 @@ pub enum AskError {
     Bytes(RequestFault),
     /// A read of the door failed.
     #[error("connection failed")]
-    Line,
+    Connection,
 }
 
 impl From<AllocError> for AskError {
@@ -48,26 +48,26 @@ impl From<RequestFault> for AskError {
 }
 
 impl From<Failed> for AskError {
-    ghost from_gives = { λ _ e. e ≡ Line };
+    ghost from_gives = { λ _ e. e ≡ Connection };
 
     fn from(_: Failed) -> Self {
-        AskError::Line
+        AskError::Connection
     }
 }
 
 /// The request with which the bytes of the present connection begin, read in as many pieces as it takes (RFC 9112,
 /// section 2.2). Where they end before it is whole the fault is `BadHead`. Nothing depends on how the connection cuts them,
-/// but for those that end within a target that never becomes whole (`cuts_change_nothing`). Bytes behind the request may be
+/// but where there are more than `HEAD_LIMIT` of which the first end within a target (`cuts_change_nothing`). Bytes behind the request may be
 /// read too, and are lost.
 pub fn read_request_from<D: Door>(alloc: Global, door: &mut D) -> Result<Request, AskError>
-    ensures asked { Known (bytes_here (D.told door.old)) (λ all. (answer : Result Asked RequestFault) → seen result ≡ Some answer → IsAsked all answer) }
-    ensures present { (answer : Result Asked RequestFault) → seen result ≡ Some answer → Tells (D.told door.old) (λ facts. IsSome facts.here) }
+    ensures asked { Known (bytes_here (D.told door.old)) (λ all. (answer : Result RequestText RequestFault) → seen result ≡ Some answer → IsRequested all answer) }
+    ensures present { (answer : Result RequestText RequestFault) → seen result ≡ Some answer → Tells (D.told door.old) (λ facts. IsSome facts.here) }
     ensures left { Tells (D.told door.old) (λ facts. LeavesRest (HEAD_LIMIT + (BODY_LIMIT + PIECE)) facts (D.told door.new) (seen result)) }
-    ensures failed { IsErrOf result Line → Rose (D.line_faults door.old) (D.line_faults door.new) }
-    ensures grows { D.line_faults door.old ≤ D.line_faults door.new }
+    ensures failed { IsErrOf result Connection → Rose (D.connection_faults door.old) (D.connection_faults door.new) }
+    ensures grows { D.connection_faults door.old ≤ D.connection_faults door.new }
     ensures door { D.door_faults door.new ≡ D.door_faults door.old }
     ensures served { (n : ℕ) → D.serves door.old n → D.serves door.new n }
-    ensures reliable { (n : ℕ) → D.takes door.old n → D.takes door.new n × (result ≢ Err Line) }
+    ensures reliable { (n : ℕ) → D.takes door.old n → D.takes door.new n × (result ≢ Err Connection) }
 {
     let mut bytes = Vec::new(alloc);
     loop {
@@ -89,12 +89,12 @@ fn read_more<D: Door>(door: &mut D, bytes: &mut Vec<u8>) -> Result<usize, AskErr
     ensures after { IfOk result (λ count. Tells (D.told door.old) (λ facts. D.told door.new ≡ Some (after_read count facts))) }
     ensures end { IfOk result (λ count. Known (bytes_here (D.told door.old)) (λ all. count ≡ 0 → length all ≡ 0)) }
     ensures left { Tells (D.told door.old) (λ facts. (count : ℕ) × (count ≤ PIECE) × (D.told door.new ≡ Some (after_read count facts))) }
-    ensures errors { MatchResult result (λ _. ⊤) (λ error. (error ≡ Bytes faults.Memory) ⊎ (error ≡ Line)) }
-    ensures failed { IsErrOf result Line → Rose (D.line_faults door.old) (D.line_faults door.new) }
-    ensures grows { D.line_faults door.old ≤ D.line_faults door.new }
+    ensures errors { MatchResult result (λ _. ⊤) (λ error. (error ≡ Bytes faults.Memory) ⊎ (error ≡ Connection)) }
+    ensures failed { IsErrOf result Connection → Rose (D.connection_faults door.old) (D.connection_faults door.new) }
+    ensures grows { D.connection_faults door.old ≤ D.connection_faults door.new }
     ensures door { D.door_faults door.new ≡ D.door_faults door.old }
     ensures served { (n : ℕ) → D.serves door.old n → D.serves door.new n }
-    ensures reliable { (n : ℕ) → D.takes door.old n → D.takes door.new n × (result ≢ Err Line) }
+    ensures reliable { (n : ℕ) → D.takes door.old n → D.takes door.new n × (result ≢ Err Connection) }
 {
     let mut buf = [0u8; PIECE];
     let count = door.read(&mut buf)?;

@@ -4,7 +4,7 @@ ghost use Rattle.pat_base.specs.Outside.{Rose};
 ghost use Rattle.pat_door.specs.Doors.{Tells, after_write};
 ghost use Rattle.rest_message.specs.Replies.{reply_text};
 ghost use Rattle.rest_reply.specs.Replies.{reply_bytes};
-ghost use Rattle.rest_connection.specs.declared.replying.ReplyError.TheVariants.{Memory, Line};
+ghost use Rattle.rest_connection.specs.declared.replying.ReplyError.TheVariants.{Memory, Connection};
 ghost use Rattle.rest_connection.specs.Answers.{WritesFront};
 
 use pat_base::Failed;
@@ -21,7 +21,7 @@ pub enum ReplyError {
     Memory,
     /// A write of the door failed, and a front of the reply was written.
     #[error("connection failed")]
-    Line,
+    Connection,
 }
 
 impl From<AllocError> for ReplyError {
@@ -33,10 +33,10 @@ impl From<AllocError> for ReplyError {
 }
 
 impl From<Failed> for ReplyError {
-    ghost from_gives = { λ _ e. e ≡ Line };
+    ghost from_gives = { λ _ e. e ≡ Connection };
 
     fn from(_: Failed) -> Self {
-        ReplyError::Line
+        ReplyError::Connection
     }
 }
 
@@ -52,12 +52,12 @@ pub fn write_reply_to<D: Door>(
     ensures present { OnOk result (Tells (D.told door.old) (λ facts. IsSome facts.here)) }
     ensures front { OnErr result (WritesFront (D.told door.old) (D.told door.new) (reply_bytes (reply_text reply.now) head_only)) }
     ensures memory { IsErrOf result Memory → door.new ≡ door.old }
-    ensures failed { IsErrOf result Line → Rose (D.line_faults door.old) (D.line_faults door.new) }
-    ensures grows { D.line_faults door.old ≤ D.line_faults door.new }
+    ensures failed { IsErrOf result Connection → Rose (D.connection_faults door.old) (D.connection_faults door.new) }
+    ensures grows { D.connection_faults door.old ≤ D.connection_faults door.new }
     ensures door { D.door_faults door.new ≡ D.door_faults door.old }
     ensures served { (n : ℕ) → D.serves door.old n → D.serves door.new n }
     ensures room { (n : ℕ) → D.takes door.old n → length (reply_bytes (reply_text reply.now) head_only) ≤ n
-        → MatchResult result (λ _. D.takes door.new (n - length (reply_bytes (reply_text reply.now) head_only))) (λ error. error ≢ Line) }
+        → MatchResult result (λ _. D.takes door.new (n - length (reply_bytes (reply_text reply.now) head_only))) (λ error. error ≢ Connection) }
 {
     let bytes = print_reply(alloc, reply, head_only)?;
     write_whole(door, &bytes)?;
@@ -69,8 +69,8 @@ fn write_whole<D: Door>(door: &mut D, bytes: &[u8]) -> Result<(), Failed>
     ensures written { OnOk result (Tells (D.told door.old) (λ facts. D.told door.new ≡ Some (after_write bytes.now facts))) }
     ensures present { 0 < length bytes.now → OnOk result (Tells (D.told door.old) (λ facts. IsSome facts.here)) }
     ensures front { OnErr result (WritesFront (D.told door.old) (D.told door.new) bytes.now) }
-    ensures failed { OnErr result (Rose (D.line_faults door.old) (D.line_faults door.new)) }
-    ensures grows { D.line_faults door.old ≤ D.line_faults door.new }
+    ensures failed { OnErr result (Rose (D.connection_faults door.old) (D.connection_faults door.new)) }
+    ensures grows { D.connection_faults door.old ≤ D.connection_faults door.new }
     ensures door { D.door_faults door.new ≡ D.door_faults door.old }
     ensures served { (n : ℕ) → D.serves door.old n → D.serves door.new n }
     ensures room { (n : ℕ) → D.takes door.old n → length bytes.now ≤ n → IsOk result × D.takes door.new (n - length bytes.now) }

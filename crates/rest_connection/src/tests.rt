@@ -49,8 +49,8 @@ fn faults(rt: HostRuntime) -> Result<(), Fail> {
         (&PATCH[..24], &[], AskError::Bytes(RequestFault::BadHead)),
         (&PATCH[..45], &[], AskError::Bytes(RequestFault::BadHead)),
         (&PATCH[..46], &[], AskError::Bytes(RequestFault::BadHead)),
-        (PATCH, &[2], AskError::Line),
-        (&PATCH[..46], &[3], AskError::Line),
+        (PATCH, &[2], AskError::Connection),
+        (&PATCH[..46], &[3], AskError::Connection),
     ];
     for (bytes, fails, wanted) in &cases {
         let fault = fault_of(rt.alloc(), *bytes, *fails)?;
@@ -91,7 +91,7 @@ fn replies(rt: HostRuntime) -> Result<(), Fail> {
     let cases: [(bool, usize, Result<(), ReplyError>, &[u8]); 3] = [
         (false, 91, Ok(()), ANSWER),
         (true, 91, Ok(()), &ANSWER[..89]),
-        (false, 90, Err(ReplyError::Line), b""),
+        (false, 90, Err(ReplyError::Connection), b""),
     ];
     for (head_only, room, wanted, answer) in &cases {
         let mut door = accepted(rt.alloc(), b"", *room, &[])?;

@@ -24,7 +24,7 @@ use Rattle.rest_health.specs.Laws.{is_for_primaries}
 use Rattle.rest_health.specs.Statuses.{ok}
 use Rattle.rest_facts.specs.Checks.{health_of_view}
 use Rattle.rest_facts.specs.Members.{has_key, is_primary}
-use Rattle.rest_message.specs.Requests.{Asked}
+use Rattle.rest_message.specs.Requests.{RequestText}
 use Rattle.rest_message.specs.Targets.{lag_of, path_of}
 use Rattle.rest_paths.specs.declared.asking.Ask.{Ask}
 use Rattle.rest_paths.specs.declared.asking.Ask.TheVariants as asks
@@ -80,11 +80,11 @@ reply-status view seen endpoint lag false = refl
 same-reply : (first second : ReplyText) → Replies first ≡ Replies second → first ≡ second
 same-reply first second is = cc
 
-check-status : (view : AgentView) (seen : Option SnapshotFacts) (asked : Asked) (endpoint : Endpoint) (told : Bool) (reply : ReplyText) → ask_of asked.verb (path_of asked.target) ≡ asks.Health endpoint told → answer_to view seen asked ≡ Replies reply
+check-status : (view : AgentView) (seen : Option SnapshotFacts) (asked : RequestText) (endpoint : Endpoint) (told : Bool) (reply : ReplyText) → ask_of asked.verb (path_of asked.target) ≡ asks.Health endpoint told → answer_to view seen asked ≡ Replies reply
     → health_of_view endpoint view seen (lag_of asked.target) ≡ reply.status
 check-status view seen asked endpoint told reply asks_so is =
     let lag : Option (List ℕ) = lag_of asked.target in
-    let said : Replies (health_reply view seen endpoint lag told) ≡ Replies reply = ap (λ (ask : Ask). answer_by view seen lag asked.content ask) (sym asks_so) ∙ is in
+    let said : Replies (health_reply view seen endpoint lag told) ≡ Replies reply = ap (λ (ask : Ask). answer_by view seen lag asked.body ask) (sym asks_so) ∙ is in
     sym (reply-status view seen endpoint lag told) ∙ ap (λ (r : ReplyText). r.status) (same-reply (health_reply view seen endpoint lag told) reply said)
 
 -- an agent stands with its machine, whose server is that of its number

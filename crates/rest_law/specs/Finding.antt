@@ -4,7 +4,7 @@ use Rattle.event_book.specs.declared.member.Member.{Member}
 use Rattle.rest_health.specs.declared.endpoint.Endpoint.{Endpoint}
 use Rattle.rest_health.specs.Laws.{is_for_primaries}
 use Rattle.rest_health.specs.Statuses.{ok}
-use Rattle.rest_message.specs.Requests.{Asked}
+use Rattle.rest_message.specs.Requests.{RequestText}
 use Rattle.rest_message.specs.Targets.{path_of}
 use Rattle.rest_paths.specs.declared.asking.Ask.TheVariants.{Health}
 use Rattle.rest_paths.specs.Asking.{ask_of}
@@ -16,12 +16,12 @@ use Rattle.cluster_model.specs.Requests.{answer_at}
 use Rattle.cluster_model.specs.State.{Cluster}
 
 -- a request looks for the primary: it is a health check on '/', '/primary' or '/read-write'
-abbrev pub LooksForPrimary : Asked → Type 0
+abbrev pub LooksForPrimary : RequestText → Type 0
 LooksForPrimary asked = (endpoint : Endpoint) × (told : Bool) × IsTrue (is_for_primaries endpoint) × (ask_of asked.verb (path_of asked.target) ≡ Health endpoint told)
 
 -- a request that looks for the primary finds this member of a cluster at this moment: its agent is there, and would answer 200
 pub record IsFound (cluster : Cluster) (member : Member) : Type 0 where
-  pub asked : Asked
+  pub asked : RequestText
   pub looks : LooksForPrimary asked
   pub agent : Outcome
   pub stands : standing_of cluster member ≡ Some agent

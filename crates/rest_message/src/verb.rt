@@ -26,7 +26,7 @@ impl Verb {
     ghost use Rattle.std.specs.Prelude.{◌≡◌};
     ghost use Rattle.rest_message.specs.Verbs.{verb_of};
 
-    /// The verb of these bytes, which are a method where they are its name in capitals.
+    /// The verb whose name in capitals these bytes are, and `Other` for any other bytes.
     pub fn of(token: &[u8]) -> Verb
         ensures { result ≡ verb_of token.now }
     {

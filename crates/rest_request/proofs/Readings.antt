@@ -10,7 +10,7 @@ use Rattle.rest_request.specs.declared.limits.TheConstants.{HEAD_LIMIT, BODY_LIM
 use Rattle.rest_request.specs.declared.fault.RequestFault.{RequestFault}
 use Rattle.rest_request.specs.declared.fault.RequestFault.TheVariants.{TooLong, BadHead, BadLength}
 use Rattle.rest_request.specs.ContentLength.{within_limit, is_decimal, length_by_all, length_values, content_length}
-use Rattle.rest_message.specs.Requests.{Asked}
+use Rattle.rest_message.specs.Requests.{RequestText}
 use Rattle.rest_request.specs.Reading.{Begun, Whole, Incomplete, Malformed, IsBegun, head_room, behind, asked, answer_by, answer_of}
 
 -- no head is there where none can come
@@ -67,7 +67,7 @@ never-stays limit bytes more never further h rest reads =
     let grown = front-grows limit bytes more in
     never (grown.0 ++ further) h rest (rw append_assoc at (rw grown.1 at reads))
 
-is-full : (test : Bool) (limit : ℕ) (bytes : List ℕ) → nat_lt limit (length bytes) ≡ test → cond {A = Result (Option Asked) RequestFault} test (Err TooLong) (Ok None) ≢ Ok None → limit < length bytes
+is-full : (test : Bool) (limit : ℕ) (bytes : List ℕ) → nat_lt limit (length bytes) ≡ test → cond {A = Result (Option RequestText) RequestFault} test (Err TooLong) (Ok None) ≢ Ok None → limit < length bytes
 is-full true limit bytes is some = ltb-true limit (length bytes) is
 is-full false limit bytes is some = absurd (some refl)
 
@@ -108,7 +108,7 @@ length-is-no-bad-head (value ∷ []) =
     (λ e. cc)
 length-is-no-bad-head (value ∷ other ∷ more) = λ e. cc
 
-same-fault : (f : RequestFault) → ◌≡◌ {A = Result (Option Asked) RequestFault} (Err f) (Err BadHead) → ◌≡◌ {A = Result ℕ RequestFault} (Err f) (Err BadHead)
+same-fault : (f : RequestFault) → ◌≡◌ {A = Result (Option RequestText) RequestFault} (Err f) (Err BadHead) → ◌≡◌ {A = Result ℕ RequestFault} (Err f) (Err BadHead)
 same-fault f e = cc
 
 head-is-no-bad-head : (h : RequestHead) (rest : List ℕ) (length_is : Result ℕ RequestFault) → length_is ≢ Err BadHead → answer_by h rest length_is ≢ Err BadHead

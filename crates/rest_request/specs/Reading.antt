@@ -7,7 +7,7 @@ use Rattle.rest_message.specs.declared.request.Request.{Request}
 use Rattle.rest_request.specs.declared.fault.RequestFault.{RequestFault}
 use Rattle.rest_request.specs.declared.fault.RequestFault.TheVariants.{BadHead, TooLong, Memory}
 use Rattle.rest_request.specs.ContentLength.{content_length}
-use Rattle.rest_message.specs.Requests.{Asked}
+use Rattle.rest_message.specs.Requests.{RequestText}
 use Rattle.rest_request.specs.Answers.{answer_seen}
 use Rattle.rest_message.specs.Verbs.{verb_of}
 
@@ -20,20 +20,20 @@ abbrev pub behind : RequestHead → List ℕ → List ℕ
 behind h bytes = drop (length (print_request h)) bytes
 
 -- what a head with this content asks
-abbrev pub asked : RequestHead → List ℕ → Asked
-asked h content = record { verb = verb_of h.method; target = h.target; content = content }
+abbrev pub asked : RequestHead → List ℕ → RequestText
+asked h body = record { verb = verb_of h.method; target = h.target; body = content }
 
 -- what is answered where this stands behind a head, and its fields give this length or are at fault
-abbrev pub answer_by : RequestHead → List ℕ → Result ℕ RequestFault → Result (Option Asked) RequestFault
+abbrev pub answer_by : RequestHead → List ℕ → Result ℕ RequestFault → Result (Option RequestText) RequestFault
 answer_by h rest (Err fault) = Err fault
 answer_by h rest (Ok n) = if nat_lt (length rest) n then Ok None else Ok (Some (asked h (take n rest)))
 
 -- what is answered where the bytes begin with this head
-abbrev pub answer_to : RequestHead → List ℕ → Result (Option Asked) RequestFault
+abbrev pub answer_to : RequestHead → List ℕ → Result (Option RequestText) RequestFault
 answer_to h bytes = answer_by h (behind h bytes) (content_length (map name_and_value h.fields))
 
 -- what is answered while a head may still come
-abbrev pub answer_before_head : List ℕ → Result (Option Asked) RequestFault
+abbrev pub answer_before_head : List ℕ → Result (Option RequestText) RequestFault
 answer_before_head bytes = if nat_lt HEAD_LIMIT (length bytes) then Err TooLong else Ok None
 
 -- what bytes begin with: a whole head, or what may still become one, or what never will
@@ -49,7 +49,7 @@ IsBegun bytes Incomplete = HasNoRequest (head_room bytes) × MayBecomeRequest (h
 IsBegun bytes Malformed = NeverHasRequest (head_room bytes)
 
 -- what is answered to bytes that begin so
-abbrev pub answer_of : List ℕ → Begun → Result (Option Asked) RequestFault
+abbrev pub answer_of : List ℕ → Begun → Result (Option RequestText) RequestFault
 answer_of bytes (Whole h) = answer_to h bytes
 answer_of bytes Incomplete = answer_before_head bytes
 answer_of bytes Malformed = Err BadHead

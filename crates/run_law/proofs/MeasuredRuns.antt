@@ -2,7 +2,6 @@
 use Rattle.std.proofs.Common.{ℕ, ◌≡◌, List, [], ◌∷◌, slice_get, Option, Some, None, Result, Ok, Err, zero, suc, refl}
 use Rattle.rest_answer.specs.Answers.{Answered, Acts, Replies}
 use Rattle.event_book.specs.declared.event.EventKind.TheVariants as kinds
-use Rattle.event_book.specs.declared.event.Note.TheVariants.{NoAnswer}
 use Rattle.agent_model.specs.Agents.{Outcome}
 use Rattle.std.specs.Map.{keys_of}
 use Rattle.event_book.specs.declared.link.LinkEnd.{LinkEnd}
@@ -14,7 +13,9 @@ use Rattle.script_model.specs.declared.line.Command.{Command}
 use Rattle.script_model.specs.declared.line.Command.TheVariants as commands
 use Rattle.cluster_model.specs.declared.step.Step.{Step}
 use Rattle.cluster_model.specs.declared.step.Step.TheVariants as steps
-use Rattle.rest_message.specs.Requests.{Asked, asked_by}
+use Rattle.rest_message.specs.Requests.{RequestText, request_text}
+use Rattle.cluster_model.specs.declared.asker.Asker.{Asker}
+use Rattle.cluster_model.specs.declared.asker.Asker.TheVariants as askers
 use Rattle.cluster_model.specs.declared.step.Visit.{Visit}
 use Rattle.cluster_model.specs.declared.step.Visit.TheVariants as visits
 use Rattle.cluster_model.specs.declared.delivery.Delivery.{Delivery}
@@ -25,7 +26,7 @@ use Rattle.cluster_model.specs.Limits.{most_rounds}
 use Rattle.cluster_model.specs.Messages.{answered_events, arrival_events_at, deliver_events, deliver_events_by, message_events, message_events_by, request_events, request_events_if, request_events_of, visit_events, turn_events, turn_events_if, wake_events, wake_events_if, wake_events_of}
 use Rattle.cluster_model.specs.Next.{acknowledge_events, command_events, declared, next_events, promote_events, receive_events_at_most, receive_events_of, agent_start_events, round_events, rounds_events, run_events, scheduled_events, step_events}
 use Rattle.cluster_model.specs.Parts.{each, event_of, for_some, is_empty}
-use Rattle.cluster_model.specs.Requests.{action_of, answer_at, asked_in_words}
+use Rattle.cluster_model.specs.Requests.{action_of, answer_at, asked_in_words, silence}
 use Rattle.cluster_model.specs.Starting.{cluster_of}
 use Rattle.cluster_model.specs.State.{Cluster}
 use Rattle.cluster_model.specs.Ticking.{tick_events}
@@ -55,16 +56,16 @@ told-answered : (moments : Moments) (cluster : Cluster) (member : Member) (o : O
 told-answered moments cluster member o (Acts asked) = told-operated moments cluster member (action_of o asked)
 told-answered moments cluster member o (Replies reply) = told-plain moments cluster _ (tt, tt)
 
-tells-request : (request : Asked) (member : Member) → Tells (λ cluster. request_events cluster request member)
-tells-request request member moments cluster knows =
-    told-for_some moments cluster (slice_get cluster.facts.processes member.id.number) (request_events_if cluster request member) (λ process is.
-    told-if moments cluster (may_act process) (for_some (standing_of cluster member) (request_events_of cluster request member)) (event_of cluster (kinds.Note (NoAnswer member)))
+tells-request : (asker : Asker) (request : RequestText) (member : Member) → Tells (λ cluster. request_events cluster asker request member)
+tells-request asker request member moments cluster knows =
+    told-for_some moments cluster (slice_get cluster.facts.processes member.id.number) (request_events_if cluster asker request member) (λ process is.
+    told-if moments cluster (may_act process) (for_some (standing_of cluster member) (request_events_of cluster request member)) (event_of cluster (kinds.Note (silence asker member)))
     (told-for_some moments cluster (standing_of cluster member) (request_events_of cluster request member) (λ o is. told-answered moments cluster member o (answer_at (moment_of cluster) o request)))
     (told-plain moments cluster _ (tt, tt)))
 
 -- what a connection brings
 tells-visit : (visit : Visit) (member : Member) → Tells (λ cluster. visit_events cluster visit member)
-tells-visit (visits.Request request) member = tells-request (asked_by request) member
+tells-visit (visits.Request request) member = tells-request askers.Connection (request_text request) member
 tells-visit (visits.Refusal refusal) member = λ moments cluster knows. told-plain moments cluster _ (tt, tt)
 tells-visit visits.Failure member = λ moments cluster knows. told-plain moments cluster _ (tt, tt)
 
@@ -120,7 +121,7 @@ tells-command (commands.Deliver number) moments cluster knows = told-deliver mom
 tells-command (commands.Lose number) moments cluster knows = told-lose moments cluster number (in_flight cluster.facts.flight number)
 tells-command (commands.StartAgent id) moments cluster knows = told-for_some moments cluster (declared cluster id) (agent_start_events cluster) (λ m is. tells-restart m moments cluster knows)
 tells-command (commands.Promote id) moments cluster knows = told-for_some moments cluster (declared cluster id) (promote_events cluster) (λ m is. tells-promote m moments cluster knows)
-tells-command (commands.Rest id request) moments cluster knows = told-for_some moments cluster (declared cluster id) (request_events cluster (asked_in_words request)) (λ m is. tells-request (asked_in_words request) m moments cluster knows)
+tells-command (commands.Rest id request) moments cluster knows = told-for_some moments cluster (declared cluster id) (request_events cluster askers.Line (asked_in_words request)) (λ m is. tells-request askers.Line (asked_in_words request) m moments cluster knows)
 tells-command (commands.Stream id most) moments cluster knows = told-for_some moments cluster (declared cluster id) (receive_events_at_most cluster most) (λ m is. tells-receive-at-most most m moments cluster knows)
 tells-command command moments cluster knows = tells-kind command moments cluster knows
 

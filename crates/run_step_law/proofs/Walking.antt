@@ -11,13 +11,15 @@ use Rattle.event_book.specs.declared.member.Member.{Member}
 use Rattle.event_book.specs.Flight.{InFlightFacts, in_flight}
 use Rattle.script_model.specs.declared.line.Command.{Command}
 use Rattle.script_model.specs.declared.line.Command.TheVariants as commands
-use Rattle.rest_message.specs.Requests.{Asked, asked_by}
+use Rattle.rest_message.specs.Requests.{RequestText, request_text}
 use Rattle.rest_answer.specs.Answers.{Answered, Acts, Replies}
 use Rattle.rest_answer.specs.Refusals.{refusal_reply}
 use Rattle.rest_message.specs.Replies.{ReplyText}
 use Rattle.agent_model.specs.Agents.{Outcome}
 use Rattle.cluster_model.specs.declared.step.Step.{Step}
 use Rattle.cluster_model.specs.declared.step.Step.TheVariants as steps
+use Rattle.cluster_model.specs.declared.asker.Asker.{Asker}
+use Rattle.cluster_model.specs.declared.asker.Asker.TheVariants as askers
 use Rattle.cluster_model.specs.declared.step.Visit.{Visit}
 use Rattle.cluster_model.specs.declared.step.Visit.TheVariants as visits
 use Rattle.cluster_model.specs.declared.delivery.Delivery.{Delivery}
@@ -29,7 +31,7 @@ use Rattle.cluster_model.specs.Limits.{most_rounds}
 use Rattle.cluster_model.specs.Messages.{answered_events, arrival_events_at, deliver_events, deliver_events_by, lose_events, message_events, message_events_by, request_events, request_events_if, request_events_of, visit_events, turn_events, turn_events_if, wake_events, wake_events_if, wake_events_of}
 use Rattle.cluster_model.specs.Next.{acknowledge_events, all_entries, command_events, declared, next_events, promote_events, receive_events_at_most, receive_events_of, round_events, rounds_events, run_events, scheduled_events, step_events}
 use Rattle.cluster_model.specs.Parts.{each, event_of, for_some, is_empty}
-use Rattle.cluster_model.specs.Requests.{action_of, answer_at, asked_in_words}
+use Rattle.cluster_model.specs.Requests.{action_of, answer_at, asked_in_words, silence}
 use Rattle.cluster_model.specs.State.{Cluster}
 use Rattle.cluster_model.specs.Ticking.{tick_events}
 use Rattle.lease_law.proofs.Tools.{and-first}
@@ -60,17 +62,17 @@ module _ (head : HeadText) (few : length (names_of head) ≤ MOST_MEMBERS) (prom
   upheld-answered member process o (Acts asked) is book cluster good found acts = parts.inputs.operates book cluster member process (action_of o asked) good is found acts
   upheld-answered member process o (Replies reply) is book cluster good found acts = parts.notes (notes.Answered member reply.status reply.json reply.body) book cluster good
 
-  upheld-request : (request : Asked) (member : Member) → IsDeclared head member → UpholdsAlways promise (λ cluster. request_events cluster request member)
-  upheld-request request member is book cluster good =
-      upheld-for_some promise composable book cluster (slice_get cluster.facts.processes member.id.number) (request_events_if cluster request member) good
-      (λ process found. upheld-if promise composable book cluster (may_act process) (for_some (standing_of cluster member) (request_events_of cluster request member)) (event_of cluster (kinds.Note (notes.NoAnswer member)))
+  upheld-request : (asker : Asker) (request : RequestText) (member : Member) → IsDeclared head member → UpholdsAlways promise (λ cluster. request_events cluster asker request member)
+  upheld-request asker request member is book cluster good =
+      upheld-for_some promise composable book cluster (slice_get cluster.facts.processes member.id.number) (request_events_if cluster asker request member) good
+      (λ process found. upheld-if promise composable book cluster (may_act process) (for_some (standing_of cluster member) (request_events_of cluster request member)) (event_of cluster (kinds.Note (silence asker member)))
       (λ acts. upheld-for_some promise composable book cluster (standing_of cluster member) (request_events_of cluster request member) good
       (λ o stands. upheld-answered member process o (answer_at (moment_of cluster) o request) is book cluster good found acts))
-      (λ rests. parts.notes (notes.NoAnswer member) book cluster good))
+      (λ rests. parts.notes (silence asker member) book cluster good))
 
   -- what a connection brings
   upheld-visit : (visit : Visit) (member : Member) → IsDeclared head member → UpholdsAlways promise (λ cluster. visit_events cluster visit member)
-  upheld-visit (visits.Request request) member is = upheld-request (asked_by request) member is
+  upheld-visit (visits.Request request) member is = upheld-request askers.Connection (request_text request) member is
   upheld-visit (visits.Refusal refusal) member is = let reply : ReplyText = refusal_reply refusal in parts.notes (notes.Answered member reply.status reply.json reply.body)
   upheld-visit visits.Failure member is = parts.notes notes.ConnectionFailed
 
@@ -146,7 +148,7 @@ module _ (head : HeadText) (few : length (names_of head) ≤ MOST_MEMBERS) (prom
   upheld-command (commands.Promote id) book cluster good =
       upheld-for_some promise composable book cluster (declared cluster id) (promote_events cluster) good (λ m is. parts.promotions m (declared-now head few cluster (parts.members book cluster good) id m is) book cluster good)
   upheld-command (commands.Rest id request) book cluster good =
-      upheld-for_some promise composable book cluster (declared cluster id) (request_events cluster (asked_in_words request)) good (λ m is. upheld-request (asked_in_words request) m (declared-now head few cluster (parts.members book cluster good) id m is) book cluster good)
+      upheld-for_some promise composable book cluster (declared cluster id) (request_events cluster askers.Line (asked_in_words request)) good (λ m is. upheld-request askers.Line (asked_in_words request) m (declared-now head few cluster (parts.members book cluster good) id m is) book cluster good)
   upheld-command (commands.Stream id most) book cluster good =
       upheld-for_some promise composable book cluster (declared cluster id) (receive_events_at_most cluster most) good (λ m is. parts.receipts most m book cluster good)
   upheld-command command book cluster good = parts.commands command book cluster good

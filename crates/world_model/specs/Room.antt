@@ -106,8 +106,8 @@ abbrev pub agent_start_cost : ℕ
 agent_start_cost = 1 + 1
 
 -- a request comes to an agent, and it acts; what it answers of itself is less
-abbrev pub call_cost : ℕ
-call_cost = hearing_cost + outputs_cost
+abbrev pub request_cost : ℕ
+request_cost = hearing_cost + outputs_cost
 
 -- no command brings more than a turn, a request or a message that is delivered
 abbrev pub command_cost : ℕ

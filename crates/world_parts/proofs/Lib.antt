@@ -1,3 +1,3 @@
-pub mod ServerCommanding
+pub mod Answering
 pub mod Lacking
-pub mod Calling
+pub mod ServerCommanding

@@ -1,43 +1,23 @@
-//! What agents answer operators.
-ghost use Rattle.std.specs.Prelude.{◌≡◌, IfOk, IfSome, option_copied, string_bytes};
-ghost use Rattle.operator_keys.specs.AnswerTexts.{answer_text};
+//! What agents answer to requests.
+ghost use Rattle.std.specs.Prelude.{◌≡◌, IfOk, IfSome, option_copied};
 ghost use Rattle.rest_message.specs.Replies.{reply_text};
-ghost use Rattle.rest_answer.specs.Replies.{text_of};
-ghost use Rattle.cluster_model.specs.Requests.{answering, config_text_of, told_kind};
+ghost use Rattle.event_book.specs.declared.event.EventKind.TheVariants as kinds;
+ghost use Rattle.cluster_model.specs.Requests.{replying, config_text_of, silence, told_kind};
 ghost use Rattle.cluster_model.specs.State.{Cluster};
 ghost use Rattle.world_model.specs.Comes.{MayCome};
 
 use agent_model::Told;
+use cluster_model::Asker;
 use event_book::{Bytes, EventKind, Member, Note};
 use ha_loop::Agent;
-use operator_keys::{OK, Text, configuration_in};
+use operator_keys::{OK, configuration_in};
+use rest_answer::{Refusal, json_reply, refusal_reply, text_reply};
 use rest_message::Reply;
 use std::alloc::{AllocError, Global};
 
-/// The agent of a member answers in these words. It fails only for want of memory.
-fn answer_in_words(
-    alloc: Global,
-    member: Member,
-    status: u16,
-    text: Text,
-) -> Result<EventKind, AllocError>
-    ensures kind { IfOk result (λ kind. kind ≡ answering member (text_of status (answer_text text))) }
-    ensures comes { IfOk result (λ kind. (cluster : Cluster) → MayCome cluster kind) }
-{
-    let body = format!(in alloc; "{text}")?;
-    Ok(answering(
-        member,
-        Reply {
-            status,
-            json: false,
-            body,
-        },
-    ))
-}
-
 /// The agent of a member replies so.
-pub fn answering(member: Member, reply: Reply) -> EventKind
-    ensures kind { result ≡ answering member (reply_text reply) }
+pub fn replying(member: Member, reply: Reply) -> EventKind
+    ensures kind { result ≡ replying member (reply_text reply) }
     ensures comes { (cluster : Cluster) → MayCome cluster result }
 {
     EventKind::Note(Note::Answered {
@@ -46,6 +26,20 @@ pub fn answering(member: Member, reply: Reply) -> EventKind
         json: reply.json,
         body: Bytes::new(reply.body),
     })
+}
+
+/// What comes of a request to the agent of a member that doesn't run or is suspended. It fails only for want of memory.
+pub fn silence(alloc: Global, member: Member, asker: Asker) -> Result<EventKind, AllocError>
+    ensures kind { IfOk result (λ kind. kind ≡ kinds.Note (silence asker member)) }
+    ensures comes { IfOk result (λ kind. (cluster : Cluster) → MayCome cluster kind) }
+{
+    match asker {
+        Asker::Line => Ok(EventKind::Note(Note::NoAnswer { agent: member })),
+        Asker::Connection => {
+            let reply = refusal_reply(alloc, Refusal::NoAgent)?;
+            Ok(replying(member, reply))
+        }
+    }
 }
 
 /// What the agent of a member answers an operator. It fails only for want of memory.
@@ -59,18 +53,16 @@ pub fn told_kind(
     ensures comes { IfOk result (λ kind. (cluster : Cluster) → IfSome kind (MayCome cluster)) }
 {
     match told {
-        Told::Text { status, text } => Ok(Some(answer_in_words(alloc, member, status, text)?)),
+        Told::Text { status, text } => {
+            let reply = text_reply(alloc, status, text)?;
+            Ok(Some(replying(member, reply)))
+        }
         Told::Written => {
             let Some(text) = config_text_of(agent) else {
                 return Ok(None);
             };
-            let body = String::from_str(alloc, text)?;
-            let reply = Reply {
-                status: OK,
-                json: true,
-                body,
-            };
-            Ok(Some(answering(member, reply)))
+            let reply = json_reply(OK, String::from_str(alloc, text)?);
+            Ok(Some(replying(member, reply)))
         }
     }
 }

@@ -56,7 +56,7 @@ use Rattle.cluster_model.specs.Losing.{loss_if}
 use Rattle.cluster_model.specs.Messages.{answer_events_by, answer_message, arrival_events_at, decision_body, decision_events, heard_message, lost_at_once, message_events, message_events_by, output_events, receiver_of, send_events, sending_events, replying_events, server_order_events}
 use Rattle.cluster_model.specs.Orders.{arming, declared_member, feed_kinds, feeding, following_of, handing_over, hold_taken, is_same_required, replica_start_kinds, require_of, required_names, server_at, stop_kind, stop_kinds, stop_of, upstream_of, repair_over, wipe_of}
 use Rattle.rest_answer.specs.Replies.{json_of}
-use Rattle.cluster_model.specs.Requests.{answering, config_text_of, told_kind}
+use Rattle.cluster_model.specs.Requests.{replying, config_text_of, told_kind}
 use Rattle.cluster_model.specs.Parts.{each, events_of, for_some}
 use Rattle.cluster_model.specs.State.{Cluster}
 use Rattle.wal_model.specs.Lacking.{lacks_in}
@@ -219,7 +219,7 @@ mapped-above last told (Some x) all = all x
 
 told-above : (last : ℕ) (member : Member) (agent : Option AgentFacts) (told : Told) → HoldsIf (IsAbove last) (told_kind member agent told)
 told-above last member agent (tolds.Text status text) = tt
-told-above last member agent tolds.Written = mapped-above last (λ text. answering member (json_of ok text)) (config_text_of agent) (λ text. tt)
+told-above last member agent tolds.Written = mapped-above last (λ text. replying member (json_of ok text)) (config_text_of agent) (λ text. tt)
 
 kinds-above : (last : ℕ) (cluster : Cluster) (kind : Option EventKind) → HoldsIf (IsAbove last) kind → AllAre (IsAbove last) (events_of cluster (kinds_of kind))
 kinds-above last cluster kind is = all-kinds (IsAbove last) cluster (kinds_of kind) (one-kind (IsAbove last) kind is)

@@ -23,7 +23,7 @@ use Rattle.cluster_model.specs.Messages.{input_events, no_message, operate_event
 use Rattle.cluster_model.specs.Parts.{each, event_of}
 use Rattle.cluster_model.specs.State.{Cluster}
 use Rattle.world_model.specs.Emits.{Emits}
-use Rattle.world_model.specs.Room.{call_cost, hearing_cost, input_cost, outputs_cost}
+use Rattle.world_model.specs.Room.{request_cost, hearing_cost, input_cost, outputs_cost}
 use Rattle.agent_model.specs.Asked.{AsksShortly}
 use Rattle.agent_model.proofs.Bounds.{step-small}
 use Rattle.world_model.proofs.Taking.{Emits-then, found-took}
@@ -64,8 +64,8 @@ awaken-took cluster rousing after member outputs had mid has one is rest = own-i
 -- an agent does what an operator asks
 pub operate-took : (cluster obeying after : Cluster) (member : Member) (action : OperatorAction) (outputs : List Output) (had mid has : List Event)
     → Emits cluster obeying had mid (event_of cluster (kinds.Agent (Operated member action))) hearing_cost → outputs ≡ outputs_of (outcome_of cluster member (HearsOperator action))
-    → Emits obeying after mid has (each (output_events member no_message) obeying outputs) outputs_cost → Emits cluster after had has (operate_events cluster member action) call_cost
-operate-took cluster obeying after member action outputs had mid has one is rest = own-input-took cluster obeying after member (Operated member action) (HearsOperator action) call_cost outputs had mid has (omega arith) one is rest
+    → Emits obeying after mid has (each (output_events member no_message) obeying outputs) outputs_cost → Emits cluster after had has (operate_events cluster member action) request_cost
+operate-took cluster obeying after member action outputs had mid has one is rest = own-input-took cluster obeying after member (Operated member action) (HearsOperator action) request_cost outputs had mid has (omega arith) one is rest
 
 -- an agent is woken that has something to do
 pub wake-took : (cluster after : Cluster) (member : Member) (process : AgentProcess) (had has : List Event) → slice_get cluster.facts.processes member.id.number ≡ Some process

@@ -4,18 +4,18 @@ ghost use Rattle.cluster_model.specs.Inputs.{standing_of};
 ghost use Rattle.cluster_model.specs.Messages.{operate_events, request_events, request_events_of, visit_events};
 ghost use Rattle.cluster_model.specs.Parts.{for_some};
 ghost use Rattle.world_model.specs.Emits.{Emits};
-ghost use Rattle.world_model.specs.Room.{HasRoom, call_cost};
+ghost use Rattle.world_model.specs.Room.{HasRoom, request_cost};
 
 use crate::carrying::carry_out;
 use crate::wakes::NO_MESSAGE;
-use cluster_model::Visit;
+use cluster_model::{Asker, Visit};
 use event_book::{Event, EventKind, Member, Note};
 use lease_store::OperatorAction;
 use rest_answer::{Answer, answer, refusal_reply};
 use rest_message::Verb;
 use std::alloc::AllocError;
 use world_parts::processes::may_act;
-use world_parts::requests::answering;
+use world_parts::requests::{replying, silence};
 use world_stage::Stage;
 
 /// What a connection brings to the agent of a member.
@@ -25,13 +25,14 @@ pub fn receive_visit(
     visit: &Visit,
     events: &mut Vec<Event>,
 ) -> Result<(), AllocError>
-    requires { HasRoom stage.old call_cost }
-    ensures { OnOk result (Emits stage.old stage.new events.old.items events.new.items (visit_events stage.old visit.now member) call_cost) }
+    requires { HasRoom stage.old request_cost }
+    ensures { OnOk result (Emits stage.old stage.new events.old.items events.new.items (visit_events stage.old visit.now member) request_cost) }
 {
     match visit {
         Visit::Request(request) => make_request(
             stage,
             member,
+            Asker::Connection,
             request.method,
             request.target.as_str(),
             request.body.as_slice(),
@@ -39,23 +40,24 @@ pub fn receive_visit(
         ),
         Visit::Refusal(refusal) => {
             let reply = refusal_reply(stage.alloc(), *refusal)?;
-            stage.happen(answering(member, reply), events)
+            stage.happen(replying(member, reply), events)
         }
         Visit::Failure => stage.happen(EventKind::Note(Note::ConnectionFailed), events),
     }
 }
 
-/// A request is made of the agent of a member: one that doesn't run or is suspended gives no answer.
+/// A request is made of the agent of a member, which may act or not.
 pub fn make_request(
     stage: &mut Stage,
     member: Member,
+    asker: Asker,
     verb: Verb,
     target: &str,
     body: &[u8],
     events: &mut Vec<Event>,
 ) -> Result<(), AllocError>
-    requires { HasRoom stage.old call_cost }
-    ensures { OnOk result (Emits stage.old stage.new events.old.items events.new.items (request_events stage.old (record { verb = verb; target = target.now; content = body.now }) member) call_cost) }
+    requires { HasRoom stage.old request_cost }
+    ensures { OnOk result (Emits stage.old stage.new events.old.items events.new.items (request_events stage.old asker (record { verb = verb; target = target.now; body = body.now }) member) request_cost) }
 {
     let Some(process) = stage.process(member) else {
         return Ok(());
@@ -63,8 +65,8 @@ pub fn make_request(
     if may_act(process) {
         ask_agent(stage, member, verb, target, body, events)
     } else {
-        let silent = Note::NoAnswer { agent: member };
-        stage.happen(EventKind::Note(silent), events)
+        let silence = silence(stage.alloc(), member, asker)?;
+        stage.happen(silence, events)
     }
 }
 
@@ -77,8 +79,8 @@ fn ask_agent(
     body: &[u8],
     events: &mut Vec<Event>,
 ) -> Result<(), AllocError>
-    requires { HasRoom stage.old call_cost }
-    ensures { OnOk result (Emits stage.old stage.new events.old.items events.new.items (for_some (standing_of stage.old member) (request_events_of stage.old (record { verb = verb; target = target.now; content = body.now }) member)) call_cost) }
+    requires { HasRoom stage.old request_cost }
+    ensures { OnOk result (Emits stage.old stage.new events.old.items events.new.items (for_some (standing_of stage.old member) (request_events_of stage.old (record { verb = verb; target = target.now; body = body.now }) member)) request_cost) }
 {
     let Some(machine) = stage.machine(member) else {
         return Ok(());
@@ -86,12 +88,20 @@ fn ask_agent(
     let Some(agent) = stage.agent(member) else {
         return Ok(());
     };
-    let request = agent.next_number();
+    let number = agent.next_number();
     let view = agent.view(stage.clock(), &machine);
     let answered = answer(stage.alloc(), &view, stage.routes(), verb, target, body)?;
     match answered {
-        Answer::Act(asked) => operate(stage, member, OperatorAction { request, asked }, events),
-        Answer::Now(reply) => stage.happen(answering(member, reply), events),
+        Answer::Act(asked) => operate(
+            stage,
+            member,
+            OperatorAction {
+                request: number,
+                asked,
+            },
+            events,
+        ),
+        Answer::Now(reply) => stage.happen(replying(member, reply), events),
     }
 }
 
@@ -102,8 +112,8 @@ fn operate(
     action: OperatorAction,
     events: &mut Vec<Event>,
 ) -> Result<(), AllocError>
-    requires { HasRoom stage.old call_cost }
-    ensures { OnOk result (Emits stage.old stage.new events.old.items events.new.items (operate_events stage.old member action) call_cost) }
+    requires { HasRoom stage.old request_cost }
+    ensures { OnOk result (Emits stage.old stage.new events.old.items events.new.items (operate_events stage.old member action) request_cost) }
 {
     let mut outputs = stage.take_outputs()?;
     stage.obey(member, action, &mut outputs, events)?;

@@ -1,4 +1,4 @@
-//! The steps of a script: ticks, and what commands come to.
+//! The steps of a run: ticks, and what commands come to.
 ghost use Rattle.std.specs.Prelude.{◌≡◌, ◌<◌, ◌+◌, ◌*◌, OnOk, IfSome, Some};
 ghost use Rattle.script_model.specs.Script.{IsCommand};
 ghost use Rattle.event_book.specs.declared.event.Event.{Event};
@@ -16,7 +16,7 @@ use crate::requests::{make_request, receive_visit};
 use crate::servers::promote;
 use crate::ticks::tick;
 use crate::wakes::{start_agent, turn, wakes};
-use cluster_model::Step;
+use cluster_model::{Asker, Step};
 use event_book::{Event, EventKind};
 use rest_message::Verb;
 use script_model::Command;
@@ -29,7 +29,7 @@ use world_stage::Stage;
 /// The most rounds of one tick.
 const MOST_ROUNDS: usize = 40;
 
-/// One step of a script with these members: what happens in it, and then the acknowledgements. On Err, want of memory, the stage
+/// One step of a run with these members: what happens in it, and then the acknowledgements. On Err, want of memory, the stage
 /// isn't to be used any more.
 pub fn take_step(stage: &mut Stage, step: &Step, events: &mut Vec<Event>) -> Result<(), AllocError>
     requires room { HasRoomFor stage.old 1 }
@@ -104,6 +104,7 @@ fn take_command(
             make_request(
                 stage,
                 member,
+                Asker::Line,
                 Verb::of(request.method.as_slice()),
                 request.target_text(),
                 request.body.as_slice(),

@@ -28,6 +28,6 @@ fn on_loopback(rt: HostRuntime) -> Result<(), Fail> {
     door.hang_up();
     assert_eq!(rt; second.read(&mut buf)?, 0, "it was hung up");
     assert_eq!(rt; door.write(b"late"), Err(Failed));
-    assert_eq!(rt; (door.door_faults, door.line_faults), (2, 2));
+    assert_eq!(rt; (door.door_faults, door.connection_faults), (2, 2));
     Ok(())
 }

@@ -4,7 +4,7 @@ use Rattle.cluster_model.specs.declared.step.Step.TheVariants as steps
 use Rattle.cluster_model.specs.Messages.{visit_events}
 use Rattle.cluster_model.specs.Next.{scheduled_events}
 use Rattle.cluster_model.specs.Ticking.{tick_events}
-use Rattle.world_model.specs.Room.{call_cost, command_cost, schedule_cost, step_cost, tick_cost}
+use Rattle.world_model.specs.Room.{request_cost, command_cost, schedule_cost, step_cost, tick_cost}
 use Rattle.world_model.proofs.Rooms.{HasRoom-fewer}
 use Rattle.world_model.proofs.Rest.{stepped}
 use Rattle.world_model.proofs.Taking.{Emits-then, found-took}
@@ -29,6 +29,6 @@ returns-in-Command c = on_ok_weaker c.take_command.result (λ took. stepped _ _ 
 pub returns-in-Connection : goal.returns-in-Connection
 returns-in-Connection c =
     on_ok_weaker c.receive_visit.result
-    (λ took. stepped _ _ _ _ _ (steps.Connection c.in-Connection.id c.in-Connection.visit) call_cost c.in-Connection.is
-    (found-took _ _ _ _ _ (visit_events c.args.stage.now c.in-Connection.visit) _ _ call_cost c.declared-member.ensures took) (omega arith))
+    (λ took. stepped _ _ _ _ _ (steps.Connection c.in-Connection.id c.in-Connection.visit) request_cost c.in-Connection.is
+    (found-took _ _ _ _ _ (visit_events c.args.stage.now c.in-Connection.visit) _ _ request_cost c.declared-member.ensures took) (omega arith))
     c.receive_visit.ensures

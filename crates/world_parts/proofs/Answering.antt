@@ -13,7 +13,7 @@ use Rattle.rest_paths.specs.declared.change.Change.TheVariants as changes
 use Rattle.rest_paths.specs.declared.resource.Page.TheVariants as pages
 use Rattle.rest_paths.specs.Asking.{ask_of}
 use Rattle.rest_message.specs.Targets.{lag_of, path_of}
-use Rattle.rest_message.specs.Requests.{Asked}
+use Rattle.rest_message.specs.Requests.{RequestText}
 use Rattle.event_book.specs.declared.event.Event.{Event}
 use Rattle.event_book.specs.declared.event.EventKind.{EventKind}
 use Rattle.event_book.specs.declared.member.Member.{Member}
@@ -24,10 +24,10 @@ use Rattle.cluster_model.specs.Inputs.{agent_at, moment_of, standing, standing_o
 use Rattle.cluster_model.specs.Machines.{machine_of}
 use Rattle.cluster_model.specs.Messages.{answered_events, operate_events, request_events_of}
 use Rattle.cluster_model.specs.Parts.{event_of, for_some}
-use Rattle.cluster_model.specs.Requests.{answer_at, answering}
+use Rattle.cluster_model.specs.Requests.{answer_at, replying}
 use Rattle.cluster_model.specs.State.{Cluster}
 use Rattle.world_model.specs.Emits.{Emits}
-use Rattle.world_model.specs.Room.{HasNumbers, HasRoom, call_cost}
+use Rattle.world_model.specs.Room.{HasNumbers, HasRoom, request_cost}
 use Rattle.world_model.proofs.ServerRooms.{All-at}
 use Rattle.world_model.proofs.Taking.{Emits-weaker, found-took}
 
@@ -51,10 +51,10 @@ reply-without-seen view seen lag body (asks.Change changes.PatchConfiguration) =
 reply-without-seen view seen lag body (asks.Change changes.ReplaceConfiguration) = refl
 
 -- an agent answers by what it shows
-answered-same : (view : AgentView) (now : Ticks) (o : Outcome) (asked : Asked) → record view { seen = None } ≡ shown now o → option_copied view.seen ≡ o.knows.seen
+answered-same : (view : AgentView) (now : Ticks) (o : Outcome) (asked : RequestText) → record view { seen = None } ≡ shown now o → option_copied view.seen ≡ o.knows.seen
     → answer_to view (option_copied view.seen) asked ≡ answer_at now o asked
 answered-same view now o asked shows seen =
-    sym (reply-without-seen view (option_copied view.seen) (lag_of asked.target) asked.content (ask_of asked.verb (path_of asked.target)))
+    sym (reply-without-seen view (option_copied view.seen) (lag_of asked.target) asked.body (ask_of asked.verb (path_of asked.target)))
     ∙ ap (λ (v : AgentView). answer_to v (option_copied view.seen) asked) shows
     ∙ ap (λ (s : Option SnapshotFacts). answer_to (shown now o) s asked) seen
 
@@ -67,9 +67,9 @@ some-agent (Some None) agent is = absurd (no-agent agent is)
 some-agent None agent is = absurd (no-agent agent is)
 
 -- an agent has a number for its next message
-pub numbers-left : (cluster : Cluster) (member : Member) (agent : AgentFacts) → HasRoom cluster call_cost → agent_at cluster.agents member.id.number ≡ Some agent → agent.knows.sequence < most_messages
+pub numbers-left : (cluster : Cluster) (member : Member) (agent : AgentFacts) → HasRoom cluster request_cost → agent_at cluster.agents member.id.number ≡ Some agent → agent.knows.sequence < most_messages
 numbers-left cluster member agent room is =
-    let has : HasNumbers call_cost (Some agent) = All-at (Option AgentFacts) (HasNumbers call_cost) cluster.agents member.id.number (Some agent) room.agents (some-agent (slice_get cluster.agents member.id.number) agent is) in
+    let has : HasNumbers request_cost (Some agent) = All-at (Option AgentFacts) (HasNumbers request_cost) cluster.agents member.id.number (Some agent) room.agents (some-agent (slice_get cluster.agents member.id.number) agent is) in
     omega (arith, has)
 
 -- an agent that stands with its machine shows this, and its next message has this number
@@ -99,23 +99,23 @@ module _ (cluster : Cluster) (member : Member) (agent : AgentFacts) (machine : M
   stands-so : standing_of cluster member ≡ Some stands
   stands-so = ap (λ (a : Option AgentFacts). standing a (machine_of cluster member)) asks.agent_is ∙ ap (λ (m : Option Machine). standing (Some agent) m) asks.machine_is
 
-  answered-took : (after : Cluster) (call : Asked) (answer : Answered) (had has : List Event) → answer ≡ answer_to view (option_copied view.seen) call
-      → Emits cluster after had has (answered_events cluster member stands answer) call_cost → Emits cluster after had has (for_some (standing_of cluster member) (request_events_of cluster call member)) call_cost
+  answered-took : (after : Cluster) (call : RequestText) (answer : Answered) (had has : List Event) → answer ≡ answer_to view (option_copied view.seen) call
+      → Emits cluster after had has (answered_events cluster member stands answer) request_cost → Emits cluster after had has (for_some (standing_of cluster member) (request_events_of cluster call member)) request_cost
   answered-took after call answer had has is took =
-      found-took Outcome cluster after had has (request_events_of cluster call member) (standing_of cluster member) stands call_cost stands-so
-      (subst (λ (a : Answered). Emits cluster after had has (answered_events cluster member stands a) call_cost) (is ∙ answered-same view (moment_of cluster) stands call asks.shows asks.seen) took)
+      found-took Outcome cluster after had has (request_events_of cluster call member) (standing_of cluster member) stands request_cost stands-so
+      (subst (λ (a : Answered). Emits cluster after had has (answered_events cluster member stands a) request_cost) (is ∙ answered-same view (moment_of cluster) stands call asks.shows asks.seen) took)
 
   -- it does what it is asked
-  pub acts-took : (after : Cluster) (call : Asked) (asked : OperatorRequest) (had has : List Event) → Acts asked ≡ answer_to view (option_copied view.seen) call
-      → Emits cluster after had has (operate_events cluster member (record { request = request; asked = asked })) call_cost
-      → Emits cluster after had has (for_some (standing_of cluster member) (request_events_of cluster call member)) call_cost
+  pub acts-took : (after : Cluster) (call : RequestText) (asked : OperatorRequest) (had has : List Event) → Acts asked ≡ answer_to view (option_copied view.seen) call
+      → Emits cluster after had has (operate_events cluster member (record { request = request; asked = asked })) request_cost
+      → Emits cluster after had has (for_some (standing_of cluster member) (request_events_of cluster call member)) request_cost
   acts-took after call asked had has is took =
       answered-took after call (Acts asked) had has is
-      (subst (λ (n : ℕ). Emits cluster after had has (operate_events cluster member (record { request = n; asked = asked })) call_cost) asks.next took)
+      (subst (λ (n : ℕ). Emits cluster after had has (operate_events cluster member (record { request = n; asked = asked })) request_cost) asks.next took)
 
   -- or replies at once
-  pub replies-took : (after : Cluster) (call : Asked) (reply : ReplyText) (kind : EventKind) (had has : List Event) → Replies reply ≡ answer_to view (option_copied view.seen) call → kind ≡ answering member reply
-      → Emits cluster after had has (event_of cluster kind) 1 → Emits cluster after had has (for_some (standing_of cluster member) (request_events_of cluster call member)) call_cost
+  pub replies-took : (after : Cluster) (call : RequestText) (reply : ReplyText) (kind : EventKind) (had has : List Event) → Replies reply ≡ answer_to view (option_copied view.seen) call → kind ≡ replying member reply
+      → Emits cluster after had has (event_of cluster kind) 1 → Emits cluster after had has (for_some (standing_of cluster member) (request_events_of cluster call member)) request_cost
   replies-took after call reply kind had has is kind_is took =
       answered-took after call (Replies reply) had has is
-      (Emits-weaker cluster after had has (event_of cluster (answering member reply)) 1 call_cost (subst (λ (k : EventKind). Emits cluster after had has (event_of cluster k) 1) kind_is took) (omega arith))
+      (Emits-weaker cluster after had has (event_of cluster (replying member reply)) 1 request_cost (subst (λ (k : EventKind). Emits cluster after had has (event_of cluster k) 1) kind_is took) (omega arith))
