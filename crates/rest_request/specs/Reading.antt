@@ -21,7 +21,7 @@ behind h bytes = drop (length (print_request h)) bytes
 
 -- what a head with this content asks
 abbrev pub asked : RequestHead → List ℕ → RequestText
-asked h body = record { verb = verb_of h.method; target = h.target; body = content }
+asked h content = record { verb = verb_of h.method; target = h.target; body = content }
 
 -- what is answered where this stands behind a head, and its fields give this length or are at fault
 abbrev pub answer_by : RequestHead → List ℕ → Result ℕ RequestFault → Result (Option RequestText) RequestFault
