@@ -9,7 +9,8 @@ ghost use Rattle.rest_connection.specs.Answers.{WritesFront};
 
 use pat_base::Failed;
 use pat_door::Door;
-use rest_reply::{Reply, print_reply};
+use rest_message::Reply;
+use rest_reply::print_reply;
 use std::alloc::{AllocError, Global};
 use thiserror::Error;
 
