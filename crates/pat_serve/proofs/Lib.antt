@@ -1,0 +1,5 @@
+pub mod Answering
+pub mod Bringing
+pub mod Replied
+pub mod Requested
+pub mod Waiting
