@@ -2,4 +2,5 @@ pub mod Answering
 pub mod Bringing
 pub mod Replied
 pub mod Requested
+pub mod Tabled
 pub mod Waiting
