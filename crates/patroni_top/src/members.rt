@@ -1,0 +1,28 @@
+//! Members by their names.
+ghost use Rattle.std.specs.Prelude.{◌≡◌, ◌<◌, length, Some, slice_get, IfSome};
+ghost use Rattle.script_model.specs.Script.{IsMember, names_of};
+ghost use Rattle.patroni_top.specs.Commands.{member_named};
+
+use pat_base::MemberId;
+use script_model::Head;
+
+/// The member that a head declares with this name, if there is one.
+pub fn member_named(head: &Head, name: &[u8]) -> Option<MemberId>
+    ensures value { result ≡ member_named head.now name.now }
+    ensures declared { IfSome result (λ id. IsMember (names_of head.now) id) }
+{
+    for place in 0..head.member_count() {
+        if is_named(head, place, name) {
+            return MemberId::new(place as u8);
+        }
+    }
+    None
+}
+
+/// Whether the member at a place has this name.
+fn is_named(head: &Head, place: usize, name: &[u8]) -> bool {
+    match head.member(place) {
+        Some(member) => member.as_bytes() == name,
+        None => false,
+    }
+}
