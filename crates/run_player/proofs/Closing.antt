@@ -1,6 +1,6 @@
 -- A script that was played, connections that were served, and the closing summary.
-use Rattle.std.proofs.Common.{◌≡◌, ◌≢◌, Bool, false, ℕ, ◌+◌, ◌*◌, ◌≤◌, List, [], ◌++◌, length, Result, Ok, Err, arith, append_assoc, append-nil, length-append, refl, ◌∙◌, ap, sym, subst}
-use Rattle.std.specs.Prelude.{IfOk, IsErrOf, MatchResult, OnOk}
+use Rattle.std.proofs.Common.{◌≡◌, Bool, false, ℕ, ◌+◌, ◌*◌, ◌≤◌, List, [], ◌++◌, length, Result, Ok, Err, arith, append_assoc, append-nil, length-append, refl, ◌∙◌, ap, sym, subst}
+use Rattle.std.specs.Prelude.{IsErrOf}
 use Rattle.pat_base.specs.declared.member_id.MemberId.{MemberId}
 use Rattle.pat_base.specs.declared.outside.Sink.{Ghosts as SinkGhosts}
 use Rattle.pat_base.specs.Outside.{Grew}
@@ -15,7 +15,7 @@ use Rattle.cluster_model.specs.Steps.{names_in, steps_of}
 use Rattle.pat_base.specs.declared.name.Name.{Name}
 use Rattle.script_model.specs.Script.{IsMember}
 use Rattle.world_model.proofs.Taking.{members-stay}
-use Rattle.script_model.specs.Script.{HeadText, ScriptText}
+use Rattle.script_model.specs.Script.{ScriptText}
 use Rattle.pat_door.specs.declared.door.Door.{Ghosts as DoorGhosts}
 use Rattle.pat_serve.specs.Connections.{Connection, connection_cost}
 use Rattle.pat_world.specs.Steps.{HasStepsLeft, IsCounted, TookSteps, WorldFacts}
@@ -28,7 +28,6 @@ use Rattle.run_player.specs.declared.print_error.PrintError.{PrintError}
 use Rattle.run_player.specs.declared.print_error.PrintError.TheVariants as prints
 use Rattle.run_player.specs.declared.serve_error.ServeError.{ServeError}
 use Rattle.run_player.specs.declared.serve_error.ServeError.TheVariants.{Door, Memory, Write}
-use Rattle.run_player.specs.Left.{IsLeftBy}
 use Rattle.run_player.specs.Playing.{Plays, PrintsWholeSteps}
 use Rattle.run_player.specs.Receiving.{Receives, ReceivesAll}
 use Rattle.run_player.specs.Run.{lines_of_run, noted_from, printed_from, text_of_run}
@@ -279,7 +278,9 @@ serves-none sink door out was final script id count stops = rw stops (record {
   where
     memory-no-write : Memory ≡ Write → ⊥
     memory-no-write e = cc
+
     memory-no-door : IsErrOf {T = WorldFacts} {E = ServeError} (Err Memory) Door → ⊥
     memory-no-door e = cc
+
     memory-is-no-door : Memory ≡ Door → ⊥
     memory-is-no-door e = cc

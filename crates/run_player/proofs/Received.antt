@@ -1,13 +1,13 @@
 -- Connections that a player served.
-use Rattle.std.proofs.Common.{◌≡◌, ◌≢◌, Bool, ℕ, ◌+◌, ◌-◌, ◌*◌, ◌<◌, ◌≤◌, inl, inr, List, [], ◌∷◌, ◌++◌, length, map, Some, None, Result, Ok, Err, arith, append_assoc, append-nil, length-append, refl, ◌∙◌, ap, sym, subst}
-use Rattle.std.specs.Prelude.{All, IsErrOf, IsOk, MatchResult, OnOk, ◌⊎◌}
+use Rattle.std.proofs.Common.{◌≡◌, ◌≢◌, Bool, ℕ, ◌+◌, ◌-◌, ◌*◌, ◌<◌, ◌≤◌, inl, inr, List, [], ◌∷◌, ◌++◌, length, map, Some, None, Result, Ok, Err, arith, append_assoc, append-nil, refl, ◌∙◌, ap, sym, subst}
+use Rattle.std.specs.Prelude.{IsErrOf, IsOk, OnOk, ◌⊎◌}
 use Rattle.std.proofs.lemmas.Bool.{false≢true}
 use Rattle.std.proofs.lemmas.List.Elements.{All-nil, All-cons}
 use Rattle.pat_base.specs.declared.member_id.MemberId.{MemberId}
 use Rattle.pat_base.specs.declared.outside.Sink.{Ghosts as SinkGhosts}
-use Rattle.pat_base.specs.Outside.{Grew, Known, Rose}
+use Rattle.pat_base.specs.Outside.{Grew, Rose}
 use Rattle.pat_base.specs.Prints.{Prints}
-use Rattle.pat_base.proofs.Contents.{Grew-Grew, Grew-nothing, Rose-earlier}
+use Rattle.pat_base.proofs.Contents.{Grew-Grew, Grew-nothing}
 use Rattle.pat_base.proofs.Printing.{Prints-none, Prints-nothing, Prints-ok, Prints-stop, Prints-then}
 use Rattle.event_book.specs.declared.event.Event.{Event}
 use Rattle.summary.specs.Sights.{SummaryFacts, noted_steps}
@@ -19,25 +19,25 @@ use Rattle.event_book.specs.declared.member.Member.{Member}
 use Rattle.script_model.specs.Script.{IsMember}
 use Rattle.world_model.proofs.Taking.{members-stay}
 use Rattle.pat_door.specs.declared.door.Door.{Ghosts as DoorGhosts}
-use Rattle.pat_door.specs.Doors.{DoorFacts, Tells, accept_first, after_accept, after_hang_up, after_write, bytes_here}
-use Rattle.pat_serve.specs.Connections.{Connection, Course, IsSent, Unread, Unwritten, Whole, bytes_due, connection_cost, steps_of_connection}
-use Rattle.pat_serve.specs.Serving.{Brings, IsRead, Serves}
+use Rattle.pat_door.specs.Doors.{DoorFacts, Tells, accept_first, after_accept, bytes_here}
+use Rattle.pat_serve.specs.Connections.{Connection, Course, Unread, Unwritten, Whole, connection_cost, steps_of_connection}
+use Rattle.pat_serve.specs.Serving.{Brings, Serves}
 use Rattle.pat_world.specs.Book.{events_by_step}
-use Rattle.pat_world.specs.Steps.{HasStepsLeft, TookSteps}
+use Rattle.pat_world.specs.Steps.{HasStepsLeft}
 use Rattle.pat_world.proofs.Stepping.{steps-left-behind, steps-left-fewer}
 use Rattle.run_player.specs.declared.player.Player.{Player}
 use Rattle.run_player.specs.declared.print_error.PrintError.{PrintError}
 use Rattle.run_player.specs.declared.print_error.PrintError.TheVariants as prints
 use Rattle.run_player.specs.declared.serve_error.ServeError.{ServeError}
 use Rattle.run_player.specs.declared.serve_error.ServeError.TheVariants.{Door, Memory, Write}
-use Rattle.run_player.specs.Playing.{Plays, PrintsWholeSteps}
+use Rattle.run_player.specs.Playing.{Plays}
 use Rattle.run_player.specs.Receiving.{PrintsSteps, Receives}
-use Rattle.run_player.specs.Run.{noted_from, printed_from}
-use Rattle.run_player.specs.Served.{AreServed, AreWhole, Came, IsServed, after_steps, serve_error, visits_steps}
+use Rattle.run_player.specs.Run.{printed_from}
+use Rattle.run_player.specs.Served.{AreServed, AreWhole, Came, serve_error, visits_steps}
 use Rattle.run_player.specs.Showing.{Shows, ShowsWhole, lines_by_step}
 use Rattle.run_player.proofs.Played.{Plays-nothing, Plays-then, PrintsWholeSteps-none, next-text}
 use Rattle.run_player.proofs.Shown.{connection-visiting, lines-visiting, shows-whole, traced-visiting}
-use Rattle.run_player.proofs.Visiting.{Came-none, Came-stop, Came-then, grown-last, some-come, visits-few, visits_steps-append}
+use Rattle.run_player.proofs.Visiting.{Came-stop, Came-then, grown-last, some-come, visits-few, visits_steps-append}
 
 whole-or : (course : Course) (Rises : Type 0) → ((course ≡ Whole → ⊥) → Rises) → (course ≡ Whole) ⊎ Rises
 whole-or Whole Rises rises = inl refl

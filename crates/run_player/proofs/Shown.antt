@@ -8,7 +8,6 @@ use Rattle.pat_base.specs.declared.outside.Failed.{Failed}
 use Rattle.pat_base.specs.declared.outside.Sink.{Ghosts}
 use Rattle.pat_base.specs.Outside.{Grew}
 use Rattle.pat_base.specs.Prints.{Prints, failed}
-use Rattle.pat_base.proofs.Contents.{Grew-Grew, Grew-nothing}
 use Rattle.pat_base.proofs.Printing.{Prints-none, Prints-nothing, Prints-ok, Prints-stop, Prints-then}
 use Rattle.event_book.specs.declared.event.Event.{Event}
 use Rattle.event_book.specs.Text.{lines_of}
@@ -16,9 +15,9 @@ use Rattle.summary.specs.Sights.{SummaryFacts, noted_step, noted_steps}
 use Rattle.cluster_model.specs.declared.step.Step.{Step}
 use Rattle.cluster_model.specs.declared.step.Step.TheVariants as steps
 use Rattle.cluster_model.specs.Cluster.{cluster_over}
-use Rattle.cluster_model.specs.Next.{next_events, run_events}
+use Rattle.cluster_model.specs.Next.{next_events}
 use Rattle.cluster_model.specs.State.{Cluster}
-use Rattle.pat_serve.specs.Connections.{Connection, Course, Unread, Unwritten, Whole, failure_steps, first_visit, most_waiting, read_steps, replied_steps, reply_in, steps_by, steps_of_connection, unless_replied, waiting_steps}
+use Rattle.pat_serve.specs.Connections.{Connection, Course, Unread, Unwritten, Whole, failure_steps, first_visit, most_waiting, read_steps, reply_in, steps_by, steps_of_connection, unless_replied, waiting_steps}
 use Rattle.rest_message.specs.Replies.{ReplyText}
 use Rattle.pat_world.specs.Book.{events_by_step}
 use Rattle.run_player.specs.declared.print_error.PrintError.{PrintError}

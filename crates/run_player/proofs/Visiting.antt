@@ -1,20 +1,18 @@
 -- Connections that come one after another: the steps that they bring, and what was sent on each.
-use Rattle.std.proofs.Common.{◌≡◌, ◌≢◌, ℕ, ◌+◌, ◌-◌, ◌*◌, ◌^◌, ◌<◌, ◌≤◌, inl, inr, List, [], ◌∷◌, ◌++◌, length, Some, None, Result, Ok, Err, arith, append_assoc, append-nil, length-append, refl, ◌∙◌, ap, sym, subst}
-use Rattle.std.specs.Prelude.{All, IsErrOf, MatchResult, OnOk, ◌⊎◌}
+use Rattle.std.proofs.Common.{◌≡◌, ◌≢◌, ℕ, ◌+◌, ◌-◌, ◌*◌, ◌^◌, ◌<◌, ◌≤◌, inl, inr, List, [], ◌∷◌, ◌++◌, length, Result, Ok, Err, arith, append_assoc, length-append, refl, ◌∙◌, ap, sym, subst}
+use Rattle.std.specs.Prelude.{IsErrOf, ◌⊎◌}
 use Rattle.std.proofs.lemmas.Bool.{cases_lt}
-use Rattle.std.proofs.lemmas.List.Elements.{All-nil, All-cons, All-append}
+use Rattle.std.proofs.lemmas.List.Elements.{All-nil, All-append}
 use Rattle.pat_base.specs.declared.member_id.MemberId.{MemberId}
 use Rattle.pat_base.specs.Outside.{Rose}
 use Rattle.pat_base.proofs.Contents.{Rose-earlier}
-use Rattle.cluster_model.specs.declared.step.Step.{Step}
 use Rattle.cluster_model.specs.State.{Cluster}
 use Rattle.pat_door.specs.declared.door.Door.{Ghosts}
-use Rattle.pat_door.specs.Doors.{DoorFacts, Tells, accept_first, after_accept, after_hang_up, after_write, bytes_here, grow_last, grow_last_from}
-use Rattle.pat_serve.specs.Connections.{Connection, IsSent, Whole, bytes_due, connection_cost, steps_of_connection}
+use Rattle.pat_door.specs.Doors.{DoorFacts, grow_last, grow_last_from}
+use Rattle.pat_serve.specs.Connections.{Connection, Whole, connection_cost, steps_of_connection}
 use Rattle.pat_serve.proofs.Waiting.{connection-few}
-use Rattle.pat_serve.specs.Serving.{Serves}
 use Rattle.run_player.specs.declared.serve_error.ServeError.{ServeError}
-use Rattle.run_player.specs.declared.serve_error.ServeError.TheVariants.{Door, Memory, Write}
+use Rattle.run_player.specs.declared.serve_error.ServeError.TheVariants.{Door, Memory}
 use Rattle.run_player.specs.Served.{AreServed, AreWhole, Came, after_steps, visits_steps}
 use Rattle.run_player.proofs.Played.{run_events-append}
 
@@ -80,6 +78,7 @@ Came-none-since {X = X} door was now cluster id count grows more = record {
   where
     no-door : IsErrOf {T = X} {E = ServeError} (Err Memory) Door → ⊥
     no-door e = cc
+
     memory-no-door : Memory ≡ Door → ⊥
     memory-no-door e = cc
 

@@ -1,7 +1,6 @@
 //! Connections served behind a script.
-ghost use Rattle.std.specs.Prelude.{ℕ, List, ◌≡◌, ◌+◌, ◌*◌, ◌≤◌, ◌++◌, false, length};
+ghost use Rattle.std.specs.Prelude.{List, ◌≡◌, ◌+◌, ◌*◌, ◌≤◌, length};
 ghost use Rattle.script_model.specs.Script.{IsMember, names_of};
-ghost use Rattle.cluster_model.specs.Starting.{cluster_of};
 ghost use Rattle.cluster_model.specs.Steps.{names_in, steps_of};
 ghost use Rattle.pat_serve.specs.Connections.{Connection, connection_cost};
 ghost use Rattle.pat_world.specs.Steps.{HasStepsLeft};

@@ -1,7 +1,5 @@
-use Rattle.std.proofs.Common.{◌≡◌, ◌+◌, ◌*◌, ◌∙◌, [], Err, List, length, arith, ap, refl, subst, sym}
+use Rattle.std.proofs.Common.{◌+◌, ◌*◌, ◌∙◌, [], Err, length, ap}
 use Rattle.std.proofs.lemmas.Result.{err_from_is_err_and}
-use Rattle.pat_base.specs.declared.name.Name.{Name}
-use Rattle.script_model.specs.Script.{names_of}
 use Rattle.cluster_model.specs.Starting.{cluster_of}
 use Rattle.cluster_model.specs.State.{Cluster}
 use Rattle.cluster_model.specs.Steps.{names_in, steps_of}
@@ -31,16 +29,20 @@ pub returns-in-Ok : goal.returns-in-Ok
 returns-in-Ok g c =
     let first = c.in_ok-player.ensures in
     let player = c.in_ok-player.player in
-    let r = c.in-Ok.ensures in
-    (r.0, serves-all g.K.Sink g.D.Door player c.serve.new.self c.args.out.now c.serve.new.out c.args.door.now c.serve.new.door c.args.script.now c.args.service.now.member c.args.service.now.count r.0
-    (first.world ∙ ap (λ h. cluster_of h) c.head.ensures.value) first.trace (first.summary ∙ ap (λ h. first_summary h) c.head.ensures.value)
-    c.into_world.result first.steps first.room first.counted c.requires.room c.into_world.ensures r.1)
+    let r = c.in-Ok.ensures in (
+      r.0,
+      serves-all g.K.Sink g.D.Door player c.serve.new.self c.args.out.now c.serve.new.out c.args.door.now c.serve.new.door c.args.script.now c.args.service.now.member c.args.service.now.count r.0
+          (first.world ∙ ap (λ h. cluster_of h) c.head.ensures.value) first.trace (first.summary ∙ ap (λ h. first_summary h) c.head.ensures.value)
+          c.into_world.result first.steps first.room first.counted c.requires.room c.into_world.ensures r.1,
+    )
 
 pub returns-in-Err : goal.returns-in-Err
 returns-in-Err g c =
     let first = c.in_ok-player.ensures in
     let player = c.in_ok-player.player in
-    let r = c.in-Err.ensures in
-    (r.0, serves-part g.K.Sink g.D.Door player c.serve.new.self c.args.out.now c.serve.new.out c.args.door.now c.serve.new.door c.args.script.now c.args.service.now.member c.args.service.now.count r.0
-    (first.world ∙ ap (λ h. cluster_of h) c.head.ensures.value) first.trace (first.summary ∙ ap (λ h. first_summary h) c.head.ensures.value)
-    c.in-Err.error r.1)
+    let r = c.in-Err.ensures in (
+      r.0,
+      serves-part g.K.Sink g.D.Door player c.serve.new.self c.args.out.now c.serve.new.out c.args.door.now c.serve.new.door c.args.script.now c.args.service.now.member c.args.service.now.count r.0
+          (first.world ∙ ap (λ h. cluster_of h) c.head.ensures.value) first.trace (first.summary ∙ ap (λ h. first_summary h) c.head.ensures.value)
+          c.in-Err.error r.1,
+    )

@@ -1,4 +1,4 @@
-use Rattle.std.proofs.Common.{◌∙◌, ◌+◌, Err, List, arith, ap, drop, map, sym}
+use Rattle.std.proofs.Common.{◌∙◌, Err, arith, ap, map}
 use Rattle.std.proofs.lemmas.List.{drop_all}
 use Rattle.std.proofs.lemmas.Result.{err_from_is_err_and}
 use Rattle.event_book.specs.Text.{lines_of}

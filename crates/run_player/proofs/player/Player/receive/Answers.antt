@@ -1,4 +1,4 @@
-use Rattle.std.proofs.Common.{◌≡◌, ◌≤◌, ◌+◌, ◌-◌, ◌*◌, ◌++◌, ◌∙◌, List, [], Err, Ok, arith, ap, refl, subst, sym}
+use Rattle.std.proofs.Common.{◌+◌, ◌-◌, ◌*◌, ◌++◌, ◌∙◌, [], Err, Ok, arith, ap, refl}
 use Rattle.std.proofs.lemmas.Result.{err_from_is_err_and}
 use Rattle.pat_serve.specs.Connections.{connection_cost}
 use Rattle.pat_world.proofs.Stepping.{steps-left-fewer}
@@ -9,10 +9,12 @@ use Rattle.run_player.proofs.player.Player.receive.Goals as goal
 
 pub returns-in_default : goal.returns-in_default
 returns-in_default g c =
-    let e = c.in_default.ensures in
-    ([], Receives-none g.K.Sink g.D.Door c.args.self.now c.args.self.now c.args.out.now c.args.door.now c.open.new.self Door (Err Door) c.args.service.now.member c.args.service.now.count refl door-is-no-write
-    (Came-refused g.D.Door c.args.door.now c.open.new.self c.args.self.now.world.cluster c.args.service.now.member c.args.service.now.count e.same e.failed e.grows e.line
-    (λ more serves. err-is-not-ok (Unit {0}) c.in_default.field-0 (e.served (c.args.service.now.count + more) serves).0)))
+    let e = c.in_default.ensures in (
+      [],
+      Receives-none g.K.Sink g.D.Door c.args.self.now c.args.self.now c.args.out.now c.args.door.now c.open.new.self Door (Err Door) c.args.service.now.member c.args.service.now.count refl door-is-no-write
+          (Came-refused g.D.Door c.args.door.now c.open.new.self c.args.self.now.world.cluster c.args.service.now.member c.args.service.now.count e.same e.failed e.grows e.line
+          (λ more serves. err-is-not-ok (Unit {0}) c.in_default.field-0 (e.served (c.args.service.now.count + more) serves).0)),
+    )
 
 pub loop-init : goal.loop-init
 loop-init g c =
@@ -30,9 +32,11 @@ receive_next-requires-clause-declared g c = received-members c.loop.invariant.1 
 pub returns-in_err-receive_next : goal.returns-in_err-receive_next
 returns-in_err-receive_next g c =
     let p = err_from_is_err_and c.from_residual.result c.from_residual.ensures.1 in
-    let r = c.in_err-receive_next.ensures in
-    (c.loop.invariant.0 ++ r.0, Receives-stop _ c.from_residual.result (omega (arith, c.loop-test.true)) (p.1 ∙ ap Err p.2)
-    (Receives-then (Err _) refl c.loop.invariant.1 r.1))
+    let r = c.in_err-receive_next.ensures in (
+      c.loop.invariant.0 ++ r.0,
+      Receives-stop _ c.from_residual.result (omega (arith, c.loop-test.true)) (p.1 ∙ ap Err p.2)
+          (Receives-then (Err _) refl c.loop.invariant.1 r.1),
+    )
 
 pub loop-preserved : goal.loop-preserved
 loop-preserved g c =
