@@ -60,9 +60,13 @@ verdict_by makes (Some limit) read = PastLimit limit
 verdict_by makes None (Err (line, fault)) = Faulty line fault
 verdict_by makes None (Ok script) = makes script
 
+-- a declared member has this name
+abbrev pub is_named : List ℕ → MemberText → Bool
+is_named name member = bytes_eq (name_bytes member.name) name
+
 -- the number of the member with this name, where it is declared
 abbrev pub member_named : HeadText → List ℕ → Option MemberId
-member_named head name = option_and_then member_of (position (λ (member : MemberText). bytes_eq (name_bytes member.name) name) head.members)
+member_named head name = option_and_then member_of (position (is_named name) head.members)
 
 -- what comes of a script and connections to the agent of this member
 abbrev pub service_of : ScriptText → ℕ → List Connection → Option MemberId → Verdict

@@ -1,7 +1,7 @@
 //! Members by their names.
-ghost use Rattle.std.specs.Prelude.{◌≡◌, ◌<◌, length, Some, slice_get, IfSome};
-ghost use Rattle.script_model.specs.Script.{IsMember, names_of};
-ghost use Rattle.patroni_top.specs.Commands.{member_named};
+ghost use Rattle.std.specs.Prelude.{◌≡◌, Some, IfSome, slice_get};
+ghost use Rattle.script_model.specs.Script.{IsMember, MemberText, names_of};
+ghost use Rattle.patroni_top.specs.Commands.{is_named, member_named};
 
 use pat_base::MemberId;
 use script_model::Head;
@@ -20,7 +20,9 @@ pub fn member_named(head: &Head, name: &[u8]) -> Option<MemberId>
 }
 
 /// Whether the member at a place has this name.
-fn is_named(head: &Head, place: usize, name: &[u8]) -> bool {
+fn is_named(head: &Head, place: usize, name: &[u8]) -> bool
+    ensures { (member : MemberText) → slice_get head.now.members place ≡ Some member → result ≡ is_named name.now member }
+{
     match head.member(place) {
         Some(member) => member.as_bytes() == name,
         None => false,

@@ -1,11 +1,10 @@
 //! The top call.
-ghost use Rattle.std.specs.Prelude.{List, ◌≡◌, ◌≢◌, ◌↔◌, None, map, string_bytes};
+ghost use Rattle.std.specs.Prelude.{List, ◌≡◌, ◌↔◌, None, map, string_bytes};
 ghost use Rattle.pat_base.specs.Outside.{Known};
 ghost use Rattle.pat_serve.specs.Connections.{Connection};
 ghost use Rattle.patroni_top.specs.Claims.{KeepsPromises};
-ghost use Rattle.patroni_top.specs.Commands.{IfPlayed, Serve, command_of, order_command, verdict_of, verdict_on};
-ghost use Rattle.patroni_top.specs.Ended.{Carries, ended_by, ending_in};
-ghost use Rattle.patroni_top.specs.Ends.{Ends};
+ghost use Rattle.patroni_top.specs.Commands.{IfPlayed, Serve, command_of, order_command, verdict_of};
+ghost use Rattle.patroni_top.specs.Ended.{Carries, IsCarriedOut};
 ghost use Rattle.patroni_top.specs.Status.{status_of, message_of, Says, IsReported};
 
 use crate::ending::{Ending, message};
@@ -87,9 +86,7 @@ fn carry_out<S: Source, K: Sink, D: Door>(
     out: &mut K,
     door: &mut D,
 ) -> Result<World, Ending>
-    ensures usage { status_of (ending_in result) ≢ Status.Usage }
-    ensures carries { (visitors : List Connection) × Carries S.Source K.Sink D.Door input.old input.new out.old out.new door.old door.new (verdict_on (order_command order) visitors) (ended_by result) }
-    ensures says { (visitors : List Connection) → Known (S.rest input.old) (λ bytes. Says (ending_in result) (verdict_on (order_command order) visitors bytes)) }
+    ensures { IsCarriedOut S.Source K.Sink D.Door input.old input.new out.old out.new door.old door.new (order_command order.entry) result }
 {
     match order {
         Order::Run => {
@@ -116,9 +113,7 @@ fn serve_script<S: Source, K: Sink, D: Door>(
     out: &mut K,
     door: &mut D,
 ) -> Result<World, Ending>
-    ensures usage { status_of (ending_in result) ≢ Status.Usage }
-    ensures carries { (visitors : List Connection) × Carries S.Source K.Sink D.Door input.old input.new out.old out.new door.old door.new (verdict_on (Serve name.now address.now count) visitors) (ended_by result) }
-    ensures says { (visitors : List Connection) → Known (S.rest input.old) (λ bytes. Says (ending_in result) (verdict_on (Serve name.now address.now count) visitors bytes)) }
+    ensures { IsCarriedOut S.Source K.Sink D.Door input.old input.new out.old out.new door.old door.new (Serve name.now address.now count) result }
 {
     let script = script_from(alloc, MOST_WAITING.saturating_mul(count), input)?;
     let Some(member) = member_named(script.head(), name) else {
