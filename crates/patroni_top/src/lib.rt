@@ -5,7 +5,6 @@
 
 mod ended;
 mod ending;
-mod members;
 mod order;
 mod reading;
 mod status;
