@@ -1,5 +1,5 @@
 -- How a command was carried out, for each way in which it may go.
-use Rattle.std.proofs.Common.{◌≡◌, ◌≢◌, ◌*◌, ◌+◌, ℕ, List, [], Some, None, Result, Ok, Err, append-nil, arith, refl, sym, subst, ap, ◌∙◌}
+use Rattle.std.proofs.Common.{◌≡◌, ◌≢◌, ◌*◌, ◌+◌, ℕ, false, true, List, [], Some, None, Result, Ok, Err, append-nil, arith, refl, sym, subst, ap, ◌∙◌}
 use Rattle.pat_base.specs.declared.member_id.MemberId.{MemberId}
 use Rattle.pat_base.specs.declared.outside.Sink.{Ghosts as SinkGhosts}
 use Rattle.pat_base.specs.declared.outside.Source.{Ghosts as SourceGhosts}
@@ -27,7 +27,7 @@ use Rattle.run_player.proofs.Closing.{memory-is, no-door}
 use Rattle.patroni_top.specs.declared.ending.Ending.{Ending}
 use Rattle.patroni_top.specs.declared.ending.Ending.TheVariants as endings
 use Rattle.patroni_top.specs.declared.status.Status.TheVariants as statuses
-use Rattle.patroni_top.specs.Commands.{Command, Plays, Run, Serve, Serves, UnknownMember, Verdict, member_named, verdict_on}
+use Rattle.patroni_top.specs.Commands.{Command, Makes, Plays, Run, Serve, Serves, UnknownMember, Verdict, member_named, verdict_on}
 use Rattle.patroni_top.specs.Ended.{Carries, IsCarriedOut, LeavesWorld, ended_by}
 use Rattle.patroni_top.specs.Ends.{serving_of}
 use Rattle.patroni_top.specs.Status.{IsRefusal, Refuses, Says, ending_of_print, ending_of_serve, status_of}
@@ -83,8 +83,11 @@ serving-back serves.Door = refl
 done-unserved : {X : Type 0} (x : X) (error : ServeError) → Ok x ≢ Err error
 done-unserved x error e = cc
 
-same-error : {X : Type 0} {a b : ServeError} → Err {X} {ServeError} a ≡ Err b → a ≡ b
-same-error e = cc
+same-error : {X : Type 0} {a b : ServeError} {r : Result X ServeError} → r ≡ Err a → r ≡ Err b → a ≡ b
+same-error is so = cc
+
+no-world : false ≡ true → ⊥
+no-world e = cc
 
 -- what a call answers where all connections came tells nothing of them
 came-all : {D X : Type 0} (door : DoorGhosts D) (was now : D) (x : X) (cluster : Cluster) (id : MemberId) (count : ℕ) (visitors : List Connection) → Came door was now (Ok x) cluster id count visitors → Came {X = Unit {0}} door was now (Ok tt) cluster id count visitors
@@ -100,11 +103,11 @@ came-all door was now x cluster id count visitors c = record {
 }
 
 came-part : {D X : Type 0} (door : DoorGhosts D) (was now : D) (error : ServeError) (cluster : Cluster) (id : MemberId) (count : ℕ) (visitors : List Connection) → Came {X = X} door was now (Err error) cluster id count visitors → Came {X = Unit {0}} door was now (Err error) cluster id count visitors
-came-part {X = X} door was now error cluster id count visitors c = record {
-  told = λ no. c.told (λ e. no (ap (λ (f : ServeError). Err {Unit {0}} f) (same-error {X} e)));
+came-part door was now error cluster id count visitors c = record {
+  told = λ no. c.told (λ e. no (ap Err (same-error refl e)));
   many = c.many;
   few = c.few;
-  halts = λ e. c.halts (ap (λ (f : ServeError). Err {X} f) (same-error {Unit {0}} e));
+  halts = λ e. c.halts (ap Err (same-error refl e));
   door_grows = c.door_grows;
   fails = c.fails;
   grows = c.grows;
@@ -113,7 +116,7 @@ came-part {X = X} door was now error cluster id count visitors c = record {
 
 module _ {S K D : Type 0} (source : SourceGhosts S) (sink : SinkGhosts K) (door : DoorGhosts D) (input left : S) where
   leaves-nothing : (verdict : List ℕ → Verdict) (ending : Ending) → status_of ending ≢ statuses.Done → LeavesWorld source input verdict (ended_by (Err ending))
-  leaves-nothing verdict ending not = record { done = ((λ some. absurd some), λ done. absurd (not done)); stands = tt }
+  leaves-nothing verdict ending not = record { done = ((λ some. absurd (no-world some)), λ done. absurd (not done)); stands = tt }
 
   -- the script can't be read
   pub refused : (out : K) (was : D) (command : Command) (result : Result WorldFacts Ending) (ending : Ending) → result ≡ Err ending → IsRefusal ending → Known (source.rest input) (Refuses (waited_by command) ending)
@@ -142,12 +145,12 @@ module _ {S K D : Type 0} (source : SourceGhosts S) (sink : SinkGhosts K) (door 
     pub printed-whole : (out then : K) (was : D) (result : Result WorldFacts Ending) (world : WorldFacts) → result ≡ Ok world → IsRead 0 → Prints sink out then prints.Write (Ok world) (text_of_run (played_of script)) → IsLeftBy (played_of script) world
         → IsCarriedOut source sink door input left out then was was Run result
     printed-whole out then was result world is read printed stands =
-        let plays : Known (source.rest input) (λ bytes. verdict_on Run [] bytes ≡ _) = λ bytes told. script-plays [] bytes script (read bytes told).0 (read bytes told).1 in
+        let plays : Known (source.rest input) (λ bytes. verdict_on Run [] bytes ≡ Makes (Plays (played_of script))) = λ bytes told. script-plays [] bytes script (read bytes told).0 (read bytes told).1 in
         subst (IsCarriedOut source sink door input left out then was was Run) (sym is) (record {
           usage = λ e. cc;
           carries = ([], record {
             ends = Ends-done source sink door input left out then was was (verdict_on Run []) (Plays (played_of script)) plays taken end printed refl;
-            world = record { done = ((λ some. refl), λ done. tt); stands = λ bytes told. plays-only (λ (played : Played). IsLeftBy played world) (verdict_on Run [] bytes) (Plays (played_of script)) (plays bytes told) stands };
+            world = record { done = ((λ some. refl), λ done. refl); stands = λ bytes told. plays-only (λ (played : Played). IsLeftBy played world) (verdict_on Run [] bytes) (Plays (played_of script)) (plays bytes told) stands };
           });
           says = λ visitors bytes told. tt;
         })
@@ -189,7 +192,7 @@ module _ {S K D : Type 0} (source : SourceGhosts S) (sink : SinkGhosts K) (door 
           })
 
       module _ (id : MemberId) (found : member_named script.head member ≡ Some id) (out then : K) (was now : D) (visitors : List Connection) where
-        serves-so : Known (source.rest input) (λ bytes. verdict_on command visitors bytes ≡ _)
+        serves-so : Known (source.rest input) (λ bytes. verdict_on command visitors bytes ≡ Makes (Serves script id count visitors))
         serves-so bytes told = script-serves member address count visitors bytes script (Some id) (read bytes told).0 (read bytes told).1 (sym found)
 
         -- or connections came behind its run, and all was printed
@@ -199,7 +202,7 @@ module _ {S K D : Type 0} (source : SourceGhosts S) (sink : SinkGhosts K) (door 
           carries = (visitors, record {
             ends = Ends-done source sink door input left out then was now (verdict_on command visitors) (Serves script id count visitors) serves-so taken end s.printed
                 (came-all door was now world (after_steps (cluster_of script.head) (steps_of script.body)) id count visitors s.came);
-            world = record { done = ((λ some. refl), λ done. tt); stands = λ bytes told. plays-only (λ (played : Played). IsLeftBy played world) (verdict_on command visitors bytes) (Serves script id count visitors) (serves-so bytes told) s.world };
+            world = record { done = ((λ some. refl), λ done. refl); stands = λ bytes told. plays-only (λ (played : Played). IsLeftBy played world) (verdict_on command visitors bytes) (Serves script id count visitors) (serves-so bytes told) s.world };
           });
           says = λ others bytes told. tt;
         })

@@ -1,9 +1,12 @@
 -- Input that is read up to one byte more than a script may have.
-use Rattle.std.proofs.Common.{◌≡◌, ℕ, ◌<◌, nat_lt, List, [], length, take, drop, Some, None, true, arith, refl, ◌∙◌, ap, sym, subst, take_all, inl, inr}
+use Rattle.std.proofs.Common.{◌≡◌, ℕ, ◌<◌, ◌+◌, ◌-◌, ◌^◌, min, nat_lt, List, [], length, take, drop, Some, None, true, arith, refl, ◌∙◌, ap, sym, subst, take_all, inl, inr}
 use Rattle.std.proofs.lemmas.List.{length-take, drop_all}
 use Rattle.std.proofs.lemmas.Bool.Decides.{nat_tests}
 use Rattle.std.proofs.lemmas.Bool.{cases_lt}
-use Rattle.cluster_script.specs.Limits.{limit_of}
+use Rattle.cluster_script.specs.Limits.{limit_of, most_ticks, ticks_in}
+use Rattle.script_words.specs.Lines.{lines_in}
+use Rattle.script_model.specs.Script.{ScriptText}
+use Rattle.patroni_top.specs.Limits.{KeepsLimits}
 use Rattle.cluster_script.specs.declared.limits.Limit.TheVariants.{Bytes}
 use Rattle.patroni_top.specs.declared.ending.Ending.{Ending}
 use Rattle.patroni_top.specs.declared.ending.Ending.TheVariants as endings
@@ -42,3 +45,26 @@ refuses-front waited _ all h = tt
 -- an ending that refuses those read refuses all
 pub Refuses-all : (waited : ℕ) (ending : Ending) (read all : List ℕ) → read ≡ take 1048577 all → Refuses waited ending read → Refuses waited ending all
 Refuses-all waited ending read all is h = refuses-front waited ending all (subst (λ (bytes : List ℕ). Refuses waited ending bytes) is h)
+
+saturates : (ticks n : ℕ) → nat_lt most_ticks (ticks + min n (2 ^ 64 - 1)) ≡ nat_lt most_ticks (ticks + n)
+saturates ticks n = elim (cases_lt (2 ^ 64 - 1) n) [
+  | inl big ↦ over (ticks + min n (2 ^ 64 - 1)) (omega (arith, big)) ∙ sym (over (ticks + n) (omega (arith, big)))
+  | inr small ↦ ap (λ (m : ℕ). nat_lt most_ticks (ticks + m)) (omega (arith, small))
+]
+  where
+    over : (m : ℕ) → most_ticks < m → nat_lt most_ticks m ≡ true
+    over m long = grind (arith, nat_tests)
+
+-- so many ticks, or the most that can be counted
+module _ (n waited : ℕ) (counted : waited ≡ min n (2 ^ 64 - 1)) where
+  pub saturated : (bytes : List ℕ) → limit_of waited bytes ≡ limit_of n bytes
+  saturated bytes = ap (λ (m : ℕ). limit_of m bytes) counted ∙ rw (saturates (ticks_in (lines_in bytes)) n) refl
+
+  pub refuses-counted : (ending : Ending) (bytes : List ℕ) → Refuses waited ending bytes → Refuses n ending bytes
+  refuses-counted (endings.NotScript line fault) bytes h = (sym (saturated bytes) ∙ h.0, h.1)
+  refuses-counted (endings.Limit limit) bytes h = sym (saturated bytes) ∙ h
+  refuses-counted _ bytes h = tt
+
+  -- a script within the limits by what is counted is so by all
+  pub keeps-counted : (script : ScriptText) → KeepsLimits waited script → KeepsLimits n script
+  keeps-counted script few = record { ticks = omega (arith, few.ticks, counted); lines = few.lines }
