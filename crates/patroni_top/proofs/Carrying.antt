@@ -1,5 +1,5 @@
 -- How a command was carried out, for each way in which it may go.
-use Rattle.std.proofs.Common.{◌≡◌, ◌≢◌, ◌*◌, ◌+◌, ℕ, false, true, List, [], Some, None, Result, Ok, Err, append-nil, arith, refl, sym, subst, ap, ◌∙◌}
+use Rattle.std.proofs.Common.{◌≡◌, ◌≢◌, ◌*◌, ◌+◌, ℕ, false, true, List, [], Option, Some, None, Result, Ok, Err, append-nil, arith, refl, sym, subst, ap, ◌∙◌}
 use Rattle.pat_base.specs.declared.member_id.MemberId.{MemberId}
 use Rattle.pat_base.specs.declared.outside.Sink.{Ghosts as SinkGhosts}
 use Rattle.pat_base.specs.declared.outside.Source.{Ghosts as SourceGhosts}
@@ -24,10 +24,11 @@ use Rattle.run_player.specs.Playing.{PrintsWholeSteps}
 use Rattle.run_player.specs.Run.{Played, played_of, text_of_run}
 use Rattle.run_player.specs.Served.{Came, Serves as ServedSo, after_steps, serve_error, served_of}
 use Rattle.run_player.proofs.Closing.{memory-is, no-door}
+use Rattle.patroni_top.specs.declared.ended.Ended.{Ended}
 use Rattle.patroni_top.specs.declared.ending.Ending.{Ending}
 use Rattle.patroni_top.specs.declared.ending.Ending.TheVariants as endings
 use Rattle.patroni_top.specs.declared.status.Status.TheVariants as statuses
-use Rattle.patroni_top.specs.Commands.{Command, Makes, Plays, Run, Serve, Serves, UnknownMember, Verdict, member_named, verdict_on}
+use Rattle.patroni_top.specs.Commands.{Command, Makes, NoCommand, Plan, Plays, Run, Serve, Serves, UnknownMember, Verdict, member_named, verdict_of, verdict_on}
 use Rattle.patroni_top.specs.Ended.{Carries, IsCarriedOut, LeavesWorld, ended_by}
 use Rattle.patroni_top.specs.Ends.{serving_of}
 use Rattle.patroni_top.specs.Status.{IsRefusal, Refuses, Says, ending_of_print, ending_of_serve, status_of}
@@ -226,3 +227,27 @@ module _ {S K D : Type 0} (source : SourceGhosts S) (sink : SinkGhosts K) (door 
           where
             plus-nothing : (n : ℕ) → n + 0 ≡ n
             plus-nothing n = omega arith
+
+  -- words that are no command
+  pub unasked : (out : K) (was : D) (words : Option Command) → words ≡ None → (visitors : List Connection) × Carries source sink door input input out out was was (verdict_of words visitors) (record { status = statuses.Usage; world = None })
+  unasked out was words is = subst (λ (o : Option Command). (visitors : List Connection) × Carries source sink door input input out out was was (verdict_of o visitors) (record { status = statuses.Usage; world = None })) (sym is) ([], record {
+    ends = record {
+      means = (refl, refl);
+      visited = λ bytes told. refl;
+      past_limit = λ reliable bytes told past. absurd past;
+      faulty = λ reliable bytes told faulty. absurd faulty;
+      complete = λ reliable bytes told plan makes. absurd (no-plan plan makes);
+      consumed = record { some = λ all told. (0, omega arith, told) };
+    };
+    world = record { done = ((λ some. absurd (no-world some)), λ done. absurd (not-so done)); stands = tt };
+  })
+    where
+      no-plan : (plan : Plan) → NoCommand ≡ Makes plan → ⊥
+      no-plan plan e = cc
+      not-so : statuses.Usage ≡ statuses.Done → ⊥
+      not-so e = cc
+
+  -- words that are this command
+  pub asked : (out then : K) (was now : D) (command : Command) (words : Option Command) (result : Result WorldFacts Ending) (ended : Ended) → Some command ≡ words → ended_by result ≡ ended → IsCarriedOut source sink door input left out then was now command result
+      → (visitors : List Connection) × Carries source sink door input left out then was now (verdict_of words visitors) ended
+  asked out then was now command words result ended is so carried = rw (sym is, sym so) carried.carries
