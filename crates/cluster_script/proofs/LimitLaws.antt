@@ -66,27 +66,27 @@ body-lengths members [] (line ∷ body) spell = absurd spell
 body-lengths members (text ∷ texts) [] spell = absurd spell
 body-lengths members (text ∷ texts) (line ∷ body) spell = omega (arith, body-lengths members texts body spell.1)
 
-least : (n : ℕ) → min n (2 ^ 64 - 1) ≤ most_ticks → n ≤ most_ticks
-least n h = omega arith
+least : (n waited : ℕ) → min n (2 ^ 64 - 1) + waited ≤ most_ticks → n + waited ≤ most_ticks
+least n waited h = omega arith
 
 -- lines that pass no limit
-lines-within : (ls : List (List ℕ)) → limit_of_lines ls ≡ None → (length ls ≤ most_lines) × (sum_by ticks_in_line ls ≤ most_ticks)
-lines-within ls none =
+lines-within : (waited : ℕ) (ls : List (List ℕ)) → limit_of_lines waited ls ≡ None → (length ls ≤ most_lines) × (sum_by ticks_in_line ls + waited ≤ most_ticks)
+lines-within waited ls none =
     let l = none_passed (nat_lt most_lines (length ls)) limits.Lines _ none in
     let m = none_passed (nat_lt MOST_MEMBERS (member_line_count ls)) limits.Members _ l.1 in
-    let t = none_passed (nat_lt most_ticks (ticks_in ls)) limits.Ticks None m.1 in
-    (not-more most_lines (length ls) l.0, least (sum_by ticks_in_line ls) (not-more most_ticks (ticks_in ls) t.0))
+    let t = none_passed (nat_lt most_ticks (ticks_in ls + waited)) limits.Ticks None m.1 in
+    (not-more most_lines (length ls) l.0, least (sum_by ticks_in_line ls) waited (not-more most_ticks (ticks_in ls + waited) t.0))
 
 -- a script of lines that pass none
-text-within : (ls head texts : List (List ℕ)) (members : List Name) (body : List Line) → AllAreLines members body → SpellBody members texts body → counted_lines ls ≡ head ++ texts → (length ls ≤ most_lines) × (sum_by ticks_in_line ls ≤ most_ticks)
-    → (total_ticks body ≤ most_ticks) × (length body ≤ most_lines)
-text-within ls head texts members body fit spell same within =
+text-within : (waited : ℕ) (ls head texts : List (List ℕ)) (members : List Name) (body : List Line) → AllAreLines members body → SpellBody members texts body → counted_lines ls ≡ head ++ texts → (length ls ≤ most_lines) × (sum_by ticks_in_line ls + waited ≤ most_ticks)
+    → (total_ticks body + waited ≤ most_ticks) × (length body ≤ most_lines)
+text-within waited ls head texts members body fit spell same within =
     let few : length (head ++ texts) ≤ length ls = subst (λ (some : List (List ℕ)). length some ≤ length ls) same (fewer ls) in
     let ticks : sum_by ticks_in_line (head ++ texts) ≤ sum_by ticks_in_line ls = subst (λ (some : List (List ℕ)). sum_by ticks_in_line some ≤ sum_by ticks_in_line ls) same (fewer-ticks ls) in
     (omega (arith, within.1, ticks, sum_by-append ticks_in_line head texts, body-ticks members texts body fit spell), omega (arith, within.0, few, length-append head texts, body-lengths members texts body spell))
 
-pub within-limits : (bytes : List ℕ) (text : ScriptText) → script_of bytes ≡ Ok text → limit_of bytes ≡ None → (total_ticks text.body ≤ most_ticks) × (length text.body ≤ most_lines)
-within-limits bytes text e none =
+pub within-limits : (waited : ℕ) (bytes : List ℕ) (text : ScriptText) → script_of bytes ≡ Ok text → limit_of waited bytes ≡ None → (total_ticks text.body + waited ≤ most_ticks) × (length text.body ≤ most_lines)
+within-limits waited bytes text e none =
     let read = read-is-spelled bytes text e in
-    let passed = none_passed (nat_lt most_bytes (length bytes)) limits.Bytes (limit_of_lines (lines_in bytes)) none in
-    text-within (lines_in bytes) read.1.head read.1.body (names_of text.head) text.body read.0.body read.1.spells read.1.lines (lines-within (lines_in bytes) passed.1)
+    let passed = none_passed (nat_lt most_bytes (length bytes)) limits.Bytes (limit_of_lines waited (lines_in bytes)) none in
+    text-within waited (lines_in bytes) read.1.head read.1.body (names_of text.head) text.body read.0.body read.1.spells read.1.lines (lines-within waited (lines_in bytes) passed.1)

@@ -1,5 +1,5 @@
 -- What a script has at most. It is counted on the bytes alone, whatever faults they have.
-use Rattle.std.specs.Prelude.{ℕ, ◌-◌, ◌^◌, nat_lt, min, Bool, true, false, if◌then◌else◌, List, Option, Some, None, codes, length, count_by, sum_by}
+use Rattle.std.specs.Prelude.{ℕ, ◌+◌, ◌-◌, ◌^◌, nat_lt, min, Bool, true, false, if◌then◌else◌, List, Option, Some, None, codes, length, count_by, sum_by}
 use Rattle.script_words.specs.Lines.{lines_in}
 use Rattle.script_words.specs.Numbers.{number}
 use Rattle.cluster_script.specs.FirstWords.{keyword_of}
@@ -18,7 +18,7 @@ most_bytes = 1048576
 abbrev pub most_lines : ℕ
 most_lines = 100000
 
--- so many ticks
+-- so many ticks, those of its lines with those that come beside them
 abbrev pub most_ticks : ℕ
 most_ticks = 1000000
 
@@ -66,10 +66,10 @@ ticks_in_line line = ticks_of_words (keyword_of (cut_word line).0) (cut_word lin
 abbrev pub ticks_in : List (List ℕ) → ℕ
 ticks_in lines = min (sum_by ticks_in_line lines) (2 ^ 64 - 1)
 
--- the first limit that lines pass, if they pass any
-abbrev pub limit_of_lines : List (List ℕ) → Option Limit
-limit_of_lines lines = if nat_lt most_lines (length lines) then Some limits.Lines else if nat_lt MOST_MEMBERS (member_line_count lines) then Some limits.Members else if nat_lt most_ticks (ticks_in lines) then Some limits.Ticks else None
+-- the first limit that lines pass, if they pass any, where so many ticks come beside those of the lines
+abbrev pub limit_of_lines : ℕ → List (List ℕ) → Option Limit
+limit_of_lines waited lines = if nat_lt most_lines (length lines) then Some limits.Lines else if nat_lt MOST_MEMBERS (member_line_count lines) then Some limits.Members else if nat_lt most_ticks (ticks_in lines + waited) then Some limits.Ticks else None
 
--- the first limit that the bytes pass, if they pass any
-abbrev pub limit_of : List ℕ → Option Limit
-limit_of bytes = if nat_lt most_bytes (length bytes) then Some limits.Bytes else limit_of_lines (lines_in bytes)
+-- the first limit that the bytes pass, if they pass any, where so many ticks come beside those of their lines
+abbrev pub limit_of : ℕ → List ℕ → Option Limit
+limit_of waited bytes = if nat_lt most_bytes (length bytes) then Some limits.Bytes else limit_of_lines waited (lines_in bytes)

@@ -1,5 +1,5 @@
 //! The limits of a script. Bytes that pass one are judged by it before any fault of their lines.
-ghost use Rattle.std.specs.Prelude.{ℕ, ◌≡◌, ◌≤◌, List, length, map, IfOk, None, Ok};
+ghost use Rattle.std.specs.Prelude.{ℕ, ◌≡◌, ◌≤◌, ◌+◌, List, length, map, IfOk, None, Ok};
 ghost use Rattle.std.specs.Option.{option_copied};
 ghost use Rattle.cluster_script.specs.Limits.{most_lines, most_ticks, limit_text, is_member_line, member_line_count, ticks_or_none, ticks_behind, ticks_in_line, ticks_in, limit_of_lines, limit_of};
 ghost use Rattle.cluster_script.specs.Reading.{script_of};
@@ -20,7 +20,7 @@ pub(crate) const MOST_BYTES: usize = 1_048_576;
 /// The most lines of a script: its line feeds, and one for an unended last line.
 const MOST_LINES: usize = 100_000;
 
-/// The most ticks, of 100 ms, of all lines `tick N` and `run N` of a script.
+/// The most ticks, of 100 ms, of all lines `tick N` and `run N` of a script, with those that come beside them.
 const MOST_TICKS: u64 = 1_000_000;
 
 /// A limit that a script may pass.
@@ -32,7 +32,7 @@ pub enum Limit {
     Lines,
     /// As many lines as there may be members, whose first word is `member`, whatever follows it.
     Members,
-    /// 1,000,000 ticks of 100 ms, in all lines that are `tick N` or `run N` and nothing else.
+    /// 1,000,000 ticks of 100 ms, in all lines that are `tick N` or `run N` and nothing else, with those that come beside them.
     Ticks,
 }
 
@@ -110,30 +110,33 @@ fn ticks_in(lines: &[&[u8]]) -> u64
     ticks
 }
 
-pub(crate) fn limit_of_lines(lines: &[&[u8]]) -> Option<Limit>
-    ensures { result ≡ limit_of_lines (map (λ line. line.now) lines.now) }
+/// The first limit that lines pass, where `waited` ticks of 100 ms come beside those of the lines.
+pub(crate) fn limit_of_lines(lines: &[&[u8]], waited: u64) -> Option<Limit>
+    ensures { result ≡ limit_of_lines waited (map (λ line. line.now) lines.now) }
 {
     if lines.len() > MOST_LINES {
         Some(Limit::Lines)
     } else if member_line_count(lines) > MOST_MEMBERS {
         Some(Limit::Members)
-    } else if ticks_in(lines) > MOST_TICKS {
+    } else if ticks_in(lines).saturating_add(waited) > MOST_TICKS {
         Some(Limit::Ticks)
     } else {
         None
     }
 }
 
-/// The first limit that the bytes pass, in the order of `Limit`, whether or not they are a script. Want of memory says
-/// nothing of them.
-pub fn limit_passed(alloc: Global, bytes: &[u8]) -> Result<Option<Limit>, AllocError>
-    ensures { IfOk result (λ limit. limit ≡ limit_of bytes.now) }
+/// The first limit that the bytes pass, in the order of `Limit`, whether or not they are a script. `waited` is how many ticks
+/// of 100 ms come beside those of their lines: the limit of ticks is one of both together. Want of memory says nothing of the
+/// bytes.
+pub fn limit_passed(alloc: Global, bytes: &[u8], waited: u64) -> Result<Option<Limit>, AllocError>
+    ensures { IfOk result (λ limit. limit ≡ limit_of waited bytes.now) }
 {
     let lines = ScriptLines::cut(alloc, bytes)?;
-    Ok(lines.limit_passed())
+    Ok(lines.limit_passed(waited))
 }
 
-/// A script within the limits has at most 1,000,000 ticks, and a body of at most 100,000 lines.
+/// A script within the limits has at most 1,000,000 ticks, of 100 ms, with those that come beside its own, and a body of at
+/// most 100,000 lines.
 pub fn within_limits()
-    ensures { (bytes : List ℕ) (text : ScriptText) → script_of bytes ≡ Ok text → limit_of bytes ≡ None → (total_ticks text.body ≤ most_ticks) × (length text.body ≤ most_lines) }
+    ensures { (waited : ℕ) (bytes : List ℕ) (text : ScriptText) → script_of bytes ≡ Ok text → limit_of waited bytes ≡ None → (total_ticks text.body + waited ≤ most_ticks) × (length text.body ≤ most_lines) }
 {}

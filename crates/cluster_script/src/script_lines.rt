@@ -39,14 +39,15 @@ impl<'a> ScriptLines<'a> {
         Ok(ScriptLines { bytes, lines })
     }
 
-    /// The first limit that the bytes pass, in the order of `Limit`, whether or not they are a script.
-    pub fn limit_passed(&self) -> Option<Limit>
-        ensures { result ≡ limit_of self.now }
+    /// The first limit that the bytes pass, in the order of `Limit`, whether or not they are a script. `waited` is how many
+    /// ticks of 100 ms come beside those of their lines: the limit of ticks is one of both together.
+    pub fn limit_passed(&self, waited: u64) -> Option<Limit>
+        ensures { result ≡ limit_of waited self.now }
     {
         if self.bytes.len() > MOST_BYTES {
             return Some(Limit::Bytes);
         }
-        limit_of_lines(&self.lines)
+        limit_of_lines(&self.lines, waited)
     }
 
     /// The script that the bytes are, or the first line with a fault and its first fault. Lines are counted from 1; what is

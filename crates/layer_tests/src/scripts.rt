@@ -9,7 +9,7 @@ use wal_model::WalFault;
 #[test]
 fn a_script_is_read(rt: HostRuntime) -> Result<(), Fail> {
     let bytes = b"cluster demo\nmember a\nrest a POST /restart {}";
-    let limit = limit_passed(rt.alloc(), bytes)?;
+    let limit = limit_passed(rt.alloc(), bytes, 0)?;
     let script = read(rt.alloc(), bytes)?;
     let is_copied = script.get(0).is_some_and(|line| line.try_clone().is_ok());
     assert_eq!(rt; (limit, is_copied), (None, true));
@@ -19,10 +19,21 @@ fn a_script_is_read(rt: HostRuntime) -> Result<(), Fail> {
 #[test]
 fn a_script_is_refused(rt: HostRuntime) -> Result<(), Fail> {
     let script = ScriptLines::cut(rt.alloc(), b"cluster demo\nmember a\nhold b\nrun 1000001")?;
-    assert_eq!(rt; script.limit_passed(), Some(Limit::Ticks));
+    assert_eq!(rt; script.limit_passed(0), Some(Limit::Ticks));
     let (line, fault) = (3, Fault::UnknownName);
     let refused = script.read(rt.alloc()).err();
     assert_eq!(rt; refused, Some(ScriptFault::At { line, fault }));
+    Ok(())
+}
+
+/// The limit of ticks is one of those in a script's lines and those beside them, together.
+#[test]
+fn ticks_beside_the_lines_count(rt: HostRuntime) -> Result<(), Fail> {
+    let script = ScriptLines::cut(rt.alloc(), b"cluster demo\nmember a\nrun 1000000")?;
+    let limits = (script.limit_passed(0), script.limit_passed(1));
+    assert_eq!(rt; limits, (None, Some(Limit::Ticks)));
+    let limit = limit_passed(rt.alloc(), b"cluster demo\nmember a", u64::MAX)?;
+    assert_eq!(rt; limit, Some(Limit::Ticks));
     Ok(())
 }
 

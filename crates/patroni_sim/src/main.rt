@@ -1,8 +1,9 @@
-//! Patroni 3 over modelled servers: reads a script on standard input and prints its run. All that it does is
-//! `patroni_top::run`, over the real input and outputs.
+//! Patroni 3 over modelled servers: reads a script on standard input and prints its run, or serves the REST interface of one of
+//! its agents on a socket too. All that it does is `patroni_top::run`, over the real input, outputs and network.
 #![tactic(auto)]
 
 use pat_base::{ReaderSource, WriterSink, write_all};
+use pat_door::ListenerDoor;
 use patroni_top::{Ended, Status, run};
 use std::io::{BufWriter, Stdout, Write};
 use std::process::ExitCode;
@@ -12,15 +13,28 @@ use std::{env, io};
 /// How many bytes of lines are gathered before they are written to standard output.
 const GATHERED: usize = 65_536;
 
+/// While connections are served each line is seen as it comes.
+const UNGATHERED: usize = 1;
+
 fn main(rt: HostRuntime) -> ExitCode {
     let mut err = WriterSink::new(rt.stderr());
-    let (Ok(words), Ok(mut lines)) = (words(&rt), gathering(&rt)) else {
-        let _ = write_all(&mut err, b"out of memory\n");
-        return ExitCode::from(Status::Memory.code());
+    let Ok(words) = words(&rt) else {
+        return want_of_memory(err);
+    };
+    let Ok(mut lines) = gathering(&rt, &words) else {
+        return want_of_memory(err);
     };
     let mut input = ReaderSource::new(rt.stdin());
     let mut out = WriterSink::new(&mut lines);
-    let Ended { status, world } = run(rt.alloc(), &words, &mut input, &mut out, &mut err);
+    let mut door = ListenerDoor::new(&rt);
+    let Ended { status, world } = run(
+        rt.alloc(),
+        &words,
+        &mut input,
+        &mut out,
+        &mut err,
+        &mut door,
+    );
     if let Some(world) = world {
         world.close();
     }
@@ -31,9 +45,13 @@ fn main(rt: HostRuntime) -> ExitCode {
     ExitCode::from(ended.code())
 }
 
-/// Standard output behind a buffer: one write for many lines.
-fn gathering(rt: &HostRuntime) -> io::Result<BufWriter<Stdout>> {
-    BufWriter::with_capacity(rt.alloc(), GATHERED, rt.stdout())
+/// Standard output behind a buffer: one write for many lines, unless connections are to be served.
+fn gathering(rt: &HostRuntime, words: &[String]) -> io::Result<BufWriter<Stdout>> {
+    let gathered = match words {
+        [word, ..] if word.as_str() == "serve" => UNGATHERED,
+        _ => GATHERED,
+    };
+    BufWriter::with_capacity(rt.alloc(), gathered, rt.stdout())
 }
 
 /// Writes the lines that are still gathered, and answers how the run ended then. After a write fault nothing more is written.
@@ -60,4 +78,10 @@ fn words<R: Env + AllocGlobal>(rt: &R) -> io::Result<Vec<String>> {
         Err(e) => return Err(e),
     }
     Ok(words)
+}
+
+/// Says that memory is wanting, before anything is begun.
+fn want_of_memory<W: Write + Drop>(mut err: WriterSink<W>) -> ExitCode {
+    let _ = write_all(&mut err, b"out of memory\n");
+    ExitCode::from(Status::Memory.code())
 }

@@ -2,6 +2,7 @@
 use cluster_config::Snapshot;
 use lease_store::{Key, MemberInfo, Value};
 use pat_base::{Host, MemberId, MemorySink, MemorySource, State};
+use pat_door::MemoryDoor;
 use pat_world::World;
 use patroni_top::{Ended, run};
 use std::alloc::{AllocError, Global};
@@ -29,33 +30,54 @@ pub struct Outcome {
     pub err: String,
 }
 
-/// The program over a script, with ample room.
+/// The program over a script, with words between which blanks stand.
 fn ran(
     alloc: Global,
-    word: &str,
+    words: &str,
     script: &str,
     faults: Faults,
     out: &mut MemorySink,
     err: &mut MemorySink,
+    door: &mut MemoryDoor,
 ) -> Result<Ended, AllocError> {
-    let words = vec![in alloc; String::from_str(alloc, word)?]?;
+    let mut list = Vec::new(alloc);
+    for word in words.split(' ') {
+        list.push(String::from_str(alloc, word)?)?;
+    }
     let mut input = MemorySource::new(
         script.as_bytes().to_vec(alloc)?,
         vec![in alloc; faults.input]?,
     );
-    Ok(run(alloc, &words, &mut input, out, err))
+    Ok(run(alloc, &list, &mut input, out, err, door))
+}
+
+/// A door that nobody comes to.
+fn closed_door(alloc: Global) -> Result<MemoryDoor, AllocError> {
+    MemoryDoor::new(alloc, Vec::new(alloc), 0, Vec::new(alloc))
 }
 
 /// What the program tells of a script.
 pub fn run_in_memory(
     alloc: Global,
-    word: &str,
+    words: &str,
     script: &str,
     faults: Faults,
 ) -> Result<Outcome, AllocError> {
+    let mut door = closed_door(alloc)?;
+    run_with_door(alloc, words, script, faults, &mut door)
+}
+
+/// What the program tells of a script and of the connections that come to a door.
+pub fn run_with_door(
+    alloc: Global,
+    words: &str,
+    script: &str,
+    faults: Faults,
+    door: &mut MemoryDoor,
+) -> Result<Outcome, AllocError> {
     let mut out = MemorySink::new(alloc, 65536, vec![in alloc; faults.out]?)?;
     let mut err = MemorySink::new(alloc, 4096, vec![in alloc; faults.err]?)?;
-    let Ended { status, world } = ran(alloc, word, script, faults, &mut out, &mut err)?;
+    let Ended { status, world } = ran(alloc, words, script, faults, &mut out, &mut err, door)?;
     if let Some(world) = world {
         world.close();
     }
@@ -67,10 +89,13 @@ pub fn run_in_memory(
 }
 
 /// The world at the end of a run of this script.
-pub fn world_after(rt: &impl Abort, alloc: Global, script: &str) -> Result<World, AllocError> {
+fn world_after(rt: &impl Abort, alloc: Global, script: &str) -> Result<World, AllocError> {
     let mut out = MemorySink::new(alloc, 65536, Vec::new(alloc))?;
     let mut err = MemorySink::new(alloc, 4096, Vec::new(alloc))?;
-    let Ended { world, status: _ } = ran(alloc, "run", script, NO_FAULTS, &mut out, &mut err)?;
+    let mut door = closed_door(alloc)?;
+    let Ended { world, status: _ } = ran(
+        alloc, "run", script, NO_FAULTS, &mut out, &mut err, &mut door,
+    )?;
     Ok(world.expect(rt, "a world"))
 }
 

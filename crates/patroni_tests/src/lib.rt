@@ -1,12 +1,14 @@
 //! What the worked runs (`worked_runs`) can't show of the whole program: faults of what is read and written, other words than
-//! `run`, scripts as long as they may be, and the world that a run leaves. A crate with tests is proved twice, so they stand here
-//! and not in `patroni_top`.
+//! `run`, connections that are served, scripts as long as they may be, and the world that a run leaves. A crate with tests is proved
+//! twice, so they stand here and not in `patroni_top`.
 #![tactic(auto)]
 
 #[cfg(test)]
 mod faults;
 #[cfg(test)]
 mod in_memory;
+#[cfg(test)]
+mod served;
 #[cfg(test)]
 mod sizes;
 #[cfg(test)]

@@ -1,44 +1,70 @@
 -- Input that is read up to one byte more than a script may have.
-use Rattle.std.proofs.Common.{◌≡◌, ℕ, ◌<◌, nat_lt, List, [], length, take, drop, Some, None, true, arith, refl, ◌∙◌, ap, sym, subst, take_all, inl, inr}
+use Rattle.std.proofs.Common.{◌≡◌, ℕ, ◌<◌, ◌+◌, ◌-◌, ◌^◌, min, nat_lt, List, [], length, take, drop, Some, None, true, arith, refl, ◌∙◌, ap, sym, subst, take_all, inl, inr}
 use Rattle.std.proofs.lemmas.List.{length-take, drop_all}
 use Rattle.std.proofs.lemmas.Bool.Decides.{nat_tests}
 use Rattle.std.proofs.lemmas.Bool.{cases_lt}
-use Rattle.cluster_script.specs.Limits.{limit_of}
+use Rattle.cluster_script.specs.Limits.{limit_of, most_ticks, ticks_in}
+use Rattle.script_words.specs.Lines.{lines_in}
+use Rattle.script_model.specs.Script.{ScriptText}
+use Rattle.patroni_top.specs.Limits.{KeepsLimits}
 use Rattle.cluster_script.specs.declared.limits.Limit.TheVariants.{Bytes}
 use Rattle.patroni_top.specs.declared.ending.Ending.{Ending}
 use Rattle.patroni_top.specs.declared.ending.Ending.TheVariants as endings
 use Rattle.patroni_top.specs.Status.{Refuses}
 
-too-long : (bytes : List ℕ) → 1048576 < length bytes → limit_of bytes ≡ Some Bytes
-too-long bytes long =
+too-long : (waited : ℕ) (bytes : List ℕ) → 1048576 < length bytes → limit_of waited bytes ≡ Some Bytes
+too-long waited bytes long =
     let over : nat_lt 1048576 (length bytes) ≡ true = grind (arith, nat_tests) in
     rw over refl
 
 -- one byte more than a script may have passes the limit that all bytes pass
-pub limit_of-take : (all : List ℕ) → limit_of (take 1048577 all) ≡ limit_of all
-limit_of-take all = elim (cases_lt 1048576 (length all)) [
-  | inl long ↦ too-long (take 1048577 all) (omega (arith, length-take 1048577 all)) ∙ sym (too-long all long)
-  | inr short ↦ ap limit_of (take_all 1048577 all (omega (arith, short)))
+pub limit_of-take : (waited : ℕ) (all : List ℕ) → limit_of waited (take 1048577 all) ≡ limit_of waited all
+limit_of-take waited all = elim (cases_lt 1048576 (length all)) [
+  | inl long ↦ too-long waited (take 1048577 all) (omega (arith, length-take 1048577 all)) ∙ sym (too-long waited all long)
+  | inr short ↦ ap (limit_of waited) (take_all 1048577 all (omega (arith, short)))
 ]
 
-too-long-limits : (bytes : List ℕ) → 1048576 < length bytes → limit_of bytes ≡ None → ⊥
-too-long-limits bytes long none = clash (sym (too-long bytes long) ∙ none)
+too-long-limits : (waited : ℕ) (bytes : List ℕ) → 1048576 < length bytes → limit_of waited bytes ≡ None → ⊥
+too-long-limits waited bytes long none = clash (sym (too-long waited bytes long) ∙ none)
   where
     clash : Some Bytes ≡ None → ⊥
     clash e = cc
 
 -- where no limit is passed, all bytes were read
-pub reads-all : (all : List ℕ) → limit_of (take 1048577 all) ≡ None → (take 1048577 all ≡ all) × (drop 1048577 all ≡ [])
-reads-all all none = elim (cases_lt 1048576 (length all)) [
-  | inl long ↦ absurd (too-long-limits (take 1048577 all) (omega (arith, length-take 1048577 all)) none)
+pub reads-all : (waited : ℕ) (all : List ℕ) → limit_of waited (take 1048577 all) ≡ None → (take 1048577 all ≡ all) × (drop 1048577 all ≡ [])
+reads-all waited all none = elim (cases_lt 1048576 (length all)) [
+  | inl long ↦ absurd (too-long-limits waited (take 1048577 all) (omega (arith, length-take 1048577 all)) none)
   | inr short ↦ (take_all 1048577 all (omega (arith, short)), drop_all 1048577 all (omega (arith, short)))
 ]
 
-refuses-front : (ending : Ending) (all : List ℕ) → Refuses ending (take 1048577 all) → Refuses ending all
-refuses-front (endings.NotScript line fault) all h = subst (λ (bytes : List ℕ). Refuses (endings.NotScript line fault) bytes) (reads-all all h.0).0 h
-refuses-front (endings.Limit limit) all h = sym (limit_of-take all) ∙ h
-refuses-front _ all h = tt
+refuses-front : (waited : ℕ) (ending : Ending) (all : List ℕ) → Refuses waited ending (take 1048577 all) → Refuses waited ending all
+refuses-front waited (endings.NotScript line fault) all h = subst (λ (bytes : List ℕ). Refuses waited (endings.NotScript line fault) bytes) (reads-all waited all h.0).0 h
+refuses-front waited (endings.Limit limit) all h = sym (limit_of-take waited all) ∙ h
+refuses-front waited _ all h = tt
 
 -- an ending that refuses those read refuses all
-pub Refuses-all : (ending : Ending) (read all : List ℕ) → read ≡ take 1048577 all → Refuses ending read → Refuses ending all
-Refuses-all ending read all is h = refuses-front ending all (subst (λ (bytes : List ℕ). Refuses ending bytes) is h)
+pub Refuses-all : (waited : ℕ) (ending : Ending) (read all : List ℕ) → read ≡ take 1048577 all → Refuses waited ending read → Refuses waited ending all
+Refuses-all waited ending read all is h = refuses-front waited ending all (subst (λ (bytes : List ℕ). Refuses waited ending bytes) is h)
+
+saturates : (ticks n : ℕ) → nat_lt most_ticks (ticks + min n (2 ^ 64 - 1)) ≡ nat_lt most_ticks (ticks + n)
+saturates ticks n = elim (cases_lt (2 ^ 64 - 1) n) [
+  | inl big ↦ over (ticks + min n (2 ^ 64 - 1)) (omega (arith, big)) ∙ sym (over (ticks + n) (omega (arith, big)))
+  | inr small ↦ ap (λ (m : ℕ). nat_lt most_ticks (ticks + m)) (omega (arith, small))
+]
+  where
+    over : (m : ℕ) → most_ticks < m → nat_lt most_ticks m ≡ true
+    over m long = grind (arith, nat_tests)
+
+-- so many ticks, or the most that can be counted
+module _ (n waited : ℕ) (counted : waited ≡ min n (2 ^ 64 - 1)) where
+  pub saturated : (bytes : List ℕ) → limit_of waited bytes ≡ limit_of n bytes
+  saturated bytes = ap (λ (m : ℕ). limit_of m bytes) counted ∙ rw (saturates (ticks_in (lines_in bytes)) n) refl
+
+  pub refuses-counted : (ending : Ending) (bytes : List ℕ) → Refuses waited ending bytes → Refuses n ending bytes
+  refuses-counted (endings.NotScript line fault) bytes h = (sym (saturated bytes) ∙ h.0, h.1)
+  refuses-counted (endings.Limit limit) bytes h = sym (saturated bytes) ∙ h
+  refuses-counted _ bytes h = tt
+
+  -- a script within the limits by what is counted is so by all
+  pub keeps-counted : (script : ScriptText) → KeepsLimits waited script → KeepsLimits n script
+  keeps-counted script few = record { ticks = omega (arith, few.ticks, counted); lines = few.lines }

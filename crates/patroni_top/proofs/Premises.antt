@@ -1,5 +1,5 @@
 -- The premises that the closing summary tells of are those of the laws of one writer and of kept commits.
-use Rattle.std.proofs.Common.{◌≡◌, ◌≤◌, ℕ, Option, Some, None, Bool, List, [], ◌∷◌, Result, Ok, Err, length, map, zero, suc, refl, subst, sym, ◌∙◌}
+use Rattle.std.proofs.Common.{◌*◌, ◌≡◌, ◌≤◌, ℕ, Option, Some, None, Bool, List, [], ◌∷◌, Result, Ok, Err, length, map, zero, suc, refl, subst, sym, ◌∙◌}
 use Rattle.std.specs.Prelude.{not, ◌&&◌, slice_get}
 use Rattle.std.proofs.lemmas.List.{length-map}
 use mathlib.Core.Path.{fun_ext}
@@ -36,10 +36,11 @@ use Rattle.summary.specs.Sights.{book_of}
 use Rattle.run_player.specs.Run.{Played, closing_of_run, played_of, run_of}
 use Rattle.pat_world.specs.Book.{events_by_step}
 use Rattle.run_player.specs.Watches.{declared_watch, first_summary, is_off, watches_of}
-use Rattle.patroni_top.specs.declared.order.Order.{Order}
-use Rattle.patroni_top.specs.declared.order.Order.TheVariants as orders
+use Rattle.pat_base.specs.declared.member_id.MemberId.{MemberId}
+use Rattle.pat_serve.specs.Connections.{Connection, most_waiting}
+use Rattle.run_player.specs.Served.{served_of}
 use Rattle.patroni_top.specs.Claims.{KeepsPromises}
-use Rattle.patroni_top.specs.Commands.{IfPlayed, verdict_by, verdict_of}
+use Rattle.patroni_top.specs.Commands.{Command, IfPlayed, Makes, Plays, Run, Serve, Verdict, member_named, service_of, verdict_by, verdict_of}
 use Rattle.patroni_top.proofs.Books.{book-by-step, named-steps, steps-tell}
 
 armable : (mode : Mode) (works : Bool) → not (is_off mode) && works ≡ is_armable mode works
@@ -103,12 +104,19 @@ module _ (played : Played) (is : IsHead played.head) where
     commits_guard = λ on. commits-guarded (watches_of played.head) played.head.config (first_logs played.head) (run_of played) (closing_of_run played) closes on (λ front rest parts met mode. keeps-commits on front rest parts (meets played.head front met) mode);
   }
 
--- what is played of bytes does
-promises-by : (bytes : List ℕ) (limit : Option Limit) (read : Result ScriptText (ℕ × Fault)) → script_of bytes ≡ read → IfPlayed KeepsPromises (verdict_by limit read)
-promises-by bytes (Some limit) read is = tt
-promises-by bytes None (Err (line, fault)) is = tt
-promises-by bytes None (Ok script) is = keeps-promises (played_of script) (read-is-spelled bytes script is).0.head
+-- what is played of bytes does, whatever is made of a script
+promises-by : (makes : ScriptText → Verdict) (bytes : List ℕ) (limit : Option Limit) (read : Result ScriptText (ℕ × Fault)) → ((script : ScriptText) → IsHead script.head → IfPlayed KeepsPromises (makes script)) → script_of bytes ≡ read → IfPlayed KeepsPromises (verdict_by makes limit read)
+promises-by makes bytes (Some limit) read each is = tt
+promises-by makes bytes None (Err (line, fault)) each is = tt
+promises-by makes bytes None (Ok script) each is = each script (read-is-spelled bytes script is).0.head
 
-pub promises-kept : (order : Option Order) (bytes : List ℕ) → IfPlayed KeepsPromises (verdict_of order bytes)
-promises-kept None bytes = tt
-promises-kept (Some orders.Run) bytes = promises-by bytes (limit_of bytes) (script_of bytes) refl
+promises-served : (script : ScriptText) (count : ℕ) (visitors : List Connection) (found : Option MemberId) → IsHead script.head → IfPlayed KeepsPromises (service_of script count visitors found)
+promises-served script count visitors None is = tt
+promises-served script count visitors (Some id) is = keeps-promises (served_of script id visitors) is
+
+pub promises-kept : (command : Option Command) (visitors : List Connection) (bytes : List ℕ) → IfPlayed KeepsPromises (verdict_of command visitors bytes)
+promises-kept None visitors bytes = tt
+promises-kept (Some Run) visitors bytes = promises-by (λ script. Makes (Plays (played_of script))) bytes (limit_of 0 bytes) (script_of bytes) (λ script is. keeps-promises (played_of script) is) refl
+promises-kept (Some (Serve member address count)) visitors bytes =
+    promises-by (λ script. service_of script count visitors (member_named script.head member)) bytes (limit_of (most_waiting * count) bytes) (script_of bytes)
+    (λ script is. promises-served script count visitors (member_named script.head member) is) refl

@@ -1,13 +1,19 @@
 -- How a run ended, with what it leaves.
-use Rattle.std.specs.Prelude.{ℕ, ◌≡◌, ◌↔◌, List, Ok, Err, Result, IsSome, IfSome}
+use Rattle.std.specs.Prelude.{ℕ, ◌≡◌, ◌≢◌, ◌↔◌, List, Some, None, Ok, Err, Result, IsSome, IfSome}
 use Rattle.pat_base.specs.declared.outside.Source.{Ghosts}
+use Rattle.pat_base.specs.declared.outside.Sink.{Ghosts as SinkGhosts}
 use Rattle.pat_base.specs.Outside.{Known}
+use Rattle.pat_door.specs.declared.door.Door.{Ghosts as DoorGhosts}
+use Rattle.pat_serve.specs.Connections.{Connection}
+use Rattle.pat_world.specs.Steps.{WorldFacts}
 use Rattle.run_player.specs.Left.{IsLeftBy}
 use Rattle.patroni_top.specs.declared.ended.Ended.{Ended}
 use Rattle.patroni_top.specs.declared.ending.Ending.{Ending}
 use Rattle.patroni_top.specs.declared.ending.Ending.TheVariants as endings
 use Rattle.patroni_top.specs.declared.status.Status.TheVariants as statuses
-use Rattle.patroni_top.specs.Commands.{IfPlayed, Verdict}
+use Rattle.patroni_top.specs.Commands.{Command, IfPlayed, Verdict, verdict_on}
+use Rattle.patroni_top.specs.Ends.{Ends}
+use Rattle.patroni_top.specs.Status.{Says, status_of}
 
 -- how a run ended that leaves something where all is done
 abbrev pub ending_in : {A : Type 0} → Result A Ending → Ending
@@ -18,3 +24,19 @@ ending_in (Err ending) = ending
 pub record LeavesWorld {S : Type 0} (source : Ghosts S) (input : S) (verdict : List ℕ → Verdict) (ended : Ended) : Type 0 where
   pub done : IsSome ended.world ↔ (ended.status ≡ statuses.Done)
   pub stands : IfSome ended.world (λ world. Known (source.rest input) (λ bytes. IfPlayed (λ played. IsLeftBy played world) (verdict bytes)))
+
+-- how a call ended that leaves a world where all is done
+abbrev pub ended_by : Result WorldFacts Ending → Ended
+ended_by (Ok world) = record { status = statuses.Done; world = Some world }
+ended_by (Err ending) = record { status = status_of ending; world = None }
+
+-- a command was carried out: its status says what came of it, and a run that was played leaves its world
+pub record Carries {S K D : Type 0} (source : Ghosts S) (sink : SinkGhosts K) (door : DoorGhosts D) (input left : S) (out then : K) (was now : D) (verdict : List ℕ → Verdict) (ended : Ended) : Type 0 where
+  pub ends : Ends source sink door input left out then was now verdict ended.status
+  pub world : LeavesWorld source input verdict ended
+
+-- what a call that carries out a command says of it: the words were one, these connections came, and what it names is the input's
+pub record IsCarriedOut {S K D : Type 0} (source : Ghosts S) (sink : SinkGhosts K) (door : DoorGhosts D) (input left : S) (out then : K) (was now : D) (command : Command) (result : Result WorldFacts Ending) : Type 0 where
+  pub usage : status_of (ending_in result) ≢ statuses.Usage
+  pub carries : (visitors : List Connection) × Carries source sink door input left out then was now (verdict_on command visitors) (ended_by result)
+  pub says : (visitors : List Connection) → Known (source.rest input) (λ bytes. Says (ending_in result) (verdict_on command visitors bytes))

@@ -1,15 +1,22 @@
 -- How a command ends.
-use Rattle.std.specs.Prelude.{ℕ, ◌≡◌, ◌≤◌, ◌⊎◌, List, [], length, Some}
+use Rattle.std.specs.Prelude.{ℕ, ◌≡◌, ◌≤◌, ◌⊎◌, List, [], length, Some, Result, Ok, Err}
 use Rattle.pat_base.specs.declared.outside.Sink.{Ghosts as SinkGhosts}
 use Rattle.pat_base.specs.declared.outside.Source.{Ghosts as SourceGhosts}
 use Rattle.pat_base.specs.Outside.{Known, Rose, Grew, GrewByPrefix, Consumed}
+use Rattle.pat_door.specs.declared.door.Door.{Ghosts as DoorGhosts}
+use Rattle.cluster_model.specs.Starting.{cluster_of}
+use Rattle.cluster_model.specs.Steps.{steps_of}
+use Rattle.run_player.specs.declared.serve_error.ServeError.{ServeError}
+use Rattle.run_player.specs.declared.serve_error.ServeError.TheVariants as errors
+use Rattle.run_player.specs.Served.{Came, after_steps}
 use Rattle.patroni_top.specs.declared.status.Status.{Status}
 use Rattle.patroni_top.specs.declared.status.Status.TheVariants as statuses
-use Rattle.patroni_top.specs.Commands.{EndsWhole, Faulty, Makes, PastLimit, Plan, Verdict, plan_text}
+use Rattle.patroni_top.specs.Commands.{EndsWhole, Faulty, Makes, PastLimit, Plan, Plays, Serves, UnknownMember, Verdict, plan_lines, plan_text}
 
--- the input is no script
+-- the input is no script, or declares no such member
 abbrev pub IsFaulty : Verdict → Type 0
 IsFaulty (Faulty line fault) = Unit {0}
+IsFaulty UnknownMember = Unit {0}
 IsFaulty _ = ⊥
 
 -- the input passes a limit of scripts
@@ -17,8 +24,15 @@ abbrev pub IsPastLimit : Verdict → Type 0
 IsPastLimit (PastLimit limit) = Unit {0}
 IsPastLimit _ = ⊥
 
--- a source and a sink before a command and after it, and what comes of the command by the bytes of the source
-module _ {S K : Type 0} (source : SourceGhosts S) (sink : SinkGhosts K) (input left : S) (out then : K) (verdict : List ℕ → Verdict) where
+-- how connections were served where a command ended so
+abbrev pub serving_of : Status → Result (Unit {0}) ServeError
+serving_of statuses.Done = Ok tt
+serving_of statuses.WriteFault = Err errors.Write
+serving_of statuses.DoorFault = Err errors.Door
+serving_of _ = Err errors.Memory
+
+-- a source, a sink and a door before a command and after it, and what comes of the command by the bytes of the source
+module _ {S K D : Type 0} (source : SourceGhosts S) (sink : SinkGhosts K) (door : DoorGhosts D) (input left : S) (out then : K) (was now : D) (verdict : List ℕ → Verdict) where
   abbrev pub IsUnwritten : Type 0
   IsUnwritten = sink.content then ≡ sink.content out
 
@@ -37,7 +51,12 @@ module _ {S K : Type 0} (source : SourceGhosts S) (sink : SinkGhosts K) (input l
   IsCut (Makes plan) = (text : List ℕ) × EndsWhole plan text × Grew (sink.content out) (sink.content then) text
   IsCut _ = IsUnwritten
 
-  -- what each status says of the bytes, of the input and of the output
+  -- of what was to be printed all but the closing summary is
+  abbrev pub IsHalted : Verdict → Type 0
+  IsHalted (Makes plan) = Grew (sink.content out) (sink.content then) (plan_lines plan)
+  IsHalted _ = ⊥
+
+  -- what each status says of the bytes, of the input, of the output and of the door
   abbrev pub Means : Status → Type 0
   Means statuses.Done = Known (source.rest input) (λ bytes. IsDone (verdict bytes))
   Means statuses.NotScript = Known (source.rest input) (λ bytes. IsFaulty (verdict bytes)) × IsUnwritten
@@ -45,14 +64,26 @@ module _ {S K : Type 0} (source : SourceGhosts S) (sink : SinkGhosts K) (input l
   Means statuses.ReadFault = Rose (source.faults input) (source.faults left) × IsUnwritten
   Means statuses.WriteFault = Rose (sink.faults out) (sink.faults then) × Known (source.rest input) (λ bytes. IsBroken (verdict bytes))
   Means statuses.Memory = Known (source.rest input) (λ bytes. IsCut (verdict bytes))
+  Means statuses.DoorFault = Rose (door.door_faults was) (door.door_faults now) × Known (source.rest input) (λ bytes. IsHalted (verdict bytes))
   Means statuses.Limit = Known (source.rest input) (λ bytes. IsPastLimit (verdict bytes)) × IsUnwritten
 
+  -- what became of the door: the connections of a plan came to it, which else has nothing to do with it
+  abbrev pub IsVisited : Status → Verdict → Type 0
+  IsVisited status (Makes (Serves script id count visitors)) = Came door was now (serving_of status) (after_steps (cluster_of script.head) (steps_of script.body)) id count visitors
+  IsVisited status _ = now ≡ was
+
+  -- the door serves as many connections as a plan has
+  abbrev pub IsServedBy : Plan → Type 0
+  IsServedBy (Plays played) = Unit {0}
+  IsServedBy (Serves script id count visitors) = door.serves was count
+
   -- Where the input doesn't fail, bytes that pass a limit or are no script are told apart from scripts, unless memory is wanting, and
-  -- where the output has room too, all is printed.
+  -- where the output has room too, and the door serves as many connections as there are to be, all is printed.
   pub record Ends (status : Status) : Type 0 where
     pub means : Means status
+    pub visited : Known (source.rest input) (λ bytes. IsVisited status (verdict bytes))
     pub past_limit : source.is_reliable input → Known (source.rest input) (λ bytes. IsPastLimit (verdict bytes) → (status ≡ statuses.Limit) ⊎ (status ≡ statuses.Memory))
     pub faulty : source.is_reliable input → Known (source.rest input) (λ bytes. IsFaulty (verdict bytes) → (status ≡ statuses.NotScript) ⊎ (status ≡ statuses.Memory))
     pub complete : source.is_reliable input → Known (source.rest input) (λ bytes.
-        (plan : Plan) → verdict bytes ≡ Makes plan → (n : ℕ) → sink.can_take out n → length (plan_text plan) ≤ n → (status ≡ statuses.Done) ⊎ (status ≡ statuses.Memory))
+        (plan : Plan) → verdict bytes ≡ Makes plan → (n : ℕ) → sink.can_take out n → length (plan_text plan) ≤ n → IsServedBy plan → (status ≡ statuses.Done) ⊎ (status ≡ statuses.Memory))
     pub consumed : Consumed (source.rest input) (source.rest left) 1048577

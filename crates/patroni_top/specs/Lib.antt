@@ -2,4 +2,5 @@ pub mod Claims
 pub mod Commands
 pub mod Ended
 pub mod Ends
+pub mod Limits
 pub mod Status

@@ -16,9 +16,11 @@ use Rattle.patroni_top.specs.declared.ending.Ending.{Ending}
 use Rattle.patroni_top.specs.declared.ending.Ending.TheVariants as endings
 use Rattle.run_player.specs.declared.print_error.PrintError.{PrintError}
 use Rattle.run_player.specs.declared.print_error.PrintError.TheVariants as prints
+use Rattle.run_player.specs.declared.serve_error.ServeError.{ServeError}
+use Rattle.run_player.specs.declared.serve_error.ServeError.TheVariants as serves
 use Rattle.patroni_top.specs.declared.status.Status.{Status}
 use Rattle.patroni_top.specs.declared.status.Status.TheVariants as statuses
-use Rattle.patroni_top.specs.Commands.{Faulty, PastLimit, Verdict}
+use Rattle.patroni_top.specs.Commands.{Faulty, PastLimit, UnknownMember, Verdict}
 
 -- the number of an exit status
 abbrev pub code_of : Status → ℕ
@@ -28,35 +30,41 @@ code_of statuses.Usage = 2
 code_of statuses.ReadFault = 3
 code_of statuses.WriteFault = 4
 code_of statuses.Memory = 5
+code_of statuses.DoorFault = 6
 code_of statuses.Limit = 7
 
 -- the exit status of an ending
 abbrev pub status_of : Ending → Status
 status_of endings.Done = statuses.Done
 status_of (endings.NotScript line fault) = statuses.NotScript
+status_of endings.UnknownMember = statuses.NotScript
 status_of endings.Usage = statuses.Usage
 status_of endings.ReadFault = statuses.ReadFault
 status_of endings.WriteFault = statuses.WriteFault
 status_of endings.Memory = statuses.Memory
+status_of endings.DoorFault = statuses.DoorFault
 status_of (endings.Limit limit) = statuses.Limit
 
 -- what an ending says of what came of the words and the input: the fault with its line, or the limit, is the input's
 abbrev pub Says : Ending → Verdict → Type 0
 Says (endings.NotScript line fault) verdict = verdict ≡ Faulty line fault
+Says endings.UnknownMember verdict = verdict ≡ UnknownMember
 Says (endings.Limit limit) verdict = verdict ≡ PastLimit limit
 Says _ verdict = Unit {0}
 
--- an ending refuses bytes that are to be a script for what they are
-abbrev pub Refuses : Ending → List ℕ → Type 0
-Refuses (endings.NotScript line fault) bytes = (limit_of bytes ≡ None) × (script_of bytes ≡ Err (line, fault))
-Refuses (endings.Limit limit) bytes = limit_of bytes ≡ Some limit
-Refuses _ bytes = Unit {0}
+-- an ending refuses bytes that are to be a script for what they are, where so many ticks come beside those of its lines
+abbrev pub Refuses : ℕ → Ending → List ℕ → Type 0
+Refuses waited (endings.NotScript line fault) bytes = (limit_of waited bytes ≡ None) × (script_of bytes ≡ Err (line, fault))
+Refuses waited (endings.Limit limit) bytes = limit_of waited bytes ≡ Some limit
+Refuses waited _ bytes = Unit {0}
 
 -- an ending of a run in which the input gives no script
 abbrev pub IsRefusal : Ending → Type 0
 IsRefusal endings.Done = ⊥
 IsRefusal endings.Usage = ⊥
 IsRefusal endings.WriteFault = ⊥
+IsRefusal endings.UnknownMember = ⊥
+IsRefusal endings.DoorFault = ⊥
 IsRefusal _ = Unit {0}
 
 -- how a run ends where its input can't be read
@@ -74,6 +82,12 @@ abbrev pub ending_of_print : PrintError → Ending
 ending_of_print prints.Write = endings.WriteFault
 ending_of_print prints.Memory = endings.Memory
 
+-- how a run ends where connections aren't all served, or its output can't be written whole
+abbrev pub ending_of_serve : ServeError → Ending
+ending_of_serve serves.Write = endings.WriteFault
+ending_of_serve serves.Memory = endings.Memory
+ending_of_serve serves.Door = endings.DoorFault
+
 -- the line that names the first line with a fault, and its first fault
 abbrev pub fault_line : ℕ → Fault → List ℕ
 fault_line line fault = codes "line " ++ (decimal line ++ (codes ": " ++ (text_of fault ++ codes "\n")))
@@ -86,10 +100,12 @@ limit_line limit = codes "limit: " ++ (limit_text limit ++ codes "\n")
 abbrev pub message_of : Ending → List ℕ
 message_of endings.Done = []
 message_of (endings.NotScript line fault) = fault_line line fault
+message_of endings.UnknownMember = codes "serve: unknown member\n"
 message_of endings.Usage = codes "usage: patroni_sim run | serve MEMBER ADDRESS COUNT | print | gen SEED COUNT\n"
 message_of endings.ReadFault = codes "read fault\n"
 message_of endings.WriteFault = codes "write fault\n"
 message_of endings.Memory = codes "out of memory\n"
+message_of endings.DoorFault = codes "door fault\n"
 message_of (endings.Limit limit) = limit_line limit
 
 -- the error output grew by a front of the line: by all of it, unless a fault came

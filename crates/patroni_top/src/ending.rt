@@ -1,6 +1,6 @@
 //! How a run ended, with what is told of it.
 ghost use Rattle.std.specs.Prelude.{◌≡◌, ◌≤◌, length};
-ghost use Rattle.patroni_top.specs.Status.{ending_of_read, ending_of_fault, ending_of_print, fault_line, limit_line, message_of};
+ghost use Rattle.patroni_top.specs.Status.{ending_of_read, ending_of_fault, ending_of_print, ending_of_serve, fault_line, limit_line, message_of};
 ghost use Rattle.patroni_top.specs.declared.ending.Ending.TheVariants as endings;
 
 use crate::Status;
@@ -8,7 +8,7 @@ use arrayvec::ArrayString;
 use cluster_script::{Limit, ScriptFault, limit_text};
 use itoa::Buffer;
 use pat_base::ReadError;
-use run_player::PrintError;
+use run_player::{PrintError, ServeError};
 use script_words::{Fault, fault_text};
 use std::alloc::AllocError;
 
@@ -21,10 +21,13 @@ pub enum Ending {
     Done,
     /// The bytes pass no limit. The first line that has a fault, counted from 1, and its first fault.
     NotScript { line: u64, fault: Fault },
+    /// The script declares no member of the name that is to be served.
+    UnknownMember,
     Usage,
     ReadFault,
     WriteFault,
     Memory,
+    DoorFault,
     /// The first limit that the bytes pass.
     Limit(Limit),
 }
@@ -38,11 +41,12 @@ impl Ending {
     {
         match self {
             Ending::Done => Status::Done,
-            Ending::NotScript { .. } => Status::NotScript,
+            Ending::NotScript { .. } | Ending::UnknownMember => Status::NotScript,
             Ending::Usage => Status::Usage,
             Ending::ReadFault => Status::ReadFault,
             Ending::WriteFault => Status::WriteFault,
             Ending::Memory => Status::Memory,
+            Ending::DoorFault => Status::DoorFault,
             Ending::Limit(_) => Status::Limit,
         }
     }
@@ -89,6 +93,18 @@ impl From<PrintError> for Ending {
     }
 }
 
+impl From<ServeError> for Ending {
+    ghost from_gives = { λ error ending. ending ≡ ending_of_serve error };
+
+    fn from(error: ServeError) -> Self {
+        match error {
+            ServeError::Write => Ending::WriteFault,
+            ServeError::Memory => Ending::Memory,
+            ServeError::Door => Ending::DoorFault,
+        }
+    }
+}
+
 /// The line that is told of an ending: nothing of `Done`.
 pub fn message(ending: Ending) -> Message
     ensures { result.bytes ≡ message_of ending }
@@ -96,12 +112,14 @@ pub fn message(ending: Ending) -> Message
     match ending {
         Ending::Done => Message::new(),
         Ending::NotScript { line, fault } => fault_line(line, fault),
+        Ending::UnknownMember => line_of("serve: unknown member\n"),
         Ending::Usage => line_of(
             "usage: patroni_sim run | serve MEMBER ADDRESS COUNT | print | gen SEED COUNT\n",
         ),
         Ending::ReadFault => line_of("read fault\n"),
         Ending::WriteFault => line_of("write fault\n"),
         Ending::Memory => line_of("out of memory\n"),
+        Ending::DoorFault => line_of("door fault\n"),
         Ending::Limit(limit) => limit_line(limit),
     }
 }

@@ -5,6 +5,7 @@
 
 mod ended;
 mod ending;
+mod members;
 mod order;
 mod reading;
 mod status;

@@ -3,7 +3,7 @@ ghost use Rattle.std.specs.Prelude.{◌≡◌, ◌≢◌, Some, None, Ok, Err, [
 ghost use Rattle.pat_base.specs.Outside.{Known, Rose, Consumed};
 ghost use Rattle.cluster_script.specs.Limits.{limit_of};
 ghost use Rattle.cluster_script.specs.Reading.{script_of};
-ghost use Rattle.run_player.specs.Run.{KeepsLimits};
+ghost use Rattle.patroni_top.specs.Limits.{KeepsLimits};
 ghost use Rattle.patroni_top.specs.Status.{Refuses, IsRefusal};
 
 use crate::ending::Ending;
@@ -16,31 +16,31 @@ use std::alloc::Global;
 const MOST_READ: usize = 1_048_577;
 
 /// Reads the script of a source to its end, and at most one byte more than a script may have. Limits are judged before
-/// the faults of lines.
-pub fn script_from<S: Source>(alloc: Global, input: &mut S) -> Result<Script, Ending>
-    ensures script { IfOk result (λ script. Known (S.rest input.old) (λ bytes. (limit_of bytes ≡ None) × (script_of bytes ≡ Ok script))) }
+/// the faults of lines; so many ticks come beside those of the lines.
+pub fn script_from<S: Source>(alloc: Global, waited: u64, input: &mut S) -> Result<Script, Ending>
+    ensures script { IfOk result (λ script. Known (S.rest input.old) (λ bytes. (limit_of waited bytes ≡ None) × (script_of bytes ≡ Ok script))) }
     ensures end { IfOk result (λ _. Known (S.rest input.old) (λ _. S.rest input.new ≡ Some [])) }
-    ensures few { IfOk result KeepsLimits }
+    ensures few { IfOk result (KeepsLimits waited) }
     ensures refused { IfErr result IsRefusal }
-    ensures refuses { IfErr result (λ ending. Known (S.rest input.old) (Refuses ending)) }
+    ensures refuses { IfErr result (λ ending. Known (S.rest input.old) (Refuses waited ending)) }
     ensures fault { IsErrOf result Ending.ReadFault → Rose (S.faults input.old) (S.faults input.new) }
     ensures reliable { S.is_reliable input.old → result ≢ Err Ending.ReadFault }
     ensures consumed { Consumed (S.rest input.old) (S.rest input.new) 1048577 }
 {
     let bytes = read_at_most(alloc, input, MOST_READ)?;
-    script_in(alloc, &bytes)
+    script_in(alloc, waited, &bytes)
 }
 
 /// The script that the bytes are, where they pass no limit.
-fn script_in(alloc: Global, bytes: &[u8]) -> Result<Script, Ending>
-    ensures script { IfOk result (λ script. (limit_of bytes.now ≡ None) × (script_of bytes.now ≡ Ok script)) }
-    ensures few { IfOk result KeepsLimits }
+fn script_in(alloc: Global, waited: u64, bytes: &[u8]) -> Result<Script, Ending>
+    ensures script { IfOk result (λ script. (limit_of waited bytes.now ≡ None) × (script_of bytes.now ≡ Ok script)) }
+    ensures few { IfOk result (KeepsLimits waited) }
     ensures refused { IfErr result IsRefusal }
-    ensures refuses { IfErr result (λ ending. Refuses ending bytes.now) }
+    ensures refuses { IfErr result (λ ending. Refuses waited ending bytes.now) }
     ensures read { result ≢ Err Ending.ReadFault }
 {
     let lines = ScriptLines::cut(alloc, bytes)?;
-    if let Some(limit) = lines.limit_passed() {
+    if let Some(limit) = lines.limit_passed(waited) {
         return Err(Ending::Limit(limit));
     }
     let script = lines.read(alloc)?;

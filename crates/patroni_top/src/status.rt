@@ -5,7 +5,7 @@
 pub enum Status {
     /// The whole output is written, and the input was read to its end.
     Done = 0,
-    /// The bytes pass no limit and are no script.
+    /// The bytes pass no limit and are no script, or one that declares no such member.
     NotScript = 1,
     /// The words are no command.
     Usage = 2,
@@ -15,6 +15,8 @@ pub enum Status {
     WriteFault = 4,
     /// Memory is wanting.
     Memory = 5,
+    /// The door failed to open, or to bring a connection.
+    DoorFault = 6,
     /// The bytes pass a limit of scripts.
     Limit = 7,
 }

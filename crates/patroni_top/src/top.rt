@@ -1,49 +1,56 @@
 //! The top call.
-ghost use Rattle.std.specs.Prelude.{◌≡◌, ◌≢◌, ◌↔◌, None, map, string_bytes, IfErr, IfOk};
+ghost use Rattle.std.specs.Prelude.{List, ◌≡◌, ◌↔◌, None, map, string_bytes};
 ghost use Rattle.pat_base.specs.Outside.{Known};
-ghost use Rattle.run_player.specs.Left.{IsLeftBy};
+ghost use Rattle.pat_serve.specs.Connections.{Connection};
 ghost use Rattle.patroni_top.specs.Claims.{KeepsPromises};
-ghost use Rattle.patroni_top.specs.Commands.{IfPlayed, order_of, verdict_of, verdict_on};
-ghost use Rattle.patroni_top.specs.Ended.{LeavesWorld, ending_in};
-ghost use Rattle.patroni_top.specs.Ends.{Ends};
+ghost use Rattle.patroni_top.specs.Commands.{IfPlayed, Serve, command_of, order_command, verdict_of};
+ghost use Rattle.patroni_top.specs.Ended.{Carries, IsCarriedOut};
 ghost use Rattle.patroni_top.specs.Status.{status_of, message_of, Says, IsReported};
 
 use crate::ending::{Ending, message};
+use crate::members::member_named;
 use crate::order::Order;
 use crate::reading::script_from;
 use crate::{Ended, Status};
 use pat_base::{Sink, Source, write_all};
+use pat_door::Door;
+use pat_serve::MOST_WAITING;
 use pat_world::World;
-use run_player::play;
+use run_player::{Service, play, serve};
 use std::alloc::Global;
 
-/// The program: all that it does with its words, its input and its two outputs.
+/// The program: all that it does with its words, its input, its two outputs and its door.
 ///
-/// The word `run` reads a script from the input, at most 1,048,577 bytes of it, and writes its printed run on `out`.
+/// The word `run` reads a script from the input, at most 1,048,577 bytes of it, and writes its printed run on `out`. The words
+/// `serve MEMBER ADDRESS COUNT` do so too; but before the closing summary the door is opened at that address, and so many connections are
+/// served, one after another, by that member's agent: what each brings comes next in the run, and is printed once it is answered.
+///
 /// The whole script is read before anything is written. Judged are first the words, then the input, then the limits of
-/// scripts, then the lines, and then the output. Each line is written in one piece, and where memory is wanting what was
-/// written are the lines of whole steps. What isn't done is said in one line on `err`; that `err` fails changes nothing
-/// else.
+/// scripts, to whose ticks come 600 for each connection, then the lines, then the member, and then the output and the door. Each line is
+/// written in one piece, and where memory is wanting what was written are the lines of whole steps. What isn't done is said in one line on
+/// `err`; that `err` fails changes nothing else.
 ///
 /// What is answered has the world after the last step, exactly where the status is `Done`. On every other path the world that was
 /// made is closed.
-pub fn run<S: Source, K: Sink, E: Sink>(
+pub fn run<S: Source, K: Sink, E: Sink, D: Door>(
     alloc: Global,
     words: &[String],
     input: &mut S,
     out: &mut K,
     err: &mut E,
+    door: &mut D,
 ) -> Ended
     // The words are a command, or that is all that is said.
-    ensures usage { (result.status ≡ Status.Usage) ↔ (order_of (map string_bytes words.now) ≡ None) }
-    // The status says what came of the words by the bytes of the input, and what was written of that.
-    ensures ends { Ends S.Source K.Sink input.old input.new out.old out.new (verdict_of (order_of (map string_bytes words.now))) result.status }
-    // A run that was played leaves its world.
-    ensures world { LeavesWorld S.Source input.old (verdict_of (order_of (map string_bytes words.now))) result }
-    // What is played has one writer while the premises are met, keeps commits while synchronous mode is on too, and its summary is true.
-    ensures promises { Known (S.rest input.old) (λ bytes. IfPlayed KeepsPromises (verdict_of (order_of (map string_bytes words.now)) bytes)) }
+    ensures usage { (result.status ≡ Status.Usage) ↔ (command_of (map string_bytes words.now) ≡ None) }
+    // These connections came: the status says what came of the words by the bytes of the input and by them, what was written of that, and
+    // what was sent on each; and a run that was played leaves its world.
+    ensures carried { (visitors : List Connection) × Carries S.Source K.Sink D.Door input.old input.new out.old out.new door.old door.new (verdict_of (command_of (map string_bytes words.now)) visitors) result }
+    // What is played has one writer while the premises are met, keeps commits while synchronous mode is on too, and its summary is true,
+    // whoever connects.
+    ensures promises { (visitors : List Connection) → Known (S.rest input.old) (λ bytes. IfPlayed KeepsPromises (verdict_of (command_of (map string_bytes words.now)) visitors bytes)) }
     // The line told is that of the status; the fault with its line, or the limit, that it names is the input's.
-    ensures reported { (ending : Ending) × (status_of ending ≡ result.status) × Known (S.rest input.old) (λ bytes. Says ending (verdict_of (order_of (map string_bytes words.now)) bytes))
+    ensures reported { (ending : Ending) × (status_of ending ≡ result.status)
+        × ((visitors : List Connection) → Known (S.rest input.old) (λ bytes. Says ending (verdict_of (command_of (map string_bytes words.now)) visitors bytes)))
         × IsReported E.Sink err.old err.new (message_of ending) }
 {
     let Some(order) = Order::read(words) else {
@@ -53,7 +60,7 @@ pub fn run<S: Source, K: Sink, E: Sink>(
             world: None,
         };
     };
-    match carry_out(order, alloc, input, out) {
+    match carry_out(order, alloc, input, out, door) {
         Ok(world) => {
             report(err, Ending::Done);
             Ended {
@@ -72,42 +79,53 @@ pub fn run<S: Source, K: Sink, E: Sink>(
 }
 
 /// Does what a command asks for. On Ok it answers the world after the last step.
-fn carry_out<S: Source, K: Sink>(
-    order: Order,
+fn carry_out<S: Source, K: Sink, D: Door>(
+    order: Order<'_>,
     alloc: Global,
     input: &mut S,
     out: &mut K,
+    door: &mut D,
 ) -> Result<World, Ending>
-    ensures usage { status_of (ending_in result) ≢ Status.Usage }
-    ensures unfinished { IfErr result (λ ending. status_of ending ≢ Status.Done) }
-    ensures ends { Ends S.Source K.Sink input.old input.new out.old out.new (verdict_on order) (status_of (ending_in result)) }
-    ensures says { Known (S.rest input.old) (λ bytes. Says (ending_in result) (verdict_on order bytes)) }
-    ensures world { IfOk result (λ world. Known (S.rest input.old) (λ bytes. IfPlayed (λ played. IsLeftBy played world) (verdict_on order bytes))) }
+    ensures { IsCarriedOut S.Source K.Sink D.Door input.old input.new out.old out.new door.old door.new (order_command order.entry) result }
 {
     match order {
-        Order::Run => run_script(alloc, input, out),
+        Order::Run => {
+            let script = script_from(alloc, 0, input)?;
+            let world = play(alloc, &script, out)?;
+            Ok(world)
+        }
+        Order::Serve {
+            member,
+            address,
+            count,
+        } => serve_script(alloc, member, address, count, input, out, door),
     }
 }
 
-/// Reads a script and writes its printed run. On Ok it answers the world after the last step.
-fn run_script<S: Source, K: Sink>(
+/// Reads a script, writes its printed run, and serves so many connections before the closing summary. On Ok it answers the world after the
+/// last step.
+fn serve_script<S: Source, K: Sink, D: Door>(
     alloc: Global,
+    name: &[u8],
+    address: &[u8],
+    count: u64,
     input: &mut S,
     out: &mut K,
+    door: &mut D,
 ) -> Result<World, Ending>
-    ensures usage { status_of (ending_in result) ≢ Status.Usage }
-    ensures unfinished { IfErr result (λ ending. status_of ending ≢ Status.Done) }
-    ensures ends { Ends S.Source K.Sink input.old input.new out.old out.new (verdict_on Order.Run) (status_of (ending_in result)) }
-    ensures says { Known (S.rest input.old) (λ bytes. Says (ending_in result) (verdict_on Order.Run bytes)) }
-    ensures world { IfOk result (λ world. Known (S.rest input.old) (λ bytes. IfPlayed (λ played. IsLeftBy played world) (verdict_on Order.Run bytes))) }
+    ensures { IsCarriedOut S.Source K.Sink D.Door input.old input.new out.old out.new door.old door.new (Serve name.now address.now count) result }
 {
-    match script_from(alloc, input) {
-        Ok(script) => match play(alloc, &script, out) {
-            Ok(world) => Ok(world),
-            Err(error) => Err(Ending::from(error)),
-        },
-        Err(ending) => Err(ending),
-    }
+    let script = script_from(alloc, MOST_WAITING.saturating_mul(count), input)?;
+    let Some(member) = member_named(script.head(), name) else {
+        return Err(Ending::UnknownMember);
+    };
+    let service = Service {
+        member,
+        address,
+        count,
+    };
+    let world = serve(alloc, &script, &service, door, out)?;
+    Ok(world)
 }
 
 /// Says in one line what isn't done.

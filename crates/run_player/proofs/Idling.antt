@@ -19,7 +19,7 @@ use Rattle.summary.specs.Passing.{IsTickAlone}
 use Rattle.summary.specs.Sights.{noted_steps}
 use Rattle.world_model.specs.Idle.{BringsTicks, IsTick}
 use Rattle.pat_world.specs.Steps.{TookSteps}
-use Rattle.run_player.specs.declared.playing.Player.{Player}
+use Rattle.run_player.specs.declared.player.Player.{Player}
 use Rattle.run_player.specs.declared.print_error.PrintError.TheVariants.{Write}
 use Rattle.run_player.specs.Playing.{Idles, Plays}
 use Rattle.run_player.specs.Run.{noted_from, printed_from, traced_after, traced_over}

@@ -25,7 +25,7 @@ use Rattle.world_model.specs.Emits.{Emits}
 use Rattle.pat_world.proofs.Stepping.{TookSteps-none, TookSteps-then, steps-left-behind, steps-left-fewer}
 use Rattle.world_model.proofs.Starting.{drop-get}
 use Rattle.world_model.proofs.Taking.{members-stay, cluster_over-append}
-use Rattle.run_player.specs.declared.playing.Player.{Player}
+use Rattle.run_player.specs.declared.player.Player.{Player}
 use Rattle.run_player.specs.declared.print_error.PrintError.{PrintError}
 use Rattle.run_player.specs.declared.print_error.PrintError.TheVariants.{Memory, Write}
 use Rattle.run_player.specs.Playing.{Plays, PrintsWholeSteps}
@@ -90,7 +90,7 @@ Plays-none {X = X} {sink = sink} {before = before} {out = out} final steps stops
 })
 
 -- some steps, and then others: what they leave, and what they print
-run_events-append : (world : Cluster) (steps rest : List Step) → cluster_over (cluster_over world (run_events world steps)) (run_events (cluster_over world (run_events world steps)) rest) ≡ cluster_over world (run_events world (steps ++ rest))
+pub run_events-append : (world : Cluster) (steps rest : List Step) → cluster_over (cluster_over world (run_events world steps)) (run_events (cluster_over world (run_events world steps)) rest) ≡ cluster_over world (run_events world (steps ++ rest))
 run_events-append world [] rest = refl
 run_events-append world (step ∷ steps) rest =
     let events = next_events world step in
@@ -124,7 +124,7 @@ noted_from-append summary world (step ∷ steps) rest =
     ap (λ c. noted_from (noted_from noted next steps) c rest) (cluster_over-append world events (run_events next steps)) ∙ noted_from-append noted next steps rest
 
 -- some steps were played, and then others
-Plays-nothing : {K : Type 0} (sink : Ghosts K) (player : Player) (out : K) → Plays {X = Unit {0}} sink player player out out (Ok tt) []
+pub Plays-nothing : {K : Type 0} (sink : Ghosts K) (player : Player) (out : K) → Plays {X = Unit {0}} sink player player out out (Ok tt) []
 Plays-nothing sink player out = record {
   world = refl;
   trace = refl;
@@ -134,14 +134,14 @@ Plays-nothing sink player out = record {
   whole = λ e. absurd (ok-is-no-error e);
 }
 
-next-text : (before after : Player) (piece rest : List Step) → after.world.cluster ≡ cluster_over before.world.cluster (run_events before.world.cluster piece) → after.trace ≡ traced_over before.trace piece
+pub next-text : (before after : Player) (piece rest : List Step) → after.world.cluster ≡ cluster_over before.world.cluster (run_events before.world.cluster piece) → after.trace ≡ traced_over before.trace piece
     → printed_from before.world.cluster before.trace piece ++ printed_from after.world.cluster after.trace rest ≡ printed_from before.world.cluster before.trace (piece ++ rest)
 next-text before after piece rest world trace =
     ap (λ c. printed_from before.world.cluster before.trace piece ++ printed_from c after.trace rest) world
     ∙ ap (λ t. printed_from before.world.cluster before.trace piece ++ printed_from (cluster_over before.world.cluster (run_events before.world.cluster piece)) t rest) trace
     ∙ sym (printed_from-append before.world.cluster before.trace piece rest)
 
-Plays-then : {K X : Type 0} {sink : Ghosts K} {before between after : Player} {out mid then : K} {x : X} {steps piece : List Step} → Plays {X = Unit {0}} sink before between out mid (Ok tt) steps → Plays sink between after mid then (Ok x) piece → Plays {X = Unit {0}} sink before after out then (Ok tt) (steps ++ piece)
+pub Plays-then : {K X : Type 0} {sink : Ghosts K} {before between after : Player} {out mid then : K} {x : X} {steps piece : List Step} → Plays {X = Unit {0}} sink before between out mid (Ok tt) steps → Plays sink between after mid then (Ok x) piece → Plays {X = Unit {0}} sink before after out then (Ok tt) (steps ++ piece)
 Plays-then {sink = sink} {before = before} {between = between} {after = after} {out = out} {then = then} {steps = steps} {piece = piece} p q = record {
   world = q.world ∙ ap (λ c. cluster_over c (run_events c piece)) p.world ∙ run_events-append before.world.cluster steps piece;
   trace = q.trace ∙ ap (λ t. traced_over t piece) p.trace ∙ sym (traced_over-append before.trace steps piece);

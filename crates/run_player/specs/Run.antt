@@ -1,10 +1,9 @@
 -- A run: which steps it plays, what happens in it, and its text.
-use Rattle.std.specs.Prelude.{ℕ, ◌≡◌, ◌≤◌, Bool, false, List, [], ◌∷◌, ◌++◌, length}
+use Rattle.std.specs.Prelude.{ℕ, ◌≡◌, Bool, false, List, [], ◌∷◌, ◌++◌}
 use Rattle.event_book.specs.declared.event.Event.{Event}
 use Rattle.event_book.specs.Text.{lines_of}
 use Rattle.script_model.specs.Script.{HeadText, ScriptText}
 use Rattle.cluster_model.specs.Steps.{steps_of}
-use Rattle.script_model.specs.Ticks.{total_ticks}
 use Rattle.script_model.specs.declared.line.Command.{Command}
 use Rattle.script_model.specs.declared.line.Command.TheVariants as commands
 use Rattle.cluster_model.specs.declared.step.Step.{Step}
@@ -27,11 +26,6 @@ pub record Played : Type 0 where
 -- what is played of a script
 abbrev pub played_of : ScriptText → Played
 played_of script = record { head = script.head; steps = steps_of script.body }
-
--- a body of a script within the limits
-pub record KeepsLimits (script : ScriptText) : Type 0 where
-  pub ticks : total_ticks script.body ≤ 1000000
-  pub lines : length script.body ≤ 100000
 
 -- the book of a run: what happens from its head on, step by step
 abbrev pub run_of : Played → List Event

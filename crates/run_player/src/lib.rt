@@ -1,10 +1,16 @@
-//! Runs played: the steps of a script taken by a world, noted for the closing summary, and printed.
+//! Runs played: the steps of a script, and of connections behind it, taken by a world, noted for the closing summary, and printed.
 #![tactic(auto)]
 
+mod player;
 mod playing;
 mod print_error;
 mod printing;
+mod serve_error;
+mod serving;
+mod showing;
 mod watches;
 
 pub use playing::play;
 pub use print_error::PrintError;
+pub use serve_error::ServeError;
+pub use serving::{Service, serve};

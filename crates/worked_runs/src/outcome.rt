@@ -1,5 +1,6 @@
 //! What comes of a script.
 use pat_base::{MemorySink, MemorySource};
+use pat_door::MemoryDoor;
 use patroni_top::{Ended, Status, run};
 use std::alloc::{AllocError, Global};
 
@@ -21,7 +22,8 @@ pub fn run_script(alloc: Global, script: Vec<u8>) -> Result<Outcome, AllocError>
     let mut input = MemorySource::new(script, Vec::new(alloc));
     let mut out = MemorySink::new(alloc, ROOM, Vec::new(alloc))?;
     let mut err = MemorySink::new(alloc, ROOM, Vec::new(alloc))?;
-    let Ended { status, world } = run(alloc, &words, &mut input, &mut out, &mut err);
+    let mut door = MemoryDoor::new(alloc, Vec::new(alloc), 0, Vec::new(alloc))?;
+    let Ended { status, world } = run(alloc, &words, &mut input, &mut out, &mut err, &mut door);
     if let Some(world) = world {
         world.close();
     }

@@ -1,14 +1,21 @@
-use Rattle.std.proofs.Common.{◌∙◌, map, sym}
+use Rattle.std.proofs.Common.{◌∙◌, None, Err, map, option_map, sym, ap}
 use Rattle.std.specs.String.{string_bytes}
-use Rattle.patroni_top.specs.Commands.{order_of}
+use Rattle.patroni_top.specs.declared.status.Status.{Status}
+use Rattle.patroni_top.specs.Commands.{command_of, order_command}
+use Rattle.patroni_top.proofs.Carrying.{asked, unasked}
 use Rattle.patroni_top.proofs.Premises.{promises-kept}
 use Rattle.patroni_top.proofs.top.run.Goals as goal
 
-pub returns-in-Ok-clause-promises : goal.returns-in-Ok-clause-promises
-returns-in-Ok-clause-promises g c = λ bytes told. promises-kept (order_of (map string_bytes c.args.words.now)) bytes
+pub returns-in_default-clause-carried : goal.returns-in_default-clause-carried
+returns-in_default-clause-carried g c = unasked g.S.Source g.K.Sink g.D.Door c.args.input.now c.args.input.now c.args.out.now c.args.door.now (command_of (map string_bytes c.args.words.now)) (sym c.read.ensures ∙ ap (option_map order_command) c.in_default.is)
 
-pub returns-in-Err-clause-ends : goal.returns-in-Err-clause-ends
-returns-in-Err-clause-ends g c = rw (sym c.read.ensures ∙ c.in-Some.is, c.status.ensures) c.in-Err.ensures.ends
+pub returns-in-Ok-clause-promises : goal.returns-in-Ok-clause-promises
+returns-in-Ok-clause-promises g c = λ visitors bytes told. promises-kept (command_of (map string_bytes c.args.words.now)) visitors bytes
+
+pub returns-in-Err-clause-carried : goal.returns-in-Err-clause-carried
+returns-in-Err-clause-carried g c =
+    asked g.S.Source g.K.Sink g.D.Door _ _ c.args.out.now c.carry_out.new.out c.args.door.now c.carry_out.new.door (order_command c.in-Some.order) (command_of (map string_bytes c.args.words.now)) (Err c.in-Err.ending) _
+    (sym (ap (option_map order_command) c.in-Some.is) ∙ c.read.ensures) (ap (λ (status : Status). record { status = status; world = None }) (sym c.status.ensures)) c.in-Err.ensures
 
 pub returns-in-Err-clause-promises : goal.returns-in-Err-clause-promises
-returns-in-Err-clause-promises g c = λ bytes told. promises-kept (order_of (map string_bytes c.args.words.now)) bytes
+returns-in-Err-clause-promises g c = λ visitors bytes told. promises-kept (command_of (map string_bytes c.args.words.now)) visitors bytes

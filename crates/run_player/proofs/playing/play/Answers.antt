@@ -1,4 +1,4 @@
-use Rattle.std.proofs.Common.{ℕ, Bool, false, List, ap, ◌∙◌, Err, Ok, subst}
+use Rattle.std.proofs.Common.{ℕ, Bool, false, List, length, ap, ◌∙◌, Err, Ok, subst}
 use Rattle.pat_base.specs.Prints.{Prints}
 use Rattle.std.proofs.lemmas.Result.{err_from_is_err_and}
 use Rattle.pat_base.proofs.Printing.{Prints-none, Prints-ok}
@@ -6,15 +6,17 @@ use Rattle.cluster_model.specs.Starting.{cluster_of}
 use Rattle.cluster_model.specs.State.{Cluster}
 use Rattle.cluster_model.specs.Steps.{names_in, steps_of}
 use Rattle.world_model.proofs.Declaring.{names-start}
+use Rattle.world_model.specs.Room.{most_steps}
+use Rattle.pat_world.proofs.Stepping.{steps-left-fewer}
 use Rattle.run_player.specs.declared.print_error.PrintError.TheVariants.{Memory, Write}
 use Rattle.run_player.specs.Watches.{first_summary}
 use Rattle.run_player.specs.Playing.{PrintsWholeSteps}
 use Rattle.run_player.proofs.Played.{Prints-err, PrintsWholeSteps-none, memory-is-no-write, same-error}
-use Rattle.run_player.proofs.Whole.{has-room, left-by, text-is}
+use Rattle.run_player.proofs.Whole.{left-by, text-is}
 use Rattle.run_player.proofs.playing.play.Goals as goal
 
 pub play-requires-clause-room : goal.play-requires-clause-room
-play-requires-clause-room g c = has-room c.args.script.now c.in_ok-player.player.world c.requires c.in_ok-player.ensures.room
+play-requires-clause-room g c = steps-left-fewer c.in_ok-player.player.world most_steps (length (steps_of c.args.script.now.body)) c.requires c.in_ok-player.ensures.room
 
 pub play-requires-clause-members : goal.play-requires-clause-members
 play-requires-clause-members g c =
@@ -33,7 +35,7 @@ returns-in-Ok-clause-printed g c =
     let first = c.in_ok-player.ensures in
     Prints-ok Write c.into_world.result
     (subst (λ (t : List ℕ). Prints {X = Unit {0}} g.K.Sink c.args.out.now c.play.new.out Write (Ok tt) t)
-    (text-is script player.world.cluster player.trace player.summary (first.world ∙ ap (λ h. cluster_of h) c.head.ensures.value) first.trace (first.summary ∙ ap (λ h. first_summary h) c.head.ensures.value))
+    (text-is script.head (steps_of script.body) player.world.cluster player.trace player.summary (first.world ∙ ap (λ h. cluster_of h) c.head.ensures.value) first.trace (first.summary ∙ ap (λ h. first_summary h) c.head.ensures.value))
     c.in-Ok.ensures.printed)
 
 pub returns-in-Ok-clause-world : goal.returns-in-Ok-clause-world
@@ -41,7 +43,7 @@ returns-in-Ok-clause-world g c =
     let script = c.args.script.now in
     let start = c.in_ok-player.ensures.world ∙ ap (λ h. cluster_of h) c.head.ensures.value in
     let first = c.in_ok-player.ensures in
-    left-by script c.in_ok-player.player.world _ c.into_world.result c.requires start first.steps first.room first.counted c.in-Ok.ensures.world c.in-Ok.ensures.taken c.into_world.ensures
+    left-by script.head (steps_of script.body) c.in_ok-player.player.world _ c.into_world.result c.requires start first.steps first.room first.counted c.in-Ok.ensures.world c.in-Ok.ensures.taken c.into_world.ensures
 
 pub returns-in-Err-clause-printed : goal.returns-in-Err-clause-printed
 returns-in-Err-clause-printed g c =
@@ -50,7 +52,7 @@ returns-in-Err-clause-printed g c =
     let first = c.in_ok-player.ensures in
     Prints-err
     (subst (λ (t : List ℕ). Prints {X = Unit {0}} g.K.Sink c.args.out.now c.play.new.out Write (Err c.in-Err.error) t)
-    (text-is script player.world.cluster player.trace player.summary (first.world ∙ ap (λ h. cluster_of h) c.head.ensures.value) first.trace (first.summary ∙ ap (λ h. first_summary h) c.head.ensures.value))
+    (text-is script.head (steps_of script.body) player.world.cluster player.trace player.summary (first.world ∙ ap (λ h. cluster_of h) c.head.ensures.value) first.trace (first.summary ∙ ap (λ h. first_summary h) c.head.ensures.value))
     c.in-Err.ensures.printed)
 
 pub returns-in_err-player-clause-whole : goal.returns-in_err-player-clause-whole

@@ -10,7 +10,7 @@ use Rattle.summary.specs.SummaryText.{closing_text}
 use Rattle.run_player.specs.declared.print_error.PrintError.TheVariants.{Write}
 use Rattle.run_player.specs.Run.{printed_from}
 use Rattle.run_player.proofs.Played.{same-error}
-use Rattle.run_player.proofs.playing.Player.play.Goals as goal
+use Rattle.run_player.proofs.player.Player.play.Goals as goal
 
 pub returns-in_err-play_body-clause-printed : goal.returns-in_err-play_body-clause-printed
 returns-in_err-play_body-clause-printed g c =

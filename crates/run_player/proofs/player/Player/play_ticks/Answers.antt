@@ -6,7 +6,7 @@ use Rattle.pat_world.specs.Steps.{HasStepsLeft}
 use Rattle.run_player.specs.declared.print_error.PrintError.TheVariants.{Memory}
 use Rattle.run_player.proofs.Idling.{Plays-idle, none-left, tick-declared, ticks-first, ticks-split}
 use Rattle.run_player.proofs.Played.{Playing-end, Playing-more, Playing-room, Playing-start, Playing-stop, Plays-none}
-use Rattle.run_player.proofs.playing.Player.play_ticks.Goals as goal
+use Rattle.run_player.proofs.player.Player.play_ticks.Goals as goal
 
 pub loop-left-init : goal.loop-left-init
 loop-left-init g c = Playing-start g.K.Sink c.args.self.now c.args.out.now (replicate c.args.count c.args.step.now)

@@ -2,7 +2,7 @@ use Rattle.std.proofs.Common.{ap, ◌∙◌, Err}
 use Rattle.std.proofs.lemmas.Result.{err_from_is_err_and}
 use Rattle.event_book.specs.Text.{lines_of}
 use Rattle.run_player.proofs.Played.{Plays-none, Plays-step, Plays-step-stop}
-use Rattle.run_player.proofs.playing.Player.play_step.Goals as goal
+use Rattle.run_player.proofs.player.Player.play_step.Goals as goal
 
 pub returns-in_err-step : goal.returns-in_err-step
 returns-in_err-step g c =

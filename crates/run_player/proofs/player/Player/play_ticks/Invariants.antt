@@ -1,6 +1,6 @@
 use Rattle.std.proofs.Common.{replicate}
 use Rattle.run_player.proofs.Played.{Playing}
-use Rattle.run_player.proofs.playing.Player.play_ticks.Given as goal
+use Rattle.run_player.proofs.player.Player.play_ticks.Given as goal
 
 abbrev pub invariant-loop-left : goal.invariant-loop-left
 invariant-loop-left g l = Playing g.K.Sink l.fn.self l.self l.fn.out l.out (replicate l.count l.step) (replicate l.left l.step)

@@ -5,7 +5,7 @@ use Rattle.pat_base.specs.declared.name.Name.{Name}
 use Rattle.script_model.specs.Script.{IsLine}
 use Rattle.cluster_model.specs.Steps.{names_in, steps_of}
 use Rattle.run_player.proofs.Played.{line-declared, Playing-members, Playing-room, Playing-more, Playing-stop, Playing-end, body-next}
-use Rattle.run_player.proofs.playing.Player.play_body.Goals as goal
+use Rattle.run_player.proofs.player.Player.play_body.Goals as goal
 
 pub play_line-requires-clause-room : goal.play_line-requires-clause-room
 play_line-requires-clause-room g c = Playing-room _ _ c.loop-place.invariant (body-next c.args.script.now.body c.loop-place.place c.line_at.result.now c.line_at.ensures) c.requires.room

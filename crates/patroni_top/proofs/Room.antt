@@ -1,0 +1,29 @@
+-- Scripts within the limits have no more steps than a world takes.
+use Rattle.std.proofs.Common.{ℕ, ◌+◌, ◌*◌, ◌≤◌, List, [], ◌∷◌, length, arith, length-append}
+use Rattle.std.proofs.lemmas.List.{length-replicate}
+use Rattle.cluster_model.specs.declared.step.Step.{Step}
+use Rattle.cluster_model.specs.declared.step.Step.TheVariants as steps
+use Rattle.cluster_model.specs.Steps.{steps_of, steps_of_line}
+use Rattle.script_model.specs.declared.line.Line.{Line}
+use Rattle.script_model.specs.declared.line.Line.TheVariants as lines
+use Rattle.script_model.specs.Script.{ScriptText}
+use Rattle.script_model.specs.Ticks.{ticks_of_line, total_ticks}
+use Rattle.pat_serve.specs.Connections.{connection_cost, most_waiting}
+use Rattle.world_model.specs.Room.{most_steps}
+use Rattle.patroni_top.specs.Limits.{KeepsLimits}
+
+-- a body has no more steps than ticks and lines
+line-steps : (line : Line) → length (steps_of_line line) ≤ ticks_of_line line + 1
+line-steps (lines.Run n) = omega (arith, length-replicate {A = Step} n steps.Scheduled)
+line-steps (lines.Tick n) = omega (arith, length-replicate {A = Step} n steps.Tick)
+line-steps (lines.Command command) = omega arith
+
+body-steps : (body : List Line) → length (steps_of body) ≤ total_ticks body + length body
+body-steps [] = omega arith
+body-steps (line ∷ body) = omega (arith, line-steps line, body-steps body, length-append (steps_of_line line) (steps_of body))
+
+pub room-alone : (script : ScriptText) → KeepsLimits 0 script → length (steps_of script.body) ≤ most_steps
+room-alone script few = omega (arith, few.ticks, few.lines, body-steps script.body)
+
+pub room-behind : (script : ScriptText) (count : ℕ) → KeepsLimits (most_waiting * count) script → length (steps_of script.body) + connection_cost * count ≤ most_steps
+room-behind script count few = omega (arith, few.ticks, few.lines, body-steps script.body)

@@ -1,0 +1,49 @@
+use Rattle.std.proofs.Common.{◌≡◌, ◌∙◌, ◌*◌, ℕ, Err, ap, refl, sym}
+use Rattle.std.proofs.lemmas.Result.{err_from_is_err_and}
+use Rattle.script_model.specs.Script.{HeadText}
+use Rattle.pat_serve.specs.Connections.{most_waiting}
+use Rattle.patroni_top.specs.Commands.{Serve, member_named}
+use Rattle.patroni_top.proofs.Carrying.{refused, served-part, served-whole, unknown}
+use Rattle.patroni_top.proofs.Input.{keeps-counted, refuses-counted, saturated}
+use Rattle.patroni_top.proofs.Room.{room-behind}
+use Rattle.patroni_top.proofs.top.serve_script.Goals as goal
+
+pub returns-in_err-script : goal.returns-in_err-script
+returns-in_err-script g c =
+    let p = err_from_is_err_and c.from_residual.result c.from_residual.ensures.1 in
+    let ending = c.in_err-script.field-0.0 in
+    let fault = c.in_err-script.ensures in
+    refused g.S.Source g.K.Sink g.D.Door _ _ c.args.out.now c.args.door.now (Serve c.args.name.now c.args.address.now c.args.count) c.from_residual.result ending (p.1 ∙ ap Err p.2) fault.refused
+    (λ bytes told. refuses-counted (most_waiting * c.args.count) c.saturating_mul.result c.saturating_mul.ensures ending bytes (fault.refuses bytes told))
+    (λ e. fault.fault (ap Err e)) (λ reliable e. fault.reliable reliable (ap Err e)) c.script_from.ensures.consumed
+
+pub returns-in_default : goal.returns-in_default
+returns-in_default g c =
+    let read = c.in_ok-script.ensures in
+    let named = ap (λ (h : HeadText). member_named h c.args.name.now) (sym c.head.ensures.value) ∙ sym c.member_named.ensures.value in
+    unknown g.S.Source g.K.Sink g.D.Door _ _ c.in_ok-script.script read.end c.script_from.ensures.consumed c.args.name.now c.args.address.now c.args.count
+    (λ bytes told. (sym (saturated (most_waiting * c.args.count) c.saturating_mul.result c.saturating_mul.ensures bytes) ∙ (read.script bytes told).0, (read.script bytes told).1))
+    c.args.out.now c.args.door.now _ refl (named ∙ c.in_default.is)
+
+pub serve-requires-clause-room : goal.serve-requires-clause-room
+serve-requires-clause-room g c =
+    room-behind c.in_ok-script.script c.args.count (keeps-counted (most_waiting * c.args.count) c.saturating_mul.result c.saturating_mul.ensures c.in_ok-script.script c.in_ok-script.ensures.few)
+
+pub returns-in_err-world : goal.returns-in_err-world
+returns-in_err-world g c =
+    let p = err_from_is_err_and c.from_residual-in_err-world.result c.from_residual-in_err-world.ensures.1 in
+    let read = c.in_ok-script.ensures in
+    let named = ap (λ (h : HeadText). member_named h c.args.name.now) (sym c.head.ensures.value) ∙ sym c.member_named.ensures.value in
+    let served = c.in_err-world.ensures in
+    served-part g.S.Source g.K.Sink g.D.Door _ _ c.in_ok-script.script read.end c.script_from.ensures.consumed c.args.name.now c.args.address.now c.args.count
+    (λ bytes told. (sym (saturated (most_waiting * c.args.count) c.saturating_mul.result c.saturating_mul.ensures bytes) ∙ (read.script bytes told).0, (read.script bytes told).1))
+    c.in-Some.member (named ∙ c.in-Some.is) c.args.out.now c.serve.new.out c.args.door.now c.serve.new.door served.0 _ c.in_err-world.field-0.0 (p.1 ∙ ap Err p.2) served.1
+
+pub returns : goal.returns
+returns g c =
+    let read = c.in_ok-script.ensures in
+    let named = ap (λ (h : HeadText). member_named h c.args.name.now) (sym c.head.ensures.value) ∙ sym c.member_named.ensures.value in
+    let served = c.in_ok-world.ensures in
+    served-whole g.S.Source g.K.Sink g.D.Door _ _ c.in_ok-script.script read.end c.script_from.ensures.consumed c.args.name.now c.args.address.now c.args.count
+    (λ bytes told. (sym (saturated (most_waiting * c.args.count) c.saturating_mul.result c.saturating_mul.ensures bytes) ∙ (read.script bytes told).0, (read.script bytes told).1))
+    c.in-Some.member (named ∙ c.in-Some.is) c.args.out.now c.serve.new.out c.args.door.now c.serve.new.door served.0 _ c.in_ok-world.world refl served.1

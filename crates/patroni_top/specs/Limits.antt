@@ -1,0 +1,10 @@
+-- Scripts within the limits.
+use Rattle.std.specs.Prelude.{ℕ, ◌+◌, ◌≤◌, length}
+use Rattle.cluster_script.specs.Limits.{most_lines, most_ticks}
+use Rattle.script_model.specs.Script.{ScriptText}
+use Rattle.script_model.specs.Ticks.{total_ticks}
+
+-- a script within the limits, where so many ticks come beside those of its lines
+pub record KeepsLimits (waited : ℕ) (script : ScriptText) : Type 0 where
+  pub ticks : total_ticks script.body + waited ≤ most_ticks
+  pub lines : length script.body ≤ most_lines

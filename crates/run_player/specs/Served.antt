@@ -1,0 +1,85 @@
+-- A run with connections behind its script: the steps that they bring, and what was sent on each.
+use Rattle.std.specs.Prelude.{ℕ, ◌≡◌, ◌≢◌, ◌≤◌, false, List, [], ◌∷◌, ◌++◌, length, All, Some, None, Result, Err, IfOk, OnOk, IsErrOf, MatchResult, ◌⊎◌, ◌+◌}
+use Rattle.pat_base.specs.declared.member_id.MemberId.{MemberId}
+use Rattle.pat_base.specs.declared.outside.Sink.{Ghosts as SinkGhosts}
+use Rattle.pat_base.specs.Outside.{Grew, Rose}
+use Rattle.pat_base.specs.Prints.{Prints}
+use Rattle.script_model.specs.Script.{ScriptText}
+use Rattle.cluster_model.specs.declared.step.Step.{Step}
+use Rattle.cluster_model.specs.Cluster.{cluster_over}
+use Rattle.cluster_model.specs.Next.{run_events}
+use Rattle.cluster_model.specs.Starting.{cluster_of}
+use Rattle.cluster_model.specs.State.{Cluster}
+use Rattle.cluster_model.specs.Steps.{steps_of}
+use Rattle.pat_door.specs.declared.door.Door.{Ghosts as DoorGhosts}
+use Rattle.pat_door.specs.Doors.{DoorFacts, Tells}
+use Rattle.pat_serve.specs.Connections.{Connection, IsSent, Unread, Whole, bytes_due, steps_of_connection}
+use Rattle.pat_serve.specs.Serving.{IsRead}
+use Rattle.pat_world.specs.Steps.{WorldFacts}
+use Rattle.run_player.specs.declared.print_error.PrintError.{PrintError}
+use Rattle.run_player.specs.declared.serve_error.ServeError.{ServeError}
+use Rattle.run_player.specs.declared.print_error.PrintError.TheVariants as prints
+use Rattle.run_player.specs.declared.serve_error.ServeError.TheVariants.{Door, Memory, Write}
+use Rattle.run_player.specs.Left.{IsLeftBy}
+use Rattle.run_player.specs.Playing.{PrintsWholeSteps}
+use Rattle.run_player.specs.Run.{Played, lines_of_run, text_of_run}
+
+-- how serving ends where the output isn't whole
+abbrev pub serve_error : PrintError → ServeError
+serve_error prints.Memory = Memory
+serve_error prints.Write = Write
+
+-- what a cluster comes to by these steps
+abbrev pub after_steps : Cluster → List Step → Cluster
+after_steps cluster steps = cluster_over cluster (run_events cluster steps)
+
+-- the steps that connections to the agent of the member of this number bring, each from the cluster that those before it leave
+abbrev pub visits_steps : Cluster → MemberId → List Connection → List Step
+visits_steps cluster id [] = []
+visits_steps cluster id (visitor ∷ more) =
+    let steps = steps_of_connection cluster id visitor in
+    steps ++ visits_steps (after_steps cluster steps) id more
+
+-- the steps of a script's body, and then those that connections bring
+abbrev pub served_steps : Cluster → List Step → MemberId → List Connection → List Step
+served_steps cluster steps id visitors = steps ++ visits_steps (after_steps cluster steps) id visitors
+
+-- what is played of a script with connections behind it
+abbrev pub served_of : ScriptText → MemberId → List Connection → Played
+served_of script id visitors = record { head = script.head; steps = served_steps (cluster_of script.head) (steps_of script.body) id visitors }
+
+-- a connection with these bytes, in this cluster: it asks what they say, unless a read failed, and this was sent of what was due
+pub record IsServed (cluster : Cluster) (id : MemberId) (bytes : List ℕ) (visitor : Connection) (sent : List ℕ) : Type 0 where
+  pub asks : visitor.course ≢ Unread → IsRead bytes visitor.asks
+  pub sends : IsSent visitor.course (bytes_due cluster id visitor) sent
+
+-- the next connections of a door were served so, one after another, from this cluster on: so it was, and so it is
+abbrev pub AreServed : Cluster → MemberId → List Connection → DoorFacts → DoorFacts → Type 0
+AreServed cluster id [] facts then = then ≡ facts
+AreServed cluster id (visitor ∷ more) facts then =
+    (bytes : List ℕ) × (coming : List (List ℕ)) × (sent : List ℕ) × (facts.coming ≡ bytes ∷ coming) × IsServed cluster id bytes visitor sent
+    × AreServed (after_steps cluster (steps_of_connection cluster id visitor)) id more (record { coming = coming; here = None; answered = facts.answered ++ sent ∷ [] }) then
+
+-- no read or write of these connections failed
+abbrev pub AreWhole : List Connection → Type 0
+AreWhole visitors = All (λ visitor. visitor.course ≡ Whole) visitors
+
+-- of connections that were to be so many these came to a door: where it tells that, they were its next ones, unless memory was wanting. None
+-- of them failed where it counts no fault of theirs, and all came where it serves as many
+pub record Came {D X : Type 0} (door : DoorGhosts D) (was now : D) (result : Result X ServeError) (cluster : Cluster) (id : MemberId) (count : ℕ) (visitors : List Connection) : Type 0 where
+  pub told : result ≢ Err Memory → Tells (door.told was) (λ facts. (then : DoorFacts) × (door.told now ≡ Some then) × AreServed cluster id visitors facts then)
+  pub many : OnOk result (length visitors ≡ count)
+  pub few : length visitors ≤ count
+  pub halts : IsErrOf result Door → Rose (door.door_faults was) (door.door_faults now)
+  pub door_grows : door.door_faults was ≤ door.door_faults now
+  pub fails : AreWhole visitors ⊎ Rose (door.connection_faults was) (door.connection_faults now)
+  pub grows : door.connection_faults was ≤ door.connection_faults now
+  pub serves : (more : ℕ) → door.serves was (count + more) → MatchResult result (λ _. door.serves now more) (λ error. error ≢ Door)
+
+-- a script was played, and so many connections were to be served behind it: these were, and the run with them was printed
+pub record Serves {K D : Type 0} (sink : SinkGhosts K) (door : DoorGhosts D) (out then : K) (was now : D) (result : Result WorldFacts ServeError) (script : ScriptText) (id : MemberId) (count : ℕ) (visitors : List Connection) : Type 0 where
+  pub printed : Prints sink out then Write result (text_of_run (served_of script id visitors))
+  pub whole : IsErrOf result Memory → PrintsWholeSteps sink out then (cluster_of script.head) false (served_of script id visitors).steps
+  pub halted : IsErrOf result Door → Grew (sink.content out) (sink.content then) (lines_of_run (served_of script id visitors))
+  pub world : IfOk result (IsLeftBy (served_of script id visitors))
+  pub came : Came door was now result (after_steps (cluster_of script.head) (steps_of script.body)) id count visitors

@@ -1,0 +1,185 @@
+//! Who plays runs: steps, and what they print.
+ghost use Rattle.std.specs.Prelude.{◌≡◌, ◌<◌, ◌∷◌, ◌++◌, [], false, length, IfOk, IsErrOf, OnOk, replicate, slice_get, Some};
+ghost use Rattle.pat_base.specs.Prints.{Prints};
+ghost use Rattle.script_model.specs.Script.{IsLine, names_of};
+ghost use Rattle.cluster_model.specs.Cluster.{cluster_over};
+ghost use Rattle.cluster_model.specs.Next.{run_events};
+ghost use Rattle.cluster_model.specs.Starting.{cluster_of};
+ghost use Rattle.cluster_model.specs.Steps.{IsStep, names_in, steps_of, steps_of_line};
+ghost use Rattle.summary.specs.SummaryText.{closing_text};
+ghost use Rattle.world_model.specs.Idle.{IsTick};
+ghost use Rattle.world_model.specs.Room.{most_steps};
+ghost use Rattle.pat_world.specs.Steps.{HasStepsLeft, IsCounted, TookSteps};
+ghost use Rattle.run_player.specs.Playing.{Idles, Plays, PrintsWholeSteps};
+ghost use Rattle.run_player.specs.Run.{noted_from, printed_from, traced_after};
+ghost use Rattle.run_player.specs.Watches.{first_summary};
+
+use crate::print_error::PrintError;
+use crate::printing::{print_closing, print_lines, set_text};
+use crate::showing::{note, note_ticks};
+use crate::watches::first_summary;
+use cluster_model::Step;
+use event_book::Event;
+use pat_base::Sink;
+use pat_world::World;
+use script_model::{Command, Head, Line, Script};
+use std::alloc::{AllocError, Global};
+use summary::Summary;
+
+/// Takes steps in a world, and prints what happens. It can't be dropped, since a world can't.
+pub(crate) struct Player {
+    pub(crate) alloc: Global,
+    pub(crate) world: World,
+    /// Whether messages are traced.
+    pub(crate) trace: bool,
+    pub(crate) summary: Summary,
+    /// A buffer for the events of one step.
+    events: Vec<Event>,
+    /// A buffer for the text of one step.
+    pub(crate) text: String,
+}
+
+impl Player {
+    pub(crate) fn new(alloc: Global, head: &Head) -> Result<Player, AllocError>
+        ensures world { IfOk result (λ player. player.world.cluster ≡ cluster_of head.now) }
+        ensures steps { IfOk result (λ player. player.world.steps ≡ 0) }
+        ensures room { IfOk result (λ player. HasStepsLeft player.world most_steps) }
+        ensures counted { IfOk result (λ player. IsCounted player.world) }
+        ensures trace { IfOk result (λ player. player.trace ≡ false) }
+        ensures summary { IfOk result (λ player. player.summary ≡ first_summary head.now) }
+    {
+        let summary = first_summary(alloc, head)?;
+        // the world comes last, since nothing that fails may leave it behind
+        let world = World::new(alloc, head)?;
+        Ok(Player {
+            alloc,
+            world,
+            trace: false,
+            summary,
+            events: Vec::new(alloc),
+            text: String::new(alloc),
+        })
+    }
+
+    /// The world after the steps that were taken.
+    pub(crate) fn into_world(self) -> World
+        ensures { result ≡ self.world }
+    {
+        let Player {
+            alloc: _,
+            world,
+            trace: _,
+            summary: _,
+            events: _,
+            text: _,
+        } = self;
+        world
+    }
+
+    /// The lines of a script, one after another, and then the closing summary.
+    pub(crate) fn play<K: Sink>(&mut self, script: &Script, out: &mut K) -> Result<(), PrintError>
+        requires room { HasStepsLeft self.old.world (length (steps_of script.now.body)) }
+        requires members { names_in self.old.world.cluster.facts.members ≡ names_of script.now.head }
+        ensures world { OnOk result (self.new.world.cluster ≡ cluster_over self.old.world.cluster (run_events self.old.world.cluster (steps_of script.now.body))) }
+        ensures taken { OnOk result (TookSteps self.old.world self.new.world (length (steps_of script.now.body))) }
+        ensures printed { Prints K.Sink out.old out.new PrintError.Write result
+            (printed_from self.old.world.cluster self.old.trace (steps_of script.now.body) ++ closing_text (noted_from self.old.summary self.old.world.cluster (steps_of script.now.body)).watch.closing) }
+        ensures whole { IsErrOf result PrintError.Memory → PrintsWholeSteps K.Sink out.old out.new self.old.world.cluster self.old.trace (steps_of script.now.body) }
+    {
+        self.play_body(script, out)?;
+        print_closing(self.alloc, &self.summary.closing(), out)
+    }
+
+    /// The lines of a body, one after another.
+    pub(crate) fn play_body<K: Sink>(
+        &mut self,
+        script: &Script,
+        out: &mut K,
+    ) -> Result<(), PrintError>
+        requires room { HasStepsLeft self.old.world (length (steps_of script.now.body)) }
+        requires members { names_in self.old.world.cluster.facts.members ≡ names_of script.now.head }
+        ensures { Plays K.Sink self.old self.new out.old out.new result (steps_of script.now.body) }
+    {
+        for place in 0..script.len() {
+            self.play_line(line_at(script, place), out)?;
+        }
+        Ok(())
+    }
+
+    fn play_line<K: Sink>(&mut self, line: &Line, out: &mut K) -> Result<(), PrintError>
+        requires room { HasStepsLeft self.old.world (length (steps_of_line line.now)) }
+        requires declared { IsLine (names_in self.old.world.cluster.facts.members) line.now }
+        ensures { Plays K.Sink self.old self.new out.old out.new result (steps_of_line line.now) }
+    {
+        match line {
+            Line::Run(count) => self.play_ticks(*count, &Step::Scheduled, out),
+            Line::Tick(count) => self.play_ticks(*count, &Step::Tick, out),
+            Line::Command(command) => self.play_step(&Step::Command(command.try_clone()?), out),
+        }
+    }
+
+    /// So many ticks of one kind. Those that bring nothing else are taken at once, as far as that is known: they print nothing.
+    fn play_ticks<K: Sink>(
+        &mut self,
+        count: u64,
+        step: &Step,
+        out: &mut K,
+    ) -> Result<(), PrintError>
+        requires room { HasStepsLeft self.old.world count }
+        requires tick { IsTick step.now }
+        ensures { Plays K.Sink self.old self.new out.old out.new result (replicate count step.now) }
+    {
+        let mut left = count;
+        while left > 0 {
+            self.play_step(step, out)?;
+            left = self.idle(step, left - 1)?;
+        }
+        Ok(())
+    }
+
+    /// Takes those of so many ticks of one kind at once that are known to bring nothing else, and answers how many are left.
+    fn idle(&mut self, step: &Step, count: u64) -> Result<u64, AllocError>
+        requires tick { IsTick step.now }
+        requires room { HasStepsLeft self.old.world count }
+        ensures { IfOk result (Idles self.old self.new step.now count) }
+    {
+        let ticks = self.world.idle_for(step, count);
+        note_ticks(&mut self.summary, ticks)?;
+        Ok(count - ticks)
+    }
+
+    fn play_step<K: Sink>(&mut self, step: &Step, out: &mut K) -> Result<(), PrintError>
+        requires room { HasStepsLeft self.old.world 1 }
+        requires declared { IsStep self.old.world.cluster.facts.members step.now }
+        ensures { Plays K.Sink self.old self.new out.old out.new result (step.now ∷ []) }
+    {
+        self.events.clear();
+        self.world.step(step, &mut self.events)?;
+        note(&mut self.summary, &self.events)?;
+        // the whole text comes first, so that behind it only the sink can fail
+        set_text(&mut self.text, &self.events, self.trace)?;
+        print_lines(self.text.as_bytes(), out)?;
+        self.trace = traced_after(self.trace, step);
+        Ok(())
+    }
+}
+
+fn line_at(script: &Script, place: usize) -> &Line
+    requires { place < length script.now.body }
+    ensures { slice_get script.now.body place ≡ Some result.now }
+{
+    match script.get(place) {
+        Some(line) => line,
+        None => unreachable!(),
+    }
+}
+
+/// Whether messages are traced after a step.
+fn traced_after(trace: bool, step: &Step) -> bool
+    ensures { result ≡ traced_after trace step.now }
+{
+    match step {
+        Step::Command(Command::Trace(on)) => *on,
+        _ => trace,
+    }
+}
