@@ -125,10 +125,13 @@ module _ {S K D : Type 0} (source : SourceGhosts S) (sink : SinkGhosts K) (door 
       → IsCarriedOut source sink door input left out out was was command result
   refused out was command result ending is refusal refuses rose unfailing taken = subst (IsCarriedOut source sink door input left out out was was command) (sym is) (record {
     usage = not-usage ending refusal;
-    carries = ([], record {
-      ends = Ends-refused source sink door input left out was (verdict_on command []) ending refusal (λ bytes told. refusal-says command [] ending bytes refusal (refuses bytes told)) (λ bytes. quiet command bytes) rose unfailing taken;
-      world = leaves-nothing (verdict_on command []) ending (not-done ending refusal);
-    });
+    carries = (
+      [],
+      record {
+        ends = Ends-refused source sink door input left out was (verdict_on command []) ending refusal (λ bytes told. refusal-says command [] ending bytes refusal (refuses bytes told)) (λ bytes. quiet command bytes) rose unfailing taken;
+        world = leaves-nothing (verdict_on command []) ending (not-done ending refusal);
+      },
+    );
     says = λ visitors bytes told. refusal-says command visitors ending bytes refusal (refuses bytes told);
   })
 
@@ -149,10 +152,13 @@ module _ {S K D : Type 0} (source : SourceGhosts S) (sink : SinkGhosts K) (door 
         let plays : Known (source.rest input) (λ bytes. verdict_on Run [] bytes ≡ Makes (Plays (played_of script))) = λ bytes told. script-plays [] bytes script (read bytes told).0 (read bytes told).1 in
         subst (IsCarriedOut source sink door input left out then was was Run) (sym is) (record {
           usage = λ e. cc;
-          carries = ([], record {
-            ends = Ends-done source sink door input left out then was was (verdict_on Run []) (Plays (played_of script)) plays taken end printed refl;
-            world = record { done = ((λ some. refl), λ done. refl); stands = λ bytes told. plays-only (λ (played : Played). IsLeftBy played world) (verdict_on Run [] bytes) (Plays (played_of script)) (plays bytes told) stands };
-          });
+          carries = (
+            [],
+            record {
+              ends = Ends-done source sink door input left out then was was (verdict_on Run []) (Plays (played_of script)) plays taken end printed refl;
+              world = record { done = ((λ some. refl), λ done. refl); stands = λ bytes told. plays-only (λ (played : Played). IsLeftBy played world) (verdict_on Run [] bytes) (Plays (played_of script)) (plays bytes told) stands };
+            },
+          );
           says = λ visitors bytes told. tt;
         })
 
@@ -163,16 +169,19 @@ module _ {S K D : Type 0} (source : SourceGhosts S) (sink : SinkGhosts K) (door 
     printed-part out then was result error is read printed whole =
         let plan = Plays (played_of script) in
         let how : ServeError = serve_error error in
-        subst (IsCarriedOut source sink door input left out then was was Run) (sym (is ∙ ap Err (print-ends error))) (stopped out then was was Run how ([], record {
-          ends = Ends-stopped source sink door input left out then was was (verdict_on Run []) plan (λ bytes told. script-plays [] bytes script (read bytes told).0 (read bytes told).1) taken how (record {
-            printed = prints-so error printed;
-            whole = λ memory. steps-cut source sink door input left was was (verdict_on Run []) plan (whole (memory-is error memory));
-            halted = λ e. absurd (no-door error e);
-            opens = λ opens e. no-door error e;
-            visited = refl;
-          });
-          world = leaves-nothing (verdict_on Run []) (ending_of_serve how) (stop-not-done how);
-        }))
+        subst (IsCarriedOut source sink door input left out then was was Run) (sym (is ∙ ap Err (print-ends error))) (stopped out then was was Run how (
+          [],
+          record {
+            ends = Ends-stopped source sink door input left out then was was (verdict_on Run []) plan (λ bytes told. script-plays [] bytes script (read bytes told).0 (read bytes told).1) taken how (record {
+              printed = prints-so error printed;
+              whole = λ memory. steps-cut source sink door input left was was (verdict_on Run []) plan (whole (memory-is error memory));
+              halted = λ e. absurd (no-door error e);
+              opens = λ opens e. no-door error e;
+              visited = refl;
+            });
+            world = leaves-nothing (verdict_on Run []) (ending_of_serve how) (stop-not-done how);
+          },
+        ))
 
     module _ (member address : List ℕ) (count : ℕ) (read : IsRead (most_waiting * count)) where
       abbrev command : Command
@@ -182,13 +191,16 @@ module _ {S K D : Type 0} (source : SourceGhosts S) (sink : SinkGhosts K) (door 
       pub unknown : (out : K) (was : D) (result : Result WorldFacts Ending) → result ≡ Err endings.UnknownMember → member_named script.head member ≡ None → IsCarriedOut source sink door input left out out was was command result
       unknown out was result is none =
           let says : (visitors : List Connection) → Known (source.rest input) (λ bytes. verdict_on command visitors bytes ≡ UnknownMember) =
-              λ visitors bytes told. script-serves member address count visitors bytes script None (read bytes told).0 (read bytes told).1 (sym none) in
+          λ visitors bytes told. script-serves member address count visitors bytes script None (read bytes told).0 (read bytes told).1 (sym none) in
           subst (IsCarriedOut source sink door input left out out was was command) (sym is) (record {
             usage = λ e. cc;
-            carries = ([], record {
-              ends = Ends-faulty source sink door input left out was (verdict_on command []) UnknownMember tt tt (says []) taken;
-              world = leaves-nothing (verdict_on command []) endings.UnknownMember (λ e. cc);
-            });
+            carries = (
+              [],
+              record {
+                ends = Ends-faulty source sink door input left out was (verdict_on command []) UnknownMember tt tt (says []) taken;
+                world = leaves-nothing (verdict_on command []) endings.UnknownMember (λ e. cc);
+              },
+            );
             says = says;
           })
 
@@ -200,11 +212,14 @@ module _ {S K D : Type 0} (source : SourceGhosts S) (sink : SinkGhosts K) (door 
         pub served-whole : (result : Result WorldFacts Ending) (world : WorldFacts) → result ≡ Ok world → ServedSo sink door out then was now (Ok world) script id count visitors → IsCarriedOut source sink door input left out then was now command result
         served-whole result world is s = subst (IsCarriedOut source sink door input left out then was now command) (sym is) (record {
           usage = λ e. cc;
-          carries = (visitors, record {
-            ends = Ends-done source sink door input left out then was now (verdict_on command visitors) (Serves script id count visitors) serves-so taken end s.printed
-                (came-all door was now world (after_steps (cluster_of script.head) (steps_of script.body)) id count visitors s.came);
-            world = record { done = ((λ some. refl), λ done. refl); stands = λ bytes told. plays-only (λ (played : Played). IsLeftBy played world) (verdict_on command visitors bytes) (Serves script id count visitors) (serves-so bytes told) s.world };
-          });
+          carries = (
+            visitors,
+            record {
+              ends = Ends-done source sink door input left out then was now (verdict_on command visitors) (Serves script id count visitors) serves-so taken end s.printed
+                  (came-all door was now world (after_steps (cluster_of script.head) (steps_of script.body)) id count visitors s.came);
+              world = record { done = ((λ some. refl), λ done. refl); stands = λ bytes told. plays-only (λ (played : Played). IsLeftBy played world) (verdict_on command visitors bytes) (Serves script id count visitors) (serves-so bytes told) s.world };
+            },
+          );
           says = λ others bytes told. tt;
         })
 
@@ -213,37 +228,44 @@ module _ {S K D : Type 0} (source : SourceGhosts S) (sink : SinkGhosts K) (door 
         served-part result error is s =
             let plan = Serves script id count visitors in
             let start : Cluster = after_steps (cluster_of script.head) (steps_of script.body) in
-            subst (IsCarriedOut source sink door input left out then was now command) (sym is) (stopped out then was now command error (visitors, record {
-              ends = Ends-stopped source sink door input left out then was now (verdict_on command visitors) plan serves-so taken error (record {
-                printed = subst (λ (t : List ℕ). Prints {X = Unit {0}} sink out then serves.Write (Err error) t) (append-nil (text_of_run (served_of script id visitors)))
-                    (Prints-stop serves.Write error (Err error) [] s.printed refl (λ e. e));
-                whole = λ memory. steps-cut source sink door input left was now (verdict_on command visitors) plan (s.whole (ap Err memory));
-                halted = λ e. (s.came.halts (ap Err e), s.halted (ap Err e));
-                opens = λ opens. s.came.serves 0 (subst (door.serves was) (sym (plus-nothing count)) opens);
-                visited = subst (λ (r : Result (Unit {0}) ServeError). Came door was now r start id count visitors) (sym (serving-back error)) (came-part door was now error start id count visitors s.came);
-              });
-              world = leaves-nothing (verdict_on command visitors) (ending_of_serve error) (stop-not-done error);
-            }))
+            subst (IsCarriedOut source sink door input left out then was now command) (sym is) (stopped out then was now command error (
+              visitors,
+              record {
+                ends = Ends-stopped source sink door input left out then was now (verdict_on command visitors) plan serves-so taken error (record {
+                  printed = subst (λ (t : List ℕ). Prints {X = Unit {0}} sink out then serves.Write (Err error) t) (append-nil (text_of_run (served_of script id visitors)))
+                      (Prints-stop serves.Write error (Err error) [] s.printed refl (λ e. e));
+                  whole = λ memory. steps-cut source sink door input left was now (verdict_on command visitors) plan (s.whole (ap Err memory));
+                  halted = λ e. (s.came.halts (ap Err e), s.halted (ap Err e));
+                  opens = λ opens. s.came.serves 0 (subst (door.serves was) (sym (plus-nothing count)) opens);
+                  visited = subst (λ (r : Result (Unit {0}) ServeError). Came door was now r start id count visitors) (sym (serving-back error)) (came-part door was now error start id count visitors s.came);
+                });
+                world = leaves-nothing (verdict_on command visitors) (ending_of_serve error) (stop-not-done error);
+              },
+            ))
           where
             plus-nothing : (n : ℕ) → n + 0 ≡ n
             plus-nothing n = omega arith
 
   -- words that are no command
   pub unasked : (out : K) (was : D) (words : Option Command) → words ≡ None → (visitors : List Connection) × Carries source sink door input input out out was was (verdict_of words visitors) (record { status = statuses.Usage; world = None })
-  unasked out was words is = subst (λ (o : Option Command). (visitors : List Connection) × Carries source sink door input input out out was was (verdict_of o visitors) (record { status = statuses.Usage; world = None })) (sym is) ([], record {
-    ends = record {
-      means = (refl, refl);
-      visited = λ bytes told. refl;
-      past_limit = λ reliable bytes told past. absurd past;
-      faulty = λ reliable bytes told faulty. absurd faulty;
-      complete = λ reliable bytes told plan makes. absurd (no-plan plan makes);
-      consumed = record { some = λ all told. (0, omega arith, told) };
-    };
-    world = record { done = ((λ some. absurd (no-world some)), λ done. absurd (not-so done)); stands = tt };
-  })
+  unasked out was words is = subst (λ (o : Option Command). (visitors : List Connection) × Carries source sink door input input out out was was (verdict_of o visitors) (record { status = statuses.Usage; world = None })) (sym is) (
+    [],
+    record {
+      ends = record {
+        means = (refl, refl);
+        visited = λ bytes told. refl;
+        past_limit = λ reliable bytes told past. absurd past;
+        faulty = λ reliable bytes told faulty. absurd faulty;
+        complete = λ reliable bytes told plan makes. absurd (no-plan plan makes);
+        consumed = record { some = λ all told. (0, omega arith, told) };
+      };
+      world = record { done = ((λ some. absurd (no-world some)), λ done. absurd (not-so done)); stands = tt };
+    },
+  )
     where
       no-plan : (plan : Plan) → NoCommand ≡ Makes plan → ⊥
       no-plan plan e = cc
+
       not-so : statuses.Usage ≡ statuses.Done → ⊥
       not-so e = cc
 

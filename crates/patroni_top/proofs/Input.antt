@@ -1,9 +1,10 @@
 -- Input that is read up to one byte more than a script may have.
-use Rattle.std.proofs.Common.{◌≡◌, ℕ, ◌<◌, ◌+◌, ◌-◌, ◌^◌, min, nat_lt, List, [], length, take, drop, Some, None, true, arith, refl, ◌∙◌, ap, sym, subst, take_all, inl, inr}
+use Rattle.std.proofs.Common.{◌≡◌, ℕ, ◌<◌, ◌+◌, ◌-◌, ◌^◌, min, nat_lt, List, [], length, take, drop, Some, None, Ok, true, arith, refl, ◌∙◌, ap, sym, subst, take_all, inl, inr}
 use Rattle.std.proofs.lemmas.List.{length-take, drop_all}
 use Rattle.std.proofs.lemmas.Bool.Decides.{nat_tests}
 use Rattle.std.proofs.lemmas.Bool.{cases_lt}
 use Rattle.cluster_script.specs.Limits.{limit_of, most_ticks, ticks_in}
+use Rattle.cluster_script.specs.Reading.{script_of}
 use Rattle.script_words.specs.Lines.{lines_in}
 use Rattle.script_model.specs.Script.{ScriptText}
 use Rattle.patroni_top.specs.Limits.{KeepsLimits}
@@ -59,6 +60,9 @@ saturates ticks n = elim (cases_lt (2 ^ 64 - 1) n) [
 module _ (n waited : ℕ) (counted : waited ≡ min n (2 ^ 64 - 1)) where
   pub saturated : (bytes : List ℕ) → limit_of waited bytes ≡ limit_of n bytes
   saturated bytes = ap (λ (m : ℕ). limit_of m bytes) counted ∙ rw (saturates (ticks_in (lines_in bytes)) n) refl
+
+  pub read-counted : (script : ScriptText) (bytes : List ℕ) → (limit_of waited bytes ≡ None) × (script_of bytes ≡ Ok script) → (limit_of n bytes ≡ None) × (script_of bytes ≡ Ok script)
+  read-counted script bytes read = (sym (saturated bytes) ∙ read.0, read.1)
 
   pub refuses-counted : (ending : Ending) (bytes : List ℕ) → Refuses waited ending bytes → Refuses n ending bytes
   refuses-counted (endings.NotScript line fault) bytes h = (sym (saturated bytes) ∙ h.0, h.1)

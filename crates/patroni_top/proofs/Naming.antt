@@ -1,6 +1,6 @@
 -- Members found by their names, from a place on.
-use Rattle.std.proofs.Common.{◌≡◌, ◌≤◌, ◌<◌, ◌+◌, ℕ, inl, inr, zero, suc, cond, Bool, true, false, List, [], ◌∷◌, drop, length, Option, Some, None, refl, sym, ap, arith, ◌∙◌}
-use Rattle.std.specs.Prelude.{option_and_then, position, slice_get}
+use Rattle.std.proofs.Common.{◌≡◌, ◌≤◌, ◌<◌, ◌+◌, ℕ, inl, inr, zero, suc, Bool, true, false, List, [], ◌∷◌, drop, length, Option, Some, None, refl, sym, ap, arith, ◌∙◌}
+use Rattle.std.specs.Prelude.{option_and_then, slice_get}
 use Rattle.std.specs.List.{position_from}
 use Rattle.std.proofs.lemmas.Iterator.Adapters.{position_from-zero}
 use Rattle.std.proofs.lemmas.List.{drop_all}
@@ -50,3 +50,7 @@ named-behind name members place told within tells other = elim ((slice_get_cases
 -- past the end there is none
 pub named-past : (name : List ℕ) (members : List MemberText) (place : ℕ) → length members ≤ place → named_from name members place ≡ None
 named-past name members place past = ap (λ (l : List MemberText). option_and_then member_of (position_from (is_named name) place l)) (drop_all place members past)
+
+-- what was found by the name in a head that is this one
+pub found-in : (head shown : HeadText) (name : List ℕ) (found same : Option MemberId) → shown ≡ head → found ≡ member_named shown name → found ≡ same → member_named head name ≡ same
+found-in head shown name found same is so e = ap (λ (h : HeadText). member_named h name) (sym is) ∙ (sym so ∙ e)

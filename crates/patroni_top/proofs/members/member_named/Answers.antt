@@ -1,4 +1,4 @@
-use Rattle.std.proofs.Common.{◌≡◌, ◌<◌, ℕ, ◌∙◌, subst, sym}
+use Rattle.std.proofs.Common.{◌<◌, ℕ, ◌∙◌, subst, sym}
 use Rattle.patroni_top.proofs.Naming.{named-all, named-behind, named-here}
 use Rattle.patroni_top.proofs.members.member_named.Goals as goal
 

@@ -1,4 +1,4 @@
-use Rattle.std.proofs.Common.{◌≡◌, ◌≤◌, length}
+use Rattle.std.proofs.Common.{◌≡◌}
 use Rattle.patroni_top.specs.Commands.{member_named}
 use Rattle.patroni_top.proofs.Naming.{named_from}
 use Rattle.patroni_top.proofs.members.member_named.Given as goal

@@ -1,4 +1,4 @@
-use Rattle.std.proofs.Common.{◌≡◌, ◌∙◌, Err, ap, refl, sym, subst}
+use Rattle.std.proofs.Common.{◌∙◌, Err, ap, refl}
 use Rattle.std.proofs.lemmas.Result.{err_from_is_err_and}
 use Rattle.patroni_top.specs.Commands.{Run}
 use Rattle.patroni_top.proofs.Carrying.{printed-part, printed-whole, refused}

@@ -1,10 +1,10 @@
-use Rattle.std.proofs.Common.{◌≡◌, ◌∙◌, ◌*◌, ℕ, Err, ap, refl, sym}
+use Rattle.std.proofs.Common.{◌∙◌, ◌*◌, Err, ap, refl}
 use Rattle.std.proofs.lemmas.Result.{err_from_is_err_and}
-use Rattle.script_model.specs.Script.{HeadText}
 use Rattle.pat_serve.specs.Connections.{most_waiting}
-use Rattle.patroni_top.specs.Commands.{Serve, member_named}
+use Rattle.patroni_top.specs.Commands.{Serve}
 use Rattle.patroni_top.proofs.Carrying.{refused, served-part, served-whole, unknown}
-use Rattle.patroni_top.proofs.Input.{keeps-counted, refuses-counted, saturated}
+use Rattle.patroni_top.proofs.Input.{keeps-counted, read-counted, refuses-counted}
+use Rattle.patroni_top.proofs.Naming.{found-in}
 use Rattle.patroni_top.proofs.Room.{room-behind}
 use Rattle.patroni_top.proofs.top.serve_script.Goals as goal
 
@@ -20,10 +20,9 @@ returns-in_err-script g c =
 pub returns-in_default : goal.returns-in_default
 returns-in_default g c =
     let read = c.in_ok-script.ensures in
-    let named = ap (λ (h : HeadText). member_named h c.args.name.now) (sym c.head.ensures.value) ∙ sym c.member_named.ensures.value in
     unknown g.S.Source g.K.Sink g.D.Door _ _ c.in_ok-script.script read.end c.script_from.ensures.consumed c.args.name.now c.args.address.now c.args.count
-    (λ bytes told. (sym (saturated (most_waiting * c.args.count) c.saturating_mul.result c.saturating_mul.ensures bytes) ∙ (read.script bytes told).0, (read.script bytes told).1))
-    c.args.out.now c.args.door.now _ refl (named ∙ c.in_default.is)
+    (λ bytes told. read-counted (most_waiting * c.args.count) c.saturating_mul.result c.saturating_mul.ensures c.in_ok-script.script bytes (read.script bytes told))
+    c.args.out.now c.args.door.now _ refl (found-in c.in_ok-script.script.head _ c.args.name.now _ _ c.head.ensures.value c.member_named.ensures.value c.in_default.is)
 
 pub serve-requires-clause-room : goal.serve-requires-clause-room
 serve-requires-clause-room g c =
@@ -33,17 +32,15 @@ pub returns-in_err-world : goal.returns-in_err-world
 returns-in_err-world g c =
     let p = err_from_is_err_and c.from_residual-in_err-world.result c.from_residual-in_err-world.ensures.1 in
     let read = c.in_ok-script.ensures in
-    let named = ap (λ (h : HeadText). member_named h c.args.name.now) (sym c.head.ensures.value) ∙ sym c.member_named.ensures.value in
     let served = c.in_err-world.ensures in
     served-part g.S.Source g.K.Sink g.D.Door _ _ c.in_ok-script.script read.end c.script_from.ensures.consumed c.args.name.now c.args.address.now c.args.count
-    (λ bytes told. (sym (saturated (most_waiting * c.args.count) c.saturating_mul.result c.saturating_mul.ensures bytes) ∙ (read.script bytes told).0, (read.script bytes told).1))
-    c.in-Some.member (named ∙ c.in-Some.is) c.args.out.now c.serve.new.out c.args.door.now c.serve.new.door served.0 _ c.in_err-world.field-0.0 (p.1 ∙ ap Err p.2) served.1
+    (λ bytes told. read-counted (most_waiting * c.args.count) c.saturating_mul.result c.saturating_mul.ensures c.in_ok-script.script bytes (read.script bytes told))
+    c.in-Some.member (found-in c.in_ok-script.script.head _ c.args.name.now _ _ c.head.ensures.value c.member_named.ensures.value c.in-Some.is) c.args.out.now c.serve.new.out c.args.door.now c.serve.new.door served.0 _ c.in_err-world.field-0.0 (p.1 ∙ ap Err p.2) served.1
 
 pub returns : goal.returns
 returns g c =
     let read = c.in_ok-script.ensures in
-    let named = ap (λ (h : HeadText). member_named h c.args.name.now) (sym c.head.ensures.value) ∙ sym c.member_named.ensures.value in
     let served = c.in_ok-world.ensures in
     served-whole g.S.Source g.K.Sink g.D.Door _ _ c.in_ok-script.script read.end c.script_from.ensures.consumed c.args.name.now c.args.address.now c.args.count
-    (λ bytes told. (sym (saturated (most_waiting * c.args.count) c.saturating_mul.result c.saturating_mul.ensures bytes) ∙ (read.script bytes told).0, (read.script bytes told).1))
-    c.in-Some.member (named ∙ c.in-Some.is) c.args.out.now c.serve.new.out c.args.door.now c.serve.new.door served.0 _ c.in_ok-world.world refl served.1
+    (λ bytes told. read-counted (most_waiting * c.args.count) c.saturating_mul.result c.saturating_mul.ensures c.in_ok-script.script bytes (read.script bytes told))
+    c.in-Some.member (found-in c.in_ok-script.script.head _ c.args.name.now _ _ c.head.ensures.value c.member_named.ensures.value c.in-Some.is) c.args.out.now c.serve.new.out c.args.door.now c.serve.new.door served.0 _ c.in_ok-world.world refl served.1
