@@ -16,7 +16,7 @@ use Rattle.rest_answer.specs.declared.refusal.Refusal.TheVariants as refusals
 use Rattle.rest_message.specs.declared.request.Request.{Request}
 use Rattle.rest_message.specs.Replies.{ReplyText}
 use Rattle.rest_reply.specs.Replies.{reply_bytes}
-use Rattle.pat_serve.specs.Connections.{Connection, Course, IsSent, Unread, Whole, asks_for_a_head, bytes_due, failure_steps, first_visit, read_steps, replied, replied_steps, reply_to}
+use Rattle.serve_model.specs.Connections.{Connection, Course, IsSent, Unread, Whole, asks_for_a_head, bytes_due, failure_steps, first_visit, read_steps, replied, replied_steps, reply_to}
 use Rattle.pat_serve.specs.Serving.{Answers, Brings, IsRead, Serves, course_of}
 use Rattle.pat_serve.proofs.Bringing.{Brings-then}
 

@@ -2,5 +2,4 @@ pub mod Answering
 pub mod Bringing
 pub mod Replied
 pub mod Requested
-pub mod Tabled
 pub mod Waiting

@@ -1,5 +1,5 @@
 -- What is replied in steps, one after another.
-use Rattle.std.proofs.Common.{ℕ, ◌≡◌, ◌<◌, ◌+◌, List, [], ◌∷◌, ◌++◌, length, drop, get_or, Option, Some, None, Result, subst, refl, ap, sym, ◌∙◌, append-nil}
+use Rattle.std.proofs.Common.{ℕ, ◌≡◌, ◌<◌, ◌+◌, List, [], ◌∷◌, ◌++◌, length, drop, get_or, Option, None, Result, subst, ap, sym, ◌∙◌, append-nil}
 use Rattle.std.specs.Option.{option_or}
 use Rattle.std.specs.Prelude.{IfOk, unwrap_or}
 use Rattle.std.specs.declared.alloc.AllocError.{AllocError}
@@ -17,16 +17,8 @@ use Rattle.rest_answer.specs.Refusals.{refusal_reply}
 use Rattle.rest_message.specs.declared.reply.Reply.{Reply}
 use Rattle.rest_message.specs.Replies.{ReplyText, reply_text}
 use Rattle.pat_world.proofs.IdleTicks.{run_events-both}
-use Rattle.pat_serve.specs.Connections.{most_waiting, replied, replied_steps, reply_by, reply_in, unless_replied, waiting_steps}
-
-option_or-assoc : {A : Type 0} (x y z : Option A) → option_or (option_or x y) z ≡ option_or x (option_or y z)
-option_or-assoc None y z = refl
-option_or-assoc (Some x) y z = refl
-
--- the first reply is that of the first events, or else of the others
-pub reply_in-append : (id : MemberId) (first more : List Event) → reply_in id (first ++ more) ≡ option_or (reply_in id first) (reply_in id more)
-reply_in-append id [] more = refl
-reply_in-append id (event ∷ first) more = ap (λ r. option_or (reply_by id event.kind) r) (reply_in-append id first more) ∙ sym (option_or-assoc (reply_by id event.kind) (reply_in id first) (reply_in id more))
+use Rattle.serve_model.proofs.Replies.{reply_in-append}
+use Rattle.serve_model.specs.Connections.{most_waiting, replied, replied_steps, reply_by, reply_in, unless_replied, waiting_steps}
 
 -- where nothing was replied in some steps, the reply is that of the step behind them
 pub reply-behind : (id : MemberId) (start now : Cluster) (done : List Step) (step : Step) → now ≡ cluster_over start (run_events start done) → reply_in id (run_events start done) ≡ None
@@ -44,24 +36,13 @@ pub reply_in-drop : (id : MemberId) (events : List Event) (i : ℕ) (event : Eve
 reply_in-drop id events i event within is =
     ap (reply_in id) (drop_more events i event within) ∙ ap (λ (e : Event). option_or (reply_by id e.kind) (reply_in id (drop (i + 1) events))) (sym is)
 
--- what a connection asks was replied to in its own step
-pub first-replied : (cluster : Cluster) (id : MemberId) (visit : Visit) (reply : ReplyText) → reply_in id (next_events cluster (steps.Connection id visit)) ≡ Some reply → replied_steps cluster id visit ≡ steps.Connection id visit ∷ []
-first-replied cluster id visit reply is =
-    let events = next_events cluster (steps.Connection id visit) in
-    ap (λ (r : Option ReplyText). steps.Connection id visit ∷ unless_replied r (waiting_steps (cluster_over cluster events) id most_waiting)) is
-
--- or its reply is waited for
+-- the reply to what a connection asks is waited for
 pub first-waits : (cluster later : Cluster) (id : MemberId) (visit : Visit) → later ≡ cluster_over cluster (run_events cluster (steps.Connection id visit ∷ [])) → reply_in id (next_events cluster (steps.Connection id visit)) ≡ None
     → replied_steps cluster id visit ≡ steps.Connection id visit ∷ waiting_steps later id most_waiting
 first-waits cluster later id visit comes none =
     let events = next_events cluster (steps.Connection id visit) in
     ap (λ (r : Option ReplyText). steps.Connection id visit ∷ unless_replied r (waiting_steps (cluster_over cluster events) id most_waiting)) none
     ∙ ap (λ (c : Cluster). steps.Connection id visit ∷ waiting_steps c id most_waiting) (sym (comes ∙ ap (cluster_over cluster) (append-nil events)))
-
--- the reply in one step is what is replied by it
-pub replied-once : (cluster : Cluster) (id : MemberId) (step : Step) (reply : ReplyText) → reply_in id (next_events cluster step) ≡ Some reply → replied cluster id (step ∷ []) ≡ reply
-replied-once cluster id step reply is =
-    ap (λ (r : Option ReplyText). unwrap_or r (refusal_reply refusals.NoResult)) (ap (reply_in id) (append-nil (next_events cluster step)) ∙ is)
 
 -- behind a step without a reply, what is replied by the others is
 pub replied-later : (cluster later : Cluster) (id : MemberId) (step : Step) (more : List Step) → later ≡ cluster_over cluster (run_events cluster (step ∷ [])) → reply_in id (next_events cluster step) ≡ None → replied cluster id (step ∷ more) ≡ replied later id more

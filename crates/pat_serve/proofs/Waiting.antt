@@ -15,7 +15,7 @@ use Rattle.rest_message.specs.Replies.{ReplyText}
 use Rattle.cluster_model.specs.Steps.{names_in}
 use Rattle.script_model.specs.Script.{IsMember}
 use Rattle.pat_world.specs.Steps.{HasStepsLeft, WorldFacts}
-use Rattle.pat_serve.specs.Connections.{Connection, Course, Unread, Unwritten, Whole, connection_cost, failure_steps, first_visit, most_waiting, read_steps, replied, reply_in, steps_by, steps_of_connection, unless_replied, waiting_steps}
+use Rattle.serve_model.specs.Connections.{Connection, Course, Unread, Unwritten, Whole, connection_cost, failure_steps, first_visit, most_waiting, read_steps, replied, reply_in, steps_by, steps_of_connection, unless_replied, waiting_steps}
 use Rattle.pat_serve.specs.Serving.{Brings}
 use Rattle.pat_serve.proofs.Bringing.{Brings-none, Brings-then, brings-declared, room-behind}
 use Rattle.pat_serve.proofs.Replied.{reply-behind}

@@ -18,7 +18,7 @@ use Rattle.rest_message.specs.declared.request.Request.{Request}
 use Rattle.rest_message.specs.Requests.{request_text}
 use Rattle.rest_request.specs.declared.fault.RequestFault.{RequestFault}
 use Rattle.rest_request.specs.declared.fault.RequestFault.TheVariants as faults
-use Rattle.pat_serve.specs.Connections.{Connection, Course, IsSent, Unread, Unwritten, Whole, bytes_due, steps_of_connection}
+use Rattle.serve_model.specs.Connections.{Connection, Course, IsSent, Unread, Unwritten, Whole, bytes_due, steps_of_connection}
 
 -- the fault of bytes for which they are refused
 abbrev pub IsFaultOf : Refusal → RequestFault → Type 0

@@ -2,7 +2,7 @@
 ghost use Rattle.std.specs.Prelude.{ℕ, ◌≡◌, ◌≢◌, ◌≤◌, Ok, None, IfOk, IfSome, OnOk};
 ghost use Rattle.pat_base.specs.Outside.{Known, Rose};
 ghost use Rattle.pat_door.specs.Doors.{Tells, after_read, bytes_here};
-ghost use Rattle.pat_serve.specs.Connections.{asks_for_a_head, first_visit};
+ghost use Rattle.serve_model.specs.Connections.{asks_for_a_head, first_visit};
 ghost use Rattle.pat_serve.specs.Serving.{IsFaultOf, IsRead};
 
 use cluster_model::Visit;

@@ -2,9 +2,7 @@
 #![tactic(auto)]
 
 mod asking;
-mod laws;
 mod replying;
 mod serving;
 
-pub use laws::replies_are_those_of_the_table;
 pub use serving::{MOST_WAITING, serve_one};

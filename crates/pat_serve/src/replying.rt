@@ -4,7 +4,7 @@ ghost use Rattle.pat_base.specs.Outside.{Rose};
 ghost use Rattle.pat_door.specs.Doors.{Tells, after_write};
 ghost use Rattle.rest_message.specs.Replies.{reply_text};
 ghost use Rattle.rest_reply.specs.Replies.{reply_bytes};
-ghost use Rattle.pat_serve.specs.Connections.{IsSent, reply_by, reply_in};
+ghost use Rattle.serve_model.specs.Connections.{IsSent, reply_by, reply_in};
 ghost use Rattle.pat_serve.specs.Serving.{course_of};
 
 use event_book::{Event, EventKind, Note};

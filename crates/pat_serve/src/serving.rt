@@ -6,7 +6,7 @@ ghost use Rattle.cluster_model.specs.Steps.{IsStep, names_in};
 ghost use Rattle.pat_door.specs.Doors.{after_hang_up};
 ghost use Rattle.pat_world.specs.Steps.{HasStepsLeft};
 ghost use Rattle.rest_message.specs.Replies.{reply_text};
-ghost use Rattle.pat_serve.specs.Connections.{Connection, connection_cost, failure_steps, most_waiting, replied, replied_steps, reply_in, steps_of_connection, waiting_steps};
+ghost use Rattle.serve_model.specs.Connections.{Connection, connection_cost, failure_steps, most_waiting, replied, replied_steps, reply_in, steps_of_connection, waiting_steps};
 ghost use Rattle.pat_serve.specs.Serving.{Answers, Brings, Serves};
 
 use crate::asking::{asked_on, asks_for_a_head, first_visit};

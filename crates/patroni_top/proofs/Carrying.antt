@@ -13,7 +13,7 @@ use Rattle.script_model.specs.Script.{ScriptText}
 use Rattle.cluster_model.specs.Starting.{cluster_of}
 use Rattle.cluster_model.specs.State.{Cluster}
 use Rattle.cluster_model.specs.Steps.{steps_of}
-use Rattle.pat_serve.specs.Connections.{Connection, most_waiting}
+use Rattle.serve_model.specs.Connections.{Connection, most_waiting}
 use Rattle.pat_world.specs.Steps.{WorldFacts}
 use Rattle.run_player.specs.declared.print_error.PrintError.{PrintError}
 use Rattle.run_player.specs.declared.print_error.PrintError.TheVariants as prints

@@ -15,7 +15,7 @@ use Rattle.script_model.specs.Script.{ScriptText}
 use Rattle.script_words.specs.declared.fault.Fault.{Fault}
 use Rattle.cluster_model.specs.Starting.{cluster_of}
 use Rattle.cluster_model.specs.Steps.{steps_of}
-use Rattle.pat_serve.specs.Connections.{Connection, most_waiting}
+use Rattle.serve_model.specs.Connections.{Connection, most_waiting}
 use Rattle.run_player.specs.declared.print_error.PrintError.{PrintError}
 use Rattle.run_player.specs.declared.print_error.PrintError.TheVariants as prints
 use Rattle.run_player.specs.declared.serve_error.ServeError.{ServeError}

@@ -37,7 +37,7 @@ use Rattle.run_player.specs.Run.{Played, closing_of_run, played_of, run_of}
 use Rattle.pat_world.specs.Book.{events_by_step}
 use Rattle.run_player.specs.Watches.{declared_watch, first_summary, is_off, watches_of}
 use Rattle.pat_base.specs.declared.member_id.MemberId.{MemberId}
-use Rattle.pat_serve.specs.Connections.{Connection, most_waiting}
+use Rattle.serve_model.specs.Connections.{Connection, most_waiting}
 use Rattle.run_player.specs.Served.{served_of}
 use Rattle.patroni_top.specs.Claims.{KeepsPromises}
 use Rattle.patroni_top.specs.Commands.{Command, IfPlayed, Makes, Plays, Run, Serve, Verdict, member_named, service_of, verdict_by, verdict_of}

@@ -8,7 +8,7 @@ use Rattle.script_model.specs.declared.line.Line.{Line}
 use Rattle.script_model.specs.declared.line.Line.TheVariants as lines
 use Rattle.script_model.specs.Script.{ScriptText}
 use Rattle.script_model.specs.Ticks.{ticks_of_line, total_ticks}
-use Rattle.pat_serve.specs.Connections.{connection_cost, most_waiting}
+use Rattle.serve_model.specs.Connections.{connection_cost, most_waiting}
 use Rattle.world_model.specs.Room.{most_steps}
 use Rattle.patroni_top.specs.Limits.{KeepsLimits}
 

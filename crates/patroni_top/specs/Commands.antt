@@ -10,7 +10,7 @@ use Rattle.cluster_script.specs.declared.limits.Limit.{Limit}
 use Rattle.cluster_script.specs.Limits.{limit_of}
 use Rattle.cluster_script.specs.Reading.{script_of}
 use Rattle.script_model.specs.Script.{HeadText, MemberText, ScriptText}
-use Rattle.pat_serve.specs.Connections.{Connection, most_waiting}
+use Rattle.serve_model.specs.Connections.{Connection, most_waiting}
 use Rattle.run_player.specs.Run.{EndsAtStep, Played, lines_of_run, played_of, text_of_run}
 use Rattle.run_player.specs.Served.{served_of}
 use Rattle.patroni_top.specs.declared.order.Order.{Order}

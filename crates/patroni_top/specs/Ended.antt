@@ -4,7 +4,7 @@ use Rattle.pat_base.specs.declared.outside.Source.{Ghosts}
 use Rattle.pat_base.specs.declared.outside.Sink.{Ghosts as SinkGhosts}
 use Rattle.pat_base.specs.Outside.{Known}
 use Rattle.pat_door.specs.declared.door.Door.{Ghosts as DoorGhosts}
-use Rattle.pat_serve.specs.Connections.{Connection}
+use Rattle.serve_model.specs.Connections.{Connection}
 use Rattle.pat_world.specs.Steps.{WorldFacts}
 use Rattle.run_player.specs.Left.{IsLeftBy}
 use Rattle.patroni_top.specs.declared.ended.Ended.{Ended}

@@ -1,7 +1,7 @@
 //! The top call.
 ghost use Rattle.std.specs.Prelude.{List, ◌≡◌, ◌↔◌, None, map, string_bytes};
 ghost use Rattle.pat_base.specs.Outside.{Known};
-ghost use Rattle.pat_serve.specs.Connections.{Connection};
+ghost use Rattle.serve_model.specs.Connections.{Connection};
 ghost use Rattle.patroni_top.specs.Claims.{KeepsPromises};
 ghost use Rattle.patroni_top.specs.Commands.{IfPlayed, Serve, command_of, order_command, verdict_of};
 ghost use Rattle.patroni_top.specs.Ended.{Carries, IsCarriedOut};

@@ -17,7 +17,7 @@ use Rattle.script_model.specs.Script.{IsMember}
 use Rattle.world_model.proofs.Taking.{members-stay}
 use Rattle.script_model.specs.Script.{ScriptText}
 use Rattle.pat_door.specs.declared.door.Door.{Ghosts as DoorGhosts}
-use Rattle.pat_serve.specs.Connections.{Connection, connection_cost}
+use Rattle.serve_model.specs.Connections.{Connection, connection_cost}
 use Rattle.pat_world.specs.Steps.{HasStepsLeft, IsCounted, TookSteps, WorldFacts}
 use Rattle.summary.specs.declared.answers.Closing.{Closing}
 use Rattle.summary.specs.Sights.{SummaryFacts}

@@ -20,7 +20,7 @@ use Rattle.script_model.specs.Script.{IsMember}
 use Rattle.world_model.proofs.Taking.{members-stay}
 use Rattle.pat_door.specs.declared.door.Door.{Ghosts as DoorGhosts}
 use Rattle.pat_door.specs.Doors.{DoorFacts, Tells, accept_first, after_accept, bytes_here}
-use Rattle.pat_serve.specs.Connections.{Connection, Course, Unread, Unwritten, Whole, connection_cost, steps_of_connection}
+use Rattle.serve_model.specs.Connections.{Connection, Course, Unread, Unwritten, Whole, connection_cost, steps_of_connection}
 use Rattle.pat_serve.specs.Serving.{Brings, Serves}
 use Rattle.pat_world.specs.Book.{events_by_step}
 use Rattle.pat_world.specs.Steps.{HasStepsLeft}

@@ -17,7 +17,7 @@ use Rattle.cluster_model.specs.declared.step.Step.TheVariants as steps
 use Rattle.cluster_model.specs.Cluster.{cluster_over}
 use Rattle.cluster_model.specs.Next.{next_events}
 use Rattle.cluster_model.specs.State.{Cluster}
-use Rattle.pat_serve.specs.Connections.{Connection, Course, Unread, Unwritten, Whole, failure_steps, first_visit, most_waiting, read_steps, reply_in, steps_by, steps_of_connection, unless_replied, waiting_steps}
+use Rattle.serve_model.specs.Connections.{Connection, Course, Unread, Unwritten, Whole, failure_steps, first_visit, most_waiting, read_steps, reply_in, steps_by, steps_of_connection, unless_replied, waiting_steps}
 use Rattle.rest_message.specs.Replies.{ReplyText}
 use Rattle.pat_world.specs.Book.{events_by_step}
 use Rattle.run_player.specs.declared.print_error.PrintError.{PrintError}

@@ -9,7 +9,7 @@ use Rattle.pat_base.proofs.Contents.{Rose-earlier}
 use Rattle.cluster_model.specs.State.{Cluster}
 use Rattle.pat_door.specs.declared.door.Door.{Ghosts}
 use Rattle.pat_door.specs.Doors.{DoorFacts, grow_last, grow_last_from}
-use Rattle.pat_serve.specs.Connections.{Connection, Whole, connection_cost, steps_of_connection}
+use Rattle.serve_model.specs.Connections.{Connection, Whole, connection_cost, steps_of_connection}
 use Rattle.pat_serve.proofs.Waiting.{connection-few}
 use Rattle.run_player.specs.declared.serve_error.ServeError.{ServeError}
 use Rattle.run_player.specs.declared.serve_error.ServeError.TheVariants.{Door, Memory}

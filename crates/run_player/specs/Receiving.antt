@@ -6,7 +6,7 @@ use Rattle.pat_base.specs.Outside.{Grew}
 use Rattle.pat_base.specs.Prints.{Prints}
 use Rattle.cluster_model.specs.declared.step.Step.{Step}
 use Rattle.pat_door.specs.declared.door.Door.{Ghosts as DoorGhosts}
-use Rattle.pat_serve.specs.Connections.{Connection}
+use Rattle.serve_model.specs.Connections.{Connection}
 use Rattle.pat_world.specs.Steps.{TookSteps}
 use Rattle.summary.specs.SummaryText.{closing_text}
 use Rattle.run_player.specs.declared.player.Player.{Player}

@@ -13,7 +13,7 @@ use Rattle.cluster_model.specs.State.{Cluster}
 use Rattle.cluster_model.specs.Steps.{steps_of}
 use Rattle.pat_door.specs.declared.door.Door.{Ghosts as DoorGhosts}
 use Rattle.pat_door.specs.Doors.{DoorFacts, Tells}
-use Rattle.pat_serve.specs.Connections.{Connection, IsSent, Unread, Whole, bytes_due, steps_of_connection}
+use Rattle.serve_model.specs.Connections.{Connection, IsSent, Unread, Whole, bytes_due, steps_of_connection}
 use Rattle.pat_serve.specs.Serving.{IsRead}
 use Rattle.pat_world.specs.Steps.{WorldFacts}
 use Rattle.run_player.specs.declared.print_error.PrintError.{PrintError}

@@ -2,7 +2,7 @@
 ghost use Rattle.std.specs.Prelude.{List, ◌≡◌, ◌+◌, ◌*◌, ◌≤◌, length};
 ghost use Rattle.script_model.specs.Script.{IsMember, names_of};
 ghost use Rattle.cluster_model.specs.Steps.{names_in, steps_of};
-ghost use Rattle.pat_serve.specs.Connections.{Connection, connection_cost};
+ghost use Rattle.serve_model.specs.Connections.{Connection, connection_cost};
 ghost use Rattle.pat_world.specs.Steps.{HasStepsLeft};
 ghost use Rattle.world_model.specs.Room.{most_steps};
 ghost use Rattle.run_player.specs.Receiving.{Receives, ReceivesAll};

@@ -1,5 +1,5 @@
 use Rattle.std.proofs.Common.{◌≡◌, drop}
-use Rattle.pat_serve.specs.Connections.{reply_in}
+use Rattle.serve_model.specs.Connections.{reply_in}
 use Rattle.pat_serve.proofs.replying.reply_in.Given as goal
 
 abbrev pub invariant-loop-event : goal.invariant-loop-event

@@ -3,7 +3,7 @@ use Rattle.std.proofs.lemmas.Result.{err_from_is_err_and, on_ok_weaker}
 use Rattle.pat_world.proofs.Stepping.{steps-left-fewer}
 use Rattle.rest_message.specs.Replies.{reply_text}
 use Rattle.rest_reply.specs.Replies.{reply_bytes}
-use Rattle.pat_serve.specs.Connections.{Whole, connection_cost, most_waiting, read_steps, replied_steps}
+use Rattle.serve_model.specs.Connections.{Whole, connection_cost, most_waiting, read_steps, replied_steps}
 use Rattle.pat_serve.proofs.Answering.{answers-front, answers-whole, connection_of, due-is, not-written, sent-so}
 use Rattle.pat_serve.proofs.Bringing.{brings-declared, brings-so, none-brought, room-behind}
 use Rattle.pat_serve.proofs.Waiting.{read-few}

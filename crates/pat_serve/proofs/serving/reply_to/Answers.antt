@@ -4,9 +4,10 @@ use Rattle.std.proofs.lemmas.Result.{err_from_is_err_and, on_ok_weaker}
 use Rattle.cluster_model.specs.declared.step.Step.TheVariants as steps
 use Rattle.pat_world.proofs.Stepping.{steps-left-fewer}
 use Rattle.rest_message.specs.Replies.{reply_text}
-use Rattle.pat_serve.specs.Connections.{most_waiting, replied, waiting_steps}
+use Rattle.serve_model.specs.Connections.{most_waiting, replied, waiting_steps}
 use Rattle.pat_serve.proofs.Bringing.{Brings-then, brings-declared, brings-so, none-brought, room-behind}
-use Rattle.pat_serve.proofs.Replied.{first-replied, first-waits, replied-later, replied-once, replied-so}
+use Rattle.serve_model.proofs.Replies.{first-replied, replied-once}
+use Rattle.pat_serve.proofs.Replied.{first-waits, replied-later, replied-so}
 use Rattle.pat_serve.proofs.serving.reply_to.Goals as goal
 
 pub bring-requires-clause-room : goal.bring-requires-clause-room

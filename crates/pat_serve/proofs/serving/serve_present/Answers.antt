@@ -1,7 +1,7 @@
 use Rattle.std.proofs.Common.{Ok, arith, ap}
 use Rattle.std.proofs.lemmas.Result.{err_from_is_err_and, on_ok_weaker}
 use Rattle.pat_world.proofs.Stepping.{steps-left-fewer}
-use Rattle.pat_serve.specs.Connections.{connection_cost}
+use Rattle.serve_model.specs.Connections.{connection_cost}
 use Rattle.pat_serve.specs.Serving.{course_of}
 use Rattle.pat_serve.proofs.Answering.{connection_of, of-some, serves-answered, serves-unread, unread}
 use Rattle.pat_serve.proofs.Bringing.{none-brought}

@@ -1,6 +1,6 @@
 use Rattle.std.proofs.Common.{◌∙◌, ◌*◌, Err, ap, refl}
 use Rattle.std.proofs.lemmas.Result.{err_from_is_err_and}
-use Rattle.pat_serve.specs.Connections.{most_waiting}
+use Rattle.serve_model.specs.Connections.{most_waiting}
 use Rattle.patroni_top.specs.Commands.{Serve}
 use Rattle.patroni_top.proofs.Carrying.{refused, served-part, served-whole, unknown}
 use Rattle.patroni_top.proofs.Input.{keeps-counted, read-counted, refuses-counted}

@@ -3,7 +3,7 @@ use Rattle.std.proofs.lemmas.Result.{err_from_is_err_and}
 use Rattle.cluster_model.specs.Starting.{cluster_of}
 use Rattle.cluster_model.specs.State.{Cluster}
 use Rattle.cluster_model.specs.Steps.{names_in, steps_of}
-use Rattle.pat_serve.specs.Connections.{connection_cost}
+use Rattle.serve_model.specs.Connections.{connection_cost}
 use Rattle.pat_world.proofs.Stepping.{steps-left-fewer}
 use Rattle.world_model.proofs.Declaring.{names-start}
 use Rattle.world_model.specs.Room.{most_steps}

@@ -1,6 +1,6 @@
 use Rattle.std.proofs.Common.{◌+◌, ◌-◌, ◌*◌, ◌++◌, ◌∙◌, [], Err, Ok, arith, ap, refl}
 use Rattle.std.proofs.lemmas.Result.{err_from_is_err_and}
-use Rattle.pat_serve.specs.Connections.{connection_cost}
+use Rattle.serve_model.specs.Connections.{connection_cost}
 use Rattle.pat_world.proofs.Stepping.{steps-left-fewer}
 use Rattle.run_player.specs.declared.serve_error.ServeError.TheVariants.{Door}
 use Rattle.run_player.proofs.Received.{Receives-none, Receives-so, Receives-start, Receives-stop, Receives-then, door-is-no-write, err-is-not-ok, received-members, room-behind}

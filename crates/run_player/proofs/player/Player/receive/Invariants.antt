@@ -1,5 +1,5 @@
 use Rattle.std.proofs.Common.{List, Ok}
-use Rattle.pat_serve.specs.Connections.{Connection}
+use Rattle.serve_model.specs.Connections.{Connection}
 use Rattle.run_player.specs.Receiving.{Receives}
 use Rattle.run_player.proofs.player.Player.receive.Given as goal
 

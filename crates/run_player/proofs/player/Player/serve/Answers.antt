@@ -1,7 +1,7 @@
 use Rattle.std.proofs.Common.{◌+◌, ◌*◌, ◌∙◌, [], Err, length, arith, ap, refl}
 use Rattle.std.proofs.lemmas.Result.{err_from_is_err_and}
 use Rattle.cluster_model.specs.Steps.{steps_of}
-use Rattle.pat_serve.specs.Connections.{connection_cost}
+use Rattle.serve_model.specs.Connections.{connection_cost}
 use Rattle.pat_world.proofs.Stepping.{steps-left-behind, steps-left-fewer}
 use Rattle.run_player.proofs.Closing.{closes-all, plays-declared, stops-in-closing, stops-in-script, stops-in-serving}
 use Rattle.run_player.proofs.player.Player.serve.Goals as goal

@@ -1,5 +1,5 @@
-use Rattle.pat_serve.proofs.Tabled.{refused-reply, silent-reply, told-reply}
-use Rattle.pat_serve.proofs.laws.replies_are_those_of_the_table.Goals as goal
+use Rattle.serve_law.proofs.Tabled.{refused-reply, silent-reply, told-reply}
+use Rattle.serve_law.proofs.laws.replies_are_those_of_the_table.Goals as goal
 
 pub returns-clause-refused : goal.returns-clause-refused
 returns-clause-refused c = refused-reply

@@ -21,8 +21,8 @@ use Rattle.rest_answer.specs.Refusals.{refusal_reply}
 use Rattle.rest_message.specs.declared.request.Request.{Request}
 use Rattle.rest_message.specs.Replies.{ReplyText}
 use Rattle.rest_message.specs.Requests.{request_text}
-use Rattle.pat_serve.specs.Connections.{Connection, first_visit, replied, replied_steps, reply_in, reply_to}
-use Rattle.pat_serve.proofs.Replied.{first-replied, replied-once}
+use Rattle.serve_model.specs.Connections.{Connection, first_visit, replied, replied_steps, reply_in, reply_to}
+use Rattle.serve_model.proofs.Replies.{first-replied, replied-once}
 
 -- the first event of a step that replies is that reply
 first-reply : (cluster : Cluster) (id : MemberId) (visit : Visit) (member : Member) (reply : ReplyText) → declared cluster id ≡ Some member → member.id.number ≡ id.number → visit_events cluster visit member ≡ event_of cluster (replying member reply)
