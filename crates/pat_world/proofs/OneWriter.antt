@@ -1,4 +1,4 @@
--- A step of a world that a run brought keeps one writer.
+-- A step of a world that a run brought keeps one writer, whom alone a load balancer finds.
 use Rattle.std.proofs.Common.{◌≡◌, ℕ, List, [], ◌∷◌, ◌++◌, append-nil, append_assoc, ◌∙◌, ap, sym}
 use Rattle.cluster_model.specs.declared.step.Step.{Step}
 use Rattle.event_book.specs.declared.event.Event.{Event}
@@ -8,6 +8,8 @@ use Rattle.cluster_model.specs.Starting.{cluster_of}
 use Rattle.cluster_model.specs.State.{Cluster}
 use Rattle.run_law.proofs.EveryRun.{runs-one}
 use Rattle.world_model.specs.Emits.{Emits}
+use Rattle.rest_law.proofs.Found.{one-found}
+use Rattle.pat_world.specs.OnePrimary.{KeepsOnePrimary}
 use Rattle.pat_world.specs.OneWriter.{KeepsOneWriter}
 use Rattle.world_model.proofs.Taking.{cluster_over-append}
 
@@ -28,3 +30,7 @@ step-keeps before after had has step cost none took = record {
       let next = took.event ∙ ap (λ es. es ++ next_events before step) none ∙ ap (λ (c : Cluster). next_events c step) stands.world_is in
       runs-one head is (steps ++ step ∷ []) front rest (whole ∙ ap (λ es. run_events start steps ++ es) next ∙ sym (run_events-last start steps step)) met.timely met.hands_off;
 }
+
+-- where one server accepts writes, one member is found as the primary
+pub one-primary : (world : Cluster) (events : List Event) → KeepsOneWriter world events → KeepsOnePrimary world events
+one-primary world events keeps = record { found = λ head steps is stands front rest whole met. one-found head front (keeps.sole head steps is stands front rest whole met) }

@@ -1,5 +1,6 @@
 pub mod Book
 pub mod Fenced
 pub mod KeptCommits
+pub mod OnePrimary
 pub mod OneWriter
 pub mod Steps

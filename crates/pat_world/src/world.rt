@@ -14,6 +14,7 @@ ghost use Rattle.pat_world.specs.Book.{StandsFor, left_by, next_of};
 ghost use Rattle.world_model.specs.Idle.{BringsTicks, IsIdleBefore, IsIdleIn, NothingEnds, NothingIsDue};
 ghost use Rattle.pat_world.specs.Fenced.{KeepsFencing};
 ghost use Rattle.pat_world.specs.KeptCommits.{KeepsAcknowledged};
+ghost use Rattle.pat_world.specs.OnePrimary.{KeepsOnePrimary};
 ghost use Rattle.pat_world.specs.OneWriter.{KeepsOneWriter};
 ghost use Rattle.pat_world.specs.Steps.{HasStepsLeft, TookSteps, IsCounted};
 ghost use Rattle.world_model.specs.Emits.{Emits};
@@ -129,6 +130,8 @@ impl World {
             → (events.new.items ≡ events.old.items ++ next_of start book step.now) × StandsFor start (book ++ next_of start book step.now) self.new.cluster) }
         // At most one server accepts writes at every moment of it, where a run brought this world and the premises are met.
         ensures one_writer { OnOk result (KeepsOneWriter self.old.cluster events.new.items) }
+        // So a load balancer that asks agents which of them is the primary finds one at most, at every such moment.
+        ensures one_primary { OnOk result (KeepsOnePrimary self.old.cluster events.new.items) }
         // Each server that accepts writes has each acknowledged commit then, where the run began with synchronous mode on, which stays on.
         ensures commits { OnOk result (KeepsAcknowledged self.old.cluster events.new.items) }
         // Who writes under a lease is granted that only while the leader key is as the lease left it, where a run brought this world.
@@ -155,6 +158,7 @@ impl World {
         ensures book { (start : Cluster) (book : List Event) → StandsFor start book self.old.cluster
             → StandsFor start (book ++ run_events (left_by start book) (replicate result step.now)) self.new.cluster }
         ensures one_writer { KeepsOneWriter self.old.cluster (run_events self.old.cluster (replicate result step.now)) }
+        ensures one_primary { KeepsOnePrimary self.old.cluster (run_events self.old.cluster (replicate result step.now)) }
         ensures commits { KeepsAcknowledged self.old.cluster (run_events self.old.cluster (replicate result step.now)) }
         ensures acknowledged { 0 < result → AreAcknowledged self.new.cluster.facts.members self.new.cluster.facts.servers }
     {

@@ -22,6 +22,7 @@ use Rattle.summary.specs.Telling.{AreMeasured}
 use Rattle.summary.proofs.Guarding.{commits-guarded}
 use Rattle.summary.proofs.Listing.{named-first}
 use Rattle.summary.proofs.Steps.{steps-guarded, steps-told}
+use Rattle.rest_law.proofs.Found.{one-found}
 use Rattle.run_law.proofs.EveryRun.{runs-one}
 use Rattle.run_law.proofs.MeasuredRuns.{runs-measured}
 use Rattle.run_law.proofs.NamedRuns.{runs-name}
@@ -96,6 +97,7 @@ module _ (played : Played) (is : IsHead played.head) where
   pub keeps-promises : KeepsPromises played
   keeps-promises = record {
     one_writer = one-writer;
+    one_primary = λ front rest parts met. one-found played.head front (one-writer front rest parts met);
     kept_commits = keeps-commits;
     sync_order = runs-in-order played.head is played.steps;
     summary = closes;

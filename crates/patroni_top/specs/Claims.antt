@@ -4,6 +4,7 @@ use Rattle.script_model.specs.Script.{names_of}
 use Rattle.event_book.specs.Writers.{HasOneWriter}
 use Rattle.summary.specs.Claims.{AreCommitsGuarded, IsGuarded, IsSummaryOf}
 use Rattle.summary.specs.Listed.{AreNamed}
+use Rattle.rest_law.specs.Finding.{FindsOne}
 use Rattle.run_step_law.specs.Kept.{WhereMet}
 use Rattle.commit_run_law.specs.Runs.{KeepsCommitsIn, KeepsOrderIn, first_logs}
 use Rattle.run_player.specs.Run.{Played, closing_of_run, run_of}
@@ -13,6 +14,9 @@ use Rattle.run_player.specs.Watches.{watches_of}
 pub record KeepsPromises (played : Played) : Type 0 where
   -- At most one server accepts writes at each moment of the run up to which the premises are met.
   pub one_writer : WhereMet played.head (run_of played) HasOneWriter
+  -- At most one member answers 200 on `/`, `/primary` and `/read-write` at each of these moments, whoever is asked (Patroni, "Health check
+  -- endpoints"): a load balancer sends nobody's writes to two servers.
+  pub one_primary : WhereMet played.head (run_of played) (FindsOne played.head)
   -- With synchronous mode on from the beginning each server that accepts writes has each commit that a client was told of, at each moment of
   -- the run up to which the premises are met and the mode stays on.
   pub kept_commits : KeepsCommitsIn played.head (run_of played)

@@ -14,7 +14,7 @@ use Rattle.cluster_config.specs.Snapshots.{SnapshotFacts}
 use Rattle.event_book.specs.declared.event.Event.{Event}
 use Rattle.event_book.specs.declared.member.Member.{Member}
 use Rattle.event_book.specs.Facts.{Facts, facts_over}
-use Rattle.event_book.specs.Writers.{AcceptsWrites, writes_in, writes_now, writes_over}
+use Rattle.event_book.specs.Writers.{AcceptsWrites, HasOneWriter, writes_in, writes_now}
 use Rattle.event_book.proofs.Told.{count-told, writes-same, writes-told}
 use Rattle.lease_law.proofs.Tools.{and-first}
 use Rattle.rest_health.specs.declared.endpoint.Endpoint.{Endpoint}
@@ -29,7 +29,7 @@ use Rattle.rest_message.specs.Targets.{lag_of, path_of}
 use Rattle.rest_paths.specs.declared.asking.Ask.{Ask}
 use Rattle.rest_paths.specs.declared.asking.Ask.TheVariants as asks
 use Rattle.rest_paths.specs.Asking.{ask_of}
-use Rattle.rest_answer.specs.Answers.{Answered, Replies, answer_by, answer_to, health_reply}
+use Rattle.rest_answer.specs.Answers.{Replies, answer_by, answer_to, health_reply}
 use Rattle.rest_message.specs.Replies.{ReplyText}
 use Rattle.agent_model.specs.declared.machine.Machine.{Machine}
 use Rattle.agent_model.specs.declared.machine.Replication.{Replication}
@@ -40,7 +40,7 @@ use Rattle.cluster_model.specs.Inputs.{agent_at, moment_of, standing}
 use Rattle.cluster_model.specs.Machines.{machine_from, machine_of}
 use Rattle.cluster_model.specs.Starting.{cluster_of}
 use Rattle.cluster_model.specs.State.{Cluster}
-use Rattle.rest_law.specs.Finding.{IsFound}
+use Rattle.rest_law.specs.Finding.{FindsOne, IsFound}
 
 ok-healthy : (test : Bool) → status_where test ≡ ok → test ≡ true
 ok-healthy true is = refl
@@ -137,3 +137,7 @@ found-accepts head book member found =
     ap (λ (f : Facts). writes_in f.servers n) (sym (facts-left (cluster_of head) book)) ∙ found-writes (cluster_over (cluster_of head) book) member found in
     let small : n < length start.servers = subst (λ (count : ℕ). n < count) (count-told start book) (writes-below (facts_over start book).servers n now) in
     sym (writes-same (writes_in start.servers) (λ m. false) book n (none-writes head.base (length (names_of head)) n)) ∙ sym (writes-told start book n small) ∙ now
+
+-- where one server accepts writes, one member is found
+pub one-found : (head : HeadText) (book : List Event) → HasOneWriter book → FindsOne head book
+one-found head book sole first second one other = sole first.id.number second.id.number (found-accepts head book first one) (found-accepts head book second other)

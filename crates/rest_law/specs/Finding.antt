@@ -1,5 +1,7 @@
 -- Whom a load balancer finds that looks for the primary.
-use Rattle.std.specs.Prelude.{ℕ, ◌≡◌, Bool, Some, IsTrue}
+use Rattle.std.specs.Prelude.{◌≡◌, Bool, List, Some, IsTrue}
+use Rattle.script_model.specs.Script.{HeadText}
+use Rattle.event_book.specs.declared.event.Event.{Event}
 use Rattle.event_book.specs.declared.member.Member.{Member}
 use Rattle.rest_health.specs.declared.endpoint.Endpoint.{Endpoint}
 use Rattle.rest_health.specs.Laws.{is_for_primaries}
@@ -11,8 +13,10 @@ use Rattle.rest_paths.specs.Asking.{ask_of}
 use Rattle.rest_answer.specs.Answers.{Replies}
 use Rattle.rest_message.specs.Replies.{ReplyText}
 use Rattle.agent_model.specs.Agents.{Outcome}
+use Rattle.cluster_model.specs.Cluster.{cluster_over}
 use Rattle.cluster_model.specs.Inputs.{moment_of, standing_of}
 use Rattle.cluster_model.specs.Requests.{answer_at}
+use Rattle.cluster_model.specs.Starting.{cluster_of}
 use Rattle.cluster_model.specs.State.{Cluster}
 
 -- a request looks for the primary: it is a health check on '/', '/primary' or '/read-write'
@@ -28,3 +32,8 @@ pub record IsFound (cluster : Cluster) (member : Member) : Type 0 where
   pub reply : ReplyText
   pub answers : answer_at (moment_of cluster) agent asked ≡ Replies reply
   pub is_ok : reply.status ≡ ok
+
+-- behind this book at most one member of a head's cluster is found, whoever is asked
+abbrev pub FindsOne : HeadText → List Event → Type 0
+FindsOne head book =
+    (first second : Member) → IsFound (cluster_over (cluster_of head) book) first → IsFound (cluster_over (cluster_of head) book) second → first.id.number ≡ second.id.number

@@ -9,7 +9,7 @@ ghost use Rattle.cluster_model.specs.Cluster.{cluster_over};
 ghost use Rattle.cluster_model.specs.Next.{run_events};
 ghost use Rattle.cluster_model.specs.Starting.{cluster_of};
 ghost use Rattle.run_step_law.specs.Kept.{WhereMet};
-ghost use Rattle.rest_law.specs.Finding.{IsFound};
+ghost use Rattle.rest_law.specs.Finding.{FindsOne, IsFound};
 
 /// Who answers 200 on a path for primaries accepts writes, at each moment of whatever happened. It needs no premise.
 pub fn whoever_is_found_accepts_writes()
@@ -20,6 +20,5 @@ pub fn whoever_is_found_accepts_writes()
 /// `/primary` and `/read-write` (Patroni documentation, "Patroni REST API", "Health check endpoints"), whoever is asked on whichever of
 /// them: a balancer sends nobody's writes to two servers.
 pub fn one_member_is_found_as_primary()
-    ensures { (head : HeadText) (steps : List Step) → IsHead head → WhereMet head (run_events (cluster_of head) steps)
-        (λ front. (first second : Member) → IsFound (cluster_over (cluster_of head) front) first → IsFound (cluster_over (cluster_of head) front) second → first.id.number ≡ second.id.number) }
+    ensures { (head : HeadText) (steps : List Step) → IsHead head → WhereMet head (run_events (cluster_of head) steps) (FindsOne head) }
 {}

@@ -1,5 +1,6 @@
 -- What a connection asks that the agent is to do.
-use Rattle.std.proofs.Common.{ℕ, ◌≡◌, ◌≢◌, true, false, List, [], ◌++◌, slice_get, Option, Some, None, Ok, option_and_then, option_map, refl, ◌∙◌, ap, sym, subst, inl, inr, is_some}
+use Rattle.std.proofs.Common.{ℕ, ◌≡◌, ◌≢◌, true, false, List, [], ◌++◌, slice_get, Option, Some, None, Ok, option_and_then, option_map, refl, ◌∙◌, ap, sym, subst, inl, inr, is_some, cond, Bool}
+use Rattle.std.proofs.lemmas.Option.{none-some, same_Some}
 use Rattle.std.specs.Option.{option_or}
 use Rattle.std.specs.Prelude.{unwrap_or}
 use Rattle.pat_base.specs.declared.member_id.MemberId.{MemberId}
@@ -23,24 +24,23 @@ use Rattle.rest_paths.specs.Asking.{ask_of}
 use Rattle.agent_model.specs.declared.heard.Heard.TheVariants.{Operated}
 use Rattle.agent_model.specs.declared.machine.Machine.{Machine}
 use Rattle.agent_model.specs.declared.operating.Operating.{Operating}
-use Rattle.agent_model.specs.declared.operating.Told.TheVariants as tolds
 use Rattle.agent_model.specs.declared.output.Output.{Output}
-use Rattle.agent_model.specs.declared.output.Output.TheVariants as outputs
 use Rattle.agent_model.specs.Agents.{AgentFacts, Outcome, made}
 use Rattle.agent_model.specs.Before.{before}
 use Rattle.agent_model.specs.Table.{step}
 use Rattle.agent_model.specs.Views.{shown}
 use Rattle.agent_law.proofs.OperatorAnswers.{step-right}
+use Rattle.cluster_model.specs.declared.asker.Asker.TheVariants as askers
 use Rattle.cluster_model.specs.declared.step.Step.TheVariants as steps
 use Rattle.cluster_model.specs.declared.step.Visit.{Visit}
 use Rattle.cluster_model.specs.declared.step.Visit.TheVariants as visits
 use Rattle.cluster_model.specs.Cluster.{agent_after, cluster_after, cluster_over}
 use Rattle.cluster_model.specs.Inputs.{agent_at, may_act, moment_of, outcome_of, standing, standing_of}
 use Rattle.cluster_model.specs.Machines.{machine_of, points_of}
-use Rattle.cluster_model.specs.Messages.{input_events, no_message, operate_events}
+use Rattle.cluster_model.specs.Messages.{answered_events, input_events, no_message, operate_events, request_events_if, request_events_of, visit_events}
 use Rattle.cluster_model.specs.Next.{acknowledge_events, declared, next_events, run_events, step_events}
-use Rattle.cluster_model.specs.Parts.{events_then}
-use Rattle.cluster_model.specs.Requests.{action_of, answer_at}
+use Rattle.cluster_model.specs.Parts.{event_of, events_then, for_some}
+use Rattle.cluster_model.specs.Requests.{action_of, answer_at, silence}
 use Rattle.cluster_model.specs.State.{Cluster}
 use Rattle.cluster_model.proofs.Places.{get-here}
 use Rattle.run_step_law.proofs.Upholding.{over-append}
@@ -53,9 +53,6 @@ use Rattle.serve_law.proofs.Owing.{OwedBy, Owes, OwesOf, input-owes, input-told,
 use Rattle.serve_law.proofs.Telling.{each-replied}
 use Rattle.serve_law.proofs.Waiting.{Acknowledged, owed-steps, settles-acknowledged, waited}
 
-no-some : {X : Type 0} {x : X} → None ≡ Some x → ⊥
-no-some e = cc
-
 -- an agent with its machine
 record IsStanding (agent : Option AgentFacts) (machine : Option Machine) (stands : Outcome) : Type 0 where
   found : AgentFacts
@@ -65,20 +62,17 @@ record IsStanding (agent : Option AgentFacts) (machine : Option Machine) (stands
   stands_so : made found.role found.knows its_machine [] ≡ stands
 
 is-standing : (agent : Option AgentFacts) (machine : Option Machine) (stands : Outcome) → standing agent machine ≡ Some stands → IsStanding agent machine stands
-is-standing None machine stands e = absurd (no-some e)
-is-standing (Some agent) None stands e = absurd (no-some e)
-is-standing (Some agent) (Some machine) stands e = record { found = agent; its_machine = machine; agent_is = refl; machine_is = refl; stands_so = the-same e }
-  where
-    the-same : {x y : Outcome} → Some x ≡ Some y → x ≡ y
-    the-same e = cc
+is-standing None machine stands e = absurd (none-some _ e)
+is-standing (Some agent) None stands e = absurd (none-some _ e)
+is-standing (Some agent) (Some machine) stands e = record { found = agent; its_machine = machine; agent_is = refl; machine_is = refl; stands_so = same_Some _ _ e }
 
 after-input : (number : ℕ) (agent : AgentFacts) (outcome : Option Outcome) (found : Option (Option AgentFacts)) → option_and_then (λ a. a) found ≡ Some agent → OwesOf number (agent_after outcome (Some agent))
     → OwesOf number (option_and_then (λ a. a) (option_map (agent_after outcome) found))
-after-input number agent outcome None is owes = absurd (no-some is)
+after-input number agent outcome None is owes = absurd (none-some _ is)
 after-input number agent outcome (Some a) is owes = subst (λ (x : Option AgentFacts). OwesOf number (agent_after outcome x)) (sym is) owes
 
 none-waits : (found : Option Operating) (waiting : Operating) → is_some found ≡ false → found ≡ Some waiting → ⊥
-none-waits None waiting none is = no-some is
+none-waits None waiting none is = none-some _ is
 none-waits (Some other) waiting none is = true-false none
   where
     true-false : true ≡ false → ⊥
@@ -112,7 +106,13 @@ module _ (cluster : Cluster) (id : MemberId) (member : Member) (request : Reques
 
   -- the agent does what is asked
   first-acts : step_events cluster (steps.Connection id Visited) ≡ Input
-  first-acts = rw (found, runs, may, stand, answers) refl
+  first-acts =
+      let asks = request_text request in
+      ap (λ (o : Option Member). for_some o (visit_events cluster Visited)) found
+      ∙ ap (λ (o : Option AgentProcess). for_some o (request_events_if cluster askers.Connection asks member)) runs
+      ∙ ap (λ (b : Bool). cond b (for_some (standing_of cluster member) (request_events_of cluster asks member)) (event_of cluster (kinds.Note (silence askers.Connection member)))) may
+      ∙ ap (λ (o : Option Outcome). for_some o (request_events_of cluster asks member)) stand
+      ∙ ap (answered_events cluster member stands) answers
 
   first-events : next_events cluster (steps.Connection id Visited) ≡ Events
   first-events = ap (λ (es : List Event). events_then cluster es (Acknowledged Number id)) first-acts
@@ -126,7 +126,7 @@ module _ (cluster : Cluster) (id : MemberId) (member : Member) (request : Reques
       let acks = Acknowledged Number id (cluster_over cluster Input) in
       told-either Number id cluster Input acks reply (reply_in id Input) refl
       (input-told Number id cluster member (Operated Action) no_message Opening (refl, refl) (λ after answer at. at.0) (λ same found is machine after answer waited. absurd waited.reason))
-      (λ r is. absurd (no-some (sym (acknowledged-silent (cluster_over cluster Input)) ∙ is)))
+      (λ r is. absurd (none-some _ (sym (acknowledged-silent (cluster_over cluster Input)) ∙ is)))
       (sym (reply_in-append id Input acks) ∙ e)
 
   its : IsStanding (agent_at cluster.agents member.id.number) (machine_of cluster member) stands
@@ -151,7 +151,7 @@ module _ (cluster : Cluster) (id : MemberId) (member : Member) (request : Reques
     where
       front : (first : Option ReplyText) → reply_in id Input ≡ first → option_or first (reply_in id (Acknowledged Number id later)) ≡ None → reply_in id Input ≡ None
       front None is e = is
-      front (Some r) is e = absurd (no-some (sym e))
+      front (Some r) is e = absurd (none-some _ (sym e))
 
   -- where it replies nothing, it owes the reply
   new-owed : reply_in id Input ≡ None → OwedBy Number After.knows.operating

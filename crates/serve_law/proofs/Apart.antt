@@ -1,5 +1,5 @@
 -- Events at which no agent hears anything, and none replies to an operator.
-use Rattle.std.proofs.Common.{ℕ, ◌≡◌, ◌+◌, ◌==◌, ◌&&◌, ◌||◌, nat_le, Bool, true, false, cond, if◌then◌else◌, List, [], ◌∷◌, ◌++◌, length, slice_get, Option, Some, None, option_and_then, option_map, refl, ap}
+use Rattle.std.proofs.Common.{ℕ, ◌≡◌, ◌∙◌, ◌+◌, ◌==◌, ◌&&◌, ◌||◌, nat_le, Bool, true, false, cond, List, [], ◌∷◌, ◌++◌, length, slice_get, Option, Some, None, option_and_then, option_map, refl, ap}
 use Rattle.std.specs.Option.{option_or}
 use Rattle.pat_base.specs.declared.lsn.Lsn.{Lsn}
 use Rattle.pat_base.specs.declared.member_id.MemberId.{MemberId}
@@ -260,11 +260,13 @@ tick-apart cluster =
     let resets : List Event = each reset_events ticked ticked.facts.members in
     let reset : Cluster = cluster_over ticked resets in
     let expiries : List Event = events_of reset (next_expiries cluster) in
-    let expired : Cluster = cluster_over reset expiries in
-    (tt, all-both IsApart resets (expiries ++ each completion_events expired expired.facts.members) (apart-each reset_events reset-apart ticked ticked.facts.members)
-    (all-both IsApart expiries (each completion_events expired expired.facts.members)
-    (all-kinds IsApart reset (next_expiries cluster) (expiries-apart (declared_member cluster.facts.members (expired_holder cluster.facts.keys (cluster.facts.clock + 1))) (expired_keys cluster.facts.keys (cluster.facts.clock + 1))))
-    (apart-each completion_events (λ later member. completes-apart later member (slice_get later.facts.servers member.id.number)) expired expired.facts.members)))
+    let expired : Cluster = cluster_over reset expiries in (
+      tt,
+      all-both IsApart resets (expiries ++ each completion_events expired expired.facts.members) (apart-each reset_events reset-apart ticked ticked.facts.members)
+          (all-both IsApart expiries (each completion_events expired expired.facts.members)
+          (all-kinds IsApart reset (next_expiries cluster) (expiries-apart (declared_member cluster.facts.members (expired_holder cluster.facts.keys (cluster.facts.clock + 1))) (expired_keys cluster.facts.keys (cluster.facts.clock + 1))))
+          (apart-each completion_events (λ later member. completes-apart later member (slice_get later.facts.servers member.id.number)) expired expired.facts.members)),
+    )
 
 -- ---- streams
 confirm-apart : (cluster : Cluster) (member from : Member) (end : Option Lsn) → HoldsIf IsApart (confirm_of member from end)

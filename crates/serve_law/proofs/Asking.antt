@@ -1,5 +1,5 @@
 -- What an agent acts on that an operator asks.
-use Rattle.std.proofs.Common.{ℕ, ◌≡◌, ◌⊎◌, ◌×◌, ◌++◌, Bool, true, false, List, [], ◌∷◌, Option, Some, None, Result, Ok, Err, refl, inl, inr}
+use Rattle.std.proofs.Common.{ℕ, ◌≡◌, ◌⊎◌, ◌++◌, Bool, true, false, List, [], ◌∷◌, Option, Some, None, Result, Ok, Err, refl, inl, inr, subst}
 use Rattle.pat_base.specs.declared.ticks.Ticks.{Ticks}
 use Rattle.lease_store.specs.declared.action.OperatorRequest.{OperatorRequest}
 use Rattle.lease_store.specs.declared.action.OperatorRequest.TheVariants as requests
@@ -38,12 +38,12 @@ acts-so : {r : Result OperatorRequest Refused} {request : OperatorRequest} → d
 acts-so {r = Ok found} e = cc
 acts-so {r = Err refused} e = cc
 
-asked-so : {A : Type 0} {f : A → OperatorRequest} (r : Result A Refused) {request : OperatorRequest} → asking_for f r ≡ Ok request → (x : A) × (r ≡ Ok x)
-asked-so (Ok x) e = (x, refl)
-asked-so (Err refused) e = absurd (refused-ok e)
-  where
-    refused-ok : Err refused ≡ Ok request → ⊥
-    refused-ok e = cc
+refused-ok : {A : Type 0} {refused : Refused} {x : A} → Err refused ≡ Ok x → ⊥
+refused-ok e = cc
+
+asked-so : {A : Type 0} (f : A → OperatorRequest) (r : Result A Refused) (request : OperatorRequest) → asking_for f r ≡ Ok request → (x : A) × (r ≡ Ok x)
+asked-so f (Ok x) request e = (x, refl)
+asked-so f (Err refused) request e = absurd (refused-ok e)
 
 -- what passes a check of the snapshot passes it while no other request waits
 seen-alone : {A : Type 0} (seen : Option SnapshotFacts) (waits : Bool) (f : SnapshotFacts → Result A Refused) (x : A) → on_ok (seen_if seen waits) f ≡ Ok x → waits ≡ false
@@ -55,31 +55,31 @@ body-alone : {A B : Type 0} (body : Result B Refused) (seen : Option SnapshotFac
 body-alone (Ok found) seen waits f x e = seen-alone seen waits (f found) x e
 body-alone (Err refused) seen waits f x e = cc
 
-done-by : {request found : OperatorRequest} (refusal : Option Refused) → IsDoneAtOnce found → unless_refused refusal found ≡ Ok request → IsDoneAtOnce request
-done-by None done e = subst IsDoneAtOnce (same-ok e) done
+done-in : (request : OperatorRequest) (r : Result OperatorRequest Refused) (found : OperatorRequest) → r ≡ Ok found → IsDoneAtOnce found → r ≡ Ok request → IsDoneAtOnce request
+done-in request r found is done e = subst IsDoneAtOnce (same is e) done
   where
-    same-ok : Ok found ≡ Ok request → found ≡ request
-    same-ok e = cc
-done-by (Some refused) done e = absurd (refused-ok e)
-  where
-    refused-ok : Err refused ≡ Ok request → ⊥
-    refused-ok e = cc
+    same : r ≡ Ok found → r ≡ Ok request → found ≡ request
+    same is e = cc
+
+done-by : (request found : OperatorRequest) (refusal : Option Refused) → IsDoneAtOnce found → unless_refused refusal found ≡ Ok request → IsDoneAtOnce request
+done-by request found None done e = done-in request (unless_refused None found) found refl done e
+done-by request found (Some refused) done e = absurd (refused-ok e)
 
 change-alone : (view : AgentView) (seen : Option SnapshotFacts) (change : Change) (body : List ℕ) (request : OperatorRequest) → change_on view seen change body ≡ Ok request → (view.waits ≡ false) ⊎ IsDoneAtOnce request
 change-alone view seen asked.Switchover body request e =
-    let r = asked-so (switchover_on seen view.waits body) e in
+    let r = asked-so (requests.Failover failover_kinds.Switchover) (switchover_on seen view.waits body) request e in
     inl (body-alone (body_of body) seen view.waits switchover_by r.0 r.1)
 change-alone view seen asked.DropSwitchover body request e = cc
 change-alone view seen asked.Failover body request e =
-    let r = asked-so (failover_on seen view.waits body) e in
+    let r = asked-so (requests.Failover failover_kinds.Failover) (failover_on seen view.waits body) request e in
     inl (body-alone (body_of body) seen view.waits failover_by r.0 r.1)
-change-alone view seen asked.Restart body request e = inr (done-by (restart_refusal view) tt e)
-change-alone view seen asked.Reinitialize body request e = inr (done-by (reinit_refusal view) tt e)
+change-alone view seen asked.Restart body request e = inr (done-by request requests.Restart (restart_refusal view) tt e)
+change-alone view seen asked.Reinitialize body request e = inr (done-by request requests.Reinit (reinit_refusal view) tt e)
 change-alone view seen asked.PatchConfiguration body request e =
-    let r = asked-so (configuration_on seen view.waits changes.Patch body) e in
+    let r = asked-so requests.Configuration (configuration_on seen view.waits changes.Patch body) request e in
     inl (seen-alone seen view.waits (λ snapshot. configuration_from changes.Patch (configuration_in snapshot) body) r.0 r.1)
 change-alone view seen asked.ReplaceConfiguration body request e =
-    let r = asked-so (configuration_on seen view.waits changes.Replace body) e in
+    let r = asked-so requests.Configuration (configuration_on seen view.waits changes.Replace body) request e in
     inl (seen-alone seen view.waits (λ snapshot. configuration_from changes.Replace (configuration_in snapshot) body) r.0 r.1)
 
 -- what an agent is to do it does while no other request waits, or at once

@@ -1,5 +1,6 @@
 -- While a reply is owed, parts of a step bring none but that one.
-use Rattle.std.proofs.Common.{ℕ, ◌≡◌, ◌==◌, ◌⊎◌, ◌×◌, Bool, true, false, cond, List, [], ◌∷◌, ◌++◌, slice_get, Option, Some, None, option_and_then, option_map, refl, ◌∙◌, ap, sym, subst, inl, inr, append_assoc}
+use Rattle.std.proofs.Common.{ℕ, ◌≡◌, ◌==◌, ◌⊎◌, Bool, true, false, cond, List, [], ◌∷◌, ◌++◌, slice_get, Option, Some, None, option_and_then, option_map, refl, ◌∙◌, ap, sym, subst, inl, inr, append_assoc}
+use Rattle.std.proofs.lemmas.Option.{none-some}
 use Rattle.std.specs.Option.{option_or}
 use Rattle.pat_base.specs.Changes.{with_changed}
 use Rattle.pat_base.specs.declared.member_id.MemberId.{MemberId}
@@ -44,14 +45,8 @@ use Rattle.serve_law.specs.Owing.{HearsBy, IsTold, Tells}
 use Rattle.serve_law.proofs.Apart.{IsApart, IsUnheard, apart-silent, apart-unheard, output-apart}
 use Rattle.serve_law.proofs.Telling.{IsAmong, each-noted, each-silent}
 
-none-is : {X : Type 0} {x : X} → None ≡ Some x → ⊥
-none-is e = cc
-
 true-false : true ≡ false → ⊥
 true-false e = cc
-
-some-is : {X : Type 0} {x y : X} → Some x ≡ Some y → x ≡ y
-some-is e = cc
 
 -- what waits is the request of this number, if anything waits
 abbrev pub OwedBy : ℕ → Option Operating → Type 0
@@ -87,7 +82,7 @@ changed-owes number xs j k change true is here before = here (eqb-true k j is)
 changed-owes number xs j k change false is here before = before
 
 -- the agent at a place changes
-owes-with : (number : ℕ) (xs : List (Option AgentFacts)) (j k : ℕ) (change : Option AgentFacts → Option AgentFacts) → (k ≡ j → OwesOf number (the_agent (option_map change (slice_get xs k)))) → OwesOf number (agent_at xs k)
+pub owes-with : (number : ℕ) (xs : List (Option AgentFacts)) (j k : ℕ) (change : Option AgentFacts → Option AgentFacts) → (k ≡ j → OwesOf number (the_agent (option_map change (slice_get xs k)))) → OwesOf number (agent_at xs k)
     → OwesOf number (agent_at (with_changed xs j change) k)
 owes-with number xs j k change here before =
     subst (λ (o : Option (Option AgentFacts)). OwesOf number (the_agent o)) (sym (get-changed xs j k change)) (changed-owes number xs j k change (k == j) refl here before)
@@ -100,7 +95,7 @@ fresh-owes : (number : ℕ) (found : Option (Option AgentFacts)) (started : Agen
 fresh-owes number None started fresh = tt
 fresh-owes number (Some agent) started fresh = subst (OwedBy number) (sym fresh) tt
 
-after-owes : (number : ℕ) (found : Option (Option AgentFacts)) (outcome : Option Outcome) → KeepsOwing number (the_agent found) outcome → OwesOf number (the_agent found) → OwesOf number (the_agent (option_map (agent_after outcome) found))
+pub after-owes : (number : ℕ) (found : Option (Option AgentFacts)) (outcome : Option Outcome) → KeepsOwing number (the_agent found) outcome → OwesOf number (the_agent found) → OwesOf number (the_agent (option_map (agent_after outcome) found))
 after-owes number None outcome keeps owes = tt
 after-owes number (Some agent) outcome keeps owes = keeps owes
 
@@ -177,7 +172,7 @@ module _ (number : ℕ) (id : MemberId) where
   abbrev pub SettlesWhereOwed : Cluster → List Event → Type 0
   SettlesWhereOwed cluster events = Owes number id.number cluster → Settles cluster events
 
-  told-behind : (cluster : Cluster) (xs ys : List Event) (reply : ReplyText) → IsTold number id (cluster_over cluster xs) ys reply → IsTold number id cluster (xs ++ ys) reply
+  pub told-behind : (cluster : Cluster) (xs ys : List Event) (reply : ReplyText) → IsTold number id (cluster_over cluster xs) ys reply → IsTold number id cluster (xs ++ ys) reply
   told-behind cluster xs ys reply t =
       let hears = t.hearing ∷ t.meanwhile in
       record {
@@ -194,7 +189,7 @@ module _ (number : ℕ) (id : MemberId) where
             (sym (ap (cluster_over cluster) (append_assoc xs t.before hears) ∙ over-append cluster xs (t.before ++ hears))) t.told);
       }
 
-  told-before : (cluster : Cluster) (xs ys : List Event) (reply : ReplyText) → IsTold number id cluster xs reply → IsTold number id cluster (xs ++ ys) reply
+  pub told-before : (cluster : Cluster) (xs ys : List Event) (reply : ReplyText) → IsTold number id cluster xs reply → IsTold number id cluster (xs ++ ys) reply
   told-before cluster xs ys reply t = record {
     member = t.member;
     is_it = t.is_it;
@@ -215,7 +210,7 @@ module _ (number : ℕ) (id : MemberId) where
   told-either cluster xs ys reply (Some r) is one other e = told-before cluster xs ys reply (one reply (is ∙ e))
 
   pub settles-none : (cluster : Cluster) → SettlesWhereOwed cluster []
-  settles-none cluster owes = record { owes = owes; told = λ reply e. absurd (none-is e) }
+  settles-none cluster owes = record { owes = owes; told = λ reply e. absurd (none-some _ e) }
 
   pub settles-then : (cluster : Cluster) (xs ys : List Event) → SettlesWhereOwed cluster xs → SettlesWhereOwed (cluster_over cluster xs) ys → SettlesWhereOwed cluster (xs ++ ys)
   settles-then cluster xs ys first second owes =
@@ -241,7 +236,7 @@ module _ (number : ℕ) (id : MemberId) where
   pub settles-apart : (cluster : Cluster) (events : List Event) → AllAre IsApart events → SettlesWhereOwed cluster events
   settles-apart cluster events all owes = record {
     owes = unheards-owe number id.number cluster events (all-more IsApart IsUnheard events apart-unheard all) owes;
-    told = λ reply e. absurd (none-is (sym (apart-silent id events all) ∙ e));
+    told = λ reply e. absurd (none-some _ (sym (apart-silent id events all) ∙ e));
   }
 
   -- ---- an input of an agent
@@ -263,8 +258,8 @@ module _ (number : ℕ) (id : MemberId) where
       -- its outputs come of one agent with its machine
       outputs-told : (agent : Option AgentFacts) (machine : Option Machine) (reply : ReplyText) → member.id.number ≡ id.number → AnswersRight agent → outcome_of cluster member heard ≡ Made agent machine
           → reply_in id (input_events Later member message (Made agent machine)) ≡ Some reply → IsTold number id cluster (Opening ∷ input_events Later member message (Made agent machine)) reply
-      outputs-told None machine reply same right is e = absurd (none-is e)
-      outputs-told (Some agent) None reply same right is e = absurd (none-is e)
+      outputs-told None machine reply same right is e = absurd (none-some _ e)
+      outputs-told (Some agent) None reply same right is e = absurd (none-some _ e)
       outputs-told (Some agent) (Some machine) reply same right is e =
           let o = made agent.role agent.knows machine [] in
           let after = step (moment_of cluster) (points_of cluster member) heard o in
@@ -296,7 +291,7 @@ module _ (number : ℕ) (id : MemberId) where
       told-if true is right reply e =
           let same = eqb-true member.id.number id.number is in
           outputs-told (agent_at cluster.agents member.id.number) (machine_of cluster member) reply same (right same) refl e
-      told-if false is right reply e = absurd (none-is (sym (each-silent id member message (λ same. true-false (sym (eq-eqb member.id.number id.number same) ∙ is)) Later (outputs_of (outcome_of cluster member heard))) ∙ e))
+      told-if false is right reply e = absurd (none-some _ (sym (each-silent id member message (λ same. true-false (sym (eq-eqb member.id.number id.number same) ∙ is)) Later (outputs_of (outcome_of cluster member heard))) ∙ e))
 
       -- what its agent replies it told that request
       pub input-told : (member.id.number ≡ id.number → AnswersRight (agent_at cluster.agents member.id.number)) → (reply : ReplyText)

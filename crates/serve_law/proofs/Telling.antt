@@ -1,11 +1,15 @@
 -- What the outputs of an input tell operators, as notes.
-use Rattle.std.proofs.Common.{ℕ, ◌≡◌, ◌≢◌, ◌⊎◌, ◌×◌, if◌then◌else◌, List, [], ◌∷◌, ◌++◌, Option, Some, None, refl, ◌∙◌, ap, sym, subst, inl, inr, append_assoc, eq-eqb}
+use Rattle.std.proofs.Common.{ℕ, ◌≡◌, ◌≢◌, ◌⊎◌, List, [], ◌∷◌, ◌++◌, Option, Some, None, refl, ◌∙◌, ap, sym, subst, inl, inr, append_assoc, eq-eqb, arith, ◌==◌, false}
+use Rattle.std.proofs.lemmas.Option.{none-some, same_Some}
 use Rattle.std.specs.Option.{option_or}
+use Rattle.std.proofs.lemmas.Bool.Decides.{nat_tests}
 use Rattle.pat_base.specs.declared.member_id.MemberId.{MemberId}
 use Rattle.event_book.specs.declared.event.Event.{Event}
 use Rattle.event_book.specs.declared.event.EventKind.{EventKind}
 use Rattle.event_book.specs.declared.member.Member.{Member}
 use Rattle.operator_keys.specs.declared.answer_text.Text.{Text}
+use Rattle.operator_keys.specs.AnswerTexts.{answer_text}
+use Rattle.rest_answer.specs.Replies.{text_of}
 use Rattle.rest_message.specs.Replies.{ReplyText}
 use Rattle.agent_model.specs.declared.operating.Told.{Told}
 use Rattle.agent_model.specs.declared.operating.Told.TheVariants as tolds
@@ -23,7 +27,6 @@ use Rattle.cluster_model.specs.Requests.{replying, told_kind}
 use Rattle.cluster_model.specs.State.{Cluster}
 use Rattle.cluster_model.proofs.Founds.{told-holds}
 use Rattle.cluster_model.proofs.Lists.{HoldsIf}
-use Rattle.cluster_model.proofs.Places.{eq-other}
 use Rattle.run_step_law.proofs.Upholding.{over-append}
 use Rattle.serve_model.specs.Connections.{reply_by, reply_in}
 use Rattle.serve_model.proofs.Replies.{reply_in-append}
@@ -45,11 +48,8 @@ IsReplyOf member kind = (reply : ReplyText) × (kind ≡ replying member reply)
 reply-of : (member : Member) (agent : Option AgentFacts) (told : Told) (kind : EventKind) → told_kind member agent told ≡ Some kind → IsReplyOf member kind
 reply-of member agent told kind is = subst (HoldsIf (IsReplyOf member)) is (told-holds (IsReplyOf member) member agent told (λ reply. (reply, refl)))
 
-some-same : {X : Type 0} {x y : X} → Some x ≡ Some y → x ≡ y
-some-same e = cc
-
-nothing-some : {X : Type 0} {x : X} → None ≡ Some x → ⊥
-nothing-some e = cc
+eq-other : (m k : ℕ) → m ≢ k → (m == k) ≡ false
+eq-other m k other = grind (arith, nat_tests)
 
 -- the reply of a member is read by its number
 pub own-reply : (id : MemberId) (member : Member) (reply : ReplyText) → member.id.number ≡ id.number → reply_by id (replying member reply) ≡ Some reply
@@ -101,7 +101,7 @@ module _ (id : MemberId) (member : Member) (heard : HeardMessage) where
     told-noted cluster request told more reply (Some kind) says others is =
         let r = reply-of member (agent_at cluster.agents member.id.number) told kind says in
         let first : reply_by id kind ≡ Some r.0 = ap (reply_by id) r.1 ∙ own-reply id member r.0 same in
-        let so : r.0 ≡ reply = some-same (ap (λ (o : Option ReplyText). option_or o (reply_in id (Brings (cluster_after cluster kind) more))) (sym first) ∙ is) in
+        let so : r.0 ≡ reply = same_Some _ _ (ap (λ (o : Option ReplyText). option_or o (reply_in id (Brings (cluster_after cluster kind) more))) (sym first) ∙ is) in
         let replies : kind ≡ replying member reply = r.1 ∙ ap (replying member) so in
         record {
           meanwhile = [];
@@ -116,7 +116,7 @@ module _ (id : MemberId) (member : Member) (heard : HeardMessage) where
 
     -- a reply among what outputs bring is one that they tell
     pub each-noted : (cluster : Cluster) (outs : List Output) (reply : ReplyText) → reply_in id (Brings cluster outs) ≡ Some reply → IsNoted cluster outs (Brings cluster outs) reply
-    each-noted cluster [] reply is = absurd (nothing-some is)
+    each-noted cluster [] reply is = absurd (none-some _ is)
     each-noted cluster (outputs.Told request told ∷ more) reply is =
         told-noted cluster request told more reply (told_kind member (agent_at cluster.agents member.id.number) told) refl (λ later so. each-noted later more reply so) is
     each-noted cluster (output ∷ more) reply is =
@@ -128,15 +128,15 @@ module _ (id : MemberId) (member : Member) (heard : HeardMessage) where
     -- words that are told are replied
     text-replied : (cluster : Cluster) (request status : ℕ) (text : Text) (more : List Output) → reply_in id (Brings cluster (outputs.Told request (tolds.Text status text) ∷ more)) ≢ None
     text-replied cluster request status text more none =
-        let kind = told_kind member (agent_at cluster.agents member.id.number) (tolds.Text status text) in
-        nothing-some (sym none ∙ rw (same, eq-eqb id.number id.number refl) refl)
+        let reply = text_of status (answer_text text) in
+        none-some _ (sym none ∙ ap (λ (o : Option ReplyText). option_or o (reply_in id (Brings (cluster_after cluster (replying member reply)) more))) (own-reply id member reply same))
 
     stays-none : (xs ys : List Event) → reply_in id (xs ++ ys) ≡ None → reply_in id ys ≡ None
     stays-none xs ys none = second (reply_in id xs) (sym (reply_in-append id xs ys) ∙ none)
       where
         second : (found : Option ReplyText) → option_or found (reply_in id ys) ≡ None → reply_in id ys ≡ None
         second None e = e
-        second (Some reply) e = absurd (nothing-some (sym e))
+        second (Some reply) e = absurd (none-some _ (sym e))
 
     pub each-replied : (cluster : Cluster) (outs more : List Output) (request status : ℕ) (text : Text) → reply_in id (Brings cluster (outs ++ outputs.Told request (tolds.Text status text) ∷ more)) ≢ None
     each-replied cluster [] more request status text none = text-replied cluster request status text more none

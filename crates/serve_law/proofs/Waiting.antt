@@ -1,5 +1,6 @@
 -- A reply that is waited for, over ticks of the default schedule.
-use Rattle.std.proofs.Common.{ℕ, ◌≡◌, ◌==◌, Bool, true, false, cond, List, [], ◌∷◌, ◌++◌, slice_get, Option, Some, None, zero, suc, refl, ◌∙◌, ap, sym, subst, inl, inr, append-nil}
+use Rattle.std.proofs.Common.{ℕ, ◌≡◌, ◌==◌, Bool, true, false, cond, List, [], ◌∷◌, ◌++◌, slice_get, Option, Some, None, zero, suc, refl, ◌∙◌, ap, sym, subst, inl, inr, append-nil, option_map}
+use Rattle.std.proofs.lemmas.Option.{none-some, same_Some}
 use Rattle.std.specs.Map.{keys_of}
 use Rattle.std.specs.Option.{option_or}
 use Rattle.pat_base.specs.declared.member_id.MemberId.{MemberId}
@@ -40,14 +41,11 @@ use Rattle.cluster_model.specs.Next.{acknowledge_events, declared, next_events, 
 use Rattle.cluster_model.specs.Parts.{each, event_of, events_then, for_some, is_empty}
 use Rattle.cluster_model.specs.State.{Cluster}
 use Rattle.cluster_model.specs.Ticking.{tick_events}
-use Rattle.serve_model.specs.Connections.{Connection, reply_in, unless_replied, waiting_steps}
+use Rattle.serve_model.specs.Connections.{reply_in, unless_replied, waiting_steps}
 use Rattle.serve_model.proofs.Replies.{reply_in-append}
 use Rattle.serve_law.specs.Owing.{IsOwed, IsTold, SaysTo}
 use Rattle.serve_law.proofs.Apart.{acknowledge-apart, answer-apart, apart-each, apart-silent, receive-apart, tick-apart}
 use Rattle.serve_law.proofs.Owing.{Owes, OwesOf, SettlesWhereOwed, after-owes, owes-with, settles-apart, settles-each, settles-for_some, settles-if, settles-input, settles-none, settles-then, told-before, told-behind}
-
-nothing-is : {X : Type 0} {x : X} → None ≡ Some x → ⊥
-nothing-is e = cc
 
 -- what a message says is no request of an operator
 abbrev IsFromMessage : Heard → Type 0
@@ -55,17 +53,11 @@ IsFromMessage (heards.Operated action) = ⊥
 IsFromMessage _ = Unit {0}
 
 granted-from : {X : Type 0} (f : X → Heard) → ((x : X) → IsFromMessage (f x)) → (found : Option X) (heard : Heard) → option_map f found ≡ Some heard → IsFromMessage heard
-granted-from f all None heard e = absurd (nothing-is e)
-granted-from f all (Some x) heard e = subst IsFromMessage (the-same e) (all x)
-  where
-    the-same : {y z : Heard} → Some y ≡ Some z → y ≡ z
-    the-same e = cc
+granted-from f all None heard e = absurd (none-some _ e)
+granted-from f all (Some x) heard e = subst IsFromMessage (same_Some _ _ e) (all x)
 
 says-so : {y z : Heard} → IsFromMessage y → Some y ≡ Some z → IsFromMessage z
-says-so is e = subst IsFromMessage (the-same e) is
-  where
-    the-same : {y z : Heard} → Some y ≡ Some z → y ≡ z
-    the-same e = cc
+says-so is e = subst IsFromMessage (same_Some _ _ e) is
 
 from-message : (cluster : Cluster) (message : InFlightFacts) (body : Body) (heard : Heard) → heard_in cluster message body ≡ Some heard → IsFromMessage heard
 from-message cluster message bodies.Snapshot heard e = says-so tt e
@@ -73,7 +65,7 @@ from-message cluster message (bodies.Granted request leased) heard e = granted-f
 from-message cluster message (bodies.Refused request key found) heard e = says-so tt e
 from-message cluster message bodies.Ask heard e = granted-from (λ from. heards.Asked from message.message.run message.message.sequence) (λ from. tt) (member_at_end message.message.from) heard e
 from-message cluster message (bodies.Answer answer) heard e = says-so tt e
-from-message cluster message _ heard e = absurd (nothing-is e)
+from-message cluster message _ heard e = absurd (none-some _ e)
 
 waits-not : (now : Ticks) (heard : Heard) (o after : Outcome) (waiting : Operating) → IsFromMessage heard → WaitsForHeard now heard o after waiting → ⊥
 waits-not now (heards.Operated action) o after waiting is w = is
@@ -112,18 +104,18 @@ module _ (number : ℕ) (id : MemberId) where
         (reached (ends.Member member) to ∙ ap (λ (h : Option Heard). agent_facts_with cluster.agents member (outcome_of_heard cluster member h)) is)
         (λ o after waiting w. waits-not (moment_of cluster) heard o after waiting (from-message cluster message message.message.body heard is) w)
         (λ after answer at. once-not heard after answer (from-message cluster message message.message.body heard is) at)
-    settles-heard member to None is owes = record {
+    settles-heard member to None is = λ owes. record {
       owes = subst (λ (xs : List (Option AgentFacts)). OwesOf number (agent_at xs id.number))
           (sym (reached (ends.Member member) to ∙ ap (λ (h : Option Heard). agent_facts_with cluster.agents member (outcome_of_heard cluster member h)) is))
           (owes-with number cluster.agents member.id.number id.number (agent_after None) (λ same. after-owes number (slice_get cluster.agents id.number) None (λ o. o) owes) owes);
-      told = λ reply e. absurd (nothing-is e);
+      told = λ reply e. absurd (none-some _ e);
     }
 
     settles-stored : message.message.to ≡ ends.Store → Settled cluster (arrival_events_at cluster n message ends.Store)
     settles-stored to =
         let later = cluster_after cluster Arrived in
         settles-then number id cluster (event_of cluster Arrived) (answer_events_by later n message.message message.message.body)
-        (λ owes. record { owes = subst (λ (xs : List (Option AgentFacts)). OwesOf number (agent_at xs id.number)) (sym (reached ends.Store to)) owes; told = λ reply e. absurd (nothing-is e) })
+        (λ owes. record { owes = subst (λ (xs : List (Option AgentFacts)). OwesOf number (agent_at xs id.number)) (sym (reached ends.Store to)) owes; told = λ reply e. absurd (none-some _ e) })
         (settles-apart number id later (answer_events_by later n message.message message.message.body) (answer-apart later n message.message message.message.body))
 
     settles-arrival : (to : LinkEnd) → message.message.to ≡ to → Settled cluster (arrival_events_at cluster n message to)
@@ -185,7 +177,7 @@ module _ (number : ℕ) (id : MemberId) where
   pub owed-steps : (cluster : Cluster) (step : Step) (more : List Step) (found : Option ReplyText) → reply_in id (next_events cluster step) ≡ found
       → ((reply : ReplyText) → reply_in id (next_events cluster step) ≡ Some reply → IsTold number id cluster (next_events cluster step) reply)
       → (found ≡ None → (reply : ReplyText) → reply_in id (run_events (cluster_over cluster (next_events cluster step)) more) ≡ Some reply
-          → IsOwed number id (cluster_over cluster (next_events cluster step)) (run_events (cluster_over cluster (next_events cluster step)) more) reply)
+      → IsOwed number id (cluster_over cluster (next_events cluster step)) (run_events (cluster_over cluster (next_events cluster step)) more) reply)
       → (reply : ReplyText) → reply_in id (run_events cluster (step ∷ unless_replied found more)) ≡ Some reply → IsOwed number id cluster (run_events cluster (step ∷ unless_replied found more)) reply
   owed-steps cluster step more (Some first) is told others reply e =
       inl (told-before number id cluster (next_events cluster step) [] reply (told reply (ap (reply_in id) (sym (append-nil (next_events cluster step))) ∙ e)))
@@ -198,17 +190,14 @@ module _ (number : ℕ) (id : MemberId) where
   -- the step that says that no result came says that alone
   late-by : (cluster : Cluster) (member : Member) (same : Bool) (reply : ReplyText) → (member.id.number == id.number) ≡ same
       → option_or (cond same (Some (refusal_reply refusals.NoResult)) None) (reply_in id (Acknowledged (cluster_over cluster (visit_events cluster (visits.Refusal refusals.NoResult) member)))) ≡ Some reply → reply ≡ refusal_reply refusals.NoResult
-  late-by cluster member true reply is e = sym (the-same e)
-    where
-      the-same : {y z : ReplyText} → Some y ≡ Some z → y ≡ z
-      the-same e = cc
+  late-by cluster member true reply is e = sym (same_Some _ _ e)
   late-by cluster member false reply is e =
       let later = cluster_over cluster (visit_events cluster (visits.Refusal refusals.NoResult) member) in
-      absurd (nothing-is (sym (apart-silent id (Acknowledged later) (apart-each acknowledge_events acknowledge-apart later later.facts.members)) ∙ e))
+      absurd (none-some _ (sym (apart-silent id (Acknowledged later) (apart-each acknowledge_events acknowledge-apart later later.facts.members)) ∙ e))
 
   late-reply : (cluster : Cluster) (found : Option Member) (reply : ReplyText)
       → reply_in id (events_then cluster (for_some found (visit_events cluster (visits.Refusal refusals.NoResult))) Acknowledged) ≡ Some reply → reply ≡ refusal_reply refusals.NoResult
-  late-reply cluster None reply e = absurd (nothing-is (sym (apart-silent id (Acknowledged cluster) (apart-each acknowledge_events acknowledge-apart cluster cluster.facts.members)) ∙ e))
+  late-reply cluster None reply e = absurd (none-some _ (sym (apart-silent id (Acknowledged cluster) (apart-each acknowledge_events acknowledge-apart cluster cluster.facts.members)) ∙ e))
   late-reply cluster (Some member) reply e = late-by cluster member (member.id.number == id.number) reply refl e
 
   -- while a reply is waited for

@@ -1,7 +1,6 @@
 use Rattle.run_law.proofs.EveryRun.{runs-one}
-use Rattle.rest_law.proofs.Found.{found-accepts}
+use Rattle.rest_law.proofs.Found.{one-found}
 use Rattle.rest_law.proofs.laws.one_member_is_found_as_primary.Goals as goal
 
 pub returns : goal.returns
-returns c = λ head steps is front rest whole met first second one other.
-    runs-one head is steps front rest whole met.timely met.hands_off first.id.number second.id.number (found-accepts head front first one) (found-accepts head front second other)
+returns c = λ head steps is front rest whole met. one-found head front (runs-one head is steps front rest whole met.timely met.hands_off)

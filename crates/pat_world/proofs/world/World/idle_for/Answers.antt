@@ -1,11 +1,13 @@
 use Rattle.std.proofs.Common.{◌≡◌, ◌+◌, replicate, arith, ap, sym, subst, ◌∙◌}
 use Rattle.cluster_model.specs.declared.step.Step.TheVariants as steps
 use Rattle.cluster_model.specs.Acknowledging.{AreAcknowledged}
+use Rattle.cluster_model.specs.Next.{run_events}
 use Rattle.cluster_model.specs.State.{Cluster}
 use Rattle.pat_world.specs.Steps.{WorldFacts}
 use Rattle.world_model.proofs.Idling.{at_moment, idle-commits}
 use Rattle.pat_world.proofs.IdleTicks.{brings-ticks, idle-passed, passed, steps-keep, steps-stand}
 use Rattle.pat_world.proofs.KeptCommits.{steps-keep-commits}
+use Rattle.pat_world.proofs.OneWriter.{one-primary}
 use Rattle.pat_world.proofs.Stepping.{TookSteps-idle}
 use Rattle.pat_world.proofs.world.World.idle_for.Goals as goal
 
@@ -36,6 +38,7 @@ returns c =
       taken = TookSteps-idle world c.pass.new.self (c.self.inside.steps + n) n new took;
       book = λ start book stands. steps-stand start book old c.pass.new.self (replicate n step) left stands;
       one_writer = steps-keep old (replicate n step);
+      one_primary = one-primary old (run_events old (replicate n step)) (steps-keep old (replicate n step));
       commits = steps-keep-commits old (replicate n step);
       acknowledged = λ some. subst (λ (s : Cluster). AreAcknowledged s.facts.members s.facts.servers) (sym new) (idle-commits step old (old.facts.clock + n) (idle some));
     }

@@ -2,7 +2,7 @@ use Rattle.std.proofs.lemmas.Result.{on_ok_weaker}
 use Rattle.world_model.specs.Room.{step_cost}
 use Rattle.pat_world.proofs.Fenced.{step-fenced}
 use Rattle.pat_world.proofs.KeptCommits.{step-keeps-commits}
-use Rattle.pat_world.proofs.OneWriter.{step-keeps}
+use Rattle.pat_world.proofs.OneWriter.{one-primary, step-keeps}
 use Rattle.pat_world.proofs.Standing.{step-stands}
 use Rattle.pat_world.proofs.Stepping.{TookSteps-step}
 use Rattle.pat_world.proofs.world.World.step.Goals as goal
@@ -14,6 +14,13 @@ pub returns-else-is_err-clause-one_writer : goal.returns-else-is_err-clause-one_
 returns-else-is_err-clause-one_writer c =
     on_ok_weaker c.tick_or_take-taken.result
     (λ took. step-keeps c.args.self.now.cluster c.tick_or_take-taken.new.self.cluster c.args.events.now.items c.tick_or_take-taken.new.events.items c.args.step.now step_cost c.requires.empty took)
+    c.tick_or_take-taken.ensures.emits
+
+pub returns-else-is_err-clause-one_primary : goal.returns-else-is_err-clause-one_primary
+returns-else-is_err-clause-one_primary c =
+    on_ok_weaker c.tick_or_take-taken.result
+    (λ took. one-primary c.args.self.now.cluster c.tick_or_take-taken.new.events.items
+    (step-keeps c.args.self.now.cluster c.tick_or_take-taken.new.self.cluster c.args.events.now.items c.tick_or_take-taken.new.events.items c.args.step.now step_cost c.requires.empty took))
     c.tick_or_take-taken.ensures.emits
 
 pub returns-else-is_err-clause-commits : goal.returns-else-is_err-clause-commits

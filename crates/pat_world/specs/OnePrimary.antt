@@ -1,0 +1,17 @@
+-- Whom a load balancer finds during a step.
+use Rattle.std.specs.Prelude.{◌++◌, List}
+use Rattle.cluster_model.specs.declared.step.Step.{Step}
+use Rattle.script_model.specs.Script.{HeadText, IsHead}
+use Rattle.event_book.specs.declared.event.Event.{Event}
+use Rattle.cluster_model.specs.Next.{run_events}
+use Rattle.cluster_model.specs.Starting.{cluster_of}
+use Rattle.cluster_model.specs.State.{Cluster}
+use Rattle.rest_law.specs.Finding.{FindsOne}
+use Rattle.run_step_law.specs.Kept.{WhereMet}
+use Rattle.pat_world.specs.Book.{StandsFor}
+
+-- whichever steps brought a world here from a head: at each moment of their book, and inside the events that come next, at most one member
+-- answers 200 where the primary is looked for, as long as the premises are met
+pub record KeepsOnePrimary (world : Cluster) (events : List Event) : Type 0 where
+  pub found : (head : HeadText) (steps : List Step) → IsHead head → StandsFor (cluster_of head) (run_events (cluster_of head) steps) world
+      → WhereMet head (run_events (cluster_of head) steps ++ events) (FindsOne head)
