@@ -1,5 +1,5 @@
 -- What a command, a fault and what is said stand for: their texts.
-use Rattle.std.specs.Prelude.{Option, Some, None, option_map, Result, Ok, Err}
+use Rattle.std.specs.Prelude.{option_map, Result, Ok, Err}
 use Rattle.ctl_command.specs.Commands.{CommandText}
 use Rattle.ctl_command.specs.Commands as commands
 use Rattle.ctl_command.specs.Settings.{setting_text}
