@@ -1,5 +1,6 @@
 pub mod Commands
 pub mod FaultTexts
+pub mod Laws
 pub mod Reading
 pub mod Seen
 pub mod Settings
