@@ -2,4 +2,10 @@
 #![tactic(auto)]
 
 #[cfg(test)]
+mod answers;
+#[cfg(test)]
+mod clusters;
+#[cfg(test)]
 mod commands;
+#[cfg(test)]
+mod tables;
