@@ -8,6 +8,7 @@ use std::alloc::Global;
 use std::process::Abort;
 
 /// What a command asks of whom.
+#[derive(Drop)]
 struct Asked<'a> {
     words: &'a str,
     member: MemberId,

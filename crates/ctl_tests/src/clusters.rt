@@ -19,7 +19,6 @@ const TAGS: Tags = Tags {
     nofailover: false,
     noloadbalance: false,
     nosync: false,
-    clonefrom: false,
     failover_priority: 1,
 };
 
