@@ -18,7 +18,7 @@ use Rattle.pat_base.proofs.Members.{member_of-number, number-member_of}
 use Rattle.cluster_config.specs.Snapshots.{SnapshotFacts}
 use Rattle.rest_pages.specs.Failsafe.{host_members, listed_by, listed_numbered, listed_of, lists_member, with_host}
 use Rattle.rest_pages.specs.Laws.{HasOwnName}
-use Rattle.rest_pages.specs.Rows.{declared_in, with_found}
+use Rattle.member_rows.specs.Rows.{declared_in, with_found}
 
 abbrev host-data : Name × Host → Data
 host-data member = string (host_bytes member.1)

@@ -14,11 +14,12 @@ use Rattle.pat_base.specs.Name.{name_bytes}
 use Rattle.pat_base.specs.Word.{word_text}
 use Rattle.cluster_config.specs.declared.view.AgentView.{AgentView}
 use Rattle.cluster_config.specs.Snapshots.{SnapshotFacts}
-use Rattle.rest_pages.specs.Cluster.{lag_data, leads, member_role, row_members, with_timeline}
+use Rattle.member_rows.specs.Keys.{leads}
+use Rattle.rest_pages.specs.Cluster.{lag_data, member_role, row_members, with_timeline}
 use Rattle.rest_pages.specs.Patroni.{is_sync_standby, location_members, named_members, patroni_members_of, pauses, replica_members, role_text, server_word, streams, with_last_read, with_position, with_streaming, with_xlog}
 use Rattle.rest_pages.specs.Tags.{has_tags, tags_members, with_tags}
-use Rattle.rest_pages.specs.declared.cluster.ClusterKeys.{ClusterKeys}
-use Rattle.rest_pages.specs.declared.rows.Row.{Row}
+use Rattle.member_rows.specs.declared.keys.ClusterKeys.{ClusterKeys}
+use Rattle.member_rows.specs.declared.rows.Row.{Row}
 
 -- what stands at `lag` in the row of a member, by whether it leads
 lag-at : (leader : Bool) (timeline : Option ℕ) (state role name lag host : Data)

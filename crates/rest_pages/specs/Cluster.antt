@@ -1,5 +1,5 @@
 -- `/cluster`: the members of a cluster (Patroni documentation, "Patroni REST API", "Cluster status endpoints").
-use Rattle.std.specs.Prelude.{ℕ, ◌==◌, ◌-◌, Bool, false, if◌then◌else◌, List, map, codes, Option, Some, None}
+use Rattle.std.specs.Prelude.{ℕ, if◌then◌else◌, List, map, codes, Option, Some, None}
 use Rattle.serde_json.specs.Data.{Data, array, object, string, Members, no_members, put}
 use Rattle.serde_json.specs.View.{items_of}
 use Rattle.json_build.specs.Members.{natural, with_flag}
@@ -8,22 +8,13 @@ use Rattle.pat_base.specs.declared.member_id.MemberId.{MemberId}
 use Rattle.pat_base.specs.Host.{host_bytes}
 use Rattle.pat_base.specs.Name.{name_bytes}
 use Rattle.pat_base.specs.Word.{word_text}
-use Rattle.cluster_config.specs.declared.snapshot.LeaderEntry.{LeaderEntry}
-use Rattle.cluster_config.specs.KeyValues.{config_in, sync_in, status_in}
-use Rattle.cluster_config.specs.Snapshots.{SnapshotFacts, leader_in}
-use Rattle.rest_pages.specs.Rows.{rows_of}
-use Rattle.rest_pages.specs.Standbys.{names_standby}
-use Rattle.rest_pages.specs.declared.cluster.ClusterKeys.{ClusterKeys}
-use Rattle.rest_pages.specs.declared.rows.Row.{Row}
-
--- who leads, who replicates synchronously, and where the leader's log ends
-abbrev pub keys_in : SnapshotFacts → ClusterKeys
-keys_in snapshot = record { leader = leader_in snapshot; sync = sync_in snapshot; status = status_in snapshot }
-
--- the leader key names the member
-abbrev pub leads : MemberId → Option LeaderEntry → Bool
-leads member None = false
-leads member (Some leader) = leader.holder.number == member.number
+use Rattle.cluster_config.specs.KeyValues.{config_in}
+use Rattle.cluster_config.specs.Snapshots.{SnapshotFacts}
+use Rattle.member_rows.specs.Keys.{keys_in, lag_bytes, leads}
+use Rattle.member_rows.specs.Rows.{rows_of}
+use Rattle.member_rows.specs.Standbys.{names_standby}
+use Rattle.member_rows.specs.declared.keys.ClusterKeys.{ClusterKeys}
+use Rattle.member_rows.specs.declared.rows.Row.{Row}
 
 -- the role of a member
 abbrev pub member_role : ClusterKeys → MemberId → List ℕ
@@ -31,11 +22,18 @@ member_role keys member =
     if leads member keys.leader then codes "leader"
     else (if names_standby keys.sync member then codes "sync_standby" else codes "replica")
 
+-- a lag in bytes, or that it isn't known
+abbrev pub lag_value : Option ℕ → Data
+lag_value None = string (codes "unknown")
+lag_value (Some lag) = natural lag
+
 -- how many bytes an end lies behind where the leader's log ends, and 0 where it is ahead; or that it isn't known
 abbrev pub lag_data : Option Lsn → Option Lsn → Data
-lag_data None end = string (codes "unknown")
-lag_data (Some status) None = string (codes "unknown")
-lag_data (Some status) (Some end) = natural (status.position - end.position)
+lag_data status end = lag_value (lag_bytes status end)
+
+-- the members, with a lag
+abbrev pub with_lag_of : Option ℕ → Members → Members
+with_lag_of lag members = put (codes "lag") (lag_value lag) members
 
 -- the members, with how far the member lags, where it isn't the leader
 abbrev pub with_lag : ClusterKeys → Row → Members → Members

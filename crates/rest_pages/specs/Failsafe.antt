@@ -13,7 +13,7 @@ use Rattle.pat_base.specs.Name.{name_bytes}
 use Rattle.cluster_config.specs.KeyValues.{config_in}
 use Rattle.cluster_config.specs.Naming.{is_one_of}
 use Rattle.cluster_config.specs.Snapshots.{SnapshotFacts, failsafe_in}
-use Rattle.rest_pages.specs.Rows.{declared_in}
+use Rattle.member_rows.specs.Rows.{declared_in}
 
 -- the set, if there is one, lists the member
 abbrev pub lists_member : Option MemberSet → MemberId → Bool

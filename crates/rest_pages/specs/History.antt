@@ -1,36 +1,15 @@
 -- `/history`: how the timelines ended (Patroni documentation, "Patroni REST API", "Cluster status endpoints").
-use Rattle.std.specs.Prelude.{ℕ, List, [], ◌∷◌, ◌++◌, map, codes, Option, Some, None}
-use Rattle.std.specs.List.{filter_map}
+use Rattle.std.specs.Prelude.{List, [], ◌∷◌, ◌++◌, map, Option, Some, None}
 use Rattle.serde_json.specs.Data.{Data, array, string}
 use Rattle.serde_json.specs.View.{items_of}
 use Rattle.json_build.specs.Members.{natural}
 use Rattle.pat_base.specs.declared.host.Host.{Host}
 use Rattle.pat_base.specs.declared.name.Name.{Name}
 use Rattle.pat_base.specs.Name.{name_bytes}
-use Rattle.lease_store.specs.declared.key.Key.{Key}
 use Rattle.lease_store.specs.declared.value.HistoryRow.{HistoryRow}
-use Rattle.lease_store.specs.declared.value.KeyEntry.{KeyEntry}
-use Rattle.lease_store.specs.declared.value.Value.{Value}
-use Rattle.lease_store.specs.declared.value.Value.TheVariants as values
 use Rattle.cluster_config.specs.Snapshots.{SnapshotFacts}
-use Rattle.rest_pages.specs.Rows.{declared_in}
-
--- why timelines end here
-abbrev pub end_reason : List ℕ
-end_reason = codes "no recovery target specified"
-
--- how a timeline ended, by a value, if that is a row of the history
-abbrev pub ended_by : Value → Option HistoryRow
-ended_by (values.History row) = Some row
-ended_by _ = None
-
--- how a timeline ended, by a key with its entry, if that is a row of the history
-abbrev pub ended_of : Key × KeyEntry → Option HistoryRow
-ended_of pair = ended_by pair.1.value
-
--- how the timelines ended, in the order of their keys, which is that of the timelines
-abbrev pub endings : SnapshotFacts → List HistoryRow
-endings snapshot = filter_map ended_of snapshot.entries
+use Rattle.member_rows.specs.Endings.{end_reason, endings}
+use Rattle.member_rows.specs.Rows.{declared_in}
 
 -- the items, with the name of the leader at the end, if there is such a member
 abbrev pub with_leader : List Data → Option (Name × Host) → List Data

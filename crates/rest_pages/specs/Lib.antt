@@ -4,6 +4,4 @@ pub mod Failsafe
 pub mod History
 pub mod Laws
 pub mod Patroni
-pub mod Rows
-pub mod Standbys
 pub mod Tags

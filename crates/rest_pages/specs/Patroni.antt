@@ -16,7 +16,7 @@ use Rattle.pat_base.specs.Word.{word_text}
 use Rattle.cluster_config.specs.declared.view.AgentView.{AgentView}
 use Rattle.cluster_config.specs.KeyValues.{config_in, sync_in}
 use Rattle.cluster_config.specs.Snapshots.{SnapshotFacts}
-use Rattle.rest_pages.specs.Standbys.{names_standby}
+use Rattle.member_rows.specs.Standbys.{names_standby}
 use Rattle.rest_pages.specs.Tags.{with_tags}
 
 -- the member and its cluster

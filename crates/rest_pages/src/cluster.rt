@@ -4,26 +4,14 @@ ghost use Rattle.serde_json.specs.Data.{object};
 ghost use Rattle.serde_json.specs.Written.{compact_text};
 ghost use Rattle.json_build.specs.Lists.{list_items};
 ghost use Rattle.json_build.specs.Objects.{object_members};
-ghost use Rattle.rest_pages.specs.Cluster.{keys_in, leads, member_role, lag_data, with_lag, with_timeline, row_members, row_data, cluster_rows, cluster_members};
+ghost use Rattle.member_rows.specs.Keys.{keys_in};
+ghost use Rattle.rest_pages.specs.Cluster.{member_role, with_lag, with_lag_of, with_timeline, row_members, row_data, cluster_rows, cluster_members};
 
-use crate::rows::{Row, rows_of};
-use crate::standbys::names_standby;
-use cluster_config::{LeaderEntry, Snapshot};
+use cluster_config::Snapshot;
 use json_build::{List, Object};
-use lease_store::SyncKey;
-use pat_base::{Lsn, MemberId};
+use member_rows::{ClusterKeys, Row, keys_in, lag_bytes, leads, names_standby, rows_of};
+use pat_base::MemberId;
 use std::alloc::{AllocError, Global};
-
-/// What the page reads of a snapshot beside the members.
-#[derive(Clone, Copy, Debug, PartialEq, Eq)]
-struct ClusterKeys {
-    /// Who leads.
-    leader: Option<LeaderEntry>,
-    /// Who replicates synchronously.
-    sync: Option<SyncKey>,
-    /// Where the leader's log ends.
-    status: Option<Lsn>,
-}
 
 /// The body of `/cluster`: `members`, a list of those with a member key, in the order of their names; `pause`, where the cluster is
 /// paused; and `scope`, its name. Each member has its `host`, its `name`, its `role` (`leader`, `sync_standby` where the sync key names it,
@@ -46,17 +34,6 @@ fn member_list(alloc: Global, snapshot: &Snapshot) -> Result<List, AllocError>
 {
     let rows = rows_of(alloc, snapshot)?;
     row_list(alloc, &keys_in(snapshot), &rows)
-}
-
-/// Who leads, who replicates synchronously, and where the leader's log ends.
-fn keys_in(snapshot: &Snapshot) -> ClusterKeys
-    ensures { result ≡ keys_in snapshot.now }
-{
-    ClusterKeys {
-        leader: snapshot.leader(),
-        sync: snapshot.sync(),
-        status: snapshot.status(),
-    }
 }
 
 fn row_list(alloc: Global, keys: &ClusterKeys, rows: &[Row]) -> Result<List, AllocError>
@@ -95,16 +72,6 @@ fn member_role(keys: &ClusterKeys, member: MemberId) -> &'static str
     }
 }
 
-/// Whether the leader key names the member.
-fn leads(member: MemberId, leader: Option<LeaderEntry>) -> bool
-    ensures { result ≡ leads member leader }
-{
-    match leader {
-        None => false,
-        Some(leader) => leader.holder.number == member.number,
-    }
-}
-
 /// Puts how far a member lags, where it isn't the leader.
 fn put_lag(
     members: &mut Object,
@@ -117,12 +84,16 @@ fn put_lag(
     if leads(row.member, keys.leader) {
         return Ok(());
     }
-    match (keys.status, row.info.end) {
-        (Some(status), Some(end)) => {
-            let lag = status.position.saturating_sub(end.position);
-            members.put_number(alloc, "lag", lag)
-        }
-        _ => members.put_text(alloc, "lag", "unknown"),
+    put_lag_of(members, alloc, lag_bytes(keys.status, row.info.end))
+}
+
+/// Puts a lag in bytes, or that it isn't known.
+fn put_lag_of(members: &mut Object, alloc: Global, lag: Option<u64>) -> Result<(), AllocError>
+    ensures { OnOk result (object_members members.new ≡ with_lag_of lag (object_members members.old)) }
+{
+    match lag {
+        Some(lag) => members.put_number(alloc, "lag", lag),
+        None => members.put_text(alloc, "lag", "unknown"),
     }
 }
 

@@ -3,11 +3,11 @@ ghost use Rattle.std.specs.Prelude.{◌≡◌, IfOk, OnOk, option_map, string_by
 ghost use Rattle.serde_json.specs.Written.{compact_text};
 ghost use Rattle.json_build.specs.Objects.{object_members};
 ghost use Rattle.rest_pages.specs.Failsafe.{lists_member, listed_in, listed_numbered, listed_of, with_host, host_members, failsafe_data};
-ghost use Rattle.rest_pages.specs.Rows.{with_found};
+ghost use Rattle.member_rows.specs.Rows.{with_found};
 
-use crate::rows::declared_in;
 use cluster_config::Snapshot;
 use json_build::Object;
+use member_rows::declared_in;
 use pat_base::{Host, MOST_MEMBERS, MemberId, MemberSet, Name};
 use std::alloc::{AllocError, Global};
 

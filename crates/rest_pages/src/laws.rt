@@ -19,29 +19,16 @@ ghost use Rattle.lease_store.specs.declared.value.MemberInfo.{MemberInfo};
 ghost use Rattle.lease_store.specs.declared.value.Value.TheVariants as values;
 ghost use Rattle.cluster_config.specs.Snapshots.{IsRead, SnapshotFacts, entry_in, failsafe_in};
 ghost use Rattle.cluster_config.specs.declared.view.AgentView.{AgentView};
-ghost use Rattle.rest_pages.specs.Cluster.{lag_data, leads, row_members};
+ghost use Rattle.member_rows.specs.Keys.{leads};
+ghost use Rattle.rest_pages.specs.Cluster.{lag_data, row_members};
 ghost use Rattle.rest_pages.specs.Configuration.{configuration_text};
 ghost use Rattle.rest_pages.specs.Failsafe.{host_members, listed_of, lists_member};
-ghost use Rattle.rest_pages.specs.History.{endings};
-ghost use Rattle.rest_pages.specs.Laws.{HasOwnName, is_row_of};
+ghost use Rattle.rest_pages.specs.Laws.{HasOwnName};
 ghost use Rattle.rest_pages.specs.Patroni.{is_sync_standby, patroni_members_of, role_text};
-ghost use Rattle.rest_pages.specs.Rows.{declared_in, is_before, row_in, rows_of, info_in};
-ghost use Rattle.rest_pages.specs.Standbys.{names_standby};
-ghost use Rattle.rest_pages.specs.declared.cluster.ClusterKeys.{ClusterKeys};
-ghost use Rattle.rest_pages.specs.declared.rows.Row.{Row};
-
-/// Each member of the cluster with a member key stands in `/cluster` just once, and nothing else does: each row is that of its member.
-pub fn each_member_stands_once()
-    ensures once { (snapshot : SnapshotFacts) (member : MemberId) (declared : Name × Host) (info : MemberInfo)
-        → declared_in snapshot member ≡ Some declared → info_in snapshot member ≡ Some info
-        → count_by (is_row_of member) (rows_of snapshot) ≡ 1 }
-    ensures rows { (snapshot : SnapshotFacts) → All (λ row. row_in snapshot row.member ≡ Some row) (rows_of snapshot) }
-{}
-
-/// The members stand in `/cluster` in the byte order of their names.
-pub fn members_stand_by_name()
-    ensures { (snapshot : SnapshotFacts) → IsSortedBy is_before (rows_of snapshot) }
-{}
+ghost use Rattle.member_rows.specs.Rows.{declared_in};
+ghost use Rattle.member_rows.specs.Standbys.{names_standby};
+ghost use Rattle.member_rows.specs.declared.keys.ClusterKeys.{ClusterKeys};
+ghost use Rattle.member_rows.specs.declared.rows.Row.{Row};
 
 /// In `/cluster` the leader has no lag, and each other member has one: what its log lacks of the position that the leader told last, where
 /// both ends are known.
@@ -62,11 +49,6 @@ pub fn roles_are_those_of_the_keys()
         → get_member (codes "role") (row_members keys row) ≡ Some (string (codes "sync_standby")) }
     ensures replica { (keys : ClusterKeys) (row : Row) → leads row.member keys.leader ≡ false → names_standby keys.sync row.member ≡ false
         → get_member (codes "role") (row_members keys row) ≡ Some (string (codes "replica")) }
-{}
-
-/// The timelines rise in `/history`.
-pub fn timelines_rise()
-    ensures { (snapshot : SnapshotFacts) → IsRead snapshot.entries → IsStrictlySortedBy nat_cmp (map (λ row. row.timeline) (endings snapshot)) }
 {}
 
 /// `/patroni` always tells a role, which is `master` for a primary alone, and that the member is a synchronous standby just where it is.

@@ -7,8 +7,6 @@ mod failsafe;
 mod history;
 mod laws;
 mod patroni;
-mod rows;
-mod standbys;
 mod tags;
 
 pub use cluster::cluster_text;
@@ -16,9 +14,8 @@ pub use configuration::config_text;
 pub use failsafe::failsafe_text;
 pub use history::history_text;
 pub use laws::{
-    all_but_the_leader_lag, config_is_that_of_the_snapshot, each_member_stands_once,
-    failsafe_has_who_is_listed, members_stand_by_name, patroni_tells_the_role,
-    roles_are_those_of_the_keys, timelines_rise,
+    all_but_the_leader_lag, config_is_that_of_the_snapshot, failsafe_has_who_is_listed,
+    patroni_tells_the_role, roles_are_those_of_the_keys,
 };
 pub use patroni::patroni_text;
 

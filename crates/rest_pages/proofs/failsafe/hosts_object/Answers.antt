@@ -2,8 +2,8 @@ use Rattle.std.proofs.Common.{◌∙◌, sym, ap}
 use Rattle.serde_json.specs.Data.{no_members}
 use Rattle.json_build.specs.Objects.{object_members}
 use Rattle.rest_pages.specs.Failsafe.{listed_numbered, with_host}
-use Rattle.rest_pages.specs.Rows.{with_found}
-use Rattle.rest_pages.proofs.Walks.{walk-more}
+use Rattle.member_rows.specs.Rows.{with_found}
+use Rattle.member_rows.proofs.Walks.{walk-more}
 use Rattle.rest_pages.proofs.failsafe.hosts_object.Goals as goal
 
 pub loop-number-preserved : goal.loop-number-preserved

@@ -1,0 +1,9 @@
+pub mod Commands
+pub mod FaultTexts
+pub mod Laws
+pub mod Reading
+pub mod Seen
+pub mod Settings
+pub mod Tables
+pub mod Texts
+pub mod Words

@@ -1,0 +1,25 @@
+-- Texts between marks.
+use Rattle.std.specs.Prelude.{ℕ, ◌==◌, nat_lt, Bool, if◌then◌else◌, List, [], ◌∷◌, Option, Some, None, length}
+use Rattle.std.specs.List.{slice_split, position_or_len, before_first, after_first}
+
+-- whether a byte is this one
+abbrev pub is_byte : ℕ → ℕ → Bool
+is_byte mark b = b == mark
+
+-- the bytes before the first such mark, and those behind it, if there is one
+abbrev pub cut_once : ℕ → List ℕ → List ℕ × Option (List ℕ)
+cut_once mark bytes = if nat_lt (position_or_len (is_byte mark) bytes) (length bytes) then (before_first (is_byte mark) bytes, Some (after_first (is_byte mark) bytes)) else (bytes, None)
+
+-- the parts between such marks, of which there is always one
+abbrev pub parts_between : ℕ → List ℕ → List (List ℕ)
+parts_between mark bytes = slice_split (is_byte mark) bytes
+
+-- the words of what stands behind a space, if there is one
+abbrev pub words_behind : Option (List ℕ) → List (List ℕ)
+words_behind None = []
+words_behind (Some text) = parts_between 32 text
+
+-- the words of a line, with one space between two of them; the empty text has none
+abbrev pub words_of : List ℕ → List (List ℕ)
+words_of [] = []
+words_of (b ∷ bs) = parts_between 32 (b ∷ bs)

@@ -1,0 +1,16 @@
+//! The commands.
+
+/// A command, by its word alone.
+#[derive(Clone, Copy, Debug, PartialEq, Eq)]
+pub enum CommandName {
+    List,
+    History,
+    ShowConfig,
+    Pause,
+    Resume,
+    EditConfig,
+    Switchover,
+    Failover,
+    Restart,
+    Reinit,
+}

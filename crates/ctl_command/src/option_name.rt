@@ -1,0 +1,20 @@
+//! The options.
+
+/// An option that takes a value.
+#[derive(Clone, Copy, Debug, PartialEq, Eq)]
+pub enum ValueOption {
+    /// `--leader M`: who leads.
+    Leader,
+    /// `--candidate M`: who is to lead.
+    Candidate,
+    /// `--set KEY=VALUE`: what is changed.
+    Set,
+}
+
+/// An option.
+#[derive(Clone, Copy, Debug, PartialEq, Eq)]
+pub enum OptionName {
+    /// `--force`, which takes no value: nothing is asked back.
+    Force,
+    Value(ValueOption),
+}

@@ -1,0 +1,11 @@
+//! Worked cases of `patronictl`, one file a concept: what no clause says.
+#![tactic(auto)]
+
+#[cfg(test)]
+mod answers;
+#[cfg(test)]
+mod clusters;
+#[cfg(test)]
+mod commands;
+#[cfg(test)]
+mod tables;

@@ -1,0 +1,4 @@
+pub mod Placing
+pub mod Standing
+pub mod Timelines
+pub mod Walks

@@ -1,0 +1,23 @@
+-- What the keys of a cluster tell beside its members.
+use Rattle.std.specs.Prelude.{ℕ, ◌==◌, ◌-◌, Bool, false, Option, Some, None}
+use Rattle.pat_base.specs.declared.lsn.Lsn.{Lsn}
+use Rattle.pat_base.specs.declared.member_id.MemberId.{MemberId}
+use Rattle.cluster_config.specs.declared.snapshot.LeaderEntry.{LeaderEntry}
+use Rattle.cluster_config.specs.KeyValues.{status_in, sync_in}
+use Rattle.cluster_config.specs.Snapshots.{SnapshotFacts, leader_in}
+use Rattle.member_rows.specs.declared.keys.ClusterKeys.{ClusterKeys}
+
+-- who leads, who replicates synchronously, and where the leader's log ends
+abbrev pub keys_in : SnapshotFacts → ClusterKeys
+keys_in snapshot = record { leader = leader_in snapshot; sync = sync_in snapshot; status = status_in snapshot }
+
+-- the leader key names the member
+abbrev pub leads : MemberId → Option LeaderEntry → Bool
+leads member None = false
+leads member (Some leader) = leader.holder.number == member.number
+
+-- how many bytes an end lies behind where the leader's log ends, and 0 where it is ahead, if both are known
+abbrev pub lag_bytes : Option Lsn → Option Lsn → Option ℕ
+lag_bytes None end = None
+lag_bytes (Some status) None = None
+lag_bytes (Some status) (Some end) = Some (status.position - end.position)

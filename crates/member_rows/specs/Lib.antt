@@ -1,0 +1,5 @@
+pub mod Endings
+pub mod Keys
+pub mod Laws
+pub mod Rows
+pub mod Standbys

@@ -1,0 +1,49 @@
+//! What the keys of a cluster tell beside its members: who leads, who replicates synchronously, and where the leader's log ends.
+ghost use Rattle.std.specs.Prelude.{◌≡◌};
+ghost use Rattle.member_rows.specs.Keys.{keys_in, leads, lag_bytes};
+
+use cluster_config::{LeaderEntry, Snapshot};
+use lease_store::SyncKey;
+use pat_base::{Lsn, MemberId};
+
+/// What a list of members reads of a snapshot beside the members.
+#[derive(Clone, Copy, Debug, PartialEq, Eq)]
+pub struct ClusterKeys {
+    /// Who leads.
+    pub leader: Option<LeaderEntry>,
+    /// Who replicates synchronously.
+    pub sync: Option<SyncKey>,
+    /// Where the leader's log ends.
+    pub status: Option<Lsn>,
+}
+
+/// Who leads, who replicates synchronously, and where the leader's log ends.
+pub fn keys_in(snapshot: &Snapshot) -> ClusterKeys
+    ensures { result ≡ keys_in snapshot.now }
+{
+    ClusterKeys {
+        leader: snapshot.leader(),
+        sync: snapshot.sync(),
+        status: snapshot.status(),
+    }
+}
+
+/// Whether the leader key names the member.
+pub fn leads(member: MemberId, leader: Option<LeaderEntry>) -> bool
+    ensures { result ≡ leads member leader }
+{
+    match leader {
+        None => false,
+        Some(leader) => leader.holder.number == member.number,
+    }
+}
+
+/// How many bytes an end lies behind where the leader's log ends, and 0 where it is ahead. `None` exactly where one of the two isn't known.
+pub fn lag_bytes(status: Option<Lsn>, end: Option<Lsn>) -> Option<u64>
+    ensures { result ≡ lag_bytes status end }
+{
+    match (status, end) {
+        (Some(status), Some(end)) => Some(status.position.saturating_sub(end.position)),
+        _ => None,
+    }
+}

@@ -1,0 +1,4 @@
+pub mod Lines
+pub mod Rooms
+pub mod Rounding
+pub mod Words

@@ -1,0 +1,10 @@
+pub mod Acting
+pub mod Answers
+pub mod History
+pub mod Lags
+pub mod Laws
+pub mod Members
+pub mod Names
+pub mod Requests
+pub mod Roles
+pub mod Settings

@@ -1,5 +1,0 @@
-use Rattle.rest_pages.proofs.Timelines.{timelines-rise}
-use Rattle.rest_pages.proofs.laws.timelines_rise.Goals as goal
-
-pub returns : goal.returns
-returns c = λ snapshot read. timelines-rise snapshot.entries read.kinds read.order

@@ -1,0 +1,4 @@
+pub mod Placing
+pub mod Rules
+pub mod Standing
+pub mod Widths
