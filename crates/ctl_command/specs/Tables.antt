@@ -34,29 +34,16 @@ command_named word = find (λ command. bytes_eq word (command_text command)) com
 
 -- the options with a value that a command takes
 abbrev pub value_options : CommandName → List ValueOption
-value_options names.List = []
-value_options names.History = []
-value_options names.ShowConfig = []
-value_options names.Pause = []
-value_options names.Resume = []
 value_options names.EditConfig = values.Set ∷ []
 value_options names.Switchover = values.Leader ∷ values.Candidate ∷ []
 value_options names.Failover = values.Candidate ∷ []
-value_options names.Restart = []
-value_options names.Reinit = []
+value_options _ = []
 
 -- a command takes the name of a member behind that of the cluster, and needs both
 abbrev pub takes_member : CommandName → Bool
-takes_member names.List = false
-takes_member names.History = false
-takes_member names.ShowConfig = false
-takes_member names.Pause = false
-takes_member names.Resume = false
-takes_member names.EditConfig = false
-takes_member names.Switchover = false
-takes_member names.Failover = false
 takes_member names.Restart = true
 takes_member names.Reinit = true
+takes_member _ = false
 
 -- the word of an option that takes a value
 abbrev pub option_text : ValueOption → List ℕ

@@ -2,7 +2,7 @@
 use crate::Setting;
 use pat_base::MemberId;
 
-/// What a line of `patronictl` asks for (Patroni documentation, "patronictl", under "Supported commands").
+/// What a line of `patronictl` asks for (Patroni documentation, "patronictl").
 #[derive(Clone, Copy, Debug, PartialEq, Eq)]
 pub enum Command<'a> {
     /// `list [CLUSTER]`: the members and their state.

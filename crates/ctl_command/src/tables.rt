@@ -1,6 +1,6 @@
 //! The table of commands and that of options.
 ghost use Rattle.std.specs.Prelude.{◌≡◌};
-ghost use Rattle.ctl_command.specs.Tables.{command_text, command_named, option_text, force_text, value_options, takes_member, value_option_named, option_named};
+ghost use Rattle.ctl_command.specs.Tables.{command_text, command_named, option_text, value_options, takes_member, value_option_named, option_named};
 
 use crate::ValueOption;
 use crate::command_name::CommandName;
@@ -65,16 +65,10 @@ fn value_options(command: CommandName) -> &'static [ValueOption]
     ensures { result.now ≡ value_options command }
 {
     match command {
-        CommandName::List => &[],
-        CommandName::History => &[],
-        CommandName::ShowConfig => &[],
-        CommandName::Pause => &[],
-        CommandName::Resume => &[],
         CommandName::EditConfig => &[ValueOption::Set],
         CommandName::Switchover => &[ValueOption::Leader, ValueOption::Candidate],
         CommandName::Failover => &[ValueOption::Candidate],
-        CommandName::Restart => &[],
-        CommandName::Reinit => &[],
+        _ => &[],
     }
 }
 
