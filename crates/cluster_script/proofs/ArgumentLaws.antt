@@ -11,7 +11,7 @@ use Rattle.pat_base.specs.declared.name.Name.{Name}
 use Rattle.pat_base.specs.declared.member_id.MemberId.{MemberId}
 use Rattle.pat_base.proofs.Members.{number-member_of}
 use Rattle.pat_base.proofs.Names.{name_of-text}
-use Rattle.cluster_script.specs.Arguments.{number_in, switch_in, slowed_call_in, commit_size_in, delay_in, known_member, member_in, end_in, line_end, last_word, one_word, word_behind, two_words, words_behind, three_words, same_end, apart, two_ends, commit_in, stream_in, slow_in, command, asked_member, behind_word, request_behind, rest_line, plain_line, line_of_words}
+use Rattle.cluster_script.specs.Arguments.{number_in, switch_in, slowed_call_in, commit_size_in, delay_in, known_member, member_in, end_in, line_end, last_word, one_word, word_behind, two_words, words_behind, three_words, same_end, apart, two_ends, commit_in, stream_in, slow_in, command, asked_member, behind_word, request_behind, rest_line, ctl_line, plain_line, line_of_words}
 use Rattle.script_words.specs.Faults.{on_ok, both}
 use Rattle.cluster_script.specs.Members.{place_of, member_named}
 use Rattle.script_words.specs.Numbers.{number}
@@ -376,6 +376,13 @@ rest_line-Ok members rest line e =
       fits = λ line. request-IsRequest members said.0 r.method r.target r.behind m.member r.token r.target_is line;
     }))
 
+ctl_line-Ok : (members : List Name) (rest : Option (List ℕ)) (line : Line) → ctl_line members rest ≡ Ok line → SaysLine members words.Ctl rest line
+ctl_line-Ok members None line e = absurd (err_is _ line e)
+ctl_line-Ok members (Some said) line e =
+    on_ok-made (SaysLine members words.Ctl (Some said)) (line_end members None) (λ _. lines.Command (commands.Ctl said)) line e (λ none is.
+    record { words = said; is = refl; text = OwnText refl; fits = λ whole. whole })
+
 pub line_of_words-Ok : (members : List Name) (keyword : Keyword) (rest : Option (List ℕ)) (line : Line) → line_of_words members keyword rest ≡ Ok line → SaysLine members keyword rest line
 line_of_words-Ok members words.Rest rest line e = rest_line-Ok members rest line e
+line_of_words-Ok members words.Ctl rest line e = ctl_line-Ok members rest line e
 line_of_words-Ok members keyword rest line e = own members keyword rest line (plain_line-Ok members keyword rest line e)
