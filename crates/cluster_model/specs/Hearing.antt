@@ -1,6 +1,9 @@
 -- What messages say to agents.
-use Rattle.std.specs.Prelude.{Option, Some, None, option_map}
+use Rattle.std.specs.Prelude.{List, Option, Some, None, option_map}
 use Rattle.pat_base.specs.declared.member_id.MemberId.{MemberId}
+use Rattle.lease_store.specs.Answers.{present_pairs}
+use Rattle.lease_store.specs.declared.key.Key.{Key}
+use Rattle.lease_store.specs.declared.value.KeyEntry.{KeyEntry}
 use Rattle.event_book.specs.declared.link.LinkEnd.{LinkEnd}
 use Rattle.event_book.specs.declared.link.LinkEnd.TheVariants as link_ends
 use Rattle.event_book.specs.declared.message.Body.{Body}
@@ -12,9 +15,17 @@ use Rattle.agent_model.specs.declared.heard.Heard.TheVariants as heard
 use Rattle.cluster_model.specs.Machines.{hosts_of}
 use Rattle.cluster_model.specs.State.{Cluster}
 
+-- a snapshot with these entries
+abbrev pub snapshot_with : Cluster → List (Key × KeyEntry) → SnapshotFacts
+snapshot_with cluster entries = record { scope = cluster.scope; members = hosts_of cluster.options cluster.facts.members; entries = entries }
+
 -- the snapshot that a message carries
 abbrev pub snapshot_in : Cluster → InFlightFacts → SnapshotFacts
-snapshot_in cluster message = record { scope = cluster.scope; members = hosts_of cluster.options cluster.facts.members; entries = message.snapshot }
+snapshot_in cluster message = snapshot_with cluster message.snapshot
+
+-- the snapshot that a read at this moment gives
+abbrev pub snapshot_at : Cluster → SnapshotFacts
+snapshot_at cluster = snapshot_with cluster (present_pairs cluster.facts.clock cluster.facts.keys.pairs)
 
 -- the member at this end of a link, if one is
 abbrev pub member_at_end : LinkEnd → Option MemberId

@@ -10,17 +10,21 @@ use Rattle.event_book.specs.declared.event.Event.{Event}
 use Rattle.event_book.specs.declared.event.EventKind.{EventKind}
 use Rattle.event_book.specs.declared.event.EventKind.TheVariants as kinds
 use Rattle.event_book.specs.declared.event.LogEvent.TheVariants as logs
+use Rattle.event_book.specs.declared.event.Note.TheVariants.{CtlLine}
 use Rattle.event_book.specs.declared.event.ServerEvent.TheVariants as servers
 use Rattle.event_book.specs.declared.member.Member.{Member}
 use Rattle.event_book.specs.Flight.{in_flight}
 use Rattle.event_book.specs.Members.{server_of}
 use Rattle.script_model.specs.declared.line.Command.{Command}
 use Rattle.script_model.specs.declared.line.Command.TheVariants as commands
+use Rattle.rest_message.specs.Requests.{RequestText}
+use Rattle.patronictl.specs.Answers.{CtlTold, Prints, Asks, ctl_answer}
 use Rattle.cluster_model.specs.declared.asker.Asker.TheVariants as askers
 use Rattle.cluster_model.specs.declared.step.Step.{Step}
 use Rattle.cluster_model.specs.declared.step.Step.TheVariants as steps
 use Rattle.cluster_model.specs.Acknowledging.{acknowledge_kinds}
 use Rattle.cluster_model.specs.Commands.{kinds_of, suspend_of, resume_of, kill_of, agent_started, disarm_at_start, link_of, cut_of, join_of}
+use Rattle.cluster_model.specs.Hearing.{snapshot_at}
 use Rattle.cluster_model.specs.Limits.{most_rounds}
 use Rattle.cluster_model.specs.Machines.{machine_of}
 use Rattle.cluster_model.specs.Messages.{wake_events, turn_events, request_events, visit_events, message_events, deliver_events, lose_events}
@@ -103,6 +107,23 @@ agent_start_events_of cluster member process = events_of cluster (agent_started 
 abbrev pub agent_start_events : Cluster → Member → List Event
 agent_start_events cluster member = for_some (slice_get cluster.facts.processes member.id.number) (agent_start_events_of cluster member)
 
+-- a line of a script makes a request of the agent of the declared member of this number
+abbrev pub asking_events : Cluster → MemberId → RequestText → List Event
+asking_events cluster id asked = for_some (declared cluster id) (request_events cluster askers.Line asked)
+
+-- what patronictl does for these words, by what a read at this moment gives
+unfoldable pub ctl_told_at : Cluster → List ℕ → CtlTold
+ctl_told_at cluster said = ctl_answer (snapshot_at cluster) said
+
+-- patronictl prints a line
+abbrev pub ctl_line_events : Cluster → List ℕ → List Event
+ctl_line_events cluster line = event_of cluster (kinds.Note (CtlLine line))
+
+-- patronictl prints lines, or makes a request as a line of a script does
+abbrev pub ctl_events : Cluster → CtlTold → List Event
+ctl_events cluster (Prints lines) = each ctl_line_events cluster lines
+ctl_events cluster (Asks id asked) = asking_events cluster id asked
+
 -- the events of a command
 abbrev pub command_events : Cluster → Command → List Event
 command_events cluster (commands.Turn id) = for_some (declared cluster id) (turn_events cluster)
@@ -110,7 +131,8 @@ command_events cluster (commands.Deliver number) = deliver_events cluster number
 command_events cluster (commands.Lose number) = lose_events cluster number (in_flight cluster.facts.flight number)
 command_events cluster (commands.StartAgent id) = for_some (declared cluster id) (agent_start_events cluster)
 command_events cluster (commands.Promote id) = for_some (declared cluster id) (promote_events cluster)
-command_events cluster (commands.Rest id request) = for_some (declared cluster id) (request_events cluster askers.Line (asked_in_words request))
+command_events cluster (commands.Rest id request) = asking_events cluster id (asked_in_words request)
+command_events cluster (commands.Ctl said) = ctl_events cluster (ctl_told_at cluster said)
 command_events cluster (commands.Stream id most) = for_some (declared cluster id) (receive_events_at_most cluster most)
 command_events cluster command = events_of cluster (kinds_of (command_kind cluster command))
 

@@ -5,20 +5,22 @@ use Rattle.std.specs.Option.{ok_or}
 use Rattle.std.specs.Str.{bytes_eq}
 use Rattle.std.proofs.lemmas.Option.{slice_get_within}
 use Rattle.std.proofs.lemmas.Slice.Eq.{bytes_eq-Decides}
+use Rattle.std.proofs.lemmas.Str.{IsUtf8-from_is_utf8}
+use Rattle.cluster_script.proofs.BlankLaws.{text-behind}
 use Rattle.pat_base.specs.MemberId.{member_of}
 use Rattle.pat_base.specs.Name.{name_of}
 use Rattle.pat_base.specs.declared.name.Name.{Name}
 use Rattle.pat_base.specs.declared.member_id.MemberId.{MemberId}
 use Rattle.pat_base.proofs.Members.{number-member_of}
 use Rattle.pat_base.proofs.Names.{name_of-text}
-use Rattle.cluster_script.specs.Arguments.{number_in, switch_in, slowed_call_in, commit_size_in, delay_in, known_member, member_in, end_in, line_end, last_word, one_word, word_behind, two_words, words_behind, three_words, same_end, apart, two_ends, commit_in, stream_in, slow_in, command, asked_member, behind_word, request_behind, rest_line, plain_line, line_of_words}
+use Rattle.cluster_script.specs.Arguments.{number_in, switch_in, slowed_call_in, commit_size_in, delay_in, known_member, member_in, end_in, line_end, last_word, one_word, word_behind, two_words, words_behind, three_words, same_end, apart, two_ends, commit_in, stream_in, slow_in, command, asked_member, behind_word, request_behind, rest_line, ctl_line, plain_line, line_of_words}
 use Rattle.script_words.specs.Faults.{on_ok, both}
 use Rattle.cluster_script.specs.Members.{place_of, member_named}
 use Rattle.script_words.specs.Numbers.{number}
 use Rattle.script_model.specs.Ranges.{commit_size_of, delay_of}
-use Rattle.script_model.specs.Script.{text_of_name, member_text, end_word, switch_text, slowed_call_text, two_texts, line_text, IsWholeLine, IsMember, IsEnd, IsLink, IsLine}
+use Rattle.script_model.specs.Script.{text_of_name, ctl_text, member_text, end_word, switch_text, slowed_call_text, two_texts, line_text, IsWholeLine, IsMember, IsEnd, IsLink, IsLine}
 use Rattle.script_model.specs.Spelling.{SpellsLine, OwnText}
-use Rattle.script_model.specs.Keywords.{spelled}
+use Rattle.script_model.specs.Keywords.{spelled, word_of}
 use Rattle.script_words.specs.Words.{cut_word}
 use Rattle.script_words.specs.declared.fault.Fault.{Fault}
 use Rattle.script_words.specs.declared.fault.Fault.TheVariants as faults
@@ -376,6 +378,13 @@ rest_line-Ok members rest line e =
       fits = λ line. request-IsRequest members said.0 r.method r.target r.behind m.member r.token r.target_is line;
     }))
 
+ctl_line-Ok : (members : List Name) (rest : Option (List ℕ)) (line : Line) → ctl_line members rest ≡ Ok line → SaysLine members words.Ctl rest line
+ctl_line-Ok members None line e = absurd (err_is _ line e)
+ctl_line-Ok members (Some said) line e =
+    on_ok-made (SaysLine members words.Ctl (Some said)) (line_end members None) (λ _. lines.Command (commands.Ctl said)) line e (λ none is.
+    record { words = said; is = refl; text = OwnText refl; fits = λ whole. record { text = text-behind (word_of words.Ctl) said (IsUtf8-from_is_utf8 (ctl_text said) whole.form.text); line = whole } })
+
 pub line_of_words-Ok : (members : List Name) (keyword : Keyword) (rest : Option (List ℕ)) (line : Line) → line_of_words members keyword rest ≡ Ok line → SaysLine members keyword rest line
 line_of_words-Ok members words.Rest rest line e = rest_line-Ok members rest line e
+line_of_words-Ok members words.Ctl rest line e = ctl_line-Ok members rest line e
 line_of_words-Ok members keyword rest line e = own members keyword rest line (plain_line-Ok members keyword rest line e)

@@ -186,7 +186,12 @@ rest_line members rest = on_ok (asked_member members rest) (λ said. Ok (lines.C
 abbrev pub command : Command → Result Line Fault
 command c = Ok (lines.Command c)
 
--- the line of the body with this first word, other than a request's, and these words behind it
+-- the line of patronictl: its words are all that stands behind the blank
+abbrev pub ctl_line : List Name → Option (List ℕ) → Result Line Fault
+ctl_line members None = Err (missing_word members)
+ctl_line members (Some said) = on_ok (line_end members None) (λ _. command (commands.Ctl said))
+
+-- the line of the body with this first word, other than a request's and patronictl's, and these words behind it
 abbrev pub plain_line : List Name → Keyword → Option (List ℕ) → Result Line Fault
 plain_line members words.Tick rest = on_ok (one_word members number_in rest) (λ n. Ok (lines.Tick n))
 plain_line members words.Deliver rest = on_ok (one_word members number_in rest) (λ n. command (commands.Deliver n))
@@ -212,4 +217,5 @@ plain_line members _ rest = Err faults.NotBuilt
 -- the line of the body with this first word, and these words behind it
 abbrev pub line_of_words : List Name → Keyword → Option (List ℕ) → Result Line Fault
 line_of_words members words.Rest rest = rest_line members rest
+line_of_words members words.Ctl rest = ctl_line members rest
 line_of_words members keyword rest = plain_line members keyword rest

@@ -6,6 +6,7 @@ ghost use Rattle.script_words.specs.Faults.{both};
 ghost use Rattle.cluster_script.specs.Arguments.{number_in, switch_in, slowed_call_in, commit_size_in, delay_in, member_in, end_in, missing_word, missing_behind, line_end, last_word, one_word, word_behind, words_behind, same_end, two_ends, commit_in, stream_in, slow_in, plain_line, line_of_words};
 ghost use Rattle.pat_base.specs.declared.member_id.TheConstants.{MOST_MEMBERS};
 
+use crate::ctl_line::ctl_line;
 use crate::members::{Members, member_named};
 use crate::rest_line::rest_line;
 use pat_base::{MemberId, Name};
@@ -116,7 +117,7 @@ pub fn missing_behind<A: Drop>(members: &Members, before: Result<A, Fault>) -> F
 }
 
 /// A line of the body ends where its words end.
-fn line_end(members: &Members, rest: Option<&[u8]>) -> Result<(), Fault>
+pub fn line_end(members: &Members, rest: Option<&[u8]>) -> Result<(), Fault>
     ensures { result ≡ line_end (keys members.now) (option_copied rest.entry) }
 {
     if members.is_empty() {
@@ -312,7 +313,7 @@ fn slow_in(members: &Members, rest: Option<&[u8]>) -> Result<Command, Fault>
     Ok(Command::Slow(member, slowed, delay))
 }
 
-/// The line of the body with this first word, other than a request's, and these words behind it.
+/// The line of the body with this first word, other than a request's and patronictl's, and these words behind it.
 fn plain_line(members: &Members, keyword: Keyword, rest: Option<&[u8]>) -> Result<Line, Fault>
     requires { length (keys members.now) ≤ MOST_MEMBERS }
     ensures { result ≡ plain_line (keys members.now) keyword (option_copied rest.entry) }
@@ -360,6 +361,7 @@ pub fn line_of_words(
 {
     match keyword {
         Keyword::Rest => rest_line(alloc, members, rest),
+        Keyword::Ctl => ctl_line(alloc, members, rest),
         _ => Ok(plain_line(members, keyword, rest)),
     }
 }

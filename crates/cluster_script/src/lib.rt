@@ -4,6 +4,7 @@
 mod addition;
 mod arguments;
 mod config_line;
+mod ctl_line;
 mod draft;
 mod first_words;
 mod head_lines;

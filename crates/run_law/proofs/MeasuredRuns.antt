@@ -1,6 +1,8 @@
 -- Each run tells before each feed from when it is measured, and is fenced.
 use Rattle.std.proofs.Common.{ℕ, ◌≡◌, List, [], ◌∷◌, slice_get, Option, Some, None, Result, Ok, Err, zero, suc, refl}
 use Rattle.rest_answer.specs.Answers.{Answered, Acts, Replies}
+use Rattle.patronictl.specs.Answers.{CtlTold, Prints, Asks}
+use Rattle.pat_base.specs.declared.member_id.MemberId.{MemberId}
 use Rattle.event_book.specs.declared.event.EventKind.TheVariants as kinds
 use Rattle.agent_model.specs.Agents.{Outcome}
 use Rattle.std.specs.Map.{keys_of}
@@ -24,7 +26,7 @@ use Rattle.cluster_model.specs.Deliveries.{delivery_of}
 use Rattle.cluster_model.specs.Inputs.{is_to_wake, may_act, moment_of, standing_of}
 use Rattle.cluster_model.specs.Limits.{most_rounds}
 use Rattle.cluster_model.specs.Messages.{answered_events, arrival_events_at, deliver_events, deliver_events_by, message_events, message_events_by, request_events, request_events_if, request_events_of, visit_events, turn_events, turn_events_if, wake_events, wake_events_if, wake_events_of}
-use Rattle.cluster_model.specs.Next.{acknowledge_events, command_events, declared, next_events, promote_events, receive_events_at_most, receive_events_of, agent_start_events, round_events, rounds_events, run_events, scheduled_events, step_events}
+use Rattle.cluster_model.specs.Next.{acknowledge_events, asking_events, command_events, ctl_events, ctl_line_events, ctl_told_at, declared, next_events, promote_events, receive_events_at_most, receive_events_of, agent_start_events, round_events, rounds_events, run_events, scheduled_events, step_events}
 use Rattle.cluster_model.specs.Parts.{each, event_of, for_some, is_empty}
 use Rattle.cluster_model.specs.Requests.{action_of, answer_at, asked_in_words, silence}
 use Rattle.cluster_model.specs.Starting.{cluster_of}
@@ -115,13 +117,23 @@ tells-scheduled =
     tells-then (λ cluster. each receive_events_of cluster cluster.facts.members) (λ later. rounds_events later most_rounds)
     (λ moments cluster knows. tells-each receive_events_of tells-receive cluster.facts.members moments cluster knows) (tells-rounds most_rounds)
 
+-- a line makes a request of the agent of a declared member
+tells-asking : (id : MemberId) (asked : RequestText) → Tells (λ cluster. asking_events cluster id asked)
+tells-asking id asked moments cluster knows = told-for_some moments cluster (declared cluster id) (request_events cluster askers.Line asked) (λ m is. tells-request askers.Line asked m moments cluster knows)
+
+-- what patronictl prints, and its request
+tells-ctl : (told : CtlTold) → Tells (λ cluster. ctl_events cluster told)
+tells-ctl (Prints lines) = tells-each ctl_line_events (λ line moments cluster knows. told-plain moments cluster _ (tt, tt)) lines
+tells-ctl (Asks id asked) = tells-asking id asked
+
 tells-command : (command : Command) → Tells (λ cluster. command_events cluster command)
 tells-command (commands.Turn id) moments cluster knows = told-for_some moments cluster (declared cluster id) (turn_events cluster) (λ m is. tells-turn m moments cluster knows)
 tells-command (commands.Deliver number) moments cluster knows = told-deliver moments cluster number (in_flight cluster.facts.flight number) knows refl
 tells-command (commands.Lose number) moments cluster knows = told-lose moments cluster number (in_flight cluster.facts.flight number)
 tells-command (commands.StartAgent id) moments cluster knows = told-for_some moments cluster (declared cluster id) (agent_start_events cluster) (λ m is. tells-restart m moments cluster knows)
 tells-command (commands.Promote id) moments cluster knows = told-for_some moments cluster (declared cluster id) (promote_events cluster) (λ m is. tells-promote m moments cluster knows)
-tells-command (commands.Rest id request) moments cluster knows = told-for_some moments cluster (declared cluster id) (request_events cluster askers.Line (asked_in_words request)) (λ m is. tells-request askers.Line (asked_in_words request) m moments cluster knows)
+tells-command (commands.Rest id request) moments cluster knows = tells-asking id (asked_in_words request) moments cluster knows
+tells-command (commands.Ctl said) moments cluster knows = tells-ctl (ctl_told_at cluster said) moments cluster knows
 tells-command (commands.Stream id most) moments cluster knows = told-for_some moments cluster (declared cluster id) (receive_events_at_most cluster most) (λ m is. tells-receive-at-most most m moments cluster knows)
 tells-command command moments cluster knows = tells-kind command moments cluster knows
 

@@ -13,6 +13,8 @@ use Rattle.script_model.specs.declared.line.Command.{Command}
 use Rattle.script_model.specs.declared.line.Command.TheVariants as commands
 use Rattle.rest_message.specs.Requests.{RequestText, request_text}
 use Rattle.rest_answer.specs.Answers.{Answered, Acts, Replies}
+use Rattle.patronictl.specs.Answers.{CtlTold, Prints, Asks}
+use Rattle.pat_base.specs.declared.member_id.MemberId.{MemberId}
 use Rattle.rest_answer.specs.Refusals.{refusal_reply}
 use Rattle.rest_message.specs.Replies.{ReplyText}
 use Rattle.agent_model.specs.Agents.{Outcome}
@@ -29,7 +31,7 @@ use Rattle.script_model.specs.Script.{HeadText, names_of}
 use Rattle.cluster_model.specs.Inputs.{has_work, is_to_wake, may_act, moment_of, standing_of}
 use Rattle.cluster_model.specs.Limits.{most_rounds}
 use Rattle.cluster_model.specs.Messages.{answered_events, arrival_events_at, deliver_events, deliver_events_by, lose_events, message_events, message_events_by, request_events, request_events_if, request_events_of, visit_events, turn_events, turn_events_if, wake_events, wake_events_if, wake_events_of}
-use Rattle.cluster_model.specs.Next.{acknowledge_events, all_entries, command_events, declared, next_events, promote_events, receive_events_at_most, receive_events_of, round_events, rounds_events, run_events, scheduled_events, step_events}
+use Rattle.cluster_model.specs.Next.{acknowledge_events, all_entries, asking_events, command_events, ctl_events, ctl_line_events, ctl_told_at, declared, next_events, promote_events, receive_events_at_most, receive_events_of, round_events, rounds_events, run_events, scheduled_events, step_events}
 use Rattle.cluster_model.specs.Parts.{each, event_of, for_some, is_empty}
 use Rattle.cluster_model.specs.Requests.{action_of, answer_at, asked_in_words, silence}
 use Rattle.cluster_model.specs.State.{Cluster}
@@ -139,6 +141,16 @@ module _ (head : HeadText) (few : length (names_of head) ≤ MOST_MEMBERS) (prom
       upholds-then promise composable (λ cluster. each receive_events_of cluster cluster.facts.members) (λ later. rounds_events later most_rounds)
       (upheld-members receive_events_of (λ m is. upholds-receive m)) (upholds-rounds most_rounds)
 
+  -- a line makes a request of the agent of a declared member
+  upheld-asking : (id : MemberId) (asked : RequestText) → UpholdsAlways promise (λ cluster. asking_events cluster id asked)
+  upheld-asking id asked book cluster good =
+      upheld-for_some promise composable book cluster (declared cluster id) (request_events cluster askers.Line asked) good (λ m is. upheld-request askers.Line asked m (declared-now head few cluster (parts.members book cluster good) id m is) book cluster good)
+
+  -- what patronictl prints, and its request
+  upheld-ctl : (told : CtlTold) → UpholdsAlways promise (λ cluster. ctl_events cluster told)
+  upheld-ctl (Prints lines) = upholds-all promise composable ctl_line_events (λ line. parts.notes (notes.CtlLine line)) lines
+  upheld-ctl (Asks id asked) = upheld-asking id asked
+
   upheld-command : (command : Command) → UpholdsAlways promise (λ cluster. command_events cluster command)
   upheld-command (commands.Turn id) book cluster good =
       upheld-for_some promise composable book cluster (declared cluster id) (turn_events cluster) good (λ m is. upheld-turn m (declared-now head few cluster (parts.members book cluster good) id m is) book cluster good)
@@ -147,8 +159,8 @@ module _ (head : HeadText) (few : length (names_of head) ≤ MOST_MEMBERS) (prom
   upheld-command (commands.StartAgent id) book cluster good = parts.restarts id book cluster good
   upheld-command (commands.Promote id) book cluster good =
       upheld-for_some promise composable book cluster (declared cluster id) (promote_events cluster) good (λ m is. parts.promotions m (declared-now head few cluster (parts.members book cluster good) id m is) book cluster good)
-  upheld-command (commands.Rest id request) book cluster good =
-      upheld-for_some promise composable book cluster (declared cluster id) (request_events cluster askers.Line (asked_in_words request)) good (λ m is. upheld-request askers.Line (asked_in_words request) m (declared-now head few cluster (parts.members book cluster good) id m is) book cluster good)
+  upheld-command (commands.Rest id request) book cluster good = upheld-asking id (asked_in_words request) book cluster good
+  upheld-command (commands.Ctl said) book cluster good = upheld-ctl (ctl_told_at cluster said) book cluster good
   upheld-command (commands.Stream id most) book cluster good =
       upheld-for_some promise composable book cluster (declared cluster id) (receive_events_at_most cluster most) good (λ m is. parts.receipts most m book cluster good)
   upheld-command command book cluster good = parts.commands command book cluster good

@@ -126,6 +126,7 @@ command-IsLineText members (commands.Slow m slowed delay) is = spelled-IsLineTex
 command-IsLineText members (commands.Cut x y) is = spelled-IsLineText words.Cut (two_texts (end_word members x) (end_word members y)) (link-IsPlain members x y)
 command-IsLineText members (commands.Join x y) is = spelled-IsLineText words.Join (two_texts (end_word members x) (end_word members y)) (link-IsPlain members x y)
 command-IsLineText members (commands.Rest m request) is = request-IsLineText members m request is
+command-IsLineText members (commands.Ctl said) is = record { text = is.line.form.text; alone = is.line.one_line; short = is.line.form.short; counts = spelled-counts words.Ctl said }
 command-IsLineText members (commands.Trace on) is = spelled-IsLineText words.Trace (switch_text on) (switch-IsPlain on)
 
 line-IsLineText : (members : List Name) (line : Line) → IsLine members line → IsLineText (line_text members line)

@@ -253,6 +253,7 @@ command-IsSaid members (commands.Slow m slowed delay) some h is = record { keywo
 command-IsSaid members (commands.Cut x y) some h is = record { keyword = words.Cut; words = two_texts (end_word members x) (end_word members y); text = refl; in_body = λ base body. added _ _ (ap (λ r. on_ok r (λ link. command (commands.Cut link.0 link.1))) (two_ends-again members x y some h is)) }
 command-IsSaid members (commands.Join x y) some h is = record { keyword = words.Join; words = two_texts (end_word members x) (end_word members y); text = refl; in_body = λ base body. added _ _ (ap (λ r. on_ok r (λ link. command (commands.Join link.0 link.1))) (two_ends-again members x y some h is)) }
 command-IsSaid members (commands.Rest m request) some h is = record { keyword = words.Rest; words = two_texts (member_text members m) (request_text request); text = refl; in_body = λ base rest. added _ _ (own-again members (member_text members m) m (first_at-member members m) (member_in-again members m h is.declared) request.method request.target is.method is.target request.body) }
+command-IsSaid members (commands.Ctl said) some h is = record { keyword = words.Ctl; words = said; text = refl; in_body = λ base body. added _ _ (ap (λ r. on_ok r (λ _. command (commands.Ctl said))) (line_end-again members some)) }
 command-IsSaid members (commands.Trace on) some h is = record { keyword = words.Trace; words = switch_text on; text = refl; in_body = λ base body. added _ _ (ap (λ r. on_ok r (λ on. command (commands.Trace on))) (switch-again members on some)) }
 
 line-IsSaid : (members : List Name) (line : Line) → 0 < length members → AreDifferent members → IsLine members line → IsSaid members line

@@ -120,6 +120,10 @@ request_text request = two_texts request.method (request.target ++ body_text req
 abbrev pub rest_text : List Name → MemberId → RequestWords → List ℕ
 rest_text members member request = spelled words.Rest (two_texts (member_text members member) (request_text request))
 
+-- the line of patronictl, whose words are the rest of the line
+abbrev pub ctl_text : List ℕ → List ℕ
+ctl_text said = spelled words.Ctl said
+
 -- the line of a command
 abbrev pub command_text : List Name → Command → List ℕ
 command_text members (commands.Turn member) = spelled words.Turn (member_text members member)
@@ -139,6 +143,7 @@ command_text members (commands.Slow member slowed delay) = spelled words.Slow (t
 command_text members (commands.Cut first second) = spelled words.Cut (two_texts (end_word members first) (end_word members second))
 command_text members (commands.Join first second) = spelled words.Join (two_texts (end_word members first) (end_word members second))
 command_text members (commands.Rest member request) = rest_text members member request
+command_text members (commands.Ctl said) = ctl_text said
 command_text members (commands.Trace on) = spelled words.Trace (switch_text on)
 
 -- a line of the body
@@ -249,6 +254,11 @@ pub record IsRequest (members : List Name) (member : MemberId) (request : Reques
   pub target_text : IsUtf8 request.target
   pub line : IsWholeLine (rest_text members member request)
 
+-- the words of patronictl's line: they are text, and all of it is one line, which is in form
+pub record IsCtlLine (said : List ℕ) : Type 0 where
+  pub text : IsUtf8 said
+  pub line : IsWholeLine (ctl_text said)
+
 -- a command that a line may be
 abbrev pub IsCommand : List Name → Command → Type 0
 IsCommand members (commands.Turn member) = IsMember members member
@@ -268,6 +278,7 @@ IsCommand members (commands.Slow member slowed delay) = IsMember members member
 IsCommand members (commands.Cut first second) = IsLink members first second
 IsCommand members (commands.Join first second) = IsLink members first second
 IsCommand members (commands.Rest member request) = IsRequest members member request
+IsCommand members (commands.Ctl said) = IsCtlLine said
 IsCommand members (commands.Trace on) = Unit {0}
 
 -- a line that a body may have

@@ -4,6 +4,7 @@
 mod head;
 mod keyword;
 mod line;
+mod line_bytes;
 mod ranges;
 mod request_words;
 mod script;
@@ -11,6 +12,7 @@ mod script;
 pub use head::{DEFAULT_BASE, Head};
 pub use keyword::Keyword;
 pub use line::{Command, End, Line, SlowedCall};
+pub use line_bytes::LineBytes;
 pub use ranges::{CommitSize, Delay};
-pub use request_words::{RequestBytes, RequestWords};
+pub use request_words::RequestWords;
 pub use script::Script;

@@ -1,7 +1,7 @@
 //! What a script tells the run to do.
 ghost use Rattle.std.specs.Prelude.{◌≡◌, IfOk};
 
-use crate::{CommitSize, Delay, RequestWords};
+use crate::{CommitSize, Delay, LineBytes, RequestWords};
 use pat_base::MemberId;
 use std::alloc::AllocError;
 
@@ -60,6 +60,9 @@ pub enum Command {
     Join(End, End),
     /// `rest M METHOD TARGET`, `rest M METHOD TARGET BODY`: a request to the REST interface of this member's agent.
     Rest(MemberId, RequestWords),
+    /// `ctl WORDS`: a command of patronictl, as an operator types it (Patroni documentation, "patronictl"). The words are all that
+    /// stands behind the blank, and may be none.
+    Ctl(LineBytes),
     /// `trace on`, `trace off`: whether lines of messages are printed.
     Trace(bool),
 }
@@ -87,6 +90,7 @@ impl Command {
             Command::Cut(first, second) => Command::Cut(*first, *second),
             Command::Join(first, second) => Command::Join(*first, *second),
             Command::Rest(member, request) => Command::Rest(*member, request.try_clone()?),
+            Command::Ctl(said) => Command::Ctl(said.try_clone()?),
             Command::Trace(on) => Command::Trace(*on),
         };
         Ok(command)

@@ -5,9 +5,10 @@ use Rattle.event_book.specs.declared.event.EventKind.{EventKind}
 use Rattle.script_model.specs.declared.line.Command.{Command}
 use Rattle.cluster_model.specs.State.{Cluster}
 use Rattle.cluster_model.specs.Commands.{kinds_of}
-use Rattle.cluster_model.specs.Next.{command_events, command_kind}
+use Rattle.patronictl.specs.Answers.{CtlTold}
+use Rattle.cluster_model.specs.Next.{command_events, command_kind, ctl_events}
 use Rattle.cluster_model.specs.Parts.{events_of}
-use Rattle.world_model.specs.Room.{command_cost}
+use Rattle.world_model.specs.Room.{command_cost, request_cost}
 use Rattle.world_model.specs.Emits.{Emits}
 use Rattle.world_model.proofs.Taking.{Emits-weaker}
 
@@ -22,3 +23,8 @@ pub command_kind-took : (cluster after : Cluster) (had has : List Event) (comman
 command_kind-took cluster after had has command found is kind took =
     subst (λ (es : List Event). Emits cluster after had has es command_cost) (sym is)
     (subst (λ (o : Option EventKind). Emits cluster after had has (events_of cluster (kinds_of o)) command_cost) kind (Emits-weaker cluster after had has (events_of cluster (kinds_of found)) 1 command_cost took (omega arith)))
+
+-- what patronictl does, by what it answers
+pub told-took : (cluster after : Cluster) (had has : List Event) (told now : CtlTold) (cost : ℕ) → told ≡ now → Emits cluster after had has (ctl_events cluster told) cost → cost ≤ request_cost → Emits cluster after had has (ctl_events cluster now) request_cost
+told-took cluster after had has told now cost is took enough =
+    subst (λ (t : CtlTold). Emits cluster after had has (ctl_events cluster t) request_cost) is (Emits-weaker cluster after had has (ctl_events cluster told) cost request_cost took enough)

@@ -2,6 +2,7 @@
 #![tactic(auto)]
 
 mod carrying;
+mod ctl;
 mod idling;
 mod messages;
 mod receiving;

@@ -10,6 +10,7 @@ ghost use Rattle.world_model.specs.Comes.{MayCome};
 ghost use Rattle.world_model.specs.Emits.{Emits};
 ghost use Rattle.world_model.specs.Room.{HasRoom, HasRoomFor, command_cost, round_cost, rounds_cost, schedule_cost, step_cost};
 
+use crate::ctl::take_words;
 use crate::messages::{deliver, lose, pass_messages};
 use crate::receiving::{all_receive, receive};
 use crate::requests::{make_request, receive_visit};
@@ -111,6 +112,7 @@ fn take_command(
                 events,
             )
         }
+        Command::Ctl(said) => take_words(stage, said.as_text(), events),
         _ => {
             let kind = command_kind(stage, command);
             stage.happen_if(kind, events)

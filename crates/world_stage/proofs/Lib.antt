@@ -10,3 +10,4 @@ pub mod Worlds
 pub mod Promoting
 pub mod Still
 pub mod Landing
+pub mod Printed

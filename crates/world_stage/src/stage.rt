@@ -14,6 +14,7 @@ mod agents;
 mod happening;
 mod logs;
 mod messages;
+mod printing;
 mod restarts;
 
 use event_book::{AgentProcess, Event, EventKind, Link, Member};

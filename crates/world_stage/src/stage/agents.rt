@@ -5,9 +5,9 @@ ghost use Rattle.agent_model.specs.declared.heard.Heard.TheVariants as heards;
 ghost use Rattle.agent_model.specs.Agents.{IsWithin};
 ghost use Rattle.agent_model.specs.Outputs.{most_outputs};
 ghost use Rattle.cluster_model.specs.Cluster.{agent_facts_with};
-ghost use Rattle.cluster_model.specs.Hearing.{heard_from, member_at_end};
+ghost use Rattle.cluster_model.specs.Hearing.{heard_from, member_at_end, snapshot_at, snapshot_with};
 ghost use Rattle.cluster_model.specs.Inputs.{outcome_of, outcome_of_heard, outputs_of, standing_of};
-ghost use Rattle.cluster_model.specs.Machines.{hosts_of, machine_of};
+ghost use Rattle.cluster_model.specs.Machines.{machine_of};
 ghost use Rattle.cluster_model.specs.Parts.{event_of};
 ghost use Rattle.cluster_model.specs.Inputs.{agent_at};
 ghost use Rattle.world_model.specs.Idle.{HasWorkFrom, work_moment};
@@ -190,10 +190,17 @@ impl Stage {
         }
     }
 
+    /// The snapshot that a read at this moment gives. It fails only for want of memory.
+    pub fn snapshot_now(&self) -> Result<Snapshot, AllocError>
+        ensures { IfOk result (λ snapshot. snapshot ≡ snapshot_at self.now) }
+    {
+        self.snapshot(self.store.entries(self.clock)?)
+    }
+
     /// The snapshot of these entries. It fails only for want of memory.
     fn snapshot(&self, entries: Vec<(Key, KeyEntry)>) -> Result<Snapshot, AllocError>
         requires { IsRead entries.items }
-        ensures { IfOk result (λ snapshot. snapshot ≡ record { scope = self.now.scope; members = hosts_of self.now.options self.now.facts.members; entries = entries.items }) }
+        ensures { IfOk result (λ snapshot. snapshot ≡ snapshot_with self.now entries.items) }
     {
         Snapshot::read(self.alloc, self.scope, &self.hosts, entries)
     }

@@ -1,0 +1,81 @@
+//! Bytes of a line, as a command keeps them.
+use pat_base::Shared;
+use std::alloc::{AllocError, Global};
+use std::marker::Model;
+use std::str;
+
+/// Bytes of a line. Several may own them.
+#[derive(Debug, Drop)]
+pub struct LineBytes {
+    bytes: Shared<Vec<u8>>,
+}
+
+impl Model for LineBytes {
+    ghost use Rattle.std.specs.Prelude.{ℕ, List};
+
+    ghost Value = { List ℕ };
+
+    ghost view = { λ owned. owned.bytes.items };
+}
+
+impl LineBytes {
+    ghost use Rattle.std.specs.Prelude.{◌≡◌, IfOk};
+    ghost use Rattle.std.specs.Str.{IsUtf8};
+
+    /// These bytes. It fails only for want of memory.
+    pub fn new(alloc: Global, bytes: &[u8]) -> Result<LineBytes, AllocError>
+        ensures { IfOk result (λ owned. owned ≡ bytes.now) }
+    {
+        let owned = Vec::from_slice(alloc, bytes)?;
+        Ok(LineBytes {
+            bytes: Shared::new(alloc, owned)?,
+        })
+    }
+
+    /// The bytes.
+    pub fn as_slice(&self) -> &[u8]
+        ensures { result.now ≡ self.now }
+    {
+        self.bytes.get().as_slice()
+    }
+
+    /// The bytes as text.
+    pub fn as_text(&self) -> &str
+        requires { IsUtf8 self.now }
+        ensures { result.now ≡ self.now }
+    {
+        match str::from_utf8(self.as_slice()) {
+            Ok(text) => text,
+            Err(_) => unreachable!(),
+        }
+    }
+
+    /// One more owner, at no cost of their number. It fails only where the owners can't be counted any more.
+    pub fn try_clone(&self) -> Result<LineBytes, AllocError>
+        ensures { IfOk result (λ owned. owned ≡ self.now) }
+    {
+        Ok(LineBytes {
+            bytes: self.bytes.try_clone()?,
+        })
+    }
+}
+
+impl PartialEq for LineBytes {
+    ghost use Rattle.std.specs.Str.{bytes_eq};
+    ghost use Rattle.std.proofs.lemmas.Cmp.{nat_list_eq_equiv};
+    ghost use Rattle.std.specs.Cmp as compares;
+
+    ghost eq = { bytes_eq };
+
+    ghost laws = { compares.partial_equiv_from_equiv nat_list_eq_equiv };
+
+    fn eq(&self, other: &LineBytes) -> bool {
+        self.as_slice() == other.as_slice()
+    }
+}
+
+impl Eq for LineBytes {
+    ghost use Rattle.std.proofs.lemmas.Cmp.{nat_list_eq_equiv};
+
+    ghost laws = { nat_list_eq_equiv };
+}
