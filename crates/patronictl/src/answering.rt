@@ -1,6 +1,6 @@
 //! What words come to.
 ghost use Rattle.std.specs.Prelude.{◌≡◌, [], ◌∷◌, IfOk, codes};
-ghost use Rattle.ctl_command.specs.Seen.{seen_fault, seen_result};
+ghost use Rattle.ctl_command.specs.Seen.{seen_fault};
 ghost use Rattle.patronictl.specs.Acting.{acted_by};
 ghost use Rattle.patronictl.specs.Answers.{Prints, answer_told, ctl_answer, fault_line, told_of};
 

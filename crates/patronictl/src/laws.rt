@@ -1,5 +1,5 @@
 //! Laws of what commands print. Each is a function without a body whose contract is what is proved.
-ghost use Rattle.std.specs.Prelude.{ℕ, ◌≡◌, ◌+◌, ◌*◌, ◌%◌, ◌≤◌, All, IsSortedBy, List, Some, count_by, length, slice_get};
+ghost use Rattle.std.specs.Prelude.{ℕ, ◌≡◌, ◌+◌, ◌*◌, ◌%◌, ◌≤◌, All, IsSortedBy, Some, count_by, length, slice_get};
 ghost use Rattle.pat_base.specs.declared.host.Host.{Host};
 ghost use Rattle.pat_base.specs.declared.member_id.MemberId.{MemberId};
 ghost use Rattle.pat_base.specs.declared.name.Name.{Name};

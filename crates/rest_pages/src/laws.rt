@@ -1,7 +1,5 @@
 //! Laws of the pages. Each is a function without a body whose contract is what is proved.
-ghost use Rattle.std.specs.Prelude.{ℕ, ◌≡◌, ◌≤◌, ◌+◌, true, false, All, List, Option, Some, None, codes, count_by, map, IsSortedBy, if◌then◌else◌};
-ghost use Rattle.std.specs.List.Sorted.{IsStrictlySortedBy};
-ghost use Rattle.std.specs.Ordering.{nat_cmp};
+ghost use Rattle.std.specs.Prelude.{ℕ, ◌≡◌, ◌≤◌, ◌+◌, true, false, Option, Some, None, codes, if◌then◌else◌};
 ghost use Rattle.serde_json.specs.Data.{boolean, string, no_members};
 ghost use Rattle.serde_json.specs.Find.{get_member};
 ghost use Rattle.json_build.specs.Members.{natural};
@@ -13,9 +11,7 @@ ghost use Rattle.pat_base.specs.declared.member_id.MemberId.{MemberId};
 ghost use Rattle.pat_base.specs.declared.name.Name.{Name};
 ghost use Rattle.lease_store.specs.Settings.{Settings};
 ghost use Rattle.lease_store.specs.declared.key.Key.TheVariants as keys;
-ghost use Rattle.lease_store.specs.declared.value.HistoryRow.{HistoryRow};
 ghost use Rattle.lease_store.specs.declared.value.KeyEntry.{KeyEntry};
-ghost use Rattle.lease_store.specs.declared.value.MemberInfo.{MemberInfo};
 ghost use Rattle.lease_store.specs.declared.value.Value.TheVariants as values;
 ghost use Rattle.cluster_config.specs.Snapshots.{IsRead, SnapshotFacts, entry_in, failsafe_in};
 ghost use Rattle.cluster_config.specs.declared.view.AgentView.{AgentView};

@@ -1,13 +1,13 @@
 -- How wide lines are.
-use Rattle.std.proofs.Common.{◌≡◌, ◌∙◌, ℕ, ◌+◌, ◌-◌, ◌≤◌, ◌<◌, max, zero, suc, List, [], ◌∷◌, ◌++◌, length, map, fold, drop, replicate, codes, slice_get, unwrap_or, Option, Some, None, All, refl, sym, ap, subst, arith, length-append, length-drop}
+use Rattle.std.proofs.Common.{◌≡◌, ◌∙◌, ℕ, ◌+◌, ◌-◌, ◌≤◌, ◌<◌, suc, List, [], ◌∷◌, ◌++◌, length, map, fold, drop, replicate, codes, Option, Some, None, All, refl, sym, ap, arith, length-append, length-drop}
 use Rattle.std.specs.List.{flat_map}
-use Rattle.std.proofs.lemmas.List.{length-map, length-replicate}
+use Rattle.std.proofs.lemmas.List.{length-replicate}
 use Rattle.std.proofs.lemmas.List.Elements.{All-append, All-cons, All-map, All-nil}
 use Rattle.text_table.specs.declared.alignment.Alignment.{Alignment}
 use Rattle.text_table.specs.declared.alignment.Alignment.TheVariants as sides
 use Rattle.text_table.specs.declared.slot.Slot.{Slot}
 use Rattle.text_table.specs.Laws.{HasRoom, heading_room, rule_of}
-use Rattle.text_table.specs.Tables.{ColumnText, TableText, aligned, cell_at, cell_text, cells_from, column_width, dashes, headings, lines_in, on_side, over, row_line, rule_line, slot_of, slots_from, slots_of, spaces, table_lines, top_line, wider}
+use Rattle.text_table.specs.Tables.{ColumnText, TableText, aligned, cell_at, cell_text, cells_from, column_width, dashes, headings, on_side, over, row_line, rule_line, slot_of, slots_from, slots_of, spaces, table_lines, top_line, wider}
 
 length-side : (side : Alignment) (text space : List ℕ) → length (on_side side text space) ≡ length text + length space
 length-side sides.Left text space = length-append text space

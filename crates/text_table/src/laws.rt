@@ -1,5 +1,5 @@
 //! Laws of the lines of tables. Each is a function without a body whose contract is what is proved.
-ghost use Rattle.std.specs.Prelude.{ℕ, ◌≡◌, ◌+◌, ◌<◌, All, List, Some, length, slice_get};
+ghost use Rattle.std.specs.Prelude.{ℕ, ◌≡◌, ◌+◌, All, List, Some, length, slice_get};
 ghost use Rattle.text_table.specs.Laws.{HasRoom, rule_of};
 ghost use Rattle.text_table.specs.Tables.{TableText, row_line, slots_of, table_lines};
 

@@ -1,6 +1,6 @@
 //! How wide columns are.
-ghost use Rattle.std.specs.Prelude.{◌≡◌, ◌<◌, ◌^◌, IfOk, fold, length};
-ghost use Rattle.text_table.specs.Tables.{cell_at, wider, column_width, slot_of, slots_of};
+ghost use Rattle.std.specs.Prelude.{◌≡◌, IfOk, fold};
+ghost use Rattle.text_table.specs.Tables.{wider, column_width, slot_of, slots_of};
 
 use crate::Cells;
 use crate::column::Column;

@@ -1,5 +1,5 @@
 //! The lines of a table.
-ghost use Rattle.std.specs.Prelude.{◌≡◌, ◌<◌, ◌++◌, IfOk, OnOk, map, option_map, string_bytes, codes, replicate};
+ghost use Rattle.std.specs.Prelude.{◌≡◌, ◌<◌, ◌++◌, IfOk, OnOk, map, option_map, string_bytes, replicate};
 ghost use Rattle.std.specs.Str.{IsAscii};
 ghost use Rattle.text_table.specs.Tables.{aligned, cell_text, row_line, dashes, rule_line, top_line, headings};
 
