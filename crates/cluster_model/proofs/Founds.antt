@@ -1,5 +1,5 @@
 -- Events that are found, if any are, of which something holds.
-use Rattle.std.proofs.Common.{ℕ, Bool, true, false, if◌then◌else◌, List, Option, Some, None, option_and_then, option_map}
+use Rattle.std.proofs.Common.{Bool, true, false, if◌then◌else◌, List, Option, Some, None, option_and_then, option_map}
 use Rattle.pg_model.specs.Facts.{ServerFacts}
 use Rattle.pg_model.specs.declared.answers.Rewound.{Rewound}
 use Rattle.pg_model.specs.Rewinding.{may_clone_at, rewind_at}

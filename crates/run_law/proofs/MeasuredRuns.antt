@@ -1,5 +1,5 @@
 -- Each run tells before each feed from when it is measured, and is fenced.
-use Rattle.std.proofs.Common.{ℕ, ◌≡◌, List, [], ◌∷◌, slice_get, Option, Some, None, Result, Ok, Err, zero, suc, refl}
+use Rattle.std.proofs.Common.{ℕ, ◌≡◌, List, [], ◌∷◌, slice_get, Option, Some, None, zero, suc, refl}
 use Rattle.rest_answer.specs.Answers.{Answered, Acts, Replies}
 use Rattle.patronictl.specs.Answers.{CtlTold, Prints, Asks}
 use Rattle.pat_base.specs.declared.member_id.MemberId.{MemberId}

@@ -19,7 +19,7 @@ use Rattle.world_model.specs.Emits.{Emits}
 use Rattle.world_model.specs.Room.{HasRoom, decision_cost, hearing_cost, message_cost, outputs_cost}
 use Rattle.world_model.specs.Short.{IsShort}
 use Rattle.world_model.proofs.Rooms.{HasRoom-fewer}
-use Rattle.world_model.proofs.Taking.{Emits-nothing, Emits-then, found-took}
+use Rattle.world_model.proofs.Taking.{Emits-then, found-took}
 use Rattle.world_stage.specs.Arrivals.{ArrivesAt, Comes, Landed}
 use Rattle.world_stage.specs.declared.arrival.Arrival.{Arrival}
 use Rattle.world_stage.specs.declared.arrival.Arrival.TheVariants as arrivals

@@ -17,11 +17,7 @@ use world_parts::order_kinds::member_at;
 use world_stage::Stage;
 
 /// An operator types these words behind patronictl: what it prints is written down, and its request is made.
-pub fn take_words(
-    stage: &mut Stage,
-    said: &str,
-    events: &mut Vec<Event>,
-) -> Result<(), AllocError>
+pub fn take_words(stage: &mut Stage, said: &str, events: &mut Vec<Event>) -> Result<(), AllocError>
     requires { HasRoom stage.old request_cost }
     ensures { OnOk result (Emits stage.old stage.new events.old.items events.new.items (ctl_events stage.old (ctl_told_at stage.old said.now)) request_cost) }
 {
