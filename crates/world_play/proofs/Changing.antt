@@ -1,12 +1,14 @@
 -- What commands change of agents.
-use Rattle.std.proofs.Common.{◌≡◌, ℕ, ◌≤◌, List, Option, arith, sym, subst}
+use Rattle.std.proofs.Common.{◌≡◌, ℕ, ◌≤◌, List, Option, arith, ◌∙◌, ap, sym, subst}
 use Rattle.event_book.specs.declared.event.Event.{Event}
 use Rattle.event_book.specs.declared.event.EventKind.{EventKind}
 use Rattle.script_model.specs.declared.line.Command.{Command}
 use Rattle.cluster_model.specs.State.{Cluster}
 use Rattle.cluster_model.specs.Commands.{kinds_of}
-use Rattle.patronictl.specs.Answers.{CtlTold}
-use Rattle.cluster_model.specs.Next.{command_events, command_kind, ctl_events}
+use Rattle.cluster_config.specs.Snapshots.{SnapshotFacts}
+use Rattle.patronictl.specs.Answers.{CtlTold, ctl_answer}
+use Rattle.cluster_model.specs.Hearing.{snapshot_at}
+use Rattle.cluster_model.specs.Next.{command_events, command_kind, ctl_events, ctl_told_at}
 use Rattle.cluster_model.specs.Parts.{events_of}
 use Rattle.world_model.specs.Room.{command_cost, request_cost}
 use Rattle.world_model.specs.Emits.{Emits}
@@ -23,6 +25,11 @@ pub command_kind-took : (cluster after : Cluster) (had has : List Event) (comman
 command_kind-took cluster after had has command found is kind took =
     subst (λ (es : List Event). Emits cluster after had has es command_cost) (sym is)
     (subst (λ (o : Option EventKind). Emits cluster after had has (events_of cluster (kinds_of o)) command_cost) kind (Emits-weaker cluster after had has (events_of cluster (kinds_of found)) 1 command_cost took (omega arith)))
+
+-- what patronictl answers at this moment, by the snapshot that a read gives
+pub told-now : (cluster : Cluster) (seen : SnapshotFacts) (said : List ℕ) (told : CtlTold) → seen ≡ snapshot_at cluster → told ≡ ctl_answer seen said → told ≡ ctl_told_at cluster said
+unfolding ctl_told_at
+told-now cluster seen said told is so = so ∙ ap (λ (s : SnapshotFacts). ctl_answer s said) is
 
 -- what patronictl does, by what it answers
 pub told-took : (cluster after : Cluster) (had has : List Event) (told now : CtlTold) (cost : ℕ) → told ≡ now → Emits cluster after had has (ctl_events cluster told) cost → cost ≤ request_cost → Emits cluster after had has (ctl_events cluster now) request_cost
