@@ -3,6 +3,7 @@ use Rattle.std.proofs.Common.{◌≡◌, ℕ, ◌≤◌, List, Option, arith, �
 use Rattle.event_book.specs.declared.event.Event.{Event}
 use Rattle.event_book.specs.declared.event.EventKind.{EventKind}
 use Rattle.script_model.specs.declared.line.Command.{Command}
+use Rattle.script_model.specs.declared.line.Command.TheVariants as commands
 use Rattle.cluster_model.specs.State.{Cluster}
 use Rattle.cluster_model.specs.Commands.{kinds_of}
 use Rattle.cluster_config.specs.Snapshots.{SnapshotFacts}
@@ -35,3 +36,7 @@ told-now cluster seen said told is so = so ∙ ap (λ (s : SnapshotFacts). ctl_a
 pub told-took : (cluster after : Cluster) (had has : List Event) (told now : CtlTold) (cost : ℕ) → told ≡ now → Emits cluster after had has (ctl_events cluster told) cost → cost ≤ request_cost → Emits cluster after had has (ctl_events cluster now) request_cost
 told-took cluster after had has told now cost is took enough =
     subst (λ (t : CtlTold). Emits cluster after had has (ctl_events cluster t) request_cost) is (Emits-weaker cluster after had has (ctl_events cluster told) cost request_cost took enough)
+
+-- the words of a line, by their text
+pub ctl-took : (cluster after : Cluster) (had has : List Event) (said text : List ℕ) (cost : ℕ) → text ≡ said → Emits cluster after had has (ctl_events cluster (ctl_told_at cluster text)) cost → Emits cluster after had has (command_events cluster (commands.Ctl said)) cost
+ctl-took cluster after had has said text cost is took = subst (λ (words : List ℕ). Emits cluster after had has (ctl_events cluster (ctl_told_at cluster words)) cost) is took

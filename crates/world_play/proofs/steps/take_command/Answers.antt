@@ -5,8 +5,8 @@ use Rattle.cluster_model.specs.Commands.{kinds_of}
 use Rattle.cluster_model.specs.Messages.{turn_events}
 use Rattle.cluster_model.specs.Next.{command_events, command_kind, promote_events, receive_events_at_most, agent_start_events}
 use Rattle.cluster_model.specs.Parts.{events_of}
-use Rattle.world_model.specs.Room.{input_cost, promotion_cost, agent_start_cost, streaming_cost}
-use Rattle.world_play.proofs.Changing.{commanded, command_kind-took}
+use Rattle.world_model.specs.Room.{agent_start_cost, input_cost, promotion_cost, request_cost, streaming_cost}
+use Rattle.world_play.proofs.Changing.{commanded, command_kind-took, ctl-took}
 use Rattle.world_model.proofs.Taking.{found-took}
 use Rattle.world_play.proofs.steps.take_command.Goals as goal
 
@@ -42,3 +42,7 @@ pub returns-in_default : goal.returns-in_default
 returns-in_default c =
     let same : command_events c.args.stage.now c.args.command.now ≡ events_of c.args.stage.now (kinds_of (command_kind c.args.stage.now c.args.command.now)) = search rules in
     on_ok_weaker c.happen_if.result (λ took. command_kind-took c.args.stage.now c.happen_if.new.self c.args.events.now.items c.happen_if.new.events.items c.args.command.now c.command_kind-kind.result same c.command_kind-kind.ensures.kind took) c.happen_if.ensures
+
+pub returns-in-Ctl : goal.returns-in-Ctl
+returns-in-Ctl c =
+    on_ok_weaker c.take_words.result (λ took. commanded _ _ _ _ _ (commands.Ctl c.in-Ctl.said) request_cost c.in-Ctl.is (ctl-took _ _ _ _ c.in-Ctl.said _ request_cost c.as_text.ensures took) (omega arith)) c.take_words.ensures
