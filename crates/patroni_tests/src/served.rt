@@ -19,6 +19,13 @@ struct Served {
     answers: Vec<String>,
 }
 
+impl Served {
+    /// What was answered on the connection of this place, counted from 0, where it came.
+    fn answer(&self, place: usize) -> Option<&str> {
+        self.answers.get(place).map(|answer| answer.as_str())
+    }
+}
+
 /// Serves these connections with these words, while the door's calls of these numbers fail.
 fn serve(
     alloc: Global,
@@ -56,13 +63,10 @@ fn two_connections(rt: HostRuntime) -> Result<(), Fail> {
     let asked: [&[u8]; 2] = [b"GET /pri", b"GET /liveness HTTP/1.1\r\n\r\n"];
     let served = serve(alloc, "serve a 127.0.0.1:0 2", ONE_MEMBER, &asked, &[])?;
     assert_eq!(rt; served.outcome.status, 0);
-    assert_eq!(rt;
-        served.answers[0],
-        reply(alloc, "400 Bad Request", "text/plain", "BadHead")?
-    );
-    assert!(rt;
-        served.answers[1].starts_with("HTTP/1.1 200 OK\r\nContent-Type: application/json\r\n")
-    );
+    let refused = reply(alloc, "400 Bad Request", "text/plain", "BadHead")?;
+    assert_eq!(rt; served.answer(0), Some(refused.as_str()));
+    let alive = "HTTP/1.1 200 OK\r\nContent-Type: application/json\r\n";
+    assert!(rt; served.answer(1).is_some_and(|answer| answer.starts_with(alive)));
     assert!(rt;
         served
             .outcome
@@ -96,7 +100,7 @@ fn door_faults(rt: HostRuntime) -> Result<(), Fail> {
         let served = serve(alloc, "serve a 127.0.0.1:0 1", ONE_MEMBER, &asked, &[call])?;
         assert_eq!(rt; served.outcome.status, 0);
         assert!(rt; served.outcome.out.as_str().contains(line), "{call}");
-        assert_eq!(rt; served.answers[0].as_str(), "");
+        assert_eq!(rt; served.answer(0), Some(""));
     }
     Ok(())
 }
@@ -150,13 +154,10 @@ fn nobody_answers(rt: HostRuntime) -> Result<(), Fail> {
         let script = format!(in alloc; "{ONE_MEMBER}{line}\n")?;
         let served = serve(alloc, "serve a 127.0.0.1:0 3", script.as_str(), &asked, &[])?;
         let whole = reply(alloc, "503 Service Unavailable", "text/plain", "No agent")?;
-        assert_eq!(rt; served.answers[0], whole);
-        let head = whole.as_str().strip_suffix("No agent");
-        assert_eq!(rt; Some(served.answers[1].as_str()), head);
-        assert_eq!(rt;
-            served.answers[2],
-            reply(alloc, "400 Bad Request", "text/plain", "BadHead")?
-        );
+        assert_eq!(rt; served.answer(0), Some(whole.as_str()));
+        assert_eq!(rt; served.answer(1), whole.as_str().strip_suffix("No agent"));
+        let refused = reply(alloc, "400 Bad Request", "text/plain", "BadHead")?;
+        assert_eq!(rt; served.answer(2), Some(refused.as_str()));
     }
     Ok(())
 }
@@ -222,7 +223,8 @@ fn every_kind_of_reply(rt: HostRuntime) -> Result<(), Fail> {
     ];
     for (bytes, status, kind, body) in &cases {
         let served = serve(alloc, "serve b 127.0.0.1:0 1", TWO_MEMBERS, &[*bytes], &[])?;
-        assert_eq!(rt; served.answers[0], reply(alloc, status, kind, body)?);
+        let wanted = reply(alloc, status, kind, body)?;
+        assert_eq!(rt; served.answer(0), Some(wanted.as_str()));
     }
     Ok(())
 }
@@ -259,8 +261,8 @@ fn a_change_is_waited_for(rt: HostRuntime) -> Result<(), Fail> {
         "application/json",
         "{\"maximum_lag_on_failover\":5}",
     )?;
-    assert_eq!(rt; served.answers[0], wanted);
-    assert_eq!(rt; served.answers[1], wanted);
+    assert_eq!(rt; served.answer(0), Some(wanted.as_str()));
+    assert_eq!(rt; served.answer(1), Some(wanted.as_str()));
     Ok(())
 }
 
@@ -275,18 +277,14 @@ fn a_switchover_is_waited_for(rt: HostRuntime) -> Result<(), Fail> {
     ];
     let served = serve(alloc, "serve a 127.0.0.1:0 3", TWO_MEMBERS, &asked, &[])?;
     let done = "Successfully switched over to \"b\"";
-    assert_eq!(rt;
-        served.answers[0],
-        reply(alloc, "200 OK", "text/plain", done)?
-    );
-    assert_eq!(rt;
-        served.answers[1],
-        reply(alloc, "503 Service Unavailable", "text/plain", "")?
-    );
-    assert_eq!(rt;
-        served.answers[2],
-        reply(alloc, "200 OK", "text/plain", "")?
-    );
+    for (place, status, body) in [
+        (0, "200 OK", done),
+        (1, "503 Service Unavailable", ""),
+        (2, "200 OK", ""),
+    ] {
+        let wanted = reply(alloc, status, "text/plain", body)?;
+        assert_eq!(rt; served.answer(place), Some(wanted.as_str()));
+    }
     Ok(())
 }
 
