@@ -66,7 +66,11 @@ fn two_connections(rt: HostRuntime) -> Result<(), Fail> {
     let refused = reply(alloc, "400 Bad Request", "text/plain", "BadHead")?;
     assert_eq!(rt; served.answer(0), Some(refused.as_str()));
     let alive = "HTTP/1.1 200 OK\r\nContent-Type: application/json\r\n";
-    assert!(rt; served.answer(1).is_some_and(|answer| answer.starts_with(alive)));
+    assert!(rt;
+        served
+            .answer(1)
+            .is_some_and(|answer| answer.starts_with(alive))
+    );
     assert!(rt;
         served
             .outcome
