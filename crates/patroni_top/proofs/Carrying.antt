@@ -1,15 +1,20 @@
 -- How a command was carried out, for each way in which it may go.
-use Rattle.std.proofs.Common.{◌≡◌, ◌≢◌, ◌*◌, ◌+◌, ℕ, false, true, List, [], Option, Some, None, Result, Ok, Err, append-nil, arith, refl, sym, subst, ap, ◌∙◌}
+use Rattle.std.proofs.Common.{◌≡◌, ◌≢◌, ◌≤◌, ◌<◌, ◌*◌, ◌+◌, ℕ, Bool, false, true, List, [], Option, Some, None, Result, Ok, Err, append-nil, arith, nat_lt, refl, sym, subst, ap, ◌∙◌}
+use Rattle.std.specs.Prelude.{IsErrOf}
+use Rattle.std.proofs.lemmas.Bool.Decides.{nat_tests}
 use Rattle.pat_base.specs.declared.member_id.MemberId.{MemberId}
 use Rattle.pat_base.specs.declared.outside.Sink.{Ghosts as SinkGhosts}
 use Rattle.pat_base.specs.declared.outside.Source.{Ghosts as SourceGhosts}
-use Rattle.pat_base.specs.Outside.{Consumed, Known, Rose}
+use Rattle.pat_base.specs.Outside.{Consumed, Grew, Known, Rose}
 use Rattle.pat_base.specs.Prints.{Prints}
+use Rattle.pat_base.proofs.Contents.{Grew-nothing}
 use Rattle.pat_base.proofs.Printing.{Prints-stop}
 use Rattle.pat_door.specs.declared.door.Door.{Ghosts as DoorGhosts}
 use Rattle.cluster_script.specs.Limits.{limit_of}
 use Rattle.cluster_script.specs.Reading.{script_of}
-use Rattle.script_model.specs.Script.{ScriptText}
+use Rattle.script_generator.specs.Generating.{generated_script}
+use Rattle.script_generator.specs.declared.generating.TheConstants.{MOST_GENERATED}
+use Rattle.script_model.specs.Script.{ScriptText, spelling_of}
 use Rattle.cluster_model.specs.Starting.{cluster_of}
 use Rattle.cluster_model.specs.State.{Cluster}
 use Rattle.cluster_model.specs.Steps.{steps_of}
@@ -21,40 +26,33 @@ use Rattle.run_player.specs.declared.serve_error.ServeError.{ServeError}
 use Rattle.run_player.specs.declared.serve_error.ServeError.TheVariants as serves
 use Rattle.run_player.specs.Left.{IsLeftBy}
 use Rattle.run_player.specs.Playing.{PrintsWholeSteps}
-use Rattle.run_player.specs.Run.{Played, played_of, text_of_run}
+use Rattle.run_player.specs.Run.{Played, played_of, summary_of_run, text_of_run}
 use Rattle.run_player.specs.Served.{Came, Serves as ServedSo, after_steps, serve_error, served_of}
 use Rattle.run_player.proofs.Closing.{memory-is, no-door}
 use Rattle.patroni_top.specs.declared.ended.Ended.{Ended}
 use Rattle.patroni_top.specs.declared.ending.Ending.{Ending}
 use Rattle.patroni_top.specs.declared.ending.Ending.TheVariants as endings
+use Rattle.patroni_top.specs.declared.status.Status.{Status}
 use Rattle.patroni_top.specs.declared.status.Status.TheVariants as statuses
-use Rattle.patroni_top.specs.Commands.{Command, Makes, NoCommand, Plan, Plays, Run, Serve, Serves, UnknownMember, Verdict, member_named, verdict_of, verdict_on}
+use Rattle.patroni_top.specs.Commands.{Command, Drill, Drills, EndsWhole, Formats, Generate, Makes, NoCommand, PastCount, Plan, Plays, Print, Run, Serve, Serves, UnknownMember, Verdict, heeded, member_named, plan_run, plan_text, plays, reads, service_of, verdict_in, verdict_of, verdict_of_count, verdict_on}
+use Rattle.patroni_top.specs.Drawing.{CanBeDrawn, RefusesToDraw}
 use Rattle.patroni_top.specs.Ended.{Carries, IsCarriedOut, LeavesWorld, ended_by}
-use Rattle.patroni_top.specs.Ends.{serving_of}
+use Rattle.patroni_top.specs.Ends.{Ends, IsCut, IsVisited, serving_of}
 use Rattle.patroni_top.specs.Status.{IsRefusal, Refuses, Says, ending_of_print, ending_of_serve, status_of}
-use Rattle.patroni_top.proofs.Endings.{Ends-done, Ends-faulty, Ends-refused, Ends-stopped, plays-only, prints-so, quiet, refusal-says, script-plays, script-serves, steps-cut, waited_by}
+use Rattle.patroni_top.proofs.Endings.{Ends-done, Ends-faulty, Ends-past, Ends-refused, Ends-stopped, Ends-wanting, IsQuiet, Reads, plays-only, prints-so, quiet, quiet-service, refusal-says, script-makes, steps-cut}
 
-not-usage : (ending : Ending) → IsRefusal ending → status_of ending ≢ statuses.Usage
-not-usage (endings.NotScript line fault) is e = cc
-not-usage (endings.Limit limit) is e = cc
-not-usage endings.ReadFault is e = cc
-not-usage endings.Memory is e = cc
-not-usage endings.Done is e = absurd is
-not-usage endings.Usage is e = absurd is
-not-usage endings.UnknownMember is e = absurd is
-not-usage endings.WriteFault is e = absurd is
-not-usage endings.DoorFault is e = absurd is
-
-not-done : (ending : Ending) → IsRefusal ending → status_of ending ≢ statuses.Done
-not-done (endings.NotScript line fault) is e = cc
-not-done (endings.Limit limit) is e = cc
-not-done endings.ReadFault is e = cc
-not-done endings.Memory is e = cc
-not-done endings.Done is e = absurd is
-not-done endings.Usage is e = absurd is
-not-done endings.UnknownMember is e = absurd is
-not-done endings.WriteFault is e = absurd is
-not-done endings.DoorFault is e = absurd is
+-- an ending in which the input gives no script
+refusal-is : (ending : Ending) → IsRefusal ending → (status_of ending ≢ statuses.Usage) × (status_of ending ≢ statuses.Done)
+refusal-is (endings.NotScript line fault) is = (λ e. cc, λ e. cc)
+refusal-is (endings.Limit limit) is = (λ e. cc, λ e. cc)
+refusal-is endings.ReadFault is = (λ e. cc, λ e. cc)
+refusal-is endings.Memory is = (λ e. cc, λ e. cc)
+refusal-is endings.Done is = absurd is
+refusal-is endings.Usage is = absurd is
+refusal-is endings.UnknownMember is = absurd is
+refusal-is endings.WriteFault is = absurd is
+refusal-is endings.DoorFault is = absurd is
+refusal-is endings.PastCount is = absurd is
 
 -- an ending in which something was printed
 stop-no-usage : (error : ServeError) → status_of (ending_of_serve error) ≢ statuses.Usage
@@ -115,161 +113,296 @@ came-part door was now error cluster id count visitors c = record {
   serves = c.serves;
 }
 
-module _ {S K D : Type 0} (source : SourceGhosts S) (sink : SinkGhosts K) (door : DoorGhosts D) (input left : S) where
-  leaves-nothing : (verdict : List ℕ → Verdict) (ending : Ending) → status_of ending ≢ statuses.Done → LeavesWorld source input verdict (ended_by (Err ending))
-  leaves-nothing verdict ending not = record { done = ((λ some. absurd (no-world some)), λ done. absurd (not done)); stands = tt }
+-- so many lines may be drawn, or else too many
+drawn-so : (count : ℕ) (plan : Plan) → CanBeDrawn count → verdict_of_count count plan ≡ Makes plan
+drawn-so count plan few = let may : nat_lt MOST_GENERATED count ≡ false = grind (arith, nat_tests) in rw may refl
 
-  -- the script can't be read
-  pub refused : (out : K) (was : D) (command : Command) (result : Result WorldFacts Ending) (ending : Ending) → result ≡ Err ending → IsRefusal ending → Known (source.rest input) (Refuses (waited_by command) ending)
-      → (ending ≡ endings.ReadFault → Rose (source.faults input) (source.faults left)) → (source.is_reliable input → ending ≢ endings.ReadFault) → Consumed (source.rest input) (source.rest left) 1048577
-      → IsCarriedOut source sink door input left out out was was command result
-  refused out was command result ending is refusal refuses rose unfailing taken = subst (IsCarriedOut source sink door input left out out was was command) (sym is) (record {
-    usage = not-usage ending refusal;
-    carries = (
-      [],
-      record {
-        ends = Ends-refused source sink door input left out was (verdict_on command []) ending refusal (λ bytes told. refusal-says command [] ending bytes refusal (refuses bytes told)) (λ bytes. quiet command bytes) rose unfailing taken;
-        world = leaves-nothing (verdict_on command []) ending (not-done ending refusal);
-      },
-    );
-    says = λ visitors bytes told. refusal-says command visitors ending bytes refusal (refuses bytes told);
-  })
+past-so : (count : ℕ) (plan : Plan) → MOST_GENERATED < count → verdict_of_count count plan ≡ PastCount
+past-so count plan many = let over : nat_lt MOST_GENERATED count ≡ true = grind (arith, nat_tests) in rw over refl
+
+module _ {S K D : Type 0} (source : SourceGhosts S) (sink : SinkGhosts K) (door : DoorGhosts D) where
+  leaves-nothing : (bytes : Option (List ℕ)) (played : Bool) (verdict : List ℕ → Verdict) (ending : Ending) → status_of ending ≢ statuses.Done → LeavesWorld bytes played verdict (ended_by (Err ending))
+  leaves-nothing bytes played verdict ending not = record { done = ((λ some. absurd (no-world some)), λ done. absurd (not done.0)); stands = tt }
 
   -- something was printed, and then a stop came
-  stopped : (out then : K) (was now : D) (command : Command) (error : ServeError) → ((visitors : List Connection) × Carries source sink door input left out then was now (verdict_on command visitors) (ended_by (Err (ending_of_serve error))))
+  stopped : (input left : S) (out then : K) (was now : D) (command : Command) (error : ServeError) → ((visitors : List Connection) × Carries source sink door input left out then was now (Some command) visitors (ended_by (Err (ending_of_serve error))))
       → IsCarriedOut source sink door input left out then was now command (Err (ending_of_serve error))
-  stopped out then was now command error carries = record { usage = stop-no-usage error; carries = carries; says = λ visitors bytes told. stop-says error (verdict_on command visitors bytes) }
+  stopped input left out then was now command error carries = record { usage = stop-no-usage error; carries = carries; says = λ visitors bytes told. stop-says error (verdict_on command visitors bytes) }
 
-  -- a script was read
-  module _ (script : ScriptText) (end : Known (source.rest input) (λ bytes. source.rest left ≡ Some [])) (taken : Consumed (source.rest input) (source.rest left) 1048577) where
-    abbrev IsRead : ℕ → Type 0
-    IsRead waited = Known (source.rest input) (λ bytes. (limit_of waited bytes ≡ None) × (script_of bytes ≡ Ok script))
-
-    -- and its run printed
-    pub printed-whole : (out then : K) (was : D) (result : Result WorldFacts Ending) (world : WorldFacts) → result ≡ Ok world → IsRead 0 → Prints sink out then prints.Write (Ok world) (text_of_run (played_of script)) → IsLeftBy (played_of script) world
-        → IsCarriedOut source sink door input left out then was was Run result
-    printed-whole out then was result world is read printed stands =
-        let plays : Known (source.rest input) (λ bytes. verdict_on Run [] bytes ≡ Makes (Plays (played_of script))) = λ bytes told. script-plays [] bytes script (read bytes told).0 (read bytes told).1 in
-        subst (IsCarriedOut source sink door input left out then was was Run) (sym is) (record {
-          usage = λ e. cc;
-          carries = (
-            [],
-            record {
-              ends = Ends-done source sink door input left out then was was (verdict_on Run []) (Plays (played_of script)) plays taken end printed refl;
-              world = record { done = ((λ some. refl), λ done. refl); stands = λ bytes told. plays-only (λ (played : Played). IsLeftBy played world) (verdict_on Run [] bytes) (Plays (played_of script)) (plays bytes told) stands };
-            },
-          );
-          says = λ visitors bytes told. tt;
-        })
+  -- a command that has nothing to do with the door makes this plan of the bytes that it goes by
+  module _ (input left : S) (out then : K) (was : D) (command : Command) (plan : Plan) (makes : Known (heeded (reads (Some command)) (source.rest input)) (λ bytes. verdict_on command [] bytes ≡ Makes plan))
+      (read : Reads source sink door input left out was (reads (Some command)) (verdict_on command [])) (visited : (status : Status) → IsVisited source sink door input left out then was was (reads (Some command)) (verdict_on command []) status (Makes plan)) where
+    -- all of it was printed
+    pub planned-whole : {X E : Type 0} {x : X} {fault : E} (world : Option WorldFacts) → (reads (Some command) ≡ true → Known (heeded (reads (Some command)) (source.rest input)) (λ bytes. source.rest left ≡ Some []))
+        → Prints sink out then fault (Ok x) (plan_text plan) → LeavesWorld (heeded (reads (Some command)) (source.rest input)) (plays (Some command)) (verdict_on command []) (ended_by (Ok world)) → IsCarriedOut source sink door input left out then was was command (Ok world)
+    planned-whole world end printed leaves = record {
+      usage = λ e. cc;
+      carries = ([], record { ends = Ends-done source sink door input left out then was was (reads (Some command)) (verdict_on command []) plan makes read end printed (visited statuses.Done); world = leaves });
+      says = λ visitors bytes told. tt;
+    }
 
     -- or a part of it
-    pub printed-part : (out then : K) (was : D) (result : Result WorldFacts Ending) (error : PrintError) → result ≡ Err (ending_of_print error) → IsRead 0 → Prints {X = WorldFacts} sink out then prints.Write (Err error) (text_of_run (played_of script))
-        → (error ≡ prints.Memory → PrintsWholeSteps sink out then (cluster_of script.head) false (steps_of script.body))
-        → IsCarriedOut source sink door input left out then was was Run result
-    printed-part out then was result error is read printed whole =
-        let plan = Plays (played_of script) in
+    pub planned-part : {X : Type 0} (error : PrintError) → Prints {X = X} sink out then prints.Write (Err error) (plan_text plan) → (error ≡ prints.Memory → IsCut source sink door input left out then was was (reads (Some command)) (verdict_on command []) (Makes plan))
+        → IsCarriedOut source sink door input left out then was was command (Err (ending_of_print error))
+    planned-part error printed whole =
         let how : ServeError = serve_error error in
-        subst (IsCarriedOut source sink door input left out then was was Run) (sym (is ∙ ap Err (print-ends error))) (stopped out then was was Run how (
+        subst (λ (e : Ending). IsCarriedOut source sink door input left out then was was command (Err e)) (sym (print-ends error)) (stopped input left out then was was command how (
           [],
           record {
-            ends = Ends-stopped source sink door input left out then was was (verdict_on Run []) plan (λ bytes told. script-plays [] bytes script (read bytes told).0 (read bytes told).1) taken how (record {
+            ends = Ends-stopped source sink door input left out then was was (reads (Some command)) (verdict_on command []) plan makes read how (record {
               printed = prints-so error printed;
-              whole = λ memory. steps-cut source sink door input left was was (verdict_on Run []) plan (whole (memory-is error memory));
+              whole = λ memory. whole (memory-is error memory);
               halted = λ e. absurd (no-door error e);
               opens = λ opens e. no-door error e;
-              visited = refl;
+              visited = visited (status_of (ending_of_serve how));
             });
-            world = leaves-nothing (verdict_on Run []) (ending_of_serve how) (stop-not-done how);
+            world = leaves-nothing (heeded (reads (Some command)) (source.rest input)) (plays (Some command)) (verdict_on command []) (ending_of_serve how) (stop-not-done how);
           },
         ))
 
-    module _ (member address : List ℕ) (count : ℕ) (read : IsRead (most_waiting * count)) where
-      abbrev command : Command
-      command = Serve member address count
+  -- a world that a run left
+  leaves-run : (bytes : Option (List ℕ)) (verdict : List ℕ → Verdict) (plan : Plan) (played : Played) (world : WorldFacts) → Known bytes (λ all. verdict all ≡ Makes plan) → plan_run plan ≡ Some played → IsLeftBy played world → LeavesWorld bytes true verdict (ended_by (Ok (Some world)))
+  leaves-run bytes verdict plan played world makes run stands = record {
+    done = ((λ some. (refl, refl)), λ done. refl);
+    stands = λ all told. plays-only (λ (p : Played). IsLeftBy p world) (verdict all) plan played (makes all told) run stands;
+  }
 
-      -- it declares no member of the name that is to be served
-      pub unknown : (out : K) (was : D) (result : Result WorldFacts Ending) → result ≡ Err endings.UnknownMember → member_named script.head member ≡ None → IsCarriedOut source sink door input left out out was was command result
-      unknown out was result is none =
-          let says : (visitors : List Connection) → Known (source.rest input) (λ bytes. verdict_on command visitors bytes ≡ UnknownMember) =
-          λ visitors bytes told. script-serves member address count visitors bytes script None (read bytes told).0 (read bytes told).1 (sym none) in
-          subst (IsCarriedOut source sink door input left out out was was command) (sym is) (record {
+  -- nothing was played
+  leaves-none : (bytes : Option (List ℕ)) (verdict : List ℕ → Verdict) → LeavesWorld bytes false verdict (ended_by (Ok None))
+  leaves-none bytes verdict = record { done = ((λ some. absurd (no-world some)), λ done. absurd (no-world done.1)); stands = tt }
+
+  -- nothing was written of what is told whole or not at all
+  untold : {out then : K} (plan : Plan) → EndsWhole plan [] → then ≡ out → (text : List ℕ) × EndsWhole plan text × Grew (sink.content out) (sink.content then) text
+  untold {out = out} plan none same = subst (λ (k : K). (text : List ℕ) × EndsWhole plan text × Grew (sink.content out) (sink.content k) text) (sym same) ([], none, Grew-nothing (sink.content out))
+
+  -- a command that goes by a script of the input
+  module _ (input left : S) (taken : Consumed (source.rest input) (source.rest left) 1048577) where
+    -- the script can't be read
+    pub refused : (out : K) (was : D) (command : Command) (waited : ℕ) (makes : List Connection → ScriptText → Verdict) → reads (Some command) ≡ true → ((visitors : List Connection) (bytes : List ℕ) → verdict_in waited (makes visitors) bytes ≡ verdict_on command visitors bytes) → ((script : ScriptText) → IsQuiet (makes [] script))
+        → (result : Result (Option WorldFacts) Ending) (ending : Ending) → result ≡ Err ending → IsRefusal ending → Known (source.rest input) (Refuses waited ending)
+        → (ending ≡ endings.ReadFault → Rose (source.faults input) (source.faults left)) → (source.is_reliable input → ending ≢ endings.ReadFault)
+        → IsCarriedOut source sink door input left out out was was command result
+    refused out was command waited makes goes same quiets result ending is refusal refuses rose unfailing =
+        let says : (visitors : List Connection) → Known (source.rest input) (λ bytes. Says ending (verdict_on command visitors bytes)) =
+            λ visitors bytes told. subst (Says ending) (same visitors bytes) (refusal-says waited (makes visitors) ending bytes refusal (refuses bytes told)) in
+        let heard : (b : Bool) → b ≡ true → heeded b (source.rest input) ≡ source.rest input = λ b true-is. rw true-is refl in
+        subst (IsCarriedOut source sink door input left out out was was command) (sym is) (record {
+          usage = (refusal-is ending refusal).0;
+          carries = (
+            [],
+            record {
+              ends = subst (λ (b : Bool). Ends source sink door input left out out was was b (verdict_on command []) (status_of ending)) (sym goes)
+                  (Ends-refused source sink door input left out was (verdict_on command []) taken ending refusal (says []) (λ bytes. subst IsQuiet (same [] bytes) (quiet waited (makes []) bytes quiets)) rose unfailing);
+              world = leaves-nothing (heeded (reads (Some command)) (source.rest input)) (plays (Some command)) (verdict_on command []) ending (refusal-is ending refusal).1;
+            },
+          );
+          says = λ visitors bytes told. says visitors bytes (sym (heard (reads (Some command)) goes) ∙ told);
+        })
+
+    reads-so : (out : K) (was : D) (verdict : List ℕ → Verdict) → Reads source sink door input left out was true verdict
+    reads-so out was verdict = record { unread = λ e. cc; consumed = taken }
+
+    -- a script was read
+    module _ (script : ScriptText) (end : Known (source.rest input) (λ bytes. source.rest left ≡ Some [])) where
+      abbrev IsRead : ℕ → Type 0
+      IsRead waited = Known (source.rest input) (λ bytes. (limit_of waited bytes ≡ None) × (script_of bytes ≡ Ok script))
+
+      -- and its run is printed, or the script
+      module _ (out then : K) (was : D) (read : IsRead 0) (result : Result (Option WorldFacts) Ending) where
+        plays-so : Known (source.rest input) (λ bytes. verdict_on Run [] bytes ≡ Makes (Plays (played_of script)))
+        plays-so bytes told = script-makes 0 (λ script. Makes (Plays (played_of script))) bytes script (read bytes told).0 (read bytes told).1
+
+        formats-so : Known (source.rest input) (λ bytes. verdict_on Print [] bytes ≡ Makes (Formats script))
+        formats-so bytes told = script-makes 0 (λ script. Makes (Formats script)) bytes script (read bytes told).0 (read bytes told).1
+
+        pub printed-whole : (world : WorldFacts) → result ≡ Ok (Some world) → Prints sink out then prints.Write (Ok world) (text_of_run (played_of script)) → IsLeftBy (played_of script) world → IsCarriedOut source sink door input left out then was was Run result
+        printed-whole world is printed stands = subst (IsCarriedOut source sink door input left out then was was Run) (sym is)
+            (planned-whole input left out then was Run (Plays (played_of script)) plays-so (reads-so out was (verdict_on Run [])) (λ status. refl) (Some world) (λ e. end) printed
+            (leaves-run (source.rest input) (verdict_on Run []) (Plays (played_of script)) (played_of script) world plays-so refl stands))
+
+        pub printed-part : (error : PrintError) → result ≡ Err (ending_of_print error) → Prints {X = WorldFacts} sink out then prints.Write (Err error) (text_of_run (played_of script))
+            → (error ≡ prints.Memory → PrintsWholeSteps sink out then (cluster_of script.head) false (steps_of script.body))
+            → IsCarriedOut source sink door input left out then was was Run result
+        printed-part error is printed whole = subst (IsCarriedOut source sink door input left out then was was Run) (sym is)
+            (planned-part input left out then was Run (Plays (played_of script)) plays-so (reads-so out was (verdict_on Run [])) (λ status. refl) error printed (λ memory. steps-cut source sink door script.head (steps_of script.body) (whole memory)))
+
+        pub formatted-whole : result ≡ Ok None → Prints {X = Unit {0}} sink out then prints.Write (Ok tt) (spelling_of script) → IsCarriedOut source sink door input left out then was was Print result
+        formatted-whole is printed = subst (IsCarriedOut source sink door input left out then was was Print) (sym is)
+            (planned-whole input left out then was Print (Formats script) formats-so (reads-so out was (verdict_on Print [])) (λ status. refl) None (λ e. end) printed (leaves-none (source.rest input) (verdict_on Print [])))
+
+        pub formatted-part : (error : PrintError) → result ≡ Err (ending_of_print error) → Prints {X = Unit {0}} sink out then prints.Write (Err error) (spelling_of script) → (error ≡ prints.Memory → then ≡ out) → IsCarriedOut source sink door input left out then was was Print result
+        formatted-part error is printed memory = subst (IsCarriedOut source sink door input left out then was was Print) (sym is)
+            (planned-part input left out then was Print (Formats script) formats-so (reads-so out was (verdict_on Print [])) (λ status. refl) error printed (λ wanting. untold (Formats script) refl (memory wanting)))
+
+      module _ (member address : List ℕ) (count : ℕ) (read : IsRead (most_waiting * count)) where
+        abbrev service : Command
+        service = Serve member address count
+
+        abbrev makes : List Connection → ScriptText → Verdict
+        makes visitors script = service_of script count visitors (member_named script.head member)
+
+        makes-so : (visitors : List Connection) (found : Option MemberId) → member_named script.head member ≡ found → Known (source.rest input) (λ bytes. verdict_on service visitors bytes ≡ service_of script count visitors found)
+        makes-so visitors found is bytes told = script-makes (most_waiting * count) (makes visitors) bytes script (read bytes told).0 (read bytes told).1 ∙ ap (service_of script count visitors) is
+
+        -- it declares no member of the name that is to be served
+        pub unknown : (out : K) (was : D) (result : Result (Option WorldFacts) Ending) → result ≡ Err endings.UnknownMember → member_named script.head member ≡ None → IsCarriedOut source sink door input left out out was was service result
+        unknown out was result is none =
+            let says : (visitors : List Connection) → Known (source.rest input) (λ bytes. verdict_on service visitors bytes ≡ UnknownMember) = λ visitors. makes-so visitors None none in
+            subst (IsCarriedOut source sink door input left out out was was service) (sym is) (record {
+              usage = λ e. cc;
+              carries = (
+                [],
+                record {
+                  ends = Ends-faulty source sink door input left out was true (verdict_on service []) (reads-so out was (verdict_on service [])) UnknownMember tt tt (says []);
+                  world = leaves-nothing (source.rest input) true (verdict_on service []) endings.UnknownMember (λ e. cc);
+                },
+              );
+              says = says;
+            })
+
+        module _ (id : MemberId) (found : member_named script.head member ≡ Some id) (out then : K) (was now : D) (visitors : List Connection) where
+          abbrev served : Plan
+          served = Serves script id count visitors
+
+          serves-so : Known (source.rest input) (λ bytes. verdict_on service visitors bytes ≡ Makes served)
+          serves-so = makes-so visitors (Some id) found
+
+          -- or connections came behind its run, and all was printed
+          pub served-whole : (result : Result (Option WorldFacts) Ending) (world : WorldFacts) → result ≡ Ok (Some world) → ServedSo sink door out then was now (Ok world) script id count visitors → IsCarriedOut source sink door input left out then was now service result
+          served-whole result world is s = subst (IsCarriedOut source sink door input left out then was now service) (sym is) (record {
+            usage = λ e. cc;
+            carries = (
+              visitors,
+              record {
+                ends = Ends-done source sink door input left out then was now true (verdict_on service visitors) served serves-so (reads-so out was (verdict_on service visitors)) (λ e. end) s.printed
+                    (came-all door was now world (after_steps (cluster_of script.head) (steps_of script.body)) id count visitors s.came);
+                world = leaves-run (source.rest input) (verdict_on service visitors) served (served_of script id visitors) world serves-so refl s.world;
+              },
+            );
+            says = λ others bytes told. tt;
+          })
+
+          -- or a part of it
+          pub served-part : (result : Result (Option WorldFacts) Ending) (error : ServeError) → result ≡ Err (ending_of_serve error) → ServedSo sink door out then was now (Err error) script id count visitors → IsCarriedOut source sink door input left out then was now service result
+          served-part result error is s =
+              let start : Cluster = after_steps (cluster_of script.head) (steps_of script.body) in
+              subst (IsCarriedOut source sink door input left out then was now service) (sym is) (stopped input left out then was now service error (
+                visitors,
+                record {
+                  ends = Ends-stopped source sink door input left out then was now true (verdict_on service visitors) served serves-so (reads-so out was (verdict_on service visitors)) error (record {
+                    printed = subst (λ (t : List ℕ). Prints {X = Unit {0}} sink out then serves.Write (Err error) t) (append-nil (text_of_run (served_of script id visitors)))
+                        (Prints-stop serves.Write error (Err error) [] s.printed refl (λ e. e));
+                    whole = λ memory. steps-cut source sink door (served_of script id visitors).head (served_of script id visitors).steps (s.whole (ap Err memory));
+                    halted = λ e. (s.came.halts (ap Err e), s.halted (ap Err e));
+                    opens = λ opens. s.came.serves 0 (subst (door.serves was) (sym (plus-nothing count)) opens);
+                    visited = subst (λ (r : Result (Unit {0}) ServeError). Came door was now r start id count visitors) (sym (serving-back error)) (came-part door was now error start id count visitors s.came);
+                  });
+                  world = leaves-nothing (source.rest input) true (verdict_on service visitors) (ending_of_serve error) (stop-not-done error);
+                },
+              ))
+            where
+              plus-nothing : (n : ℕ) → n + 0 ≡ n
+              plus-nothing n = omega arith
+
+  -- a command that reads nothing
+  module _ (input : S) where
+    unread : (out : K) (was : D) (verdict : List ℕ → Verdict) → Reads source sink door input input out was false verdict
+    unread out was verdict = record { unread = λ e. refl; consumed = record { some = λ all told. (0, omega arith, told) } }
+
+    -- so many lines were to be drawn
+    module _ (seed count : ℕ) (out : K) (was : D) (result : Result (Option WorldFacts) Ending) where
+      not-drawn : (command : Command) (plan : Plan) → reads (Some command) ≡ false → ((visitors : List Connection) (bytes : List ℕ) → verdict_of_count count plan ≡ verdict_on command visitors bytes) → IsQuiet (Makes plan)
+          → (ending : Ending) → result ≡ Err ending → RefusesToDraw count ending → IsCarriedOut source sink door input input out out was was command result
+      not-drawn command plan goes same none endings.PastCount is many =
+          let says : (visitors : List Connection) (bytes : List ℕ) → verdict_on command visitors bytes ≡ PastCount = λ visitors bytes. sym (same visitors bytes) ∙ past-so count plan many in
+          subst (IsCarriedOut source sink door input input out out was was command) (sym is) (record {
             usage = λ e. cc;
             carries = (
               [],
               record {
-                ends = Ends-faulty source sink door input left out was (verdict_on command []) UnknownMember tt tt (says []) taken;
-                world = leaves-nothing (verdict_on command []) endings.UnknownMember (λ e. cc);
+                ends = subst (λ (b : Bool). Ends source sink door input input out out was was b (verdict_on command []) statuses.Limit) (sym goes)
+                    (Ends-past source sink door input input out was false (verdict_on command []) (unread out was (verdict_on command [])) PastCount tt tt (λ bytes told. says [] bytes));
+                world = leaves-nothing (heeded (reads (Some command)) (source.rest input)) (plays (Some command)) (verdict_on command []) endings.PastCount (λ e. cc);
               },
             );
-            says = says;
+            says = λ visitors bytes told. says visitors bytes;
           })
-
-      module _ (id : MemberId) (found : member_named script.head member ≡ Some id) (out then : K) (was now : D) (visitors : List Connection) where
-        serves-so : Known (source.rest input) (λ bytes. verdict_on command visitors bytes ≡ Makes (Serves script id count visitors))
-        serves-so bytes told = script-serves member address count visitors bytes script (Some id) (read bytes told).0 (read bytes told).1 (sym found)
-
-        -- or connections came behind its run, and all was printed
-        pub served-whole : (result : Result WorldFacts Ending) (world : WorldFacts) → result ≡ Ok world → ServedSo sink door out then was now (Ok world) script id count visitors → IsCarriedOut source sink door input left out then was now command result
-        served-whole result world is s = subst (IsCarriedOut source sink door input left out then was now command) (sym is) (record {
-          usage = λ e. cc;
-          carries = (
-            visitors,
-            record {
-              ends = Ends-done source sink door input left out then was now (verdict_on command visitors) (Serves script id count visitors) serves-so taken end s.printed
-                  (came-all door was now world (after_steps (cluster_of script.head) (steps_of script.body)) id count visitors s.came);
-              world = record { done = ((λ some. refl), λ done. refl); stands = λ bytes told. plays-only (λ (played : Played). IsLeftBy played world) (verdict_on command visitors bytes) (Serves script id count visitors) (serves-so bytes told) s.world };
-            },
-          );
-          says = λ others bytes told. tt;
-        })
-
-        -- or a part of it
-        pub served-part : (result : Result WorldFacts Ending) (error : ServeError) → result ≡ Err (ending_of_serve error) → ServedSo sink door out then was now (Err error) script id count visitors → IsCarriedOut source sink door input left out then was now command result
-        served-part result error is s =
-            let plan = Serves script id count visitors in
-            let start : Cluster = after_steps (cluster_of script.head) (steps_of script.body) in
-            subst (IsCarriedOut source sink door input left out then was now command) (sym is) (stopped out then was now command error (
-              visitors,
+      not-drawn command plan goes same none endings.Memory is few =
+          subst (IsCarriedOut source sink door input input out out was was command) (sym is) (record {
+            usage = λ e. cc;
+            carries = (
+              [],
               record {
-                ends = Ends-stopped source sink door input left out then was now (verdict_on command visitors) plan serves-so taken error (record {
-                  printed = subst (λ (t : List ℕ). Prints {X = Unit {0}} sink out then serves.Write (Err error) t) (append-nil (text_of_run (served_of script id visitors)))
-                      (Prints-stop serves.Write error (Err error) [] s.printed refl (λ e. e));
-                  whole = λ memory. steps-cut source sink door input left was now (verdict_on command visitors) plan (s.whole (ap Err memory));
-                  halted = λ e. (s.came.halts (ap Err e), s.halted (ap Err e));
-                  opens = λ opens. s.came.serves 0 (subst (door.serves was) (sym (plus-nothing count)) opens);
-                  visited = subst (λ (r : Result (Unit {0}) ServeError). Came door was now r start id count visitors) (sym (serving-back error)) (came-part door was now error start id count visitors s.came);
-                });
-                world = leaves-nothing (verdict_on command visitors) (ending_of_serve error) (stop-not-done error);
+                ends = subst (λ (b : Bool). Ends source sink door input input out out was was b (verdict_on command []) statuses.Memory) (sym goes)
+                    (Ends-wanting source sink door input input out was false (verdict_on command []) (unread out was (verdict_on command [])) (λ bytes. subst IsQuiet (sym (drawn-so count plan few) ∙ same [] bytes) none));
+                world = leaves-nothing (heeded (reads (Some command)) (source.rest input)) (plays (Some command)) (verdict_on command []) endings.Memory (λ e. cc);
               },
-            ))
-          where
-            plus-nothing : (n : ℕ) → n + 0 ≡ n
-            plus-nothing n = omega arith
+            );
+            says = λ visitors bytes told. tt;
+          })
+      not-drawn command plan goes same none endings.Done is never = absurd never
+      not-drawn command plan goes same none endings.Usage is never = absurd never
+      not-drawn command plan goes same none endings.UnknownMember is never = absurd never
+      not-drawn command plan goes same none endings.ReadFault is never = absurd never
+      not-drawn command plan goes same none endings.WriteFault is never = absurd never
+      not-drawn command plan goes same none endings.DoorFault is never = absurd never
+      not-drawn command plan goes same none (endings.NotScript line fault) is never = absurd never
+      not-drawn command plan goes same none (endings.Limit limit) is never = absurd never
 
-  -- words that are no command
-  pub unasked : (out : K) (was : D) (words : Option Command) → words ≡ None → (visitors : List Connection) × Carries source sink door input input out out was was (verdict_of words visitors) (record { status = statuses.Usage; world = None })
-  unasked out was words is = subst (λ (o : Option Command). (visitors : List Connection) × Carries source sink door input input out out was was (verdict_of o visitors) (record { status = statuses.Usage; world = None })) (sym is) (
-    [],
-    record {
-      ends = record {
-        means = (refl, refl);
-        visited = λ bytes told. refl;
-        past_limit = λ reliable bytes told past. absurd past;
-        faulty = λ reliable bytes told faulty. absurd faulty;
-        complete = λ reliable bytes told plan makes. absurd (no-plan plan makes);
-        consumed = record { some = λ all told. (0, omega arith, told) };
-      };
-      world = record { done = ((λ some. absurd (no-world some)), λ done. absurd (not-so done)); stands = tt };
-    },
-  )
-    where
-      no-plan : (plan : Plan) → NoCommand ≡ Makes plan → ⊥
-      no-plan plan e = cc
+      pub not-generated : (ending : Ending) → result ≡ Err ending → RefusesToDraw count ending → IsCarriedOut source sink door input input out out was was (Generate seed count) result
+      not-generated = not-drawn (Generate seed count) (Formats (generated_script seed count)) refl (λ visitors bytes. refl) tt
 
-      not-so : statuses.Usage ≡ statuses.Done → ⊥
-      not-so e = cc
+      pub not-drilled : (ending : Ending) → result ≡ Err ending → RefusesToDraw count ending → IsCarriedOut source sink door input input out out was was (Drill seed count) result
+      not-drilled = not-drawn (Drill seed count) (Drills (played_of (generated_script seed count))) refl (λ visitors bytes. refl) tt
+
+      -- and the script is printed, or the summary of its run
+      module _ (few : CanBeDrawn count) (then : K) where
+        abbrev script : ScriptText
+        script = generated_script seed count
+
+        pub generated-whole : result ≡ Ok None → Prints {X = Unit {0}} sink out then prints.Write (Ok tt) (spelling_of script) → IsCarriedOut source sink door input input out then was was (Generate seed count) result
+        generated-whole is printed = subst (IsCarriedOut source sink door input input out then was was (Generate seed count)) (sym is)
+            (planned-whole input input out then was (Generate seed count) (Formats script) (λ bytes told. drawn-so count (Formats script) few) (unread out was (verdict_on (Generate seed count) [])) (λ status. refl) None (λ e. absurd (no-world e)) printed
+            (leaves-none (Some []) (verdict_on (Generate seed count) [])))
+
+        pub generated-part : (error : PrintError) → result ≡ Err (ending_of_print error) → Prints {X = Unit {0}} sink out then prints.Write (Err error) (spelling_of script) → (error ≡ prints.Memory → then ≡ out) → IsCarriedOut source sink door input input out then was was (Generate seed count) result
+        generated-part error is printed memory = subst (IsCarriedOut source sink door input input out then was was (Generate seed count)) (sym is)
+            (planned-part input input out then was (Generate seed count) (Formats script) (λ bytes told. drawn-so count (Formats script) few) (unread out was (verdict_on (Generate seed count) [])) (λ status. refl) error printed (λ wanting. untold (Formats script) refl (memory wanting)))
+
+        pub drilled-whole : (world : WorldFacts) → result ≡ Ok (Some world) → Prints sink out then prints.Write (Ok world) (summary_of_run (played_of script)) → IsLeftBy (played_of script) world → IsCarriedOut source sink door input input out then was was (Drill seed count) result
+        drilled-whole world is printed stands = subst (IsCarriedOut source sink door input input out then was was (Drill seed count)) (sym is)
+            (planned-whole input input out then was (Drill seed count) (Drills (played_of script)) (λ bytes told. drawn-so count (Drills (played_of script)) few) (unread out was (verdict_on (Drill seed count) [])) (λ status. refl) (Some world) (λ e. absurd (no-world e)) printed
+            (leaves-run (Some []) (verdict_on (Drill seed count) []) (Drills (played_of script)) (played_of script) world (λ bytes told. drawn-so count (Drills (played_of script)) few) refl stands))
+
+        pub drilled-part : (error : PrintError) → result ≡ Err (ending_of_print error) → Prints {X = WorldFacts} sink out then prints.Write (Err error) (summary_of_run (played_of script)) → (error ≡ prints.Memory → then ≡ out) → IsCarriedOut source sink door input input out then was was (Drill seed count) result
+        drilled-part error is printed memory = subst (IsCarriedOut source sink door input input out then was was (Drill seed count)) (sym is)
+            (planned-part input input out then was (Drill seed count) (Drills (played_of script)) (λ bytes told. drawn-so count (Drills (played_of script)) few) (unread out was (verdict_on (Drill seed count) [])) (λ status. refl) error printed (λ wanting. untold (Drills (played_of script)) refl (memory wanting)))
+
+    -- words that are no command
+    pub unasked : (out : K) (was : D) (words : Option Command) → words ≡ None → (visitors : List Connection) × Carries source sink door input input out out was was words visitors (record { status = statuses.Usage; world = None })
+    unasked out was words is = subst (λ (o : Option Command). (visitors : List Connection) × Carries source sink door input input out out was was o visitors (record { status = statuses.Usage; world = None })) (sym is) (
+      [],
+      record {
+        ends = record {
+          means = refl;
+          unread = λ e. refl;
+          visited = λ bytes told. refl;
+          past_limit = λ reliable bytes told past. absurd past;
+          faulty = λ reliable bytes told faulty. absurd faulty;
+          complete = λ reliable bytes told plan makes. absurd (no-plan plan makes);
+          consumed = record { some = λ all told. (0, omega arith, told) };
+        };
+        world = record { done = ((λ some. absurd (no-world some)), λ done. absurd (not-so done.0)); stands = tt };
+      },
+    )
+      where
+        no-plan : (plan : Plan) → NoCommand ≡ Makes plan → ⊥
+        no-plan plan e = cc
+
+        not-so : statuses.Usage ≡ statuses.Done → ⊥
+        not-so e = cc
 
   -- words that are this command
-  pub asked : (out then : K) (was now : D) (command : Command) (words : Option Command) (result : Result WorldFacts Ending) (ended : Ended) → Some command ≡ words → ended_by result ≡ ended → IsCarriedOut source sink door input left out then was now command result
-      → (visitors : List Connection) × Carries source sink door input left out then was now (verdict_of words visitors) ended
-  asked out then was now command words result ended is so carried = rw (sym is, sym so) carried.carries
+  pub asked : (input left : S) (out then : K) (was now : D) (command : Command) (words : Option Command) (result : Result (Option WorldFacts) Ending) (ended : Ended) → Some command ≡ words → ended_by result ≡ ended → IsCarriedOut source sink door input left out then was now command result
+      → (visitors : List Connection) × Carries source sink door input left out then was now words visitors ended
+  asked input left out then was now command words result ended is so carried = rw (sym is, sym so) carried.carries

@@ -1,5 +1,5 @@
 -- What is said of how a command ends, for each way in which it does.
-use Rattle.std.proofs.Common.{◌≡◌, ◌≢◌, ◌≤◌, ◌*◌, ℕ, false, List, [], length, Option, Some, None, Result, Ok, Err, append-nil, refl, inl, inr, sym, subst, ap, ◌∙◌}
+use Rattle.std.proofs.Common.{◌≡◌, ◌≢◌, ◌≤◌, ◌<◌, ◌*◌, ℕ, Bool, true, false, nat_lt, List, [], length, Option, Some, None, Result, Ok, Err, append-nil, refl, inl, inr, sym, subst, ap, ◌∙◌}
 use Rattle.pat_base.specs.declared.member_id.MemberId.{MemberId}
 use Rattle.pat_base.specs.declared.outside.Sink.{Ghosts as SinkGhosts}
 use Rattle.pat_base.specs.declared.outside.Source.{Ghosts as SourceGhosts}
@@ -11,9 +11,10 @@ use Rattle.pat_door.specs.declared.door.Door.{Ghosts as DoorGhosts}
 use Rattle.cluster_script.specs.declared.limits.Limit.{Limit}
 use Rattle.cluster_script.specs.Limits.{limit_of}
 use Rattle.cluster_script.specs.Reading.{script_of}
-use Rattle.script_model.specs.Script.{ScriptText}
+use Rattle.script_model.specs.Script.{HeadText, ScriptText}
 use Rattle.script_words.specs.declared.fault.Fault.{Fault}
 use Rattle.cluster_model.specs.Starting.{cluster_of}
+use Rattle.cluster_model.specs.declared.step.Step.{Step}
 use Rattle.cluster_model.specs.Steps.{steps_of}
 use Rattle.serve_model.specs.Connections.{Connection, most_waiting}
 use Rattle.run_player.specs.declared.print_error.PrintError.{PrintError}
@@ -21,56 +22,45 @@ use Rattle.run_player.specs.declared.print_error.PrintError.TheVariants as print
 use Rattle.run_player.specs.declared.serve_error.ServeError.{ServeError}
 use Rattle.run_player.specs.declared.serve_error.ServeError.TheVariants as serves
 use Rattle.run_player.specs.Playing.{PrintsWholeSteps}
-use Rattle.run_player.specs.Run.{Played, played_of}
-use Rattle.run_player.specs.Served.{Came, after_steps, serve_error}
+use Rattle.run_player.specs.Run.{EndsAtStep, Played}
+use Rattle.run_player.specs.Served.{Came, after_steps, serve_error, served_of}
 use Rattle.run_player.proofs.Closing.{write-is}
 use Rattle.run_player.proofs.Visiting.{Came-none}
 use Rattle.patroni_top.specs.declared.ending.Ending.{Ending}
 use Rattle.patroni_top.specs.declared.ending.Ending.TheVariants as endings
 use Rattle.patroni_top.specs.declared.status.Status.{Status}
 use Rattle.patroni_top.specs.declared.status.Status.TheVariants as statuses
-use Rattle.patroni_top.specs.Commands.{Command, EndsWhole, Faulty, IfPlayed, Makes, NoCommand, PastLimit, Plan, Plays, Run, Serve, Serves, UnknownMember, Verdict, member_named, plan_lines, plan_run, plan_text, service_of, verdict_by, verdict_on}
+use Rattle.patroni_top.specs.Commands.{Drills, EndsWhole, Faulty, Formats, IfPlayed, Makes, NoCommand, PastCount, PastLimit, Plan, Plays, Serves, UnknownMember, Verdict, heeded, plan_run, plan_text, service_of, verdict_by, verdict_in}
 use Rattle.patroni_top.specs.Ends.{Ends, IsBroken, IsCut, IsDone, IsFaulty, IsHalted, IsPastLimit, IsServedBy, IsVisited, serving_of}
 use Rattle.patroni_top.specs.Status.{status_of, ending_of_print, ending_of_serve, Refuses, Says, IsRefusal}
 
--- the ticks that come beside those of the lines of a command's script
-abbrev pub waited_by : Command → ℕ
-waited_by Run = 0
-waited_by (Serve member address count) = most_waiting * count
-
 -- an ending that refuses bytes says what comes of them
-pub refusal-says : (command : Command) (visitors : List Connection) (ending : Ending) (bytes : List ℕ) → IsRefusal ending → Refuses (waited_by command) ending bytes → Says ending (verdict_on command visitors bytes)
-refusal-says Run visitors (endings.NotScript line fault) bytes is refuses = rw (refuses.0, refuses.1) refl
-refusal-says (Serve member address count) visitors (endings.NotScript line fault) bytes is refuses = rw (refuses.0, refuses.1) refl
-refusal-says Run visitors (endings.Limit limit) bytes is refuses = rw refuses refl
-refusal-says (Serve member address count) visitors (endings.Limit limit) bytes is refuses = rw refuses refl
-refusal-says command visitors endings.Done bytes is refuses = tt
-refusal-says command visitors endings.Usage bytes is refuses = tt
-refusal-says command visitors endings.UnknownMember bytes is refuses = absurd is
-refusal-says command visitors endings.ReadFault bytes is refuses = tt
-refusal-says command visitors endings.WriteFault bytes is refuses = tt
-refusal-says command visitors endings.Memory bytes is refuses = tt
-refusal-says command visitors endings.DoorFault bytes is refuses = tt
+pub refusal-says : (waited : ℕ) (makes : ScriptText → Verdict) (ending : Ending) (bytes : List ℕ) → IsRefusal ending → Refuses waited ending bytes → Says ending (verdict_in waited makes bytes)
+refusal-says waited makes (endings.NotScript line fault) bytes is refuses = rw (refuses.0, refuses.1) refl
+refusal-says waited makes (endings.Limit limit) bytes is refuses = rw refuses refl
+refusal-says waited makes endings.Done bytes is refuses = tt
+refusal-says waited makes endings.Usage bytes is refuses = tt
+refusal-says waited makes endings.UnknownMember bytes is refuses = absurd is
+refusal-says waited makes endings.ReadFault bytes is refuses = tt
+refusal-says waited makes endings.WriteFault bytes is refuses = tt
+refusal-says waited makes endings.Memory bytes is refuses = tt
+refusal-says waited makes endings.DoorFault bytes is refuses = tt
+refusal-says waited makes endings.PastCount bytes is refuses = absurd is
 
--- a script within the limits is played
-pub script-plays : (visitors : List Connection) (bytes : List ℕ) (script : ScriptText) → limit_of 0 bytes ≡ None → script_of bytes ≡ Ok script → verdict_on Run visitors bytes ≡ Makes (Plays (played_of script))
-script-plays visitors bytes script none is = rw (none, is) refl
+-- of a script within the limits comes what is made of it
+pub script-makes : (waited : ℕ) (makes : ScriptText → Verdict) (bytes : List ℕ) (script : ScriptText) → limit_of waited bytes ≡ None → script_of bytes ≡ Ok script → verdict_in waited makes bytes ≡ makes script
+script-makes waited makes bytes script none is = rw (none, is) refl
 
--- or connections are served behind it, where it declares their member
-pub script-serves : (member address : List ℕ) (count : ℕ) (visitors : List Connection) (bytes : List ℕ) (script : ScriptText) (found : Option MemberId) → limit_of (most_waiting * count) bytes ≡ None → script_of bytes ≡ Ok script → found ≡ member_named script.head member
-    → verdict_on (Serve member address count) visitors bytes ≡ service_of script count visitors found
-script-serves member address count visitors bytes script found none is named = rw (none, is) (ap (service_of script count visitors) (sym named))
-
--- what is played is one run
-pub plays-only : (P : Played → Type 0) (verdict : Verdict) (plan : Plan) → verdict ≡ Makes plan → P (plan_run plan) → IfPlayed P verdict
-plays-only P verdict plan is holds = subst (IfPlayed P) (sym is) holds
+-- what is played is the run of the plan
+pub plays-only : (P : Played → Type 0) (verdict : Verdict) (plan : Plan) (played : Played) → verdict ≡ Makes plan → plan_run plan ≡ Some played → P played → IfPlayed P verdict
+plays-only P verdict plan played is run holds = rw (is, run) holds
 
 -- no connection came
 abbrev pub IsQuiet : Verdict → Type 0
 IsQuiet (Makes (Serves script id count visitors)) = visitors ≡ []
 IsQuiet _ = Unit {0}
 
-quiet-service : (script : ScriptText) (count : ℕ) (found : Option MemberId) → IsQuiet (service_of script count [] found)
+pub quiet-service : (script : ScriptText) (count : ℕ) (found : Option MemberId) → IsQuiet (service_of script count [] found)
 quiet-service script count None = tt
 quiet-service script count (Some id) = refl
 
@@ -80,160 +70,207 @@ quiet-by makes None (Err (line, fault)) each = tt
 quiet-by makes None (Ok script) each = each script
 
 -- where no connection came
-pub quiet : (command : Command) (bytes : List ℕ) → IsQuiet (verdict_on command [] bytes)
-quiet Run bytes = quiet-by (λ script. Makes (Plays (played_of script))) (limit_of 0 bytes) (script_of bytes) (λ script. tt)
-quiet (Serve member address count) bytes =
-    quiet-by (λ script. service_of script count [] (member_named script.head member)) (limit_of (most_waiting * count) bytes) (script_of bytes) (λ script. quiet-service script count (member_named script.head member))
+pub quiet : (waited : ℕ) (makes : ScriptText → Verdict) (bytes : List ℕ) → ((script : ScriptText) → IsQuiet (makes script)) → IsQuiet (verdict_in waited makes bytes)
+quiet waited makes bytes each = quiet-by makes (limit_of waited bytes) (script_of bytes) each
 
 -- no steps were played
 none-played : (plan : Plan) → EndsWhole plan []
-none-played plan = record { done = []; more = (plan_run plan).steps; parts = refl; lines = refl }
+none-played (Plays played) = record { done = []; more = played.steps; parts = refl; lines = refl }
+none-played (Serves script id count visitors) = record { done = []; more = (served_of script id visitors).steps; parts = refl; lines = refl }
+none-played (Drills played) = refl
+none-played (Formats script) = refl
 
 module _ {S K D : Type 0} (source : SourceGhosts S) (sink : SinkGhosts K) (door : DoorGhosts D) where
-  module _ (input left : S) (out : K) (was : D) (verdict : List ℕ → Verdict) where
+  module _ (input left : S) (out : K) (was : D) (read : Bool) (verdict : List ℕ → Verdict) where
+    abbrev told : Option (List ℕ)
+    told = heeded read (source.rest input)
+
     -- nothing was written for want of memory
-    nothing-cut : (all : List ℕ → Verdict) (found : Verdict) → IsCut source sink door input left out out was was all found
-    nothing-cut all (Makes plan) = ([], none-played plan, Grew-nothing (sink.content out))
-    nothing-cut all NoCommand = refl
-    nothing-cut all (PastLimit limit) = refl
-    nothing-cut all (Faulty line fault) = refl
-    nothing-cut all UnknownMember = refl
+    nothing-cut : (found : Verdict) → IsCut source sink door input left out out was was read verdict found
+    nothing-cut (Makes plan) = ([], none-played plan, Grew-nothing (sink.content out))
+    nothing-cut NoCommand = refl
+    nothing-cut PastCount = refl
+    nothing-cut (PastLimit limit) = refl
+    nothing-cut (Faulty line fault) = refl
+    nothing-cut UnknownMember = refl
 
     -- no connection came to a door, since nothing was played
-    unvisited : (all : List ℕ → Verdict) (status : Status) (found : Verdict) → serving_of status ≡ Err serves.Memory → IsQuiet found → IsVisited source sink door input left out out was was all status found
-    unvisited all status (Makes (Serves script id count visitors)) stops none =
+    unvisited : (status : Status) (found : Verdict) → serving_of status ≡ Err serves.Memory → IsQuiet found → IsVisited source sink door input left out out was was read verdict status found
+    unvisited status (Makes (Serves script id count visitors)) stops none =
         subst (λ (l : List Connection). Came door was was (serving_of status) (after_steps (cluster_of script.head) (steps_of script.body)) id count l) (sym none)
         (subst (λ (r : Result (Unit {0}) ServeError). Came door was was r (after_steps (cluster_of script.head) (steps_of script.body)) id count []) (sym stops)
         (Came-none door was serves.Memory (after_steps (cluster_of script.head) (steps_of script.body)) id count no-door))
       where
         no-door : serves.Memory ≡ serves.Door → ⊥
         no-door e = cc
-    unvisited all status (Makes (Plays played)) stops none = refl
-    unvisited all status NoCommand stops none = refl
-    unvisited all status (PastLimit limit) stops none = refl
-    unvisited all status (Faulty line fault) stops none = refl
-    unvisited all status UnknownMember stops none = refl
+    unvisited status (Makes (Plays played)) stops none = refl
+    unvisited status (Makes (Drills played)) stops none = refl
+    unvisited status (Makes (Formats script)) stops none = refl
+    unvisited status NoCommand stops none = refl
+    unvisited status PastCount stops none = refl
+    unvisited status (PastLimit limit) stops none = refl
+    unvisited status (Faulty line fault) stops none = refl
+    unvisited status UnknownMember stops none = refl
+
+    -- what isn't read is left as it was, and of what is read no more than a script may have was taken
+    pub record Reads : Type 0 where
+      pub unread : read ≡ false → left ≡ input
+      pub consumed : Consumed (source.rest input) (source.rest left) 1048577
 
     -- the input is no script, or declares no such member
-    pub Ends-faulty : (found : Verdict) → IsFaulty found → IsQuiet found → Known (source.rest input) (λ bytes. verdict bytes ≡ found) → Consumed (source.rest input) (source.rest left) 1048577 → Ends source sink door input left out out was was verdict statuses.NotScript
-    Ends-faulty found faulty none is taken = record {
+    pub Ends-faulty : Reads → (found : Verdict) → IsFaulty found → IsQuiet found → Known told (λ bytes. verdict bytes ≡ found) → Ends source sink door input left out out was was read verdict statuses.NotScript
+    Ends-faulty reads found faulty none is = record {
       means = (λ bytes told. subst IsFaulty (sym (is bytes told)) faulty, refl);
-      visited = λ bytes told. subst (IsVisited source sink door input left out out was was verdict statuses.NotScript) (sym (is bytes told)) (unvisited verdict statuses.NotScript found refl none);
+      unread = reads.unread;
+      visited = λ bytes told. subst (IsVisited source sink door input left out out was was read verdict statuses.NotScript) (sym (is bytes told)) (unvisited statuses.NotScript found refl none);
       past_limit = λ reliable bytes told past. absurd (not-past found faulty (subst IsPastLimit (is bytes told) past));
       faulty = λ reliable bytes told not. inl refl;
       complete = λ reliable bytes told plan so. absurd (subst IsFaulty (sym (is bytes told) ∙ so) faulty);
-      consumed = taken;
+      consumed = reads.consumed;
     }
       where
         not-past : (found : Verdict) → IsFaulty found → IsPastLimit found → ⊥
         not-past (PastLimit limit) faulty past = faulty
+        not-past PastCount faulty past = faulty
         not-past NoCommand faulty past = past
         not-past (Faulty line fault) faulty past = past
         not-past UnknownMember faulty past = past
         not-past (Makes plan) faulty past = past
 
-    -- an input that gives no script
-    pub Ends-refused : (ending : Ending) → IsRefusal ending → Known (source.rest input) (λ bytes. Says ending (verdict bytes)) → ((bytes : List ℕ) → IsQuiet (verdict bytes))
-        → (ending ≡ endings.ReadFault → Rose (source.faults input) (source.faults left)) → (source.is_reliable input → ending ≢ endings.ReadFault) → Consumed (source.rest input) (source.rest left) 1048577
-        → Ends source sink door input left out out was was verdict (status_of ending)
-    Ends-refused endings.Done refusal says none rose unfailing taken = absurd refusal
-    Ends-refused endings.Usage refusal says none rose unfailing taken = absurd refusal
-    Ends-refused endings.WriteFault refusal says none rose unfailing taken = absurd refusal
-    Ends-refused endings.UnknownMember refusal says none rose unfailing taken = absurd refusal
-    Ends-refused endings.DoorFault refusal says none rose unfailing taken = absurd refusal
-    Ends-refused (endings.NotScript line fault) refusal says none rose unfailing taken = Ends-faulty (Faulty line fault) tt tt says taken
-    Ends-refused (endings.Limit limit) refusal says none rose unfailing taken = record {
-      means = (λ bytes told. subst IsPastLimit (sym (says bytes told)) tt, refl);
-      visited = λ bytes told. unvisited verdict statuses.Limit (verdict bytes) refl (none bytes);
-      past_limit = λ reliable bytes told past. inl refl;
-      faulty = λ reliable bytes told faulty. absurd (subst IsFaulty (says bytes told) faulty);
-      complete = λ reliable bytes told plan is. absurd (subst IsPastLimit (sym (says bytes told) ∙ is) tt);
-      consumed = taken;
+    -- a limit is passed
+    pub Ends-past : Reads → (found : Verdict) → IsPastLimit found → IsQuiet found → Known told (λ bytes. verdict bytes ≡ found) → Ends source sink door input left out out was was read verdict statuses.Limit
+    Ends-past reads found past none is = record {
+      means = (λ bytes told. subst IsPastLimit (sym (is bytes told)) past, refl);
+      unread = reads.unread;
+      visited = λ bytes told. subst (IsVisited source sink door input left out out was was read verdict statuses.Limit) (sym (is bytes told)) (unvisited statuses.Limit found refl none);
+      past_limit = λ reliable bytes told passed. inl refl;
+      faulty = λ reliable bytes told faulty. absurd (not-faulty found past (subst IsFaulty (is bytes told) faulty));
+      complete = λ reliable bytes told plan so. absurd (subst IsPastLimit (sym (is bytes told) ∙ so) past);
+      consumed = reads.consumed;
     }
-    Ends-refused endings.ReadFault refusal says none rose unfailing taken = record {
-      means = (rose refl, refl);
-      visited = λ bytes told. unvisited verdict statuses.ReadFault (verdict bytes) refl (none bytes);
-      past_limit = λ reliable. absurd (unfailing reliable refl);
-      faulty = λ reliable. absurd (unfailing reliable refl);
-      complete = λ reliable. absurd (unfailing reliable refl);
-      consumed = taken;
-    }
-    Ends-refused endings.Memory refusal says none rose unfailing taken = record {
-      means = λ bytes told. nothing-cut verdict (verdict bytes);
-      visited = λ bytes told. unvisited verdict statuses.Memory (verdict bytes) refl (none bytes);
+      where
+        not-faulty : (found : Verdict) → IsPastLimit found → IsFaulty found → ⊥
+        not-faulty (PastLimit limit) past faulty = faulty
+        not-faulty PastCount past faulty = faulty
+        not-faulty NoCommand past faulty = past
+        not-faulty (Faulty line fault) past faulty = past
+        not-faulty UnknownMember past faulty = past
+        not-faulty (Makes plan) past faulty = past
+
+    -- memory was wanting before anything was written
+    pub Ends-wanting : Reads → ((bytes : List ℕ) → IsQuiet (verdict bytes)) → Ends source sink door input left out out was was read verdict statuses.Memory
+    Ends-wanting reads none = record {
+      means = λ bytes told. nothing-cut (verdict bytes);
+      unread = reads.unread;
+      visited = λ bytes told. unvisited statuses.Memory (verdict bytes) refl (none bytes);
       past_limit = λ reliable bytes told past. inr refl;
       faulty = λ reliable bytes told faulty. inr refl;
       complete = λ reliable bytes told plan is n can fits opens. inr refl;
-      consumed = taken;
+      consumed = reads.consumed;
     }
 
-  -- a run that was printed, or a front of it
-  module _ (input left : S) (out then : K) (was now : D) (verdict : List ℕ → Verdict) (plan : Plan) (is : Known (source.rest input) (λ bytes. verdict bytes ≡ Makes plan)) (taken : Consumed (source.rest input) (source.rest left) 1048577) where
-    abbrev Visited : Status → Type 0
-    Visited status = IsVisited source sink door input left out then was now verdict status (Makes plan)
+  -- an input that gives no script
+  module _ (input left : S) (out : K) (was : D) (verdict : List ℕ → Verdict) (consumed : Consumed (source.rest input) (source.rest left) 1048577) where
+    reads-so : Reads input left out was true verdict
+    reads-so = record { unread = λ e. cc; consumed = consumed }
 
-    no-limit : Known (source.rest input) (λ bytes. IsPastLimit (verdict bytes) → ⊥)
+    pub Ends-refused : (ending : Ending) → IsRefusal ending → Known (source.rest input) (λ bytes. Says ending (verdict bytes)) → ((bytes : List ℕ) → IsQuiet (verdict bytes))
+        → (ending ≡ endings.ReadFault → Rose (source.faults input) (source.faults left)) → (source.is_reliable input → ending ≢ endings.ReadFault)
+        → Ends source sink door input left out out was was true verdict (status_of ending)
+    Ends-refused endings.Done refusal says none rose unfailing = absurd refusal
+    Ends-refused endings.Usage refusal says none rose unfailing = absurd refusal
+    Ends-refused endings.WriteFault refusal says none rose unfailing = absurd refusal
+    Ends-refused endings.UnknownMember refusal says none rose unfailing = absurd refusal
+    Ends-refused endings.DoorFault refusal says none rose unfailing = absurd refusal
+    Ends-refused endings.PastCount refusal says none rose unfailing = absurd refusal
+    Ends-refused (endings.NotScript line fault) refusal says none rose unfailing = Ends-faulty input left out was true verdict reads-so (Faulty line fault) tt tt says
+    Ends-refused (endings.Limit limit) refusal says none rose unfailing = Ends-past input left out was true verdict reads-so (PastLimit limit) tt tt says
+    Ends-refused endings.ReadFault refusal says none rose unfailing = record {
+      means = (refl, rose refl, refl);
+      unread = reads-so.unread;
+      visited = λ bytes told. unvisited input left out was true verdict statuses.ReadFault (verdict bytes) refl (none bytes);
+      past_limit = λ reliable. absurd (unfailing (reliable refl) refl);
+      faulty = λ reliable. absurd (unfailing (reliable refl) refl);
+      complete = λ reliable. absurd (unfailing (reliable refl) refl);
+      consumed = consumed;
+    }
+    Ends-refused endings.Memory refusal says none rose unfailing = Ends-wanting input left out was true verdict reads-so none
+
+  -- a plan of which all was printed, or a front
+  module _ (input left : S) (out then : K) (was now : D) (read : Bool) (verdict : List ℕ → Verdict) (plan : Plan) (is : Known (heeded read (source.rest input)) (λ bytes. verdict bytes ≡ Makes plan)) (reads : Reads input left out was read verdict) where
+    abbrev Visited : Status → Type 0
+    Visited status = IsVisited source sink door input left out then was now read verdict status (Makes plan)
+
+    abbrev heard : Option (List ℕ)
+    heard = heeded read (source.rest input)
+
+    no-limit : Known heard (λ bytes. IsPastLimit (verdict bytes) → ⊥)
     no-limit bytes told past = subst IsPastLimit (is bytes told) past
 
-    no-fault : Known (source.rest input) (λ bytes. IsFaulty (verdict bytes) → ⊥)
+    no-fault : Known heard (λ bytes. IsFaulty (verdict bytes) → ⊥)
     no-fault bytes told faulty = subst IsFaulty (is bytes told) faulty
 
-    one-plan : (bytes : List ℕ) → source.rest input ≡ Some bytes → (other : Plan) → verdict bytes ≡ Makes other → plan ≡ other
+    one-plan : (bytes : List ℕ) → heard ≡ Some bytes → (other : Plan) → verdict bytes ≡ Makes other → plan ≡ other
     one-plan bytes told other so = same-plan (sym (is bytes told) ∙ so)
       where
         same-plan : Makes plan ≡ Makes other → plan ≡ other
         same-plan e = cc
 
-    came : (status : Status) → Visited status → Known (source.rest input) (λ bytes. IsVisited source sink door input left out then was now verdict status (verdict bytes))
-    came status visited bytes told = subst (IsVisited source sink door input left out then was now verdict status) (sym (is bytes told)) visited
+    came : (status : Status) → Visited status → Known heard (λ bytes. IsVisited source sink door input left out then was now read verdict status (verdict bytes))
+    came status visited bytes told = subst (IsVisited source sink door input left out then was now read verdict status) (sym (is bytes told)) visited
 
-    pub Ends-done : {X E : Type 0} {x : X} {fault : E} → Known (source.rest input) (λ bytes. source.rest left ≡ Some []) → Prints sink out then fault (Ok x) (plan_text plan) → Visited statuses.Done → Ends source sink door input left out then was now verdict statuses.Done
+    pub Ends-done : {X E : Type 0} {x : X} {fault : E} → (read ≡ true → Known heard (λ bytes. source.rest left ≡ Some [])) → Prints sink out then fault (Ok x) (plan_text plan) → Visited statuses.Done → Ends source sink door input left out then was now read verdict statuses.Done
     Ends-done end printed visited = record {
-      means = λ bytes told. subst (IsDone source sink door input left out then was now verdict) (sym (is bytes told)) (printed.ok, end bytes told);
+      means = (λ bytes told. subst (IsDone source sink door input left out then was now read verdict) (sym (is bytes told)) printed.ok, end);
+      unread = reads.unread;
       visited = came statuses.Done visited;
       past_limit = λ reliable bytes told past. absurd (no-limit bytes told past);
       faulty = λ reliable bytes told faulty. absurd (no-fault bytes told faulty);
       complete = λ reliable bytes told other so n can fits opens. inl refl;
-      consumed = taken;
+      consumed = reads.consumed;
     }
 
     -- what a stop leaves on the sink
     pub record Stops (error : ServeError) : Type 0 where
       pub printed : Prints {X = Unit {0}} sink out then serves.Write (Err error) (plan_text plan)
-      pub whole : error ≡ serves.Memory → IsCut source sink door input left out then was now verdict (Makes plan)
-      pub halted : error ≡ serves.Door → Rose (door.door_faults was) (door.door_faults now) × Grew (sink.content out) (sink.content then) (plan_lines plan)
-      pub opens : IsServedBy source sink door input left out then was now verdict plan → error ≢ serves.Door
+      pub whole : error ≡ serves.Memory → IsCut source sink door input left out then was now read verdict (Makes plan)
+      pub halted : error ≡ serves.Door → Rose (door.door_faults was) (door.door_faults now) × IsHalted source sink door input left out then was now read verdict (Makes plan)
+      pub opens : IsServedBy source sink door input left out then was now read verdict plan → error ≢ serves.Door
       pub visited : Visited (status_of (ending_of_serve error))
 
-    pub Ends-stopped : (error : ServeError) → Stops error → Ends source sink door input left out then was now verdict (status_of (ending_of_serve error))
+    pub Ends-stopped : (error : ServeError) → Stops error → Ends source sink door input left out then was now read verdict (status_of (ending_of_serve error))
     Ends-stopped serves.Write s = record {
-      means = (s.printed.write refl, λ bytes told. subst (IsBroken source sink door input left out then was now verdict) (sym (is bytes told)) s.printed.part);
+      means = (s.printed.write refl, λ bytes told. subst (IsBroken source sink door input left out then was now read verdict) (sym (is bytes told)) s.printed.part);
+      unread = reads.unread;
       visited = came statuses.WriteFault s.visited;
       past_limit = λ reliable bytes told past. absurd (no-limit bytes told past);
       faulty = λ reliable bytes told faulty. absurd (no-fault bytes told faulty);
       complete = λ reliable bytes told other so n can fits opens. absurd (s.printed.room n can (subst (λ (p : Plan). length (plan_text p) ≤ n) (sym (one-plan bytes told other so)) fits) refl);
-      consumed = taken;
+      consumed = reads.consumed;
     }
     Ends-stopped serves.Memory s = record {
-      means = λ bytes told. subst (IsCut source sink door input left out then was now verdict) (sym (is bytes told)) (s.whole refl);
+      means = λ bytes told. subst (IsCut source sink door input left out then was now read verdict) (sym (is bytes told)) (s.whole refl);
+      unread = reads.unread;
       visited = came statuses.Memory s.visited;
       past_limit = λ reliable bytes told past. inr refl;
       faulty = λ reliable bytes told faulty. inr refl;
       complete = λ reliable bytes told other so n can fits opens. inr refl;
-      consumed = taken;
+      consumed = reads.consumed;
     }
     Ends-stopped serves.Door s = record {
-      means = ((s.halted refl).0, λ bytes told. subst (IsHalted source sink door input left out then was now verdict) (sym (is bytes told)) (s.halted refl).1);
+      means = ((s.halted refl).0, λ bytes told. subst (IsHalted source sink door input left out then was now read verdict) (sym (is bytes told)) (s.halted refl).1);
+      unread = reads.unread;
       visited = came statuses.DoorFault s.visited;
       past_limit = λ reliable bytes told past. absurd (no-limit bytes told past);
       faulty = λ reliable bytes told faulty. absurd (no-fault bytes told faulty);
-      complete = λ reliable bytes told other so n can fits opens. absurd (s.opens (subst (IsServedBy source sink door input left out then was now verdict) (sym (one-plan bytes told other so)) opens) refl);
-      consumed = taken;
+      complete = λ reliable bytes told other so n can fits opens. absurd (s.opens (subst (IsServedBy source sink door input left out then was now read verdict) (sym (one-plan bytes told other so)) opens) refl);
+      consumed = reads.consumed;
     }
 
   -- what was printed of a run when memory was wanting are the lines of whole steps
-  pub steps-cut : (input left : S) {out then : K} (was now : D) (verdict : List ℕ → Verdict) (plan : Plan) → PrintsWholeSteps sink out then (cluster_of (plan_run plan).head) false (plan_run plan).steps → IsCut source sink door input left out then was now verdict (Makes plan)
-  steps-cut input left was now verdict plan whole = (_, record { done = whole.done; more = whole.more; parts = whole.parts; lines = refl }, whole.grew)
+  pub steps-cut : {out then : K} (head : HeadText) (steps : List Step) → PrintsWholeSteps sink out then (cluster_of head) false steps
+      → (text : List ℕ) × EndsAtStep (record { head = head; steps = steps }) text × Grew (sink.content out) (sink.content then) text
+  steps-cut head steps whole = (_, record { done = whole.done; more = whole.more; parts = whole.parts; lines = refl }, whole.grew)
 
 -- an error of printing ends a command as the like error of serving
 pub same-status : (error : PrintError) → status_of (ending_of_print error) ≡ status_of (ending_of_serve (serve_error error))

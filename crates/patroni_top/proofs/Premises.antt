@@ -1,6 +1,6 @@
 -- The premises that the closing summary tells of are those of the laws of one writer and of kept commits.
-use Rattle.std.proofs.Common.{◌*◌, ◌≡◌, ◌≤◌, ℕ, Option, Some, None, Bool, List, [], ◌∷◌, Result, Ok, Err, length, map, zero, suc, refl, subst, sym, ◌∙◌}
-use Rattle.std.specs.Prelude.{not, ◌&&◌, slice_get}
+use Rattle.std.proofs.Common.{◌*◌, ◌≡◌, ◌≤◌, ℕ, Option, Some, None, Bool, true, false, List, [], ◌∷◌, Result, Ok, Err, length, map, zero, suc, refl, subst, sym, ◌∙◌}
+use Rattle.std.specs.Prelude.{not, ◌&&◌, if◌then◌else◌, nat_lt, slice_get}
 use Rattle.std.proofs.lemmas.List.{length-map}
 use mathlib.Core.Path.{fun_ext}
 use Rattle.leader_key.specs.declared.watchdog.Mode.{Mode}
@@ -41,7 +41,10 @@ use Rattle.pat_base.specs.declared.member_id.MemberId.{MemberId}
 use Rattle.serve_model.specs.Connections.{Connection, most_waiting}
 use Rattle.run_player.specs.Served.{served_of}
 use Rattle.patroni_top.specs.Claims.{KeepsPromises}
-use Rattle.patroni_top.specs.Commands.{Command, IfPlayed, Makes, Plays, Run, Serve, Verdict, member_named, service_of, verdict_by, verdict_of}
+use Rattle.script_generator.proofs.BodyLaws.{generated-IsScript}
+use Rattle.script_generator.specs.Generating.{generated_script}
+use Rattle.script_generator.specs.declared.generating.TheConstants.{MOST_GENERATED}
+use Rattle.patroni_top.specs.Commands.{Command, Drill, Drills, Formats, Generate, IfPlayed, Makes, PastCount, Plays, Print, Run, Serve, Verdict, member_named, service_of, verdict_by, verdict_in, verdict_of}
 use Rattle.patroni_top.proofs.Books.{book-by-step, named-steps, steps-tell}
 
 armable : (mode : Mode) (works : Bool) → not (is_off mode) && works ≡ is_armable mode works
@@ -112,13 +115,26 @@ promises-by makes bytes (Some limit) read each is = tt
 promises-by makes bytes None (Err (line, fault)) each is = tt
 promises-by makes bytes None (Ok script) each is = each script (read-is-spelled bytes script is).0.head
 
+promises-in : (waited : ℕ) (makes : ScriptText → Verdict) (bytes : List ℕ) → ((script : ScriptText) → IsHead script.head → IfPlayed KeepsPromises (makes script)) → IfPlayed KeepsPromises (verdict_in waited makes bytes)
+promises-in waited makes bytes each = promises-by makes bytes (limit_of waited bytes) (script_of bytes) each refl
+
 promises-served : (script : ScriptText) (count : ℕ) (visitors : List Connection) (found : Option MemberId) → IsHead script.head → IfPlayed KeepsPromises (service_of script count visitors found)
 promises-served script count visitors None is = tt
 promises-served script count visitors (Some id) is = keeps-promises (served_of script id visitors) is
 
+promises-if : (many : Bool) (played : Played) → IsHead played.head → IfPlayed KeepsPromises (if many then PastCount else Makes (Drills played))
+promises-if true played is = tt
+promises-if false played is = keeps-promises played is
+
+formats-if : (many : Bool) (script : ScriptText) → IfPlayed KeepsPromises (if many then PastCount else Makes (Formats script))
+formats-if true script = tt
+formats-if false script = tt
+
 pub promises-kept : (command : Option Command) (visitors : List Connection) (bytes : List ℕ) → IfPlayed KeepsPromises (verdict_of command visitors bytes)
 promises-kept None visitors bytes = tt
-promises-kept (Some Run) visitors bytes = promises-by (λ script. Makes (Plays (played_of script))) bytes (limit_of 0 bytes) (script_of bytes) (λ script is. keeps-promises (played_of script) is) refl
+promises-kept (Some Run) visitors bytes = promises-in 0 (λ script. Makes (Plays (played_of script))) bytes (λ script is. keeps-promises (played_of script) is)
 promises-kept (Some (Serve member address count)) visitors bytes =
-    promises-by (λ script. service_of script count visitors (member_named script.head member)) bytes (limit_of (most_waiting * count) bytes) (script_of bytes)
-    (λ script is. promises-served script count visitors (member_named script.head member) is) refl
+    promises-in (most_waiting * count) (λ script. service_of script count visitors (member_named script.head member)) bytes (λ script is. promises-served script count visitors (member_named script.head member) is)
+promises-kept (Some Print) visitors bytes = promises-in 0 (λ script. Makes (Formats script)) bytes (λ script is. tt)
+promises-kept (Some (Generate seed count)) visitors bytes = formats-if (nat_lt MOST_GENERATED count) (generated_script seed count)
+promises-kept (Some (Drill seed count)) visitors bytes = promises-if (nat_lt MOST_GENERATED count) (played_of (generated_script seed count)) (generated-IsScript seed count).head

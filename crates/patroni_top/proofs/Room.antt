@@ -1,15 +1,19 @@
 -- Scripts within the limits have no more steps than a world takes.
 use Rattle.std.proofs.Common.{ℕ, ◌+◌, ◌*◌, ◌≤◌, List, [], ◌∷◌, length, arith, length-append}
-use Rattle.std.proofs.lemmas.List.{length-replicate}
+use Rattle.std.proofs.lemmas.List.{length-map, length-replicate}
 use Rattle.cluster_model.specs.declared.step.Step.{Step}
 use Rattle.cluster_model.specs.declared.step.Step.TheVariants as steps
 use Rattle.cluster_model.specs.Steps.{steps_of, steps_of_line}
 use Rattle.script_model.specs.declared.line.Line.{Line}
 use Rattle.script_model.specs.declared.line.Line.TheVariants as lines
-use Rattle.script_model.specs.Script.{ScriptText}
+use Rattle.script_generator.proofs.BodyLaws.{generated-lines, generated-ticks}
+use Rattle.script_generator.specs.Generating.{generated_body, generated_script}
+use Rattle.script_generator.specs.Opening.{generated_head}
+use Rattle.script_model.specs.Script.{ScriptText, line_text, names_of}
 use Rattle.script_model.specs.Ticks.{ticks_of_line, total_ticks}
 use Rattle.serve_model.specs.Connections.{connection_cost, most_waiting}
 use Rattle.world_model.specs.Room.{most_steps}
+use Rattle.patroni_top.specs.Drawing.{CanBeDrawn}
 use Rattle.patroni_top.specs.Limits.{KeepsLimits}
 
 -- a body has no more steps than ticks and lines
@@ -27,3 +31,7 @@ room-alone script few = omega (arith, few.ticks, few.lines, body-steps script.bo
 
 pub room-behind : (script : ScriptText) (count : ℕ) → KeepsLimits (most_waiting * count) script → length (steps_of script.body) + connection_cost * count ≤ most_steps
 room-behind script count few = omega (arith, few.ticks, few.lines, body-steps script.body)
+
+-- nor have scripts that are made of a number
+pub room-drawn : (seed count : ℕ) → CanBeDrawn count → length (steps_of (generated_script seed count).body) ≤ most_steps
+room-drawn seed count few = omega (arith, few, generated-ticks seed count, generated-lines seed count, length-map (generated_body seed count) (line_text (names_of generated_head)), body-steps (generated_body seed count))

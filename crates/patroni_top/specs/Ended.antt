@@ -1,5 +1,5 @@
 -- How a run ended, with what it leaves.
-use Rattle.std.specs.Prelude.{ℕ, ◌≡◌, ◌≢◌, ◌↔◌, List, Some, None, Ok, Err, Result, IsSome, IfSome}
+use Rattle.std.specs.Prelude.{ℕ, ◌≡◌, ◌≢◌, ◌↔◌, ◌*◌, Bool, List, Option, Some, None, Ok, Err, Result, IsSome, IsTrue, IfSome}
 use Rattle.pat_base.specs.declared.outside.Source.{Ghosts}
 use Rattle.pat_base.specs.declared.outside.Sink.{Ghosts as SinkGhosts}
 use Rattle.pat_base.specs.Outside.{Known}
@@ -11,7 +11,7 @@ use Rattle.patroni_top.specs.declared.ended.Ended.{Ended}
 use Rattle.patroni_top.specs.declared.ending.Ending.{Ending}
 use Rattle.patroni_top.specs.declared.ending.Ending.TheVariants as endings
 use Rattle.patroni_top.specs.declared.status.Status.TheVariants as statuses
-use Rattle.patroni_top.specs.Commands.{Command, IfPlayed, Verdict, verdict_on}
+use Rattle.patroni_top.specs.Commands.{Command, IfPlayed, Verdict, heeded, plays, reads, verdict_of, verdict_on}
 use Rattle.patroni_top.specs.Ends.{Ends}
 use Rattle.patroni_top.specs.Status.{Says, status_of}
 
@@ -20,23 +20,24 @@ abbrev pub ending_in : {A : Type 0} → Result A Ending → Ending
 ending_in (Ok left) = endings.Done
 ending_in (Err ending) = ending
 
--- a world is there exactly where all is done, and where the source tells its bytes, it took all steps of the run that was played
-pub record LeavesWorld {S : Type 0} (source : Ghosts S) (input : S) (verdict : List ℕ → Verdict) (ended : Ended) : Type 0 where
-  pub done : IsSome ended.world ↔ (ended.status ≡ statuses.Done)
-  pub stands : IfSome ended.world (λ world. Known (source.rest input) (λ bytes. IfPlayed (λ played. IsLeftBy played world) (verdict bytes)))
+-- a world is there exactly where all is done and a run was played, and where the bytes that the command goes by are told, the world took all
+-- steps of that run
+pub record LeavesWorld (bytes : Option (List ℕ)) (played : Bool) (verdict : List ℕ → Verdict) (ended : Ended) : Type 0 where
+  pub done : IsSome ended.world ↔ ((ended.status ≡ statuses.Done) × IsTrue played)
+  pub stands : IfSome ended.world (λ world. Known bytes (λ all. IfPlayed (λ run. IsLeftBy run world) (verdict all)))
 
--- how a call ended that leaves a world where all is done
-abbrev pub ended_by : Result WorldFacts Ending → Ended
-ended_by (Ok world) = record { status = statuses.Done; world = Some world }
+-- how a call ended that leaves a world, or none, where all is done
+abbrev pub ended_by : Result (Option WorldFacts) Ending → Ended
+ended_by (Ok left) = record { status = statuses.Done; world = left }
 ended_by (Err ending) = record { status = status_of ending; world = None }
 
--- a command was carried out: its status says what came of it, and a run that was played leaves its world
-pub record Carries {S K D : Type 0} (source : Ghosts S) (sink : SinkGhosts K) (door : DoorGhosts D) (input left : S) (out then : K) (was now : D) (verdict : List ℕ → Verdict) (ended : Ended) : Type 0 where
-  pub ends : Ends source sink door input left out then was now verdict ended.status
-  pub world : LeavesWorld source input verdict ended
+-- words were carried out while these connections came: the status says what came of the words, and a run that was played leaves its world
+pub record Carries {S K D : Type 0} (source : Ghosts S) (sink : SinkGhosts K) (door : DoorGhosts D) (input left : S) (out then : K) (was now : D) (words : Option Command) (visitors : List Connection) (ended : Ended) : Type 0 where
+  pub ends : Ends source sink door input left out then was now (reads words) (verdict_of words visitors) ended.status
+  pub world : LeavesWorld (heeded (reads words) (source.rest input)) (plays words) (verdict_of words visitors) ended
 
 -- what a call that carries out a command says of it: the words were one, these connections came, and what it names is the input's
-pub record IsCarriedOut {S K D : Type 0} (source : Ghosts S) (sink : SinkGhosts K) (door : DoorGhosts D) (input left : S) (out then : K) (was now : D) (command : Command) (result : Result WorldFacts Ending) : Type 0 where
+pub record IsCarriedOut {S K D : Type 0} (source : Ghosts S) (sink : SinkGhosts K) (door : DoorGhosts D) (input left : S) (out then : K) (was now : D) (command : Command) (result : Result (Option WorldFacts) Ending) : Type 0 where
   pub usage : status_of (ending_in result) ≢ statuses.Usage
-  pub carries : (visitors : List Connection) × Carries source sink door input left out then was now (verdict_on command visitors) (ended_by result)
-  pub says : (visitors : List Connection) → Known (source.rest input) (λ bytes. Says (ending_in result) (verdict_on command visitors bytes))
+  pub carries : (visitors : List Connection) × Carries source sink door input left out then was now (Some command) visitors (ended_by result)
+  pub says : (visitors : List Connection) → Known (heeded (reads (Some command)) (source.rest input)) (λ bytes. Says (ending_in result) (verdict_on command visitors bytes))

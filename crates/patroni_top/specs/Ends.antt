@@ -1,5 +1,5 @@
 -- How a command ends.
-use Rattle.std.specs.Prelude.{ℕ, ◌≡◌, ◌≤◌, ◌⊎◌, List, [], length, Some, Result, Ok, Err}
+use Rattle.std.specs.Prelude.{ℕ, ◌≡◌, ◌≤◌, ◌⊎◌, Bool, true, false, List, [], length, Option, Some, Result, Ok, Err, IsTrue}
 use Rattle.pat_base.specs.declared.outside.Sink.{Ghosts as SinkGhosts}
 use Rattle.pat_base.specs.declared.outside.Source.{Ghosts as SourceGhosts}
 use Rattle.pat_base.specs.Outside.{Known, Rose, Grew, GrewByPrefix, Consumed}
@@ -8,10 +8,11 @@ use Rattle.cluster_model.specs.Starting.{cluster_of}
 use Rattle.cluster_model.specs.Steps.{steps_of}
 use Rattle.run_player.specs.declared.serve_error.ServeError.{ServeError}
 use Rattle.run_player.specs.declared.serve_error.ServeError.TheVariants as errors
-use Rattle.run_player.specs.Served.{Came, after_steps}
+use Rattle.run_player.specs.Run.{lines_of_run}
+use Rattle.run_player.specs.Served.{Came, after_steps, served_of}
 use Rattle.patroni_top.specs.declared.status.Status.{Status}
 use Rattle.patroni_top.specs.declared.status.Status.TheVariants as statuses
-use Rattle.patroni_top.specs.Commands.{EndsWhole, Faulty, Makes, PastLimit, Plan, Plays, Serves, UnknownMember, Verdict, plan_lines, plan_text}
+use Rattle.patroni_top.specs.Commands.{EndsWhole, Faulty, Makes, PastCount, PastLimit, Plan, Serves, UnknownMember, Verdict, heeded, plan_text}
 
 -- the input is no script, or declares no such member
 abbrev pub IsFaulty : Verdict → Type 0
@@ -19,8 +20,9 @@ IsFaulty (Faulty line fault) = Unit {0}
 IsFaulty UnknownMember = Unit {0}
 IsFaulty _ = ⊥
 
--- the input passes a limit of scripts
+-- the input passes a limit of scripts, or more lines are to be drawn than may be
 abbrev pub IsPastLimit : Verdict → Type 0
+IsPastLimit PastCount = Unit {0}
 IsPastLimit (PastLimit limit) = Unit {0}
 IsPastLimit _ = ⊥
 
@@ -31,14 +33,22 @@ serving_of statuses.WriteFault = Err errors.Write
 serving_of statuses.DoorFault = Err errors.Door
 serving_of _ = Err errors.Memory
 
--- a source, a sink and a door before a command and after it, and what comes of the command by the bytes of the source
-module _ {S K D : Type 0} (source : SourceGhosts S) (sink : SinkGhosts K) (door : DoorGhosts D) (input left : S) (out then : K) (was now : D) (verdict : List ℕ → Verdict) where
+-- a source, a sink and a door before a command and after it, whether the command reads the source, and what comes of it by the bytes that it goes by
+module _ {S K D : Type 0} (source : SourceGhosts S) (sink : SinkGhosts K) (door : DoorGhosts D) (input left : S) (out then : K) (was now : D) (read : Bool) (verdict : List ℕ → Verdict) where
+  -- the bytes that the command goes by, where they are told
+  abbrev pub told : Option (List ℕ)
+  told = heeded read (source.rest input)
+
+  -- no read fails
+  abbrev pub NoReadFails : Type 0
+  NoReadFails = IsTrue read → source.is_reliable input
+
   abbrev pub IsUnwritten : Type 0
   IsUnwritten = sink.content then ≡ sink.content out
 
-  -- all that was to be printed is, and the input was read to its end
+  -- all that was to be printed is
   abbrev pub IsDone : Verdict → Type 0
-  IsDone (Makes plan) = Grew (sink.content out) (sink.content then) (plan_text plan) × (source.rest left ≡ Some [])
+  IsDone (Makes plan) = Grew (sink.content out) (sink.content then) (plan_text plan)
   IsDone _ = ⊥
 
   -- a front of what was to be printed is
@@ -51,21 +61,21 @@ module _ {S K D : Type 0} (source : SourceGhosts S) (sink : SinkGhosts K) (door 
   IsCut (Makes plan) = (text : List ℕ) × EndsWhole plan text × Grew (sink.content out) (sink.content then) text
   IsCut _ = IsUnwritten
 
-  -- of what was to be printed all but the closing summary is
+  -- connections were to come, and of what was to be printed all but the closing summary is
   abbrev pub IsHalted : Verdict → Type 0
-  IsHalted (Makes plan) = Grew (sink.content out) (sink.content then) (plan_lines plan)
+  IsHalted (Makes (Serves script id count visitors)) = Grew (sink.content out) (sink.content then) (lines_of_run (served_of script id visitors))
   IsHalted _ = ⊥
 
   -- what each status says of the bytes, of the input, of the output and of the door
   abbrev pub Means : Status → Type 0
-  Means statuses.Done = Known (source.rest input) (λ bytes. IsDone (verdict bytes))
-  Means statuses.NotScript = Known (source.rest input) (λ bytes. IsFaulty (verdict bytes)) × IsUnwritten
-  Means statuses.Usage = (source.rest left ≡ source.rest input) × IsUnwritten
-  Means statuses.ReadFault = Rose (source.faults input) (source.faults left) × IsUnwritten
-  Means statuses.WriteFault = Rose (sink.faults out) (sink.faults then) × Known (source.rest input) (λ bytes. IsBroken (verdict bytes))
-  Means statuses.Memory = Known (source.rest input) (λ bytes. IsCut (verdict bytes))
-  Means statuses.DoorFault = Rose (door.door_faults was) (door.door_faults now) × Known (source.rest input) (λ bytes. IsHalted (verdict bytes))
-  Means statuses.Limit = Known (source.rest input) (λ bytes. IsPastLimit (verdict bytes)) × IsUnwritten
+  Means statuses.Done = Known told (λ bytes. IsDone (verdict bytes)) × (IsTrue read → Known told (λ bytes. source.rest left ≡ Some []))
+  Means statuses.NotScript = Known told (λ bytes. IsFaulty (verdict bytes)) × IsUnwritten
+  Means statuses.Usage = IsUnwritten
+  Means statuses.ReadFault = IsTrue read × Rose (source.faults input) (source.faults left) × IsUnwritten
+  Means statuses.WriteFault = Rose (sink.faults out) (sink.faults then) × Known told (λ bytes. IsBroken (verdict bytes))
+  Means statuses.Memory = Known told (λ bytes. IsCut (verdict bytes))
+  Means statuses.DoorFault = Rose (door.door_faults was) (door.door_faults now) × Known told (λ bytes. IsHalted (verdict bytes))
+  Means statuses.Limit = Known told (λ bytes. IsPastLimit (verdict bytes)) × IsUnwritten
 
   -- what became of the door: the connections of a plan came to it, which else has nothing to do with it
   abbrev pub IsVisited : Status → Verdict → Type 0
@@ -74,16 +84,18 @@ module _ {S K D : Type 0} (source : SourceGhosts S) (sink : SinkGhosts K) (door 
 
   -- the door serves as many connections as a plan has
   abbrev pub IsServedBy : Plan → Type 0
-  IsServedBy (Plays played) = Unit {0}
   IsServedBy (Serves script id count visitors) = door.serves was count
+  IsServedBy _ = Unit {0}
 
-  -- Where the input doesn't fail, bytes that pass a limit or are no script are told apart from scripts, unless memory is wanting, and
-  -- where the output has room too, and the door serves as many connections as there are to be, all is printed.
+  -- A command that doesn't read the input leaves it as it was. Where no read fails, bytes that pass a limit or are no script are told apart from
+  -- scripts, unless memory is wanting, and where the output has room too, and the door serves as many connections as there are to be, all is
+  -- printed.
   pub record Ends (status : Status) : Type 0 where
     pub means : Means status
-    pub visited : Known (source.rest input) (λ bytes. IsVisited status (verdict bytes))
-    pub past_limit : source.is_reliable input → Known (source.rest input) (λ bytes. IsPastLimit (verdict bytes) → (status ≡ statuses.Limit) ⊎ (status ≡ statuses.Memory))
-    pub faulty : source.is_reliable input → Known (source.rest input) (λ bytes. IsFaulty (verdict bytes) → (status ≡ statuses.NotScript) ⊎ (status ≡ statuses.Memory))
-    pub complete : source.is_reliable input → Known (source.rest input) (λ bytes.
+    pub unread : read ≡ false → left ≡ input
+    pub visited : Known told (λ bytes. IsVisited status (verdict bytes))
+    pub past_limit : NoReadFails → Known told (λ bytes. IsPastLimit (verdict bytes) → (status ≡ statuses.Limit) ⊎ (status ≡ statuses.Memory))
+    pub faulty : NoReadFails → Known told (λ bytes. IsFaulty (verdict bytes) → (status ≡ statuses.NotScript) ⊎ (status ≡ statuses.Memory))
+    pub complete : NoReadFails → Known told (λ bytes.
         (plan : Plan) → verdict bytes ≡ Makes plan → (n : ℕ) → sink.can_take out n → length (plan_text plan) ≤ n → IsServedBy plan → (status ≡ statuses.Done) ⊎ (status ≡ statuses.Memory))
     pub consumed : Consumed (source.rest input) (source.rest left) 1048577

@@ -1,5 +1,6 @@
 pub mod Claims
 pub mod Commands
+pub mod Drawing
 pub mod Ended
 pub mod Ends
 pub mod Limits

@@ -20,7 +20,7 @@ use Rattle.run_player.specs.declared.serve_error.ServeError.{ServeError}
 use Rattle.run_player.specs.declared.serve_error.ServeError.TheVariants as serves
 use Rattle.patroni_top.specs.declared.status.Status.{Status}
 use Rattle.patroni_top.specs.declared.status.Status.TheVariants as statuses
-use Rattle.patroni_top.specs.Commands.{Faulty, PastLimit, UnknownMember, Verdict}
+use Rattle.patroni_top.specs.Commands.{Faulty, PastCount, PastLimit, UnknownMember, Verdict}
 
 -- the number of an exit status
 abbrev pub code_of : Status → ℕ
@@ -44,12 +44,14 @@ status_of endings.WriteFault = statuses.WriteFault
 status_of endings.Memory = statuses.Memory
 status_of endings.DoorFault = statuses.DoorFault
 status_of (endings.Limit limit) = statuses.Limit
+status_of endings.PastCount = statuses.Limit
 
 -- what an ending says of what came of the words and the input: the fault with its line, or the limit, is the input's
 abbrev pub Says : Ending → Verdict → Type 0
 Says (endings.NotScript line fault) verdict = verdict ≡ Faulty line fault
 Says endings.UnknownMember verdict = verdict ≡ UnknownMember
 Says (endings.Limit limit) verdict = verdict ≡ PastLimit limit
+Says endings.PastCount verdict = verdict ≡ PastCount
 Says _ verdict = Unit {0}
 
 -- an ending refuses bytes that are to be a script for what they are, where so many ticks come beside those of its lines
@@ -65,6 +67,7 @@ IsRefusal endings.Usage = ⊥
 IsRefusal endings.WriteFault = ⊥
 IsRefusal endings.UnknownMember = ⊥
 IsRefusal endings.DoorFault = ⊥
+IsRefusal endings.PastCount = ⊥
 IsRefusal _ = Unit {0}
 
 -- how a run ends where its input can't be read
@@ -101,12 +104,13 @@ abbrev pub message_of : Ending → List ℕ
 message_of endings.Done = []
 message_of (endings.NotScript line fault) = fault_line line fault
 message_of endings.UnknownMember = codes "serve: unknown member\n"
-message_of endings.Usage = codes "usage: patroni_sim run | serve MEMBER ADDRESS COUNT | print | gen SEED COUNT\n"
+message_of endings.Usage = codes "usage: patroni_sim run | serve MEMBER ADDRESS COUNT | print | gen SEED COUNT | drill SEED COUNT\n"
 message_of endings.ReadFault = codes "read fault\n"
 message_of endings.WriteFault = codes "write fault\n"
 message_of endings.Memory = codes "out of memory\n"
 message_of endings.DoorFault = codes "door fault\n"
 message_of (endings.Limit limit) = limit_line limit
+message_of endings.PastCount = codes "limit: count\n"
 
 -- the error output grew by a front of the line: by all of it, unless a fault came
 pub record IsReported {E : Type 0} (sink : Ghosts E) (before after : E) (line : List ℕ) : Type 0 where

@@ -30,6 +30,8 @@ pub enum Ending {
     DoorFault,
     /// The first limit that the bytes pass.
     Limit(Limit),
+    /// More lines are to be drawn than may be.
+    PastCount,
 }
 
 impl Ending {
@@ -47,7 +49,7 @@ impl Ending {
             Ending::WriteFault => Status::WriteFault,
             Ending::Memory => Status::Memory,
             Ending::DoorFault => Status::DoorFault,
-            Ending::Limit(_) => Status::Limit,
+            Ending::Limit(_) | Ending::PastCount => Status::Limit,
         }
     }
 }
@@ -114,13 +116,14 @@ pub fn message(ending: Ending) -> Message
         Ending::NotScript { line, fault } => fault_line(line, fault),
         Ending::UnknownMember => line_of("serve: unknown member\n"),
         Ending::Usage => line_of(
-            "usage: patroni_sim run | serve MEMBER ADDRESS COUNT | print | gen SEED COUNT\n",
+            "usage: patroni_sim run | serve MEMBER ADDRESS COUNT | print | gen SEED COUNT | drill SEED COUNT\n",
         ),
         Ending::ReadFault => line_of("read fault\n"),
         Ending::WriteFault => line_of("write fault\n"),
         Ending::Memory => line_of("out of memory\n"),
         Ending::DoorFault => line_of("door fault\n"),
         Ending::Limit(limit) => limit_line(limit),
+        Ending::PastCount => line_of("limit: count\n"),
     }
 }
 

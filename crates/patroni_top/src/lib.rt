@@ -3,10 +3,12 @@
 //! `run` is all that the program does. It answers how it ended, with the world that a run leaves.
 #![tactic(auto)]
 
+mod drawing;
 mod ended;
 mod ending;
 mod members;
 mod order;
+mod printing;
 mod reading;
 mod status;
 mod top;

@@ -3,35 +3,40 @@ ghost use Rattle.std.specs.Prelude.{List, ◌≡◌, ◌↔◌, None, map, strin
 ghost use Rattle.pat_base.specs.Outside.{Known};
 ghost use Rattle.serve_model.specs.Connections.{Connection};
 ghost use Rattle.patroni_top.specs.Claims.{KeepsPromises};
-ghost use Rattle.patroni_top.specs.Commands.{IfPlayed, Serve, command_of, order_command, verdict_of};
+ghost use Rattle.patroni_top.specs.Commands.{IfPlayed, Serve, command_of, heeded, order_command, reads, verdict_of};
 ghost use Rattle.patroni_top.specs.Ended.{Carries, IsCarriedOut};
 ghost use Rattle.patroni_top.specs.Status.{status_of, message_of, Says, IsReported};
 
+use crate::drawing::drawn_script;
 use crate::ending::{Ending, message};
 use crate::members::member_named;
 use crate::order::Order;
+use crate::printing::print_script;
 use crate::reading::script_from;
 use crate::{Ended, Status};
 use pat_base::{Sink, Source, write_all};
 use pat_door::Door;
 use pat_serve::MOST_WAITING;
 use pat_world::World;
-use run_player::{Service, play, serve};
+use run_player::{Service, drill, play, serve};
 use std::alloc::Global;
 
 /// The program: all that it does with its words, its input, its two outputs and its door.
 ///
 /// The word `run` reads a script from the input, at most 1,048,577 bytes of it, and writes its printed run on `out`. The words
 /// `serve MEMBER ADDRESS COUNT` do so too; but before the closing summary the door is opened at that address, and so many connections are
-/// served, one after another, by that member's agent: what each brings comes next in the run, and is printed once it is answered.
+/// served, one after another, by that member's agent: what each brings comes next in the run, and is printed once it is answered. The word
+/// `print` reads a script, and writes it as it is spelled canonically. The words `gen SEED COUNT` read nothing, and write the script that
+/// is made of this number with so many lines that are drawn, at most 2,400. `drill SEED COUNT` plays such a script, and writes the closing
+/// summary of its run: its last seven lines.
 ///
-/// The whole script is read before anything is written. Judged are first the words, then the input, then the limits of
-/// scripts, to whose ticks come 600 for each connection, then the lines, then the member, and then the output and the door. Each line is
-/// written in one piece, and where memory is wanting what was written are the lines of whole steps. What isn't done is said in one line on
-/// `err`; that `err` fails changes nothing else.
+/// The whole script is read before anything is written. Judged are first the words, then the count of lines that are to be drawn, then the
+/// input, then the limits of scripts, to whose ticks come 600 for each connection, then the lines, then the member, and then the output and
+/// the door. Each line is written in one piece, and where memory is wanting what was written are the lines of whole steps. What isn't done
+/// is said in one line on `err`; that `err` fails changes nothing else.
 ///
-/// What is answered has the world after the last step, exactly where the status is `Done`. On every other path the world that was
-/// made is closed.
+/// What is answered has the world after the last step, exactly where the status is `Done` and a run was played. On every other path the
+/// world that was made is closed.
 pub fn run<S: Source, K: Sink, E: Sink, D: Door>(
     alloc: Global,
     words: &[String],
@@ -44,13 +49,13 @@ pub fn run<S: Source, K: Sink, E: Sink, D: Door>(
     ensures usage { (result.status ≡ Status.Usage) ↔ (command_of (map string_bytes words.now) ≡ None) }
     // These connections came: the status says what came of the words by the bytes of the input and by them, what was written of that, and
     // what was sent on each; and a run that was played leaves its world.
-    ensures carried { (visitors : List Connection) × Carries S.Source K.Sink D.Door input.old input.new out.old out.new door.old door.new (verdict_of (command_of (map string_bytes words.now)) visitors) result }
+    ensures carried { (visitors : List Connection) × Carries S.Source K.Sink D.Door input.old input.new out.old out.new door.old door.new (command_of (map string_bytes words.now)) visitors result }
     // What is played has one writer while the premises are met, keeps commits while synchronous mode is on too, and its summary is true,
     // whoever connects.
-    ensures promises { (visitors : List Connection) → Known (S.rest input.old) (λ bytes. IfPlayed KeepsPromises (verdict_of (command_of (map string_bytes words.now)) visitors bytes)) }
-    // The line told is that of the status; the fault with its line, or the limit, that it names is the input's.
+    ensures promises { (visitors : List Connection) → Known (heeded (reads (command_of (map string_bytes words.now))) (S.rest input.old)) (λ bytes. IfPlayed KeepsPromises (verdict_of (command_of (map string_bytes words.now)) visitors bytes)) }
+    // The line told is that of the status; the fault with its line, or the limit, that it names is the input's or that of the words.
     ensures reported { (ending : Ending) × (status_of ending ≡ result.status)
-        × ((visitors : List Connection) → Known (S.rest input.old) (λ bytes. Says ending (verdict_of (command_of (map string_bytes words.now)) visitors bytes)))
+        × ((visitors : List Connection) → Known (heeded (reads (command_of (map string_bytes words.now))) (S.rest input.old)) (λ bytes. Says ending (verdict_of (command_of (map string_bytes words.now)) visitors bytes)))
         × IsReported E.Sink err.old err.new (message_of ending) }
 {
     let Some(order) = Order::read(words) else {
@@ -65,7 +70,7 @@ pub fn run<S: Source, K: Sink, E: Sink, D: Door>(
             report(err, Ending::Done);
             Ended {
                 status: Status::Done,
-                world: Some(world),
+                world,
             }
         }
         Err(ending) => {
@@ -78,27 +83,42 @@ pub fn run<S: Source, K: Sink, E: Sink, D: Door>(
     }
 }
 
-/// Does what a command asks for. On Ok it answers the world after the last step.
+/// Does what a command asks for. On Ok it answers the world after the last step, where a run was played.
 fn carry_out<S: Source, K: Sink, D: Door>(
     order: Order<'_>,
     alloc: Global,
     input: &mut S,
     out: &mut K,
     door: &mut D,
-) -> Result<World, Ending>
+) -> Result<Option<World>, Ending>
     ensures { IsCarriedOut S.Source K.Sink D.Door input.old input.new out.old out.new door.old door.new (order_command order.entry) result }
 {
     match order {
         Order::Run => {
             let script = script_from(alloc, 0, input)?;
             let world = play(alloc, &script, out)?;
-            Ok(world)
+            Ok(Some(world))
         }
         Order::Serve {
             member,
             address,
             count,
         } => serve_script(alloc, member, address, count, input, out, door),
+        Order::Print => {
+            let script = script_from(alloc, 0, input)?;
+            print_script(alloc, &script, out)?;
+            Ok(None)
+        }
+        Order::Generate { seed, count } => {
+            let script = drawn_script(alloc, seed, count)?;
+            print_script(alloc, &script, out)?;
+            Ok(None)
+        }
+        Order::Drill { seed, count } => {
+            let script = drawn_script(alloc, seed, count)?;
+            let world = drill(alloc, &script, out)?;
+            Ok(Some(world))
+        }
     }
 }
 
@@ -112,7 +132,7 @@ fn serve_script<S: Source, K: Sink, D: Door>(
     input: &mut S,
     out: &mut K,
     door: &mut D,
-) -> Result<World, Ending>
+) -> Result<Option<World>, Ending>
     ensures { IsCarriedOut S.Source K.Sink D.Door input.old input.new out.old out.new door.old door.new (Serve name.now address.now count) result }
 {
     let script = script_from(alloc, MOST_WAITING.saturating_mul(count), input)?;
@@ -125,7 +145,7 @@ fn serve_script<S: Source, K: Sink, D: Door>(
         count,
     };
     let world = serve(alloc, &script, &service, door, out)?;
-    Ok(world)
+    Ok(Some(world))
 }
 
 /// Says in one line what isn't done.

@@ -3,6 +3,7 @@ pub mod Idling
 pub mod Played
 pub mod Received
 pub mod Shown
+pub mod Silence
 pub mod Visiting
 pub mod Watching
 pub mod Whole

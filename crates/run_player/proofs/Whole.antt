@@ -13,7 +13,7 @@ use Rattle.pat_world.proofs.Standing.{is-stands}
 use Rattle.pat_world.proofs.Stepping.{steps-left-behind}
 use Rattle.world_model.specs.Room.{most_steps}
 use Rattle.run_player.specs.Left.{IsLeftBy}
-use Rattle.run_player.specs.Run.{noted_from, printed_from, text_of_run}
+use Rattle.run_player.specs.Run.{noted_from, printed_from, summary_of_run, text_of_run}
 use Rattle.run_player.specs.Watches.{first_summary}
 
 -- what is printed from a player that has just begun is the whole
@@ -23,6 +23,12 @@ text-is head steps world trace summary start untraced first =
     ap (λ t. printed_from world t steps ++ closing_text (noted_from summary world steps).watch.closing) untraced
     ∙ ap (λ f. printed_from world false steps ++ closing_text (noted_from f world steps).watch.closing) first
     ∙ ap (λ w. printed_from w false steps ++ closing_text (noted_from (first_summary head) w steps).watch.closing) start
+
+-- and so is its closing summary
+pub summary-is : (head : HeadText) (steps : List Step) (world : Cluster) (summary : SummaryFacts) → world ≡ cluster_of head → summary ≡ first_summary head
+    → closing_text (noted_from summary world steps).watch.closing ≡ summary_of_run (record { head = head; steps = steps })
+summary-is head steps world summary start first =
+    ap (λ f. closing_text (noted_from f world steps).watch.closing) first ∙ ap (λ w. closing_text (noted_from (first_summary head) w steps).watch.closing) start
 
 -- and behind it the world is the one that the run leaves
 pub left-by : (head : HeadText) (steps : List Step) (first last world : WorldFacts) → length steps ≤ most_steps → first.cluster ≡ cluster_of head → first.steps ≡ 0 → HasStepsLeft first most_steps → IsCounted first

@@ -65,9 +65,13 @@ closing_of_run played = (noted_from (first_summary played.head) (cluster_of play
 abbrev pub lines_of_run : Played → List ℕ
 lines_of_run played = printed_from (cluster_of played.head) false played.steps
 
+-- the closing summary of a run
+abbrev pub summary_of_run : Played → List ℕ
+summary_of_run played = closing_text (closing_of_run played)
+
 -- the text of a run: its lines, and then the summary
 abbrev pub text_of_run : Played → List ℕ
-text_of_run played = lines_of_run played ++ closing_text (closing_of_run played)
+text_of_run played = lines_of_run played ++ summary_of_run played
 
 -- this text is the lines of a run up to the end of one of its steps
 pub record EndsAtStep (played : Played) (text : List ℕ) : Type 0 where

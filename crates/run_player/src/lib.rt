@@ -1,6 +1,8 @@
 //! Runs played: the steps of a script, and of connections behind it, taken by a world, noted for the closing summary, and printed.
 #![tactic(auto)]
 
+mod discard;
+mod drilling;
 mod player;
 mod playing;
 mod print_error;
@@ -10,7 +12,9 @@ mod serving;
 mod showing;
 mod watches;
 
+pub use drilling::drill;
 pub use playing::play;
 pub use print_error::PrintError;
+pub use printing::print_lines;
 pub use serve_error::ServeError;
 pub use serving::{Service, serve};

@@ -14,6 +14,7 @@ ghost use Rattle.run_player.specs.Playing.{Idles, Plays, PrintsWholeSteps};
 ghost use Rattle.run_player.specs.Run.{noted_from, printed_from, traced_after};
 ghost use Rattle.run_player.specs.Watches.{first_summary};
 
+use crate::discard::Discard;
 use crate::print_error::PrintError;
 use crate::printing::{print_closing, print_lines, set_text};
 use crate::showing::{note, note_ticks};
@@ -87,6 +88,20 @@ impl Player {
         ensures whole { IsErrOf result PrintError.Memory → PrintsWholeSteps K.Sink out.old out.new self.old.world.cluster self.old.trace (steps_of script.now.body) }
     {
         self.play_body(script, out)?;
+        print_closing(self.alloc, &self.summary.closing(), out)
+    }
+
+    /// The lines of a script, one after another, in silence, and then the closing summary.
+    pub(crate) fn drill<K: Sink>(&mut self, script: &Script, out: &mut K) -> Result<(), PrintError>
+        requires room { HasStepsLeft self.old.world (length (steps_of script.now.body)) }
+        requires members { names_in self.old.world.cluster.facts.members ≡ names_of script.now.head }
+        ensures world { OnOk result (self.new.world.cluster ≡ cluster_over self.old.world.cluster (run_events self.old.world.cluster (steps_of script.now.body))) }
+        ensures taken { OnOk result (TookSteps self.old.world self.new.world (length (steps_of script.now.body))) }
+        ensures printed { Prints K.Sink out.old out.new PrintError.Write result
+            (closing_text (noted_from self.old.summary self.old.world.cluster (steps_of script.now.body)).watch.closing) }
+        ensures memory { IsErrOf result PrintError.Memory → out.new ≡ out.old }
+    {
+        self.play_body(script, &mut Discard)?;
         print_closing(self.alloc, &self.summary.closing(), out)
     }
 

@@ -7,7 +7,7 @@ use Rattle.patroni_top.proofs.Premises.{promises-kept}
 use Rattle.patroni_top.proofs.top.run.Goals as goal
 
 pub returns-in_default-clause-carried : goal.returns-in_default-clause-carried
-returns-in_default-clause-carried g c = unasked g.S.Source g.K.Sink g.D.Door c.args.input.now c.args.input.now c.args.out.now c.args.door.now (command_of (map string_bytes c.args.words.now)) (sym c.read.ensures ∙ ap (option_map order_command) c.in_default.is)
+returns-in_default-clause-carried g c = unasked g.S.Source g.K.Sink g.D.Door c.args.input.now c.args.out.now c.args.door.now (command_of (map string_bytes c.args.words.now)) (sym c.read.ensures ∙ ap (option_map order_command) c.in_default.is)
 
 pub returns-in-Ok-clause-promises : goal.returns-in-Ok-clause-promises
 returns-in-Ok-clause-promises g c = λ visitors bytes told. promises-kept (command_of (map string_bytes c.args.words.now)) visitors bytes

@@ -1,0 +1,15 @@
+-- How many lines may be drawn.
+use Rattle.std.specs.Prelude.{ℕ, ◌≤◌, ◌<◌}
+use Rattle.script_generator.specs.declared.generating.TheConstants.{MOST_GENERATED}
+use Rattle.patroni_top.specs.declared.ending.Ending.{Ending}
+use Rattle.patroni_top.specs.declared.ending.Ending.TheVariants as endings
+
+-- so many lines may be drawn
+abbrev pub CanBeDrawn : ℕ → Type 0
+CanBeDrawn count = count ≤ MOST_GENERATED
+
+-- an ending says why no script is made of a number: too many lines are to be drawn, or else memory is wanting
+abbrev pub RefusesToDraw : ℕ → Ending → Type 0
+RefusesToDraw count endings.PastCount = MOST_GENERATED < count
+RefusesToDraw count endings.Memory = CanBeDrawn count
+RefusesToDraw count _ = ⊥

@@ -1,0 +1,58 @@
+use Rattle.std.proofs.Common.{ℕ, List, length, ap, ◌∙◌, Err, Ok, subst}
+use Rattle.std.proofs.lemmas.Result.{err_from_is_err_and}
+use Rattle.pat_base.specs.Prints.{Prints}
+use Rattle.pat_base.proofs.Printing.{Prints-none, Prints-ok}
+use Rattle.cluster_model.specs.Starting.{cluster_of}
+use Rattle.cluster_model.specs.State.{Cluster}
+use Rattle.cluster_model.specs.Steps.{names_in, steps_of}
+use Rattle.world_model.proofs.Declaring.{names-start}
+use Rattle.world_model.specs.Room.{most_steps}
+use Rattle.pat_world.proofs.Stepping.{steps-left-fewer}
+use Rattle.run_player.specs.declared.print_error.PrintError.TheVariants.{Memory, Write}
+use Rattle.run_player.specs.Watches.{first_summary}
+use Rattle.run_player.proofs.Played.{Prints-err, memory-is-no-write, same-error}
+use Rattle.run_player.proofs.Whole.{left-by, summary-is}
+use Rattle.run_player.proofs.drilling.drill.Goals as goal
+
+pub drill-requires-clause-room : goal.drill-requires-clause-room
+drill-requires-clause-room g c = steps-left-fewer c.in_ok-player.player.world most_steps (length (steps_of c.args.script.now.body)) c.requires c.in_ok-player.ensures.room
+
+pub drill-requires-clause-members : goal.drill-requires-clause-members
+drill-requires-clause-members g c =
+    let start = c.in_ok-player.ensures.world ∙ ap (λ h. cluster_of h) c.head.ensures.value in
+    ap (λ (w : Cluster). names_in w.facts.members) start ∙ names-start c.args.script.now.head (c.head.ensures.script).head.few
+
+pub returns-in_err-player-clause-printed : goal.returns-in_err-player-clause-printed
+returns-in_err-player-clause-printed g c =
+    let p = err_from_is_err_and c.from_residual.result c.from_residual.ensures.1 in
+    Prints-none g.K.Sink c.args.out.now Write Memory c.from_residual.result _ (p.1 ∙ ap Err p.2) memory-is-no-write
+
+pub returns-in-Ok-clause-printed : goal.returns-in-Ok-clause-printed
+returns-in-Ok-clause-printed g c =
+    let script = c.args.script.now in
+    let player = c.in_ok-player.player in
+    let first = c.in_ok-player.ensures in
+    Prints-ok Write c.into_world.result
+    (subst (λ (t : List ℕ). Prints {X = Unit {0}} g.K.Sink c.args.out.now c.drill.new.out Write (Ok tt) t)
+    (summary-is script.head (steps_of script.body) player.world.cluster player.summary (first.world ∙ ap (λ h. cluster_of h) c.head.ensures.value) (first.summary ∙ ap (λ h. first_summary h) c.head.ensures.value))
+    c.in-Ok.ensures.printed)
+
+pub returns-in-Ok-clause-world : goal.returns-in-Ok-clause-world
+returns-in-Ok-clause-world g c =
+    let script = c.args.script.now in
+    let start = c.in_ok-player.ensures.world ∙ ap (λ h. cluster_of h) c.head.ensures.value in
+    let first = c.in_ok-player.ensures in
+    left-by script.head (steps_of script.body) c.in_ok-player.player.world _ c.into_world.result c.requires start first.steps first.room first.counted c.in-Ok.ensures.world c.in-Ok.ensures.taken c.into_world.ensures
+
+pub returns-in-Err-clause-printed : goal.returns-in-Err-clause-printed
+returns-in-Err-clause-printed g c =
+    let script = c.args.script.now in
+    let player = c.in_ok-player.player in
+    let first = c.in_ok-player.ensures in
+    Prints-err
+    (subst (λ (t : List ℕ). Prints {X = Unit {0}} g.K.Sink c.args.out.now c.drill.new.out Write (Err c.in-Err.error) t)
+    (summary-is script.head (steps_of script.body) player.world.cluster player.summary (first.world ∙ ap (λ h. cluster_of h) c.head.ensures.value) (first.summary ∙ ap (λ h. first_summary h) c.head.ensures.value))
+    c.in-Err.ensures.printed)
+
+pub returns-in-Err-clause-memory : goal.returns-in-Err-clause-memory
+returns-in-Err-clause-memory g c = λ e. c.in-Err.ensures.memory (same-error e)

@@ -1,0 +1,32 @@
+//! Scripts played of which the closing summary alone is printed.
+ghost use Rattle.std.specs.Prelude.{◌≡◌, ◌≤◌, length, IfOk, IsErrOf};
+ghost use Rattle.pat_base.specs.Prints.{Prints};
+ghost use Rattle.cluster_model.specs.Steps.{steps_of};
+ghost use Rattle.world_model.specs.Room.{most_steps};
+ghost use Rattle.run_player.specs.Left.{IsLeftBy};
+ghost use Rattle.run_player.specs.Run.{played_of, summary_of_run};
+
+use crate::player::Player;
+use crate::print_error::PrintError;
+use pat_base::Sink;
+use pat_world::World;
+use script_model::Script;
+use std::alloc::Global;
+
+/// Takes the steps of a script from its head on, and prints the closing summary alone, each line in one piece. On Ok it answers the world
+/// after the last step; on Err the world is closed. Where memory is wanting, nothing was printed.
+pub fn drill<K: Sink>(alloc: Global, script: &Script, out: &mut K) -> Result<World, PrintError>
+    requires { length (steps_of script.now.body) ≤ most_steps }
+    ensures printed { Prints K.Sink out.old out.new PrintError.Write result (summary_of_run (played_of script.now)) }
+    ensures memory { IsErrOf result PrintError.Memory → out.new ≡ out.old }
+    ensures world { IfOk result (IsLeftBy (played_of script.now)) }
+{
+    let mut player = Player::new(alloc, script.head())?;
+    match player.drill(script, out) {
+        Ok(()) => Ok(player.into_world()),
+        Err(error) => {
+            player.into_world().close();
+            Err(error)
+        }
+    }
+}
