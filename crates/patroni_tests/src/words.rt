@@ -92,3 +92,19 @@ fn drills_of_eight_seeds(rt: HostRuntime) -> Result<(), Fail> {
     }
     Ok(())
 }
+
+/// A script that is made is canonical, and what a drill prints is the end of its run.
+#[test]
+fn a_script_that_is_made(rt: HostRuntime) -> Result<(), Fail> {
+    let alloc = rt.alloc();
+    let made = run_in_memory(alloc, "gen 7 300", "", NO_FAULTS)?;
+    let drilled = run_in_memory(alloc, "drill 7 300", "", NO_FAULTS)?;
+    let script = made.out.as_str();
+    let printed = run_in_memory(alloc, "print", script, NO_FAULTS)?;
+    assert_eq!(rt; printed.out.as_str(), script);
+    let ran = run_in_memory(alloc, "run", script, NO_FAULTS)?;
+    assert_eq!(rt; ran.status, 0);
+    assert!(rt; drilled.out.as_str().starts_with("end at "));
+    assert!(rt; ran.out.as_str().ends_with(drilled.out.as_str()));
+    Ok(())
+}
