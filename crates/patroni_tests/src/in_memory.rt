@@ -8,6 +8,13 @@ use patroni_top::{Ended, run};
 use std::alloc::{AllocError, Global};
 use std::process::Abort;
 
+/// What is said of words that are no command.
+pub const USAGE: &str =
+    "usage: patroni_sim run | serve MEMBER ADDRESS COUNT | print | gen SEED COUNT | drill SEED COUNT\n";
+
+/// How many bytes may be printed.
+const ROOM: usize = 8_388_608;
+
 /// Which calls are to fail, counted from 1; 0 fails none.
 #[derive(Clone, Copy)]
 pub struct Faults {
@@ -28,6 +35,15 @@ pub struct Outcome {
     pub status: u8,
     pub out: String,
     pub err: String,
+}
+
+/// A text with another so many times behind it.
+pub fn repeated(alloc: Global, head: &str, piece: &str, count: u64) -> Result<String, AllocError> {
+    let mut text = String::from_str(alloc, head)?;
+    for _ in 0..count {
+        text.push_str(piece)?;
+    }
+    Ok(text)
 }
 
 /// The program over a script, with words between which blanks stand.
@@ -75,7 +91,7 @@ pub fn run_with_door(
     faults: Faults,
     door: &mut MemoryDoor,
 ) -> Result<Outcome, AllocError> {
-    let mut out = MemorySink::new(alloc, 65536, vec![in alloc; faults.out]?)?;
+    let mut out = MemorySink::new(alloc, ROOM, vec![in alloc; faults.out]?)?;
     let mut err = MemorySink::new(alloc, 4096, vec![in alloc; faults.err]?)?;
     let Ended { status, world } = ran(alloc, words, script, faults, &mut out, &mut err, door)?;
     if let Some(world) = world {
@@ -90,7 +106,7 @@ pub fn run_with_door(
 
 /// The world at the end of a run of this script.
 fn world_after(rt: &impl Abort, alloc: Global, script: &str) -> Result<World, AllocError> {
-    let mut out = MemorySink::new(alloc, 65536, Vec::new(alloc))?;
+    let mut out = MemorySink::new(alloc, ROOM, Vec::new(alloc))?;
     let mut err = MemorySink::new(alloc, 4096, Vec::new(alloc))?;
     let mut door = closed_door(alloc)?;
     let Ended { world, status: _ } = ran(

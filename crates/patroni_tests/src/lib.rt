@@ -1,6 +1,6 @@
-//! What the worked runs (`worked_runs`) can't show of the whole program: faults of what is read and written, other words than
-//! `run`, connections that are served, scripts as long as they may be, and the world that a run leaves. A crate with tests is proved
-//! twice, so they stand here and not in `patroni_top`.
+//! What the worked runs (`worked_runs`) can't show of the whole program: faults of what is read and written, tables of words, runs
+//! that are repeated, connections that are served, scripts as long as they may be, and the world that a run leaves. A crate with tests
+//! is proved twice, so they stand here and not in `patroni_top`.
 #![tactic(auto)]
 
 #[cfg(test)]
@@ -13,3 +13,5 @@ mod served;
 mod sizes;
 #[cfg(test)]
 mod views;
+#[cfg(test)]
+mod words;

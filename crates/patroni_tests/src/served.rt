@@ -1,5 +1,5 @@
 //! Connections to the REST interface of a member, over a door in memory.
-use crate::in_memory::{NO_FAULTS, Outcome, run_with_door};
+use crate::in_memory::{NO_FAULTS, Outcome, USAGE, repeated, run_with_door};
 use pat_door::MemoryDoor;
 use std::alloc::{AllocError, Global};
 use std::process::Abort;
@@ -113,13 +113,12 @@ fn door_faults(rt: HostRuntime) -> Result<(), Fail> {
 #[test]
 fn words_of_a_service(rt: HostRuntime) -> Result<(), Fail> {
     let alloc = rt.alloc();
-    let usage = "usage: patroni_sim run | serve MEMBER ADDRESS COUNT | print | gen SEED COUNT\n";
     let cases: [(&str, u8, &str); 8] = [
         ("serve z 127.0.0.1:0 1", 1, "serve: unknown member\n"),
         ("serve A! 127.0.0.1:0 1", 1, "serve: unknown member\n"),
-        ("serve a 127.0.0.1:0", 2, usage),
-        ("serve a 127.0.0.1:0 01", 2, usage),
-        ("serve a 127.0.0.1:0 1 1", 2, usage),
+        ("serve a 127.0.0.1:0", 2, USAGE),
+        ("serve a 127.0.0.1:0 01", 2, USAGE),
+        ("serve a 127.0.0.1:0 1 1", 2, USAGE),
         ("serve a 127.0.0.1:0 1667", 7, "limit: ticks\n"),
         (
             "serve a 127.0.0.1:0 18446744073709551615",
@@ -233,21 +232,90 @@ fn every_kind_of_reply(rt: HostRuntime) -> Result<(), Fail> {
     Ok(())
 }
 
-/// A request that is cut behind each of its bytes is none.
+/// A request that is cut behind each of its bytes is none, and all of its bytes are.
 #[test]
 fn cut_connections(rt: HostRuntime) -> Result<(), Fail> {
     let alloc = rt.alloc();
-    let whole = b"PATCH /config HTTP/1.1\r\nContent-Length: 2\r\n\r\n{}";
+    let head = b"GET /liveness HTTP/1.1\r\n\r\n";
+    let with_a_body = b"PATCH /config HTTP/1.1\r\nContent-Length: 2\r\n\r\n{}";
     let mut asked: Vec<&[u8]> = Vec::new(alloc);
-    for length in 0..47usize {
-        asked.push(&whole[..length])?;
+    for length in 0..26usize {
+        asked.push(&head[..length])?;
     }
-    let served = serve(alloc, "serve a 127.0.0.1:0 47", ONE_MEMBER, &asked, &[])?;
+    for length in 0..47usize {
+        asked.push(&with_a_body[..length])?;
+    }
+    asked.push(head)?;
+    let served = serve(alloc, "serve a 127.0.0.1:0 74", ONE_MEMBER, &asked, &[])?;
     let refused = reply(alloc, "400 Bad Request", "text/plain", "BadHead")?;
-    for answer in &served.answers {
+    for answer in served.answers.iter().take(73) {
         assert_eq!(rt; *answer, refused);
     }
-    assert_eq!(rt; served.answers.len(), 47);
+    let last = served.answer(73).ok_or("no answer")?;
+    assert!(rt; last.starts_with("HTTP/1.1 200 OK\r\n"));
+    Ok(())
+}
+
+/// A request to change the configuration, with this body.
+fn patch(alloc: Global, body: &[u8]) -> Result<Vec<u8>, AllocError> {
+    let length = body.len();
+    let head = format!(in alloc; "PATCH /config HTTP/1.1\r\nContent-Length: {length}\r\n\r\n")?;
+    let mut bytes = head.as_str().as_bytes().to_vec(alloc)?;
+    bytes.extend_from_slice(body)?;
+    Ok(bytes)
+}
+
+/// So many arrays, one in another.
+fn nested_arrays(alloc: Global, depth: u64) -> Result<String, AllocError> {
+    let begun = repeated(alloc, "", "[", depth)?;
+    repeated(alloc, begun.as_str(), "]", depth)
+}
+
+/// Each is refused with the first of its faults: by its head, by its length, or by its body.
+#[test]
+fn faulty_requests(rt: HostRuntime) -> Result<(), Fail> {
+    let alloc = rt.alloc();
+    let few = patch(alloc, nested_arrays(alloc, 100)?.as_str().as_bytes())?;
+    let many = patch(alloc, nested_arrays(alloc, 200)?.as_str().as_bytes())?;
+    let not_text = patch(alloc, b"\xff")?;
+    let number = patch(alloc, b"{\"pause\":1}")?;
+    // a first line of 16 bytes, a name, a colon and a blank, and two line ends
+    let field = repeated(alloc, "GET / HTTP/1.1\r\nA: ", "a", 16_385 - 16 - 3 - 4)?;
+    let long_head = format!(in alloc; "{field}\r\n\r\n")?;
+    assert_eq!(rt; long_head.len(), 16_385);
+    let cases: [(&[u8], &str); 10] = [
+        (
+            b"GET / HTTP/1.1\r\nContent-Length: 0\r\nContent-Length: 0\r\n\r\n",
+            "BadLength",
+        ),
+        (
+            b"GET / HTTP/1.1\r\nContent-Length: +1\r\n\r\nx",
+            "BadLength",
+        ),
+        (
+            b"GET / HTTP/1.1\r\nContent-Length: 65537\r\n\r\n",
+            "TooLong",
+        ),
+        (
+            b"GET / HTTP/1.1\r\nContent-Length: 10\r\n\r\nabc",
+            "BadHead",
+        ),
+        (long_head.as_str().as_bytes(), "TooLong"),
+        (&few, "NotObject"),
+        (&many, "NotJson"),
+        (&not_text, "NotJson"),
+        (&number, "BadValue(pause)"),
+        (b"POST /switchover HTTP/1.1\r\n\r\n", "Bad body"),
+    ];
+    let mut asked: Vec<&[u8]> = Vec::new(alloc);
+    for (bytes, _) in &cases {
+        asked.push(bytes)?;
+    }
+    let served = serve(alloc, "serve a 127.0.0.1:0 10", ONE_MEMBER, &asked, &[])?;
+    for (place, (_, body)) in cases.iter().enumerate() {
+        let refused = reply(alloc, "400 Bad Request", "text/plain", body)?;
+        assert_eq!(rt; served.answer(place), Some(refused.as_str()), "{body}");
+    }
     Ok(())
 }
 

@@ -10,7 +10,7 @@ ghost use Rattle.member_rows.specs.Endings.{endings};
 ghost use Rattle.member_rows.specs.Laws.{is_row_of};
 ghost use Rattle.member_rows.specs.Rows.{declared_in, info_in, is_before, rows_of};
 ghost use Rattle.member_rows.specs.declared.rows.Row.{Row};
-ghost use Rattle.text_table.specs.Laws.{rule_of};
+ghost use Rattle.text_table.specs.Laws.{lines_above, lines_around, rule_of};
 ghost use Rattle.text_table.specs.Tables.{table_lines};
 ghost use Rattle.patronictl.specs.History.{history_table};
 ghost use Rattle.patronictl.specs.Lags.{megabytes};
@@ -33,15 +33,15 @@ pub fn each_member_stands_once()
         → count_by (is_row_of member) (rows_of seen) ≡ 1 }
     ensures by_name { (seen : SnapshotFacts) → IsSortedBy is_before (rows_of seen) }
     ensures lines { (seen : SnapshotFacts) (place : ℕ) (row : Row) → slice_get (rows_of seen) place ≡ Some row
-        → slice_get (table_lines (member_table seen)) (3 + place) ≡ Some (member_line seen row) }
-    ensures no_others { (seen : SnapshotFacts) → length (table_lines (member_table seen)) ≡ length (rows_of seen) + 4 }
+        → slice_get (table_lines (member_table seen)) (lines_above + place) ≡ Some (member_line seen row) }
+    ensures no_others { (seen : SnapshotFacts) → length (table_lines (member_table seen)) ≡ length (rows_of seen) + lines_around }
 {}
 
 /// The lines of the table of the history between the second rule and the last are those of the timelines that ended, in their order.
 pub fn each_ending_stands_once()
     ensures lines { (seen : SnapshotFacts) (place : ℕ) (row : HistoryRow) → slice_get (endings seen) place ≡ Some row
-        → slice_get (table_lines (history_table seen)) (3 + place) ≡ Some (history_line seen row) }
-    ensures no_others { (seen : SnapshotFacts) → length (table_lines (history_table seen)) ≡ length (endings seen) + 4 }
+        → slice_get (table_lines (history_table seen)) (lines_above + place) ≡ Some (history_line seen row) }
+    ensures no_others { (seen : SnapshotFacts) → length (table_lines (history_table seen)) ≡ length (endings seen) + lines_around }
 {}
 
 /// A lag is told to the nearest megabyte: it is off by half of one at most, and where it is off by just that, an even number is told.

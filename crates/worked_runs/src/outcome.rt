@@ -16,14 +16,13 @@ pub struct Outcome {
     pub text: Vec<u8>,
 }
 
-/// What `run` makes of these bytes.
-pub fn run_script(alloc: Global, script: Vec<u8>) -> Result<Outcome, AllocError> {
-    let words = vec![in alloc; String::from_str(alloc, "run")?]?;
+/// What the program makes of these words, where its input has these bytes.
+pub fn outcome_of(alloc: Global, words: &[String], script: Vec<u8>) -> Result<Outcome, AllocError> {
     let mut input = MemorySource::new(script, Vec::new(alloc));
     let mut out = MemorySink::new(alloc, ROOM, Vec::new(alloc))?;
     let mut err = MemorySink::new(alloc, ROOM, Vec::new(alloc))?;
     let mut door = MemoryDoor::new(alloc, Vec::new(alloc), 0, Vec::new(alloc))?;
-    let Ended { status, world } = run(alloc, &words, &mut input, &mut out, &mut err, &mut door);
+    let Ended { status, world } = run(alloc, words, &mut input, &mut out, &mut err, &mut door);
     if let Some(world) = world {
         world.close();
     }

@@ -1,4 +1,4 @@
-use Rattle.std.proofs.Common.{◌∙◌, ◌+◌, ◌++◌, List, ℕ, ap, sym, arith, codes, get_or, take}
+use Rattle.std.proofs.Common.{◌∙◌, ◌++◌, List, ℕ, ap, sym, arith, codes, get_or, take}
 use Rattle.text_table.specs.declared.alignment.Alignment.TheVariants.{Left}
 use Rattle.text_table.specs.declared.slot.Slot.{Slot}
 use Rattle.text_table.specs.Tables.{cell_text, cells_from}
