@@ -184,7 +184,7 @@ module _ {S K D : Type 0} (source : SourceGhosts S) (sink : SinkGhosts K) (door 
         → IsCarriedOut source sink door input left out out was was command result
     refused out was command waited makes goes same quiets result ending is refusal refuses rose unfailing =
         let says : (visitors : List Connection) → Known (source.rest input) (λ bytes. Says ending (verdict_on command visitors bytes)) =
-            λ visitors bytes told. subst (Says ending) (same visitors bytes) (refusal-says waited (makes visitors) ending bytes refusal (refuses bytes told)) in
+        λ visitors bytes told. subst (Says ending) (same visitors bytes) (refusal-says waited (makes visitors) ending bytes refusal (refuses bytes told)) in
         let heard : (b : Bool) → b ≡ true → heeded b (source.rest input) ≡ source.rest input = λ b true-is. rw true-is refl in
         subst (IsCarriedOut source sink door input left out out was was command) (sym is) (record {
           usage = (refusal-is ending refusal).0;

@@ -18,9 +18,15 @@ pub enum Order<'a> {
     /// `print`: the script of the input is printed as it is spelled canonically.
     Print,
     /// `gen SEED COUNT`: a script is made of a number, with so many lines that are drawn, and printed.
-    Generate { seed: u64, count: u64 },
+    Generate {
+        seed: u64,
+        count: u64,
+    },
     /// `drill SEED COUNT`: such a script is played, and the closing summary of its run printed.
-    Drill { seed: u64, count: u64 },
+    Drill {
+        seed: u64,
+        count: u64,
+    },
 }
 
 impl<'a> Order<'a> {
@@ -57,12 +63,7 @@ impl<'a> Order<'a> {
     }
 
     /// The command of a word, a member, an address and a number.
-    fn serving(
-        word: &str,
-        member: &'a [u8],
-        address: &'a [u8],
-        count: u64,
-    ) -> Option<Order<'a>>
+    fn serving(word: &str, member: &'a [u8], address: &'a [u8], count: u64) -> Option<Order<'a>>
         ensures { option_map order_command result ≡ service_in word.now member.now address.now (Some count) }
     {
         match word.as_bytes() {

@@ -10,11 +10,7 @@ use script_printing::print;
 use std::alloc::Global;
 
 /// Writes a script as it is spelled canonically, each of its lines in one piece. Where memory is wanting for its text, nothing is written.
-pub fn print_script<K: Sink>(
-    alloc: Global,
-    script: &Script,
-    out: &mut K,
-) -> Result<(), PrintError>
+pub fn print_script<K: Sink>(alloc: Global, script: &Script, out: &mut K) -> Result<(), PrintError>
     ensures printed { Prints K.Sink out.old out.new PrintError.Write result (spelling_of script.now) }
     ensures memory { IsErrOf result PrintError.Memory → out.new ≡ out.old }
 {
