@@ -1,6 +1,5 @@
 -- How a command was carried out, for each way in which it may go.
-use Rattle.std.proofs.Common.{◌≡◌, ◌≢◌, ◌≤◌, ◌<◌, ◌*◌, ◌+◌, ℕ, Bool, false, true, List, [], Option, Some, None, Result, Ok, Err, append-nil, arith, nat_lt, refl, sym, subst, ap, ◌∙◌}
-use Rattle.std.specs.Prelude.{IsErrOf}
+use Rattle.std.proofs.Common.{◌≡◌, ◌≢◌, ◌<◌, ◌*◌, ◌+◌, ℕ, Bool, false, true, List, [], Option, Some, None, Result, Ok, Err, append-nil, arith, nat_lt, refl, sym, subst, ap, ◌∙◌}
 use Rattle.std.proofs.lemmas.Bool.Decides.{nat_tests}
 use Rattle.pat_base.specs.declared.member_id.MemberId.{MemberId}
 use Rattle.pat_base.specs.declared.outside.Sink.{Ghosts as SinkGhosts}
@@ -34,12 +33,12 @@ use Rattle.patroni_top.specs.declared.ending.Ending.{Ending}
 use Rattle.patroni_top.specs.declared.ending.Ending.TheVariants as endings
 use Rattle.patroni_top.specs.declared.status.Status.{Status}
 use Rattle.patroni_top.specs.declared.status.Status.TheVariants as statuses
-use Rattle.patroni_top.specs.Commands.{Command, Drill, Drills, EndsWhole, Formats, Generate, Makes, NoCommand, PastCount, Plan, Plays, Print, Run, Serve, Serves, UnknownMember, Verdict, heeded, member_named, plan_run, plan_text, plays, reads, service_of, verdict_in, verdict_of, verdict_of_count, verdict_on}
+use Rattle.patroni_top.specs.Commands.{Command, Drill, Drills, EndsWhole, Formats, Generate, Makes, NoCommand, PastCount, Plan, Plays, Print, Run, Serve, Serves, UnknownMember, Verdict, heeded, member_named, plan_run, plan_text, plays, reads, service_of, verdict_in, verdict_of_count, verdict_on}
 use Rattle.patroni_top.specs.Drawing.{CanBeDrawn, RefusesToDraw}
 use Rattle.patroni_top.specs.Ended.{Carries, IsCarriedOut, LeavesWorld, ended_by}
 use Rattle.patroni_top.specs.Ends.{Ends, IsCut, IsVisited, serving_of}
 use Rattle.patroni_top.specs.Status.{IsRefusal, Refuses, Says, ending_of_print, ending_of_serve, status_of}
-use Rattle.patroni_top.proofs.Endings.{Ends-done, Ends-faulty, Ends-past, Ends-refused, Ends-stopped, Ends-wanting, IsQuiet, Reads, plays-only, prints-so, quiet, quiet-service, refusal-says, script-makes, steps-cut}
+use Rattle.patroni_top.proofs.Endings.{Ends-done, Ends-faulty, Ends-past, Ends-refused, Ends-stopped, Ends-wanting, IsQuiet, Reads, plays-only, prints-so, quiet, refusal-says, script-makes, steps-cut}
 
 -- an ending in which the input gives no script
 refusal-is : (ending : Ending) → IsRefusal ending → (status_of ending ≢ statuses.Usage) × (status_of ending ≢ statuses.Done)

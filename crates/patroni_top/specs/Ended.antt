@@ -1,5 +1,5 @@
 -- How a run ended, with what it leaves.
-use Rattle.std.specs.Prelude.{ℕ, ◌≡◌, ◌≢◌, ◌↔◌, ◌*◌, Bool, List, Option, Some, None, Ok, Err, Result, IsSome, IsTrue, IfSome}
+use Rattle.std.specs.Prelude.{ℕ, ◌≡◌, ◌≢◌, ◌↔◌, Bool, List, Option, Some, None, Ok, Err, Result, IsSome, IsTrue, IfSome}
 use Rattle.pat_base.specs.declared.outside.Source.{Ghosts}
 use Rattle.pat_base.specs.declared.outside.Sink.{Ghosts as SinkGhosts}
 use Rattle.pat_base.specs.Outside.{Known}

@@ -6,7 +6,7 @@ use pat_base::{Failed, Sink};
 pub(crate) struct Discard;
 
 impl Sink for Discard {
-    ghost use Rattle.std.specs.Prelude.{None, Unit};
+    ghost use Rattle.std.specs.Prelude.{None};
 
     ghost content = { λ _. None };
 

@@ -1,6 +1,6 @@
 //! The line that a draw gives.
-ghost use Rattle.std.specs.Prelude.{◌≡◌, true, IsTrue};
-ghost use Rattle.script_generator.specs.Drawing.{kind_of, drawn_place, drawn_member, drawn_amount, drawn_size, is_even, link_command, line_of_kind, drawn_line};
+ghost use Rattle.std.specs.Prelude.{◌≡◌};
+ghost use Rattle.script_generator.specs.Drawing.{kind_of, drawn_member, drawn_amount, drawn_size, is_even, link_command, line_of_kind, drawn_line};
 
 use pat_base::MemberId;
 use script_model::{Command, CommitSize, End, Line};

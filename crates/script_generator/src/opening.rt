@@ -1,5 +1,5 @@
 //! The head of a generated script.
-ghost use Rattle.std.specs.Prelude.{◌≡◌, [], OnOk, IfOk, IsTrue, map};
+ghost use Rattle.std.specs.Prelude.{◌≡◌, IfOk, IsTrue};
 ghost use Rattle.pat_base.specs.Name.{name_bytes};
 ghost use Rattle.pat_base.specs.NameText.{is_name};
 ghost use Rattle.script_generator.specs.Opening.{generated_options, generated_head, generated_members};
