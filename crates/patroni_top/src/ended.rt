@@ -6,7 +6,7 @@ use pat_world::World;
 pub struct Ended {
     /// How it ended.
     pub status: Status,
-    /// The world after the last step. It is there exactly where the status is `Done`. It can't be dropped: whoever gets it
-    /// closes it by `World::close`.
+    /// The world after the last step. It is there exactly where the status is `Done` and a run was played. It can't be dropped: whoever
+    /// gets it closes it by `World::close`.
     pub world: Option<World>,
 }

@@ -3,7 +3,7 @@
 /// How the program ended. Its number is the exit status.
 #[derive(Clone, Copy, Debug, PartialEq, Eq)]
 pub enum Status {
-    /// The whole output is written, and the input was read to its end.
+    /// The whole output is written, and the input was read to its end, where it is read.
     Done = 0,
     /// The bytes pass no limit and are no script, or one that declares no such member.
     NotScript = 1,
@@ -17,7 +17,7 @@ pub enum Status {
     Memory = 5,
     /// The door failed to open, or to bring a connection.
     DoorFault = 6,
-    /// The bytes pass a limit of scripts.
+    /// The bytes pass a limit of scripts, or more lines are to be drawn than may be.
     Limit = 7,
 }
 
