@@ -6,9 +6,9 @@ use Rattle.cluster_model.specs.Cluster.{cluster_over}
 use Rattle.cluster_model.specs.Next.{next_events, run_events}
 use Rattle.cluster_model.specs.Starting.{cluster_of}
 use Rattle.cluster_model.specs.State.{Cluster}
-use Rattle.run_law.specs.Fencing.{AreFenced}
-use Rattle.run_law.proofs.Fencing.{fenced-behind}
-use Rattle.run_law.proofs.MeasuredRuns.{runs-fenced}
+use Rattle.lease_runs.specs.Fencing.{AreFenced}
+use Rattle.lease_runs.proofs.Fencing.{fenced-behind}
+use Rattle.lease_runs.proofs.MeasuredRuns.{runs-fenced}
 use Rattle.world_model.specs.Emits.{Emits}
 use Rattle.pat_world.specs.Fenced.{KeepsFencing}
 use Rattle.pat_world.proofs.OneWriter.{run_events-last}

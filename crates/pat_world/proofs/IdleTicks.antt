@@ -16,7 +16,7 @@ use Rattle.world_model.specs.Emits.{Emits}
 use Rattle.world_model.specs.Idle.{BringsTicks, IsIdleBefore, IsIdleIn, NothingEnds, NothingIsDue}
 use Rattle.pat_world.specs.OneWriter.{KeepsOneWriter}
 use Rattle.world_model.specs.Room.{HasRoom, HasRoomFor, step_cost}
-use Rattle.run_law.proofs.EveryRun.{runs-one}
+use Rattle.lease_runs.proofs.EveryRun.{runs-one}
 use Rattle.world_model.proofs.Idling.{at_moment, idle-after, idle-at, idle-ends, idle-ticks, next-idle, ticked-idle}
 use Rattle.world_model.proofs.Rooms.{HasRoom-cluster_after, HasRoom-fewer}
 use Rattle.pat_world.proofs.Standing.{is-stands}

@@ -8,8 +8,8 @@ use Rattle.cluster_model.specs.Cluster.{cluster_over}
 use Rattle.cluster_model.specs.Next.{next_events, run_events}
 use Rattle.cluster_model.specs.Starting.{cluster_of}
 use Rattle.cluster_model.specs.State.{Cluster}
-use Rattle.commit_run_law.specs.Runs.{KeepsCommitsIn, KeepsOrderIn}
-use Rattle.commit_run_law.proofs.EveryRun.{runs-in-order, runs-keep}
+use Rattle.commit_runs.specs.Runs.{KeepsCommitsIn, KeepsOrderIn}
+use Rattle.commit_runs.proofs.EveryRun.{runs-in-order, runs-keep}
 use Rattle.world_model.specs.Emits.{Emits}
 use Rattle.pat_world.specs.KeptCommits.{KeepsAcknowledged}
 use Rattle.pat_world.proofs.IdleTicks.{run_events-both}

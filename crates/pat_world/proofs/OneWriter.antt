@@ -6,7 +6,7 @@ use Rattle.cluster_model.specs.Cluster.{cluster_over}
 use Rattle.cluster_model.specs.Next.{next_events, run_events}
 use Rattle.cluster_model.specs.Starting.{cluster_of}
 use Rattle.cluster_model.specs.State.{Cluster}
-use Rattle.run_law.proofs.EveryRun.{runs-one}
+use Rattle.lease_runs.proofs.EveryRun.{runs-one}
 use Rattle.world_model.specs.Emits.{Emits}
 use Rattle.rest_law.proofs.Found.{one-found}
 use Rattle.pat_world.specs.OnePrimary.{KeepsOnePrimary}

@@ -6,7 +6,7 @@ use Rattle.event_book.specs.declared.event.Event.{Event}
 use Rattle.cluster_model.specs.Next.{run_events}
 use Rattle.cluster_model.specs.Starting.{cluster_of}
 use Rattle.cluster_model.specs.State.{Cluster}
-use Rattle.run_law.specs.Fencing.{AreFenced}
+use Rattle.lease_runs.specs.Fencing.{AreFenced}
 use Rattle.pat_world.specs.Book.{StandsFor}
 
 -- whichever steps brought a world here from a head: each write under a lease that is granted inside the events that come next finds the leader

@@ -6,7 +6,7 @@ use Rattle.event_book.specs.declared.event.Event.{Event}
 use Rattle.cluster_model.specs.Next.{run_events}
 use Rattle.cluster_model.specs.Starting.{cluster_of}
 use Rattle.cluster_model.specs.State.{Cluster}
-use Rattle.commit_run_law.specs.Runs.{KeepsCommitsIn, KeepsOrderIn}
+use Rattle.commit_runs.specs.Runs.{KeepsCommitsIn, KeepsOrderIn}
 use Rattle.pat_world.specs.Book.{StandsFor}
 
 -- whichever steps brought a world here from a head with synchronous mode on: at each moment of their book, and inside the events that come next, each

@@ -7,7 +7,7 @@ use Rattle.event_book.specs.Writers.{HasOneWriter}
 use Rattle.cluster_model.specs.Next.{run_events}
 use Rattle.cluster_model.specs.Starting.{cluster_of}
 use Rattle.cluster_model.specs.State.{Cluster}
-use Rattle.run_step_law.specs.Kept.{WhereMet}
+use Rattle.lease_parts.specs.Kept.{WhereMet}
 use Rattle.pat_world.specs.Book.{StandsFor}
 
 -- whichever steps brought a world here from a head: at each moment of their book, and inside the events that come next, at most one

@@ -14,9 +14,9 @@ use Rattle.summary.specs.Listed.{AreNamed, NamesServer}
 use Rattle.summary.specs.Sights.{SummaryFacts, book_of, noted_step, noted_steps}
 use Rattle.summary.specs.Telling.{EachTellsLosses, TellLosses}
 use Rattle.summary.proofs.Listing.{named-step}
-use Rattle.commit_run_law.specs.Runs.{first_logs}
-use Rattle.commit_run_law.proofs.Losses.{told-back}
-use Rattle.commit_run_law.proofs.LossRuns.{runs-tell}
+use Rattle.commit_runs.specs.Runs.{first_logs}
+use Rattle.commit_runs.proofs.Losses.{told-back}
+use Rattle.commit_runs.proofs.LossRuns.{runs-tell}
 use Rattle.pat_world.proofs.OneWriter.{run_events-last}
 use Rattle.world_model.proofs.Taking.{cluster_over-append}
 use Rattle.pat_world.specs.Book.{events_by_step}

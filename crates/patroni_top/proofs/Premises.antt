@@ -14,8 +14,8 @@ use Rattle.event_book.specs.Kinds.{AllAre}
 use Rattle.cluster_model.specs.Starting.{cluster_of}
 use Rattle.lease_law.specs.Premises.{ArePremisesMet, IsTimely, first_moments}
 use Rattle.summary.specs.Claims.{IsSummaryOf, margin_of, works_of as is_watched}
-use Rattle.run_step_law.specs.Declaring.{margin_said, works_said}
-use Rattle.run_step_law.specs.Kept.{MeetsPremises, WhereMet}
+use Rattle.lease_parts.specs.Declaring.{margin_said, works_said}
+use Rattle.lease_parts.specs.Kept.{MeetsPremises, WhereMet}
 use Rattle.summary.specs.Sights.{first_since}
 use Rattle.summary.specs.Listed.{AreNamed, NamesServer}
 use Rattle.summary.specs.Telling.{AreMeasured}
@@ -23,11 +23,11 @@ use Rattle.summary.proofs.Guarding.{commits-guarded}
 use Rattle.summary.proofs.Listing.{named-first}
 use Rattle.summary.proofs.Steps.{steps-guarded, steps-told}
 use Rattle.rest_law.proofs.Found.{one-found}
-use Rattle.run_law.proofs.EveryRun.{runs-one}
-use Rattle.run_law.proofs.MeasuredRuns.{runs-measured}
-use Rattle.run_law.proofs.NamedRuns.{runs-name}
-use Rattle.commit_run_law.specs.Runs.{KeepsCommitsIn, first_logs}
-use Rattle.commit_run_law.proofs.EveryRun.{runs-in-order, runs-keep}
+use Rattle.lease_runs.proofs.EveryRun.{runs-one}
+use Rattle.lease_runs.proofs.MeasuredRuns.{runs-measured}
+use Rattle.lease_runs.proofs.NamedRuns.{runs-name}
+use Rattle.commit_runs.specs.Runs.{KeepsCommitsIn, first_logs}
+use Rattle.commit_runs.proofs.EveryRun.{runs-in-order, runs-keep}
 use Rattle.cluster_script.specs.declared.limits.Limit.{Limit}
 use Rattle.cluster_script.specs.Limits.{limit_of}
 use Rattle.cluster_model.specs.State.{Cluster}

@@ -5,8 +5,8 @@ use Rattle.event_book.specs.Writers.{HasOneWriter}
 use Rattle.summary.specs.Claims.{AreCommitsGuarded, IsGuarded, IsSummaryOf}
 use Rattle.summary.specs.Listed.{AreNamed}
 use Rattle.rest_law.specs.Finding.{FindsOne}
-use Rattle.run_step_law.specs.Kept.{WhereMet}
-use Rattle.commit_run_law.specs.Runs.{KeepsCommitsIn, KeepsOrderIn, first_logs}
+use Rattle.lease_parts.specs.Kept.{WhereMet}
+use Rattle.commit_runs.specs.Runs.{KeepsCommitsIn, KeepsOrderIn, first_logs}
 use Rattle.run_player.specs.Run.{Played, closing_of_run, run_of}
 use Rattle.run_player.specs.Watches.{watches_of}
 

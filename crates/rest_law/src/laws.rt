@@ -8,7 +8,7 @@ ghost use Rattle.cluster_model.specs.declared.step.Step.{Step};
 ghost use Rattle.cluster_model.specs.Cluster.{cluster_over};
 ghost use Rattle.cluster_model.specs.Next.{run_events};
 ghost use Rattle.cluster_model.specs.Starting.{cluster_of};
-ghost use Rattle.run_step_law.specs.Kept.{WhereMet};
+ghost use Rattle.lease_parts.specs.Kept.{WhereMet};
 ghost use Rattle.rest_law.specs.Finding.{FindsOne, IsFound};
 
 /// Who answers 200 on a path for primaries accepts writes, at each moment of whatever happened. It needs no premise.

@@ -38,7 +38,7 @@ use Rattle.cluster_model.proofs.Founds.{told-holds}
 use Rattle.cluster_model.proofs.Lists.{all-both, all-kinds, all-more, one-kind}
 use Rattle.cluster_model.proofs.Places.{get-changed}
 use Rattle.std.proofs.lemmas.Bool.{eq-eqb, eqb-true}
-use Rattle.run_step_law.proofs.Upholding.{over-append}
+use Rattle.lease_parts.proofs.Upholding.{over-append}
 use Rattle.serve_model.specs.Connections.{reply_by, reply_in}
 use Rattle.serve_model.proofs.Replies.{reply_in-append}
 use Rattle.serve_law.specs.Owing.{HearsBy, IsTold, Tells}

@@ -27,7 +27,7 @@ use Rattle.cluster_model.specs.Requests.{replying, told_kind}
 use Rattle.cluster_model.specs.State.{Cluster}
 use Rattle.cluster_model.proofs.Founds.{told-holds}
 use Rattle.cluster_model.proofs.Lists.{HoldsIf}
-use Rattle.run_step_law.proofs.Upholding.{over-append}
+use Rattle.lease_parts.proofs.Upholding.{over-append}
 use Rattle.serve_model.specs.Connections.{reply_by, reply_in}
 use Rattle.serve_model.proofs.Replies.{reply_in-append}
 use Rattle.serve_law.proofs.Apart.{apart-silent, output-apart}

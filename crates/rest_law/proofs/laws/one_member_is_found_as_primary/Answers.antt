@@ -1,4 +1,4 @@
-use Rattle.run_law.proofs.EveryRun.{runs-one}
+use Rattle.lease_runs.proofs.EveryRun.{runs-one}
 use Rattle.rest_law.proofs.Found.{one-found}
 use Rattle.rest_law.proofs.laws.one_member_is_found_as_primary.Goals as goal
 

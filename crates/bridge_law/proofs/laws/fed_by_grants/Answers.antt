@@ -1,5 +1,0 @@
-use Rattle.bridge_law.proofs.Machines.{grants-by, grants-in}
-use Rattle.bridge_law.proofs.laws.fed_by_grants.Goals as goal
-
-pub returns : goal.returns
-returns c = record { each = grants-by; book = grants-in }

@@ -1,5 +1,0 @@
-use Rattle.bridge_law.proofs.Machines.{machines-first, machines-by, machines-of, count-in, writes-in}
-use Rattle.bridge_law.proofs.laws.same_machines.Goals as goal
-
-pub returns : goal.returns
-returns c = record { first = machines-first; each = machines-by; book = machines-of; count = count-in; writers = writes-in }

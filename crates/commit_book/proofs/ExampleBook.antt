@@ -1,0 +1,51 @@
+-- A causal book: a create and a claim are asked for and granted, and the answer to the claim is in flight.
+use Rattle.std.proofs.Common.{◌≡◌, ℕ, List, Option, Some, refl, arith}
+use Rattle.pat_base.specs.declared.lsn.Lsn.{Lsn}
+use Rattle.pat_base.specs.declared.name.Name.{Name}
+use Rattle.pat_base.specs.declared.server_state.Required.{Required}
+use Rattle.lease_store.specs.Settings.{Settings}
+use Rattle.lease_store.specs.declared.value.MemberInfo.{MemberInfo}
+use Rattle.event_book.specs.declared.member.Member.{Member}
+use Rattle.event_book.specs.Facts.{start_of}
+use Rattle.event_book.specs.Logs.{Logs}
+use Rattle.commit_law.specs.Flights.{SyncGranted}
+use Rattle.commit_law.specs.Past.{first_past, past_over}
+use Rattle.commit_book.specs.Example.{led_and_claimed, claim_flying}
+use Rattle.commit_book.specs.Flights.{AreCausal}
+
+pub example : (logs : Logs) (required : List Required) (confirmed : List (List (Option Lsn))) (first : Settings) (names : List Name) (base : ℕ) (by : Member) (info : MemberInfo)
+    → AreCausal (first_past logs required confirmed) (start_of first names base) (led_and_claimed by info) × ((past_over (first_past logs required confirmed) (led_and_claimed by info)).flight 4 ≡ Some (SyncGranted (claim_flying by)))
+example logs required confirmed first names base by info = (
+  (
+    tt,
+    (
+      (omega arith, tt),
+      (
+        tt,
+        (
+          tt,
+          (
+            omega arith,
+            (
+              tt,
+              (
+                tt,
+                (
+                  (omega arith, record { before = omega arith; named = tt; leasing = refl; written = refl }),
+                  (
+                    tt,
+                    (
+                      (omega arith, tt),
+                      (tt, (tt, (tt, (tt, (tt, ((omega arith, record { before = omega arith; named = (refl, (refl, refl)); leasing = refl; written = refl }), tt)))))),
+                    ),
+                  ),
+                ),
+              ),
+            ),
+          ),
+        ),
+      ),
+    ),
+  ),
+  refl,
+)

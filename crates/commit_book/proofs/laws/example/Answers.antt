@@ -1,0 +1,5 @@
+use Rattle.commit_book.proofs.ExampleBook.{example}
+use Rattle.commit_book.proofs.laws.example.Goals as goal
+
+pub returns : goal.returns
+returns c = example

@@ -1,0 +1,35 @@
+-- A book with the grant of a claim in flight.
+use Rattle.std.specs.Prelude.{false, List, [], ◌∷◌, ◌++◌}
+use Rattle.lease_store.specs.declared.txn.Expected.TheVariants.{Absent}
+use Rattle.lease_store.specs.declared.txn.Txn.{Txn}
+use Rattle.lease_store.specs.declared.txn.Txn.TheVariants as txns
+use Rattle.lease_store.specs.declared.value.MemberInfo.{MemberInfo}
+use Rattle.event_book.specs.declared.event.Event.{Event}
+use Rattle.event_book.specs.declared.event.EventKind.TheVariants as kinds
+use Rattle.event_book.specs.declared.event.MessageEvent.TheVariants as messages
+use Rattle.event_book.specs.declared.link.LinkEnd.TheVariants as ends
+use Rattle.event_book.specs.declared.member.Member.{Member}
+use Rattle.event_book.specs.declared.message.Body.TheVariants as bodies
+use Rattle.lease_law.specs.Showing.{granted_events}
+use Rattle.lease_book.specs.Example.{asked_and_granted}
+use Rattle.commit_law.specs.Flights.{SyncGrant}
+
+-- a claim of who holds the leader key of revision 2, where there is no sync key
+abbrev pub claim_of : Txn
+claim_of = txns.Claim 2 Absent
+
+-- this member asks for the leader key and claims the sync key, and the key store grants both
+abbrev pub led_and_claimed : Member → MemberInfo → List Event
+led_and_claimed by info =
+    asked_and_granted by info
+    ++ (record { tick = record { 0 = 0 }; kind = kinds.Message (messages.Sent 3 (record { from = ends.Member by; to = ends.Store; run = 1; sequence = 2; body = bodies.Request claim_of })) }
+    ∷ granted_events (record { 0 = 0 }) 3 4 by 1 2 claim_of [])
+
+-- the grant of the claim that is in flight then
+abbrev pub claim_flying : Member → SyncGrant
+claim_flying by = record {
+  member = by.id.number;
+  run = 1;
+  sequence = 2;
+  key = record { leader = by.id.number; standbys = λ n. false; quorum = 0; revision = 3 };
+}

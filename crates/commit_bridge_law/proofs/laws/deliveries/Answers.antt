@@ -1,5 +1,0 @@
-use Rattle.commit_bridge_law.proofs.Delivering.{granted-delivery, refused-delivery, read-delivery}
-use Rattle.commit_bridge_law.proofs.laws.deliveries.Goals as goal
-
-pub returns : goal.returns
-returns c = record { granted = granted-delivery; refused = refused-delivery; read = read-delivery }

@@ -1,5 +1,0 @@
-use Rattle.commit_bridge_law.proofs.Hearing.{heard-snapshot, heard-lease, heard-write, heard-other, heard-refused}
-use Rattle.commit_bridge_law.proofs.laws.heard.Goals as goal
-
-pub returns : goal.returns
-returns c = record { snapshot = heard-snapshot; leased = heard-lease; written = heard-write; other = heard-other; refused = heard-refused }

@@ -1,5 +1,0 @@
-use Rattle.commit_bridge_law.proofs.Waits.{once-sent, once-kept, waited-granted, waited-written}
-use Rattle.commit_bridge_law.proofs.laws.waiting.Goals as goal
-
-pub returns : goal.returns
-returns c = record { sent = once-sent; kept = once-kept; granted = waited-granted; written = waited-written }

@@ -1,0 +1,227 @@
+-- All that an input of an agent brings is allowed actions: the law's input with what it covers, and what comes behind.
+use Rattle.std.proofs.Common.{ℕ, ◌≡◌, ◌≤◌, List, [], ◌∷◌, ◌++◌, append_assoc, append-nil, Option, Some, None, option_and_then, slice_get, All, refl, sym, ap, ◌∙◌, subst}
+use Rattle.std.proofs.lemmas.List.Elements.{All-cons, All-head, All-nil, All-push, All-tail, All-weaker}
+use Rattle.pat_base.specs.declared.server_state.Required.{Required}
+use Rattle.pg_model.specs.Facts.{ServerFacts}
+use Rattle.event_book.specs.declared.event.Event.{Event}
+use Rattle.script_model.specs.Script.{HeadText}
+use Rattle.agent_model.specs.declared.machine.Machine.{Machine}
+use Rattle.agent_model.specs.declared.output.Output.{Output}
+use Rattle.agent_model.specs.declared.output.Output.TheVariants as outputs
+use Rattle.agent_commit_law.specs.Committing.{GrowsByConnected, IsCovered, IsLawfulAs, IsSent, StandsAlone, requests_of}
+use Rattle.agent_law.specs.Orders.{IsOfTable, machine_after_outputs}
+use Rattle.agent_commit_law.proofs.CommitQuiet.{IsUnasking, asks-none, covered as covered-quiet, unasking}
+use Rattle.cluster_model.specs.Cluster.{cluster_over}
+use Rattle.cluster_model.specs.Commands.{kinds_of}
+use Rattle.cluster_model.specs.Inputs.{moment_of}
+use Rattle.cluster_model.specs.Orders.{require_of}
+use Rattle.cluster_model.specs.Parts.{each, events_of}
+use Rattle.cluster_model.specs.State.{Cluster}
+use Rattle.commit_law.specs.Flights.{Flying, SyncRequest}
+use Rattle.commit_law.specs.Inputs.{IsGivenByLease, Sending}
+use Rattle.commit_law.specs.Past.{Past, Setup, VolatileState, need_in, need_of, past_over}
+use Rattle.commit_law.proofs.Fronts.{past-append}
+use Rattle.commit_servers.specs.Acting.{Fits}
+use Rattle.commit_servers.specs.Matching.{live_in}
+use Rattle.commit_servers.specs.Sound.{WaitsForMembers}
+use Rattle.lease_parts.specs.Declaring.{member_count}
+use Rattle.lease_inputs.proofs.InputMachines.{Seen as MachineSeen}
+use Rattle.lease_inputs.proofs.InputSeen.{found-of}
+use Rattle.lease_parts.proofs.Upholding.{over-append}
+use Rattle.sync_order_law.proofs.Asides.{once-behind, once-none}
+use Rattle.commit_parts.specs.Bridged.{CommitsBridged}
+use Rattle.commit_parts.specs.Reading.{past_of, setup_of, state_of_run, volatile_of}
+use Rattle.commit_outputs.proofs.Alone.{alone-moves}
+use Rattle.commit_outputs.specs.Answering.{AnswersNone}
+use Rattle.commit_inputs.proofs.Connected.{grown-waits}
+use Rattle.commit_outputs.proofs.Covering.{IsCarried, carried, leave-both, own-both}
+use Rattle.commit_inputs.proofs.Inputs.{front-aside, Acting, After, Before, Events, First, Open, Page, PageOf, Part, SendsInside, Theirs, carried-out, front-acted, front-fits, front-flight, front-leaves, front-live, front-lives, front-needs, front-own, front-servers, given-unless, grows-by, lawful-as, page-moves, table}
+use Rattle.commit_parts.proofs.Moving.{moves-then}
+use Rattle.commit_parts.specs.Moving.{Moves}
+use Rattle.commit_outputs.proofs.Page.{BeginsNone, PassesNone, RequiresNone, Sets, alone-begins, alone-passes, alone-requires, carried-begins, covered-passes, none-begins, none-passes, required-set, sets}
+use Rattle.pat_base.specs.declared.member_id.TheConstants.{MOST_MEMBERS}
+
+-- what comes of some, and then of others
+pub each-both : {X : Type 0} (part : Cluster → X → List Event) (cluster : Cluster) (xs ys : List X) → each part cluster (xs ++ ys) ≡ each part cluster xs ++ each part (cluster_over cluster (each part cluster xs)) ys
+each-both part cluster [] ys = refl
+each-both part cluster (x ∷ xs) ys =
+    ap (λ (l : List Event). part cluster x ++ l) (each-both part (cluster_over cluster (part cluster x)) xs ys)
+    ∙ sym (append_assoc (part cluster x) (each part (cluster_over cluster (part cluster x)) xs) (each part (cluster_over (cluster_over cluster (part cluster x)) (each part (cluster_over cluster (part cluster x)) xs)) ys))
+    ∙ ap (λ (c : Cluster). (part cluster x ++ each part (cluster_over cluster (part cluster x)) xs) ++ each part c ys) (sym (over-append cluster (part cluster x) (each part (cluster_over cluster (part cluster x)) xs)))
+
+pub each-last : {X : Type 0} (part : Cluster → X → List Event) (cluster : Cluster) (xs : List X) (x : X) → each part cluster (xs ++ x ∷ []) ≡ each part cluster xs ++ part (cluster_over cluster (each part cluster xs)) x
+each-last part cluster xs x = each-both part cluster xs (x ∷ []) ∙ ap (λ (l : List Event). each part cluster xs ++ l) (append-nil (part (cluster_over cluster (each part cluster xs)) x))
+
+pub all-front : (P : Output → Type 0) (xs ys outs : List Output) → xs ++ ys ≡ outs → All P outs → All P xs
+all-front P xs ys outs is all = by xs (subst (λ (l : List Output). All P l) (sym is) all)
+  where
+    by : (xs : List Output) → All P (xs ++ ys) → All P xs
+    by [] all = All-nil P
+    by (x ∷ xs) all = All-cons P x xs (All-head P x (xs ++ ys) all) (by xs (All-tail P x (xs ++ ys) all))
+
+-- ---- no request that the law knows
+pub alone-unasking : (output : Output) → StandsAlone output → IsUnasking output
+alone-unasking (outputs.Send to sequence body) alone = alone
+alone-unasking outputs.Begin alone = alone
+alone-unasking _ alone = tt
+
+pub carried-unasking : (output : Output) → IsCarried output → IsUnasking output
+carried-unasking (outputs.Send to sequence body) is = is
+carried-unasking outputs.Begin is = absurd is
+carried-unasking _ is = tt
+
+pub sent-none : (m run : ℕ) (outs : List Output) → All IsUnasking outs → IsSent (requests_of m run outs) None
+sent-none m run outs all = subst (λ (l : List SyncRequest). IsSent l None) (sym (asks-none m run outs all)) refl
+
+module _ (head : HeadText) (book : List Event) (cluster : Cluster) (good : CommitsBridged head book cluster) (few : member_count head ≤ MOST_MEMBERS) (a : Acting head book cluster) where
+  abbrev M : ℕ
+  M = a.member.id.number
+
+  abbrev Law : Setup
+  Law = setup_of head
+
+  abbrev P : Past
+  P = past_of head book
+
+  abbrev Outs : List Output
+  Outs = (After head book cluster good a).outputs
+
+  abbrev All_ : List Event
+  All_ = Events head book cluster good a
+
+  abbrev Of : List Event → Option Sending → Type 0
+  Of events sends = PageOf head book cluster good a events sends
+
+  abbrev pub Lawful : (sends : Option Sending) → SendsInside head book cluster good a sends → IsLawfulAs (moment_of cluster) a.heard (Before head book cluster good a) (state_of_run head book cluster) M (Theirs head book cluster good a sends)
+  Lawful = lawful-as head book cluster good a
+
+  -- nothing is given where no claim is sent
+  pub given-none : (sent : SendsInside head book cluster good a None) → IsGivenByLease (state_of_run head book cluster) M (Theirs head book cluster good a None) (Lawful None sent).lawful.was (Lawful None sent).lawful.does
+  given-none sent = given-unless (moment_of cluster) a.heard (Before head book cluster good a) (state_of_run head book cluster) M (Theirs head book cluster good a None) (Lawful None sent).lawful.was (Lawful None sent).lawful.does refl (Lawful None sent).does
+
+  -- a front of its outputs, which the law's input covers
+  module _ (front : List Output) (covered : All IsCovered front) (of_table : All IsOfTable front) where
+    abbrev Front : List Event
+    Front = Page head book cluster good a front (carried front covered) of_table
+
+    -- where neither a request nor a required list comes behind
+    pub front-page : All IsUnasking Outs → All RequiresNone Outs → All PassesNone Outs → Of Front None
+    front-page unasking none inside = record {
+      own = front-own head book cluster good a front (carried front covered) of_table;
+      leaves = front-leaves head book cluster good a front (carried front covered) of_table;
+      once = once-none Front (front-aside head book cluster good a front (carried front covered) of_table);
+      flight = front-flight head book cluster good a front (carried front covered) of_table;
+      live = front-live head book cluster good a front (carried front covered) of_table;
+      needs = front-needs head book cluster good a front (carried front covered) of_table none;
+      acted = front-acted head book cluster good a front (carried front covered) of_table;
+      lives = front-lives head book cluster good a front (carried front covered) of_table;
+      fits = front-fits head book cluster good a front (carried front covered) of_table;
+      sent = record { sent = sent-none M a.agent.knows.run Outs unasking; inside = none-passes Outs inside };
+    }
+
+  -- ---- each output is an action of its own
+  alone-page : All StandsAlone Outs → Of (Open head book cluster good a ∷ []) None
+  alone-page alone = front-page [] (All-nil IsCovered) (All-nil IsOfTable) (All-weaker StandsAlone IsUnasking alone-unasking Outs alone) (All-weaker StandsAlone RequiresNone alone-requires Outs alone) (All-weaker StandsAlone PassesNone alone-passes Outs alone)
+
+  pub apart-moves : All StandsAlone Outs → All AnswersNone Outs → Moves Law P cluster All_
+  apart-moves alone none =
+      let page = alone-page alone in
+      let open_ : List Event = Open head book cluster good a ∷ [] in
+      let begins : All BeginsNone Outs = All-weaker StandsAlone BeginsNone alone-begins Outs alone in
+      moves-then Law P cluster open_ (each (Part head book cluster good a) (First head book cluster good a) Outs)
+      (page-moves head book cluster good a open_ None page (none-begins Outs begins) (given-none page.sent))
+      (λ fits. alone-moves Law a.member a.message (past_over P open_) (First head book cluster good a) Outs fits (table head book cluster good a) alone none)
+
+  -- ---- whom commits wait for, last of all or before the server begins
+  module _ (front : List Output) (required : Required) (behind : List Output) (covered : All IsCovered front) (whole : front ++ outputs.Require required ∷ behind ≡ Outs) (none : All RequiresNone behind) where
+    abbrev pub of_table : All IsOfTable front
+    of_table = all-front IsOfTable front (outputs.Require required ∷ behind) Outs whole (table head book cluster good a)
+
+    abbrev pub Up : List Event
+    Up = Page head book cluster good a front (carried front covered) of_table
+
+    abbrev pub Reached : Cluster
+    Reached = cluster_over cluster Up
+
+    required-is : (After head book cluster good a).machine.replication.required ≡ required
+    required-is = ap (λ (m : Machine). m.replication.required) (carried-out head book cluster good a).machine_is
+        ∙ ap (λ (l : List Output). (machine_after_outputs (moment_of cluster) a.machine l).replication.required) (sym whole) ∙ required-set (moment_of cluster) a.machine front required behind none
+
+    module _ (sent : SendsInside head book cluster good a None) (s : ServerFacts) (found : slice_get cluster.facts.servers M ≡ Some s) where
+      grows : GrowsByConnected (Before head book cluster good a) ((state_of_run head book cluster).members M).required (need_in required)
+      grows = subst (λ (r : Required). GrowsByConnected (Before head book cluster good a) ((state_of_run head book cluster).members M).required (need_in r)) required-is
+          (grows-by (moment_of cluster) a.heard (Before head book cluster good a) (state_of_run head book cluster) M (Theirs head book cluster good a None) (Lawful None sent).lawful.was (Lawful None sent).lawful.does (Lawful None sent).does)
+
+      pub waits : WaitsForMembers required
+      waits = grown-waits head book cluster good few a.member a.machine a.machine_is a.agent s found required grows
+
+      pub there : slice_get Reached.facts.servers M ≡ Some s
+      there = ap (λ (known : List ServerFacts). slice_get known M) (front-servers head book cluster good a front (carried front covered) of_table) ∙ found
+
+      abbrev pub Set_ : List Event
+      Set_ = Part head book cluster good a Reached (outputs.Require required)
+
+      set-is : events_of Reached (kinds_of (require_of Reached.facts.members a.member required s)) ≡ Set_
+      set-is = ap (λ (o : Option ServerFacts). events_of Reached (kinds_of (option_and_then (require_of Reached.facts.members a.member required) o))) (sym there)
+
+      sets-to : (states : ℕ → VolatileState) (lives : (n : ℕ) → (states n).live ≡ live_in cluster.facts.servers n)
+          → Sets (past_over P Up) Reached a.member states (front-fits head book cluster good a front (carried front covered) of_table states lives) required waits s there Set_
+      sets-to states lives =
+          subst (λ (l : List Event). Sets (past_over P Up) Reached a.member states (front-fits head book cluster good a front (carried front covered) of_table states lives) required waits s there l) set-is
+          (sets (past_over P Up) Reached a.member states (front-fits head book cluster good a front (carried front covered) of_table states lives) required waits s there)
+
+      -- as servers are
+      pub now-set : Sets (past_over P Up) Reached a.member (volatile_of cluster) (front-fits head book cluster good a front (carried front covered) of_table (volatile_of cluster) (λ n. refl)) required waits s there Set_
+      now-set = sets-to (volatile_of cluster) (λ n. refl)
+
+      past-both : past_over P (Up ++ Set_) ≡ past_over (past_over P Up) Set_
+      past-both = past-append P Up Set_
+
+      reached-both : cluster_over cluster (Up ++ Set_) ≡ cluster_over Reached Set_
+      reached-both = over-append cluster Up Set_
+
+      pub required-page : Of (Up ++ Set_) None
+      required-page = record {
+        own = own-both M Up Set_ (front-own head book cluster good a front (carried front covered) of_table) now-set.own;
+        leaves = leave-both Up Set_ (front-leaves head book cluster good a front (carried front covered) of_table) now-set.leaves;
+        once = once-behind Up Set_ (front-aside head book cluster good a front (carried front covered) of_table) now-set.once;
+        flight = λ i. ap (λ (p : Past). p.flight i) past-both ∙ ap (λ (f : ℕ → Option Flying). f i) now-set.flight ∙ front-flight head book cluster good a front (carried front covered) of_table i;
+        live = ap (λ (p : Past). p.holder_was_live) past-both ∙ now-set.live ∙ front-live head book cluster good a front (carried front covered) of_table;
+        needs = ap (λ (p : Past). need_of (slice_get p.required M)) past-both ∙ now-set.needs ∙ ap need_in (sym required-is);
+        acted = ap (λ (c : Cluster). c.agents) reached-both ∙ now-set.agents_same ∙ front-acted head book cluster good a front (carried front covered) of_table;
+        lives = λ n. ap (λ (c : Cluster). live_in c.facts.servers n) reached-both ∙ now-set.lives n ∙ front-lives head book cluster good a front (carried front covered) of_table n;
+        fits = λ states lives.
+            subst (λ (p : Past). Fits p (cluster_over cluster (Up ++ Set_)).facts states) (sym past-both)
+            (subst (λ (c : Cluster). Fits (past_over (past_over P Up) Set_) c.facts states) (sym reached-both) (sets-to states lives).fits_behind);
+        sent = sent;
+      }
+
+  -- all of them: up to whom commits wait for
+  pub requires-whole : (front behind : List Output) (required : Required) (covered : All IsCovered front) (of_table : All IsOfTable front) → front ++ outputs.Require required ∷ behind ≡ Outs
+      → All_ ≡ (Page head book cluster good a front (carried front covered) of_table ++ Part head book cluster good a (cluster_over cluster (Page head book cluster good a front (carried front covered) of_table)) (outputs.Require required))
+      ++ each (Part head book cluster good a) (cluster_over (cluster_over cluster (Page head book cluster good a front (carried front covered) of_table)) (Part head book cluster good a (cluster_over cluster (Page head book cluster good a front (carried front covered) of_table)) (outputs.Require required))) behind
+  requires-whole front behind required covered of_table whole =
+      let up : List Event = Page head book cluster good a front (carried front covered) of_table in
+      let reached : Cluster = cluster_over cluster up in
+      let set : List Event = Part head book cluster good a reached (outputs.Require required) in
+      ap (λ (l : List Output). Open head book cluster good a ∷ each (Part head book cluster good a) (First head book cluster good a) l) (sym whole)
+      ∙ ap (λ (l : List Event). Open head book cluster good a ∷ l) (each-both (Part head book cluster good a) (First head book cluster good a) front (outputs.Require required ∷ behind))
+      ∙ sym (append_assoc up set (each (Part head book cluster good a) (cluster_over reached set) behind))
+
+  -- the server that the machine is of
+  pub server-found : (s : ServerFacts) × (slice_get cluster.facts.servers M ≡ Some s) × (s.state ≡ a.machine.server.state)
+  server-found = let found = found-of cluster a.member a.machine a.machine_is in (found.mirrors.server.server, found.mirrors.server.is, ap (λ (x : MachineSeen). x.state) found.mirrors.server.seen_is)
+
+  -- the required list is the last
+  pub requires-moves : (front : List Output) (required : Required) → All IsCovered front → front ++ outputs.Require required ∷ [] ≡ Outs → Moves Law P cluster All_
+  requires-moves front required covered whole =
+      let of_table = all-front IsOfTable front (outputs.Require required ∷ []) Outs whole (table head book cluster good a) in
+      let unasked_all : All IsUnasking Outs = subst (λ (l : List Output). All IsUnasking l) whole (All-push IsUnasking front (outputs.Require required) (unasking front (covered-quiet front covered)) tt) in
+      let begins : All BeginsNone Outs = subst (λ (l : List Output). All BeginsNone l) whole (All-push BeginsNone front (outputs.Require required) (All-weaker IsCarried BeginsNone carried-begins front (carried front covered)) tt) in
+      let inside : All PassesNone Outs = subst (λ (l : List Output). All PassesNone l) whole (All-push PassesNone front (outputs.Require required) (All-weaker IsCovered PassesNone covered-passes front covered) tt) in
+      let sent : SendsInside head book cluster good a None = record { sent = sent-none M a.agent.knows.run Outs unasked_all; inside = none-passes Outs inside } in
+      let up : List Event = Page head book cluster good a front (carried front covered) of_table in
+      let set : List Event = Part head book cluster good a (cluster_over cluster up) (outputs.Require required) in
+      let page : Of (up ++ set) None = required-page front required [] covered whole (All-nil RequiresNone) sent server-found.0 server-found.1 in
+      subst (λ (l : List Event). Moves Law P cluster l) (sym (append-nil (up ++ set)) ∙ sym (requires-whole front [] required covered of_table whole))
+      (page-moves head book cluster good a (up ++ set) None page (none-begins Outs begins) (given-none page.sent))

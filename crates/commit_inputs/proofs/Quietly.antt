@@ -1,0 +1,50 @@
+-- An input that asks to publish nobody happens in order.
+use Rattle.std.proofs.Common.{ℕ, List, [], ◌∷◌, sym, subst}
+use Rattle.event_book.specs.declared.event.Event.{Event}
+use Rattle.event_book.specs.declared.event.EventKind.{EventKind}
+use Rattle.event_book.specs.declared.event.EventKind.TheVariants as kinds
+use Rattle.event_book.specs.declared.event.MessageEvent.TheVariants.{Delivered, Lost, Sent}
+use Rattle.event_book.specs.declared.member.Member.{Member}
+use Rattle.event_book.specs.declared.message.Message.{Message}
+use Rattle.agent_model.specs.declared.output.Output.{Output}
+use Rattle.agent_model.specs.declared.output.Output.TheVariants as outputs
+use Rattle.agent_commit_law.specs.Committing.{IsCovered, IsQuietBody}
+use Rattle.agent_commit_law.proofs.CommitQuiet.{IsUnasking}
+use Rattle.cluster_model.specs.Cluster.{cluster_after}
+use Rattle.cluster_model.specs.State.{Cluster}
+use Rattle.event_book.specs.Kinds.{AllAre}
+use Rattle.commit_law.specs.Past.{Past, past_after}
+use Rattle.lease_inputs.specs.InputEvents.{AnswersPeer, Asks, AsksPeer, IsMessageOf, IsOfInput}
+use Rattle.commit_parts.specs.Ordered.{AllInOrder, AsksInOrder, HappensInOrder}
+use Rattle.commit_outputs.proofs.Covering.{quiet-ordered}
+
+-- an output that asks for no write of the sync key
+abbrev pub AsksQuietly : Output → Type 0
+AsksQuietly (outputs.Send to sequence body) = IsQuietBody body
+AsksQuietly _ = Unit {0}
+
+pub unasking-quietly : (output : Output) → IsUnasking output → AsksQuietly output
+unasking-quietly (outputs.Send to sequence body) quiet = quiet
+unasking-quietly _ quiet = tt
+
+pub covered-quietly : (output : Output) → IsCovered output → AsksQuietly output
+covered-quietly (outputs.Send to sequence body) covered = covered
+covered-quietly _ covered = tt
+
+module _ (member : Member) (run heard : ℕ) (Q : Output → Type 0) (quiet : (output : Output) → Q output → AsksQuietly output) where
+  message-ordered : (past : Past) (cluster : Cluster) (message : Message) → IsMessageOf member run Q message → AsksInOrder past cluster message.from message.run message.sequence message.body
+  message-ordered past cluster message (Asks question) =
+      subst (λ (x : Message). AsksInOrder past cluster x.from x.run x.sequence x.body) (sym question.is) (quiet-ordered past cluster member run question.sequence question.body (quiet _ question.from))
+  message-ordered past cluster message (AsksPeer peer id sequence is from) = subst (λ (x : Message). AsksInOrder past cluster x.from x.run x.sequence x.body) (sym is) tt
+  message-ordered past cluster message (AnswersPeer peer id asked sequence answer is from) = subst (λ (x : Message). AsksInOrder past cluster x.from x.run x.sequence x.body) (sym is) tt
+
+  kind-ordered : (past : Past) (cluster : Cluster) (kind : EventKind) → IsOfInput member run heard Q kind → HappensInOrder past cluster kind
+  kind-ordered past cluster (kinds.Message (Sent number message)) is = message-ordered past cluster message is
+  kind-ordered past cluster (kinds.Message (Delivered number)) is = absurd is
+  kind-ordered past cluster (kinds.Message (Lost number)) is = tt
+  kind-ordered past cluster (kinds.Store happening) is = absurd is
+  kind-ordered past cluster _ is = tt
+
+  pub quietly-ordered : (past : Past) (cluster : Cluster) (events : List Event) → AllAre (IsOfInput member run heard Q) events → AllInOrder past cluster events
+  quietly-ordered past cluster [] all = tt
+  quietly-ordered past cluster (event ∷ events) all = (kind-ordered past cluster event.kind all.0, quietly-ordered (past_after past event.kind) (cluster_after cluster event.kind) events all.1)

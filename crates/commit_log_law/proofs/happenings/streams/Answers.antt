@@ -1,5 +1,0 @@
-use Rattle.commit_log_law.proofs.Streaming.{receive-at-most, receive-of}
-use Rattle.commit_log_law.proofs.happenings.streams.Goals as goal
-
-pub returns : goal.returns
-returns c = record { told = receive-at-most; each = receive-of }

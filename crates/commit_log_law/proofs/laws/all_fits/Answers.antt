@@ -1,7 +1,0 @@
-use Rattle.commit_log_law.proofs.First.{fits-first}
-use Rattle.commit_log_law.proofs.Beginning.{fits-aside, fits-agents}
-use Rattle.commit_log_law.proofs.Kept.{others-by}
-use Rattle.commit_log_law.proofs.laws.all_fits.Goals as goal
-
-pub returns : goal.returns
-returns c = record { first = fits-first; aside = fits-aside; agents = fits-agents; others = others-by }

@@ -1,5 +1,0 @@
-use Rattle.commit_log_law.proofs.Acting.{met-in, met-from}
-use Rattle.commit_log_law.proofs.laws.required_is_met.Goals as goal
-
-pub returns : goal.returns
-returns c = record { met = met-in; sets = met-from }

@@ -1,5 +1,0 @@
-use Rattle.commit_log_law.proofs.Matching.{same-first, same-by}
-use Rattle.commit_log_law.proofs.laws.same_servers.Goals as goal
-
-pub returns : goal.returns
-returns c = record { first = same-first; each = same-by }

@@ -1,0 +1,127 @@
+-- Store, mode and requests of a cluster behind events.
+use Rattle.std.proofs.Common.{ℕ, ◌≡◌, ◌+◌, ◌++◌, List, [], ◌∷◌, true, Option, refl, ◌∙◌, ap, sym, subst}
+use Rattle.std.specs.FinMap.{find}
+use Rattle.event_book.specs.declared.event.Event.{Event}
+use Rattle.event_book.specs.declared.event.EventKind.{EventKind}
+use Rattle.event_book.specs.declared.event.EventKind.TheVariants as kinds
+use Rattle.event_book.specs.declared.event.MessageEvent.TheVariants.{Delivered, Lost, Sent}
+use Rattle.event_book.specs.declared.event.StoreEvent.TheVariants as stores
+use Rattle.event_book.specs.declared.message.Body.{Body}
+use Rattle.event_book.specs.declared.message.Body.TheVariants as bodies
+use Rattle.lease_store.specs.Answers.{present_pairs}
+use Rattle.lease_store.specs.declared.key.Key.{Key}
+use Rattle.lease_store.specs.declared.key.Key.TheVariants as keys
+use Rattle.lease_store.specs.declared.txn.Txn.{Txn}
+use Rattle.lease_store.specs.declared.txn.Txn.TheVariants as txns
+use Rattle.lease_store.specs.declared.value.KeyEntry.{KeyEntry}
+use Rattle.lease_store.specs.KeyOrder.{key_cmp}
+use Rattle.lease_law.proofs.Runs.{head-is, no-cons, tail-is}
+use Rattle.lease_law.proofs.Tools.{both, none-some, some-is}
+use Rattle.commit_law.specs.Keys.{SyncKey}
+use Rattle.agent_commit_law.specs.Committing.{IsSynchronousBody, IsSynchronousTxn}
+use Rattle.commit_law.specs.Keys.{IsStrict}
+use Rattle.event_book.specs.Facts.{Facts}
+use Rattle.event_book.specs.Flight.{InFlightFacts, snapshot_for}
+use Rattle.cluster_model.specs.Cluster.{cluster_after, cluster_over}
+use Rattle.cluster_model.specs.State.{Cluster}
+use Rattle.commit_law.specs.Past.{Past, past_after, past_over, sync_after_grant}
+use Rattle.commit_law.specs.States.{State}
+use Rattle.commit_book.specs.Flights.{AreCausal, IsSameBook}
+use Rattle.commit_book.specs.Keys.{IsSameKeys, sync_key_of}
+use Rattle.commit_book.proofs.Groups.{book-by}
+use Rattle.commit_book.proofs.Keys.{sync-present}
+use Rattle.summary.specs.Claims.{KeepMode}
+use Rattle.commit_parts.specs.Agents.{AreSynchronous, AsksAreNumbered, IsAskNumbered, TellsMembers}
+use Rattle.sync_order_law.specs.Order.{NamesMembers}
+use Rattle.commit_parts.specs.Modes.{IsSynchronous}
+use Rattle.commit_parts.proofs.Flights.{HoldsAsSent, all-after}
+use Rattle.commit_parts.proofs.Modes.{synchronous-by}
+
+-- what is sent, or granted, is asked as synchronous mode has it; and what one member asks another has a run and a number that its agents
+-- have given in this state
+abbrev pub AsksAsOn : State → ℕ → EventKind → Type 0
+AsksAsOn s count (kinds.Message (Sent number message)) = IsSynchronousBody count message.body × IsAskNumbered s message.from message.run message.sequence message.body
+AsksAsOn s count (kinds.Store (stores.Granted number by txn standbys)) = IsSynchronousTxn count txn
+AsksAsOn s count _ = Unit {0}
+
+-- what each of these events sends, or grants, is asked as synchronous mode has it; and what one member asks another has a run and a number
+-- that its agents have given in this state
+abbrev pub AskAsOn : State → ℕ → List Event → Type 0
+AskAsOn s count [] = Unit {0}
+AskAsOn s count (event ∷ events) = AsksAsOn s count event.kind × AskAsOn s count events
+
+-- what the store keeps of synchronous mode, and the messages in flight, of which questions to members are numbered in this state
+pub record StoreFits (s : State) (count : ℕ) (past : Past) (cluster : Cluster) : Type 0 where
+  pub store : IsSameBook past cluster.facts
+  pub mode : IsSynchronous cluster.facts
+  pub strict : NamesMembers count past.sync
+  pub told : TellsMembers count cluster.facts.flight
+  pub requests : AreSynchronous count cluster.facts.flight
+  pub asks : AsksAreNumbered s cluster.facts.flight
+
+requests-sent : (s : State) (count : ℕ) (facts : Facts) (kind : EventKind) → AsksAsOn s count kind → HoldsAsSent (λ (carried : InFlightFacts). IsSynchronousBody count carried.message.body) facts kind
+requests-sent s count facts (kinds.Message (Sent number message)) asks = asks.0
+requests-sent s count facts (kinds.Message (Delivered number)) asks = tt
+requests-sent s count facts (kinds.Message (Lost number)) asks = tt
+requests-sent s count facts _ asks = tt
+
+-- a message in flight is numbered, if it asks another member
+abbrev AsksNumbered : State → InFlightFacts → Type 0
+AsksNumbered s carried = IsAskNumbered s carried.message.from carried.message.run carried.message.sequence carried.message.body
+
+asks-sent : (s : State) (count : ℕ) (facts : Facts) (kind : EventKind) → AsksAsOn s count kind → HoldsAsSent (AsksNumbered s) facts kind
+asks-sent s count facts (kinds.Message (Sent number message)) asks = asks.1
+asks-sent s count facts (kinds.Message (Delivered number)) asks = tt
+asks-sent s count facts (kinds.Message (Lost number)) asks = tt
+asks-sent s count facts _ asks = tt
+
+-- a write of the sync key names members
+strict-granted : (count by revision : ℕ) (sync : Option SyncKey) (txn : Txn) → IsSynchronousTxn count txn → NamesMembers count sync → NamesMembers count (sync_after_grant by revision sync txn)
+strict-granted count by revision sync (txns.Claim leader expected) on old =
+    λ key is. subst (IsStrict count) (some-is _ key is) (record { quorum = refl; members = λ n named. absurd (both named) })
+strict-granted count by revision sync (txns.SetSync leader expected standbys) on old = λ key is. subst (IsStrict count) (some-is _ key is) (record { quorum = refl; members = on })
+strict-granted count by revision sync (txns.DropSync leader expected) on old = absurd on
+strict-granted count by revision sync _ on old = old
+
+strict-by : (s : State) (count : ℕ) (past : Past) (kind : EventKind) → AsksAsOn s count kind → NamesMembers count past.sync → NamesMembers count (past_after past kind).sync
+strict-by s count past (kinds.Store (stores.Granted number by txn standbys)) on old = strict-granted count by.id.number (past.revision + 1) past.sync txn on old
+strict-by s count past _ on old = old
+
+-- so each front of what is asked so leaves it
+pub strict-front : (s : State) (count : ℕ) (past : Past) (front back events : List Event) → front ++ back ≡ events → AskAsOn s count events → NamesMembers count past.sync → NamesMembers count (past_over past front).sync
+strict-front s count past [] back events e asks old = old
+strict-front s count past (x ∷ front) back [] e asks old = absurd (no-cons x (front ++ back) e)
+strict-front s count past (x ∷ front) back (y ∷ events) e asks old =
+    strict-front s count (past_after past x.kind) front back events (tail-is x y (front ++ back) events e) asks.1
+    (strict-by s count past x.kind (subst (λ (z : Event). AsksAsOn s count z.kind) (sym (head-is x y (front ++ back) events e)) asks.0) old)
+
+-- a message in flight tells a sync key that names members, or none
+abbrev TellsNames : ℕ → InFlightFacts → Type 0
+TellsNames count carried = NamesMembers count (sync_key_of (find key_cmp keys.Sync carried.snapshot))
+
+-- what is sent tells the sync key of the store, or none
+snapshot-names : (count : ℕ) (body : Body) (pairs : List (Key × KeyEntry)) → NamesMembers count (sync_key_of (find key_cmp keys.Sync pairs)) → NamesMembers count (sync_key_of (find key_cmp keys.Sync (snapshot_for body pairs)))
+snapshot-names count bodies.Snapshot pairs old = old
+snapshot-names count (bodies.Granted request leased) pairs old = old
+snapshot-names count _ pairs old = λ key is. absurd (none-some key is)
+
+told-sent : (count : ℕ) (past : Past) (facts : Facts) (kind : EventKind) → IsSameKeys past facts → NamesMembers count past.sync → HoldsAsSent (TellsNames count) facts kind
+told-sent count past facts (kinds.Message (Sent number message)) same strict =
+    let present : List (Key × KeyEntry) = present_pairs facts.clock facts.keys.pairs in
+    let told : past.sync ≡ sync_key_of (find key_cmp keys.Sync present) = same.sync ∙ ap sync_key_of (sym (sync-present facts.clock past facts same)) in
+    snapshot-names count message.body present (subst (λ (o : Option SyncKey). NamesMembers count o) told strict)
+told-sent count past facts _ same strict = tt
+
+pub store-over : (s : State) (count : ℕ) (past : Past) (cluster : Cluster) (events : List Event) → AreCausal past cluster.facts events → KeepMode true events → AskAsOn s count events → StoreFits s count past cluster
+    → StoreFits s count (past_over past events) (cluster_over cluster events)
+store-over s count past cluster [] causal mode asks fits = fits
+store-over s count past cluster (event ∷ events) causal mode asks fits =
+    store-over s count (past_after past event.kind) (cluster_after cluster event.kind) events causal.1.1 mode.1 asks.1
+    (record {
+      store = book-by past cluster.facts event.kind causal.0 causal.1.0 fits.store;
+      mode = synchronous-by cluster.facts event.kind fits.store.flight.order mode.0 fits.mode;
+      strict = strict-by s count past event.kind asks.0 fits.strict;
+      told = all-after (TellsNames count) cluster.facts fits.store.flight.order fits.told event.kind (told-sent count past cluster.facts event.kind fits.store.store fits.strict);
+      requests = all-after (λ (carried : InFlightFacts). IsSynchronousBody count carried.message.body) cluster.facts fits.store.flight.order fits.requests event.kind (requests-sent s count cluster.facts event.kind asks.0);
+      asks = all-after (AsksNumbered s) cluster.facts fits.store.flight.order fits.asks event.kind (asks-sent s count cluster.facts event.kind asks.0);
+    })

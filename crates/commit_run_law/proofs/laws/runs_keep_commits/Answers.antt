@@ -1,5 +1,0 @@
-use Rattle.commit_run_law.proofs.EveryRun.{runs-keep}
-use Rattle.commit_run_law.proofs.laws.runs_keep_commits.Goals as goal
-
-pub returns : goal.returns
-returns c = λ head steps is. runs-keep head is steps

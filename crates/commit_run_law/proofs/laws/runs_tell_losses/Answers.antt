@@ -1,5 +1,0 @@
-use Rattle.commit_run_law.proofs.LossRuns.{runs-tell}
-use Rattle.commit_run_law.proofs.laws.runs_tell_losses.Goals as goal
-
-pub returns : goal.returns
-returns c = λ head steps is. runs-tell head is steps

@@ -1,0 +1,27 @@
+-- Runs in synchronous mode that keep commits, and the order of required lists and sync key.
+use Rattle.std.specs.Prelude.{◌≡◌, true, List}
+use Rattle.script_model.specs.Script.{HeadText, names_of}
+use Rattle.event_book.specs.declared.event.Event.{Event}
+use Rattle.event_book.specs.Facts.{start_of}
+use Rattle.event_book.specs.Kept.{KeepsCommits}
+use Rattle.event_book.specs.Logs.{Logs, logs_in}
+use Rattle.lease_parts.specs.Kept.{WhereMet}
+use Rattle.summary.specs.Claims.{KeepMode}
+use Rattle.commit_parts.specs.Ordered.{KeepsOrder}
+
+-- the logs that the servers of this head begin with
+abbrev pub first_logs : HeadText → Logs
+first_logs head = logs_in (start_of head.config (names_of head) head.base).servers
+
+-- where the head has synchronous mode on, this is so of each front of the book that meets the premises of one writer and in which the mode stays on
+abbrev pub InSynchronousMode : HeadText → List Event → (List Event → Type 0) → Type 0
+InSynchronousMode head book claim =
+    head.config.config.synchronous_mode ≡ true → WhereMet head book (λ front. KeepMode true front → claim front)
+
+-- at its end each server that accepts writes has each acknowledged commit
+abbrev pub KeepsCommitsIn : HeadText → List Event → Type 0
+KeepsCommitsIn head book = InSynchronousMode head book (KeepsCommits (first_logs head))
+
+-- at its end required lists and sync key are in order, and each event in it happened in order
+abbrev pub KeepsOrderIn : HeadText → List Event → Type 0
+KeepsOrderIn head book = InSynchronousMode head book (KeepsOrder head)

@@ -1,0 +1,239 @@
+-- What an agent hears by a message that comes is what the law has of it.
+use Rattle.std.proofs.Common.{◌≡◌, ◌==◌, ◌&&◌, ℕ, Bool, true, false, [], ◌∷◌, cond, Option, Some, None, slice_get, option_map, refl, sym, subst, ap, ◌∙◌, arith}
+use Rattle.std.specs.BTreeMap.{is_at}
+use Rattle.std.specs.FinMap.{find}
+use Rattle.std.specs.Ordering.{nat_cmp}
+use Rattle.std.proofs.lemmas.Bool.Decides.{nat_tests}
+use Rattle.pat_base.specs.declared.ticks.Ticks.{Ticks}
+use Rattle.lease_store.specs.declared.granted.Granted.{Granted}
+use Rattle.lease_store.specs.declared.key.Key.TheVariants as keys
+use Rattle.lease_store.specs.declared.value.KeyEntry.{KeyEntry}
+use Rattle.lease_store.specs.declared.value.Value.{Value}
+use Rattle.lease_store.specs.declared.value.Value.TheVariants as values
+use Rattle.lease_store.specs.Defaults.{default_config}
+use Rattle.lease_store.specs.KeyOrder.{key_cmp}
+use Rattle.cluster_config.specs.KeyValues.{config_in}
+use Rattle.cluster_config.specs.Snapshots.{leader_of_entry, settings_by, settings_of_entry}
+use Rattle.event_book.specs.declared.link.LinkEnd.{LinkEnd}
+use Rattle.event_book.specs.declared.link.LinkEnd.TheVariants as ends
+use Rattle.event_book.specs.declared.member.Member.{Member}
+use Rattle.event_book.specs.declared.message.Body.{Body}
+use Rattle.event_book.specs.declared.message.Body.TheVariants as bodies
+use Rattle.event_book.specs.declared.message.Message.{Message}
+use Rattle.event_book.specs.Flight.{Flight, InFlightFacts, in_flight}
+use Rattle.script_model.specs.Script.{HeadText}
+use Rattle.agent_model.specs.declared.heard.Heard.{Heard}
+use Rattle.agent_model.specs.declared.heard.Heard.TheVariants as heards
+use Rattle.agent_model.specs.declared.knowledge.Waited.{Waited}
+use Rattle.agent_model.specs.declared.machine.Machine.{Machine}
+use Rattle.agent_model.specs.Agents.{AgentFacts, Outcome, made}
+use Rattle.agent_model.specs.Decisions.{asks_lease, is_decision, is_lease_of}
+use Rattle.agent_lease_law.specs.Lawful.{HearsAnswer, HearsGrant, Hears}
+use Rattle.agent_law.specs.Seen.{leader_entry_seen, failsafe_entry_seen}
+use Rattle.agent_law.proofs.Knowing.{tells_pause, told_by}
+use Rattle.pat_base.specs.declared.member_id.MemberId.{MemberId}
+use Rattle.cluster_model.specs.Hearing.{member_at_end, heard_from, heard_in, snapshot_in}
+use Rattle.cluster_model.specs.State.{Cluster}
+use Rattle.lease_law.specs.Outcomes.{seen_of}
+use Rattle.lease_law.specs.Past.{Past, VolatileState, state_of, lease_span}
+use Rattle.lease_law.specs.Pauses.{AreUnpaused, IsUnpausedHeld, IsUnpausedIn, IsUnpausedValue, NobodyPauses}
+use Rattle.lease_law.specs.States.{Declared, State}
+use Rattle.lease_law.specs.Stores.{IsLeased, leader_key_of, failsafe_key_of}
+use Rattle.lease_law.proofs.Tools.{and-first, both, none-some, some-is}
+use Rattle.lease_book.specs.Groups.{grant_if}
+use Rattle.lease_book.proofs.Hearing.{heard-snapshot, heard-granted}
+use Rattle.lease_parts.specs.Bridged.{IsMatched}
+use Rattle.lease_parts.specs.Declaring.{works_of}
+use Rattle.lease_parts.specs.Waiting.{IsAnswer, IsPeerBody}
+use Rattle.lease_inputs.proofs.InputSeen.{IsFound, armable-of, has-margin, is-young}
+
+-- ---- the keys of a snapshot, as agents and as the law see them
+leader-by : (revision : ℕ) (value : Value) (expiry : Option Ticks) → IsLeased (Some (record { value = value; revision = revision; expiry = expiry }))
+    → leader_entry_seen (leader_of_entry (Some (record { value = value; revision = revision; expiry = expiry }))) ≡ seen_of (leader_key_of (Some (record { value = value; revision = revision; expiry = expiry })))
+leader-by revision (values.Leader member) (Some expiry) leased = refl
+leader-by revision (values.Leader member) None leased = absurd (both leased)
+leader-by revision (values.Config config) expiry leased = refl
+leader-by revision (values.Member info) expiry leased = refl
+leader-by revision (values.Failover key) expiry leased = refl
+leader-by revision (values.Sync key) expiry leased = refl
+leader-by revision (values.Status end) expiry leased = refl
+leader-by revision (values.History row) expiry leased = refl
+leader-by revision (values.Failsafe members) expiry leased = refl
+
+leader-is : (found : Option KeyEntry) → IsLeased found → leader_entry_seen (leader_of_entry found) ≡ seen_of (leader_key_of found)
+leader-is None leased = refl
+leader-is (Some found) leased = leader-by found.revision found.value found.expiry leased
+
+failsafe-by : (revision : ℕ) (value : Value) (expiry : Option Ticks)
+    → failsafe_entry_seen (Some (record { value = value; revision = revision; expiry = expiry })) ≡ failsafe_key_of (Some (record { value = value; revision = revision; expiry = expiry }))
+failsafe-by revision (values.Failsafe members) expiry = refl
+failsafe-by revision (values.Leader member) expiry = refl
+failsafe-by revision (values.Config config) expiry = refl
+failsafe-by revision (values.Member info) expiry = refl
+failsafe-by revision (values.Failover key) expiry = refl
+failsafe-by revision (values.Sync key) expiry = refl
+failsafe-by revision (values.Status end) expiry = refl
+failsafe-by revision (values.History row) expiry = refl
+
+failsafe-is : (found : Option KeyEntry) → failsafe_entry_seen found ≡ failsafe_key_of found
+failsafe-is None = refl
+failsafe-is (Some found) = failsafe-by found.revision found.value found.expiry
+
+-- ---- the parts of a message
+pub message-is : (message : Message) (from to : LinkEnd) (body : Body) → message.from ≡ from → message.to ≡ to → message.body ≡ body
+    → message ≡ record { from = from; to = to; run = message.run; sequence = message.sequence; body = body }
+message-is message from to body a b c =
+    ap (λ (f : LinkEnd). let m : Message = record { from = f; to = message.to; run = message.run; sequence = message.sequence; body = message.body } in m) a
+    ∙ ap (λ (t : LinkEnd). let m : Message = record { from = from; to = t; run = message.run; sequence = message.sequence; body = message.body } in m) b
+    ∙ ap (λ (x : Body). let m : Message = record { from = from; to = to; run = message.run; sequence = message.sequence; body = x } in m) c
+
+-- ---- no snapshot in flight pauses
+unpaused-at : (here : Bool) (first : InFlightFacts) (rest : Option InFlightFacts) (carried : InFlightFacts) → cond here (Some first) rest ≡ Some carried → IsUnpausedIn first.snapshot → (rest ≡ Some carried → IsUnpausedIn carried.snapshot) → IsUnpausedIn carried.snapshot
+unpaused-at true first rest carried is here there = subst (λ (c : InFlightFacts). IsUnpausedIn c.snapshot) (some-is first carried is) here
+unpaused-at false first rest carried is here there = there is
+
+unpaused-flight : (number : ℕ) (flight : Flight) (carried : InFlightFacts) → AreUnpaused flight → in_flight flight number ≡ Some carried → IsUnpausedIn carried.snapshot
+unpaused-flight number [] carried all is = absurd (none-some carried is)
+unpaused-flight number (entry ∷ flight) carried all is =
+    unpaused-at (is_at (nat_cmp number) entry.0) entry.1 (in_flight flight number) carried is all.0 (λ there. unpaused-flight number flight carried all.1 there)
+
+unpaused-value : (value : Value) → IsUnpausedValue value → (settings_by default_config value).pause ≡ false
+unpaused-value (values.Config config) is = is
+unpaused-value _ is = refl
+
+unpaused-entry : (found : Option KeyEntry) → IsUnpausedHeld found → (settings_of_entry default_config found).pause ≡ false
+unpaused-entry None is = refl
+unpaused-entry (Some found) is = unpaused-value found.value is
+
+pub unpaused-told : (cluster : Cluster) (number : ℕ) (carried : InFlightFacts) → NobodyPauses cluster.facts → in_flight cluster.facts.flight number ≡ Some carried → (config_in (snapshot_in cluster carried)).pause ≡ false
+unpaused-told cluster number carried calm there = unpaused-entry (find key_cmp keys.Config carried.snapshot) (unpaused-flight number cluster.facts.flight carried calm.flight there)
+
+-- so nobody reads of a pause
+calm-granted : (cluster : Cluster) (carried : InFlightFacts) (given : Option Granted) → (config_in (snapshot_in cluster carried)).pause ≡ false → (heard : Heard)
+    → option_map (λ grant. heards.Granted carried.message.sequence grant (snapshot_in cluster carried)) given ≡ Some heard → tells_pause (told_by heard) ≡ false
+calm-granted cluster carried None calm heard e = absurd (none-some heard e)
+calm-granted cluster carried (Some grant) calm heard e = subst (λ (h : Heard). tells_pause (told_by h) ≡ false) (some-is _ heard e) calm
+
+calm-asked : (run sequence : ℕ) (from : Option MemberId) (heard : Heard) → option_map (λ by. heards.Asked by run sequence) from ≡ Some heard → tells_pause (told_by heard) ≡ false
+calm-asked run sequence None heard e = absurd (none-some heard e)
+calm-asked run sequence (Some by) heard e = subst (λ (h : Heard). tells_pause (told_by h) ≡ false) (some-is _ heard e) refl
+
+calm-in : (cluster : Cluster) (carried : InFlightFacts) (body : Body) → (config_in (snapshot_in cluster carried)).pause ≡ false → (heard : Heard) → heard_in cluster carried body ≡ Some heard → tells_pause (told_by heard) ≡ false
+calm-in cluster carried bodies.Snapshot calm heard e = subst (λ (h : Heard). tells_pause (told_by h) ≡ false) (some-is _ heard e) calm
+calm-in cluster carried (bodies.Granted request leased) calm heard e = calm-granted cluster carried carried.grant calm heard e
+calm-in cluster carried (bodies.Refused request key at) calm heard e = subst (λ (h : Heard). tells_pause (told_by h) ≡ false) (some-is _ heard e) refl
+calm-in cluster carried bodies.Ask calm heard e = calm-asked carried.message.run carried.message.sequence (member_at_end carried.message.from) heard e
+calm-in cluster carried (bodies.Answer answer) calm heard e = subst (λ (h : Heard). tells_pause (told_by h) ≡ false) (some-is _ heard e) refl
+calm-in cluster carried _ calm heard e = absurd (none-some heard e)
+
+pub calm-from : (cluster : Cluster) (carried : InFlightFacts) → (config_in (snapshot_in cluster carried)).pause ≡ false → (heard : Heard) → heard_from cluster carried ≡ Some heard → tells_pause (told_by heard) ≡ false
+calm-from cluster carried calm heard e = calm-in cluster carried carried.message.body calm heard e
+
+-- ---- what is heard
+module _ (head : HeadText) (past : Past) (cluster : Cluster) (matched : IsMatched head past cluster) (declared : Declared) (volatile_states : ℕ → VolatileState)
+    (member : Member) (agent : AgentFacts) (machine : Machine) (found : IsFound cluster member machine) (here : slice_get cluster.agents member.id.number ≡ Some (Some agent)) (works : works_of head member.id.number ≡ true)
+    (number : ℕ) (carried : InFlightFacts) (there : in_flight cluster.facts.flight number ≡ Some carried) (from : carried.message.from ≡ ends.Store) (to : carried.message.to ≡ ends.Member member)
+    (run : carried.message.run ≡ agent.knows.run) (now : Ticks) where
+  abbrev Law : State
+  Law = state_of declared past volatile_states
+
+  abbrev Found : Option KeyEntry
+  Found = find key_cmp keys.Leader carried.snapshot
+
+  leased : IsLeased (find key_cmp keys.Leader carried.snapshot)
+  leased = (matched.waiting.carried number carried there).leased
+
+  snapshot-heard : carried.message.body ≡ bodies.Snapshot → HearsAnswer Law member.id.number (Some number) carried.message.sequence (snapshot_in cluster carried) agent.knows
+  snapshot-heard body = record {
+    number = number;
+    answer = _;
+    heard_is = refl;
+    is = heard-snapshot past cluster.facts number carried member carried.message.run carried.message.sequence matched.flight there (message-is carried.message ends.Store (ends.Member member) bodies.Snapshot from to body);
+    member = refl;
+    run = run;
+    sequence_is = refl;
+    leader = sym (leader-is (find key_cmp keys.Leader carried.snapshot) leased);
+    failsafe = sym (failsafe-is (find key_cmp keys.Failsafe carried.snapshot));
+    unpaused = unpaused-told cluster number carried matched.unpaused there;
+  }
+
+  -- a grant
+  is-leased : (grant : Granted) → is_lease_of agent.knows.who.me grant ≡ true → grant.leased ≡ true
+  is-leased grant e = and-first grant.leased (grant.by.number == agent.knows.who.me.number) e
+
+  asks-and : (waited : Waited) (sequence : ℕ) → is_decision waited sequence ≡ true → (asks_lease waited.question ≡ true) × (waited.sequence ≡ sequence)
+  asks-and waited sequence e = (and-first (asks_lease waited.question) (waited.sequence == sequence) e, same (waited.sequence) sequence (and-second (asks_lease waited.question) (waited.sequence == sequence) e))
+    where
+      and-second : (a b : Bool) → (a && b) ≡ true → b ≡ true
+      and-second true b e = e
+      and-second false b e = absurd (no-way e)
+        where
+          no-way : false ≡ true → ⊥
+          no-way e = cc
+
+      same : (a b : ℕ) → (a == b) ≡ true → a ≡ b
+      same a b e = grind (arith, nat_tests)
+
+  granted-heard : (request : ℕ) (leased_is : Bool) → carried.message.body ≡ bodies.Granted request leased_is → (grant : Granted) → carried.grant ≡ Some grant
+      → HearsGrant Law member.id.number (Some number) now carried.message.sequence grant (snapshot_in cluster carried) (made agent.role agent.knows machine [])
+  granted-heard request leased_is body grant grant-is =
+      let told = heard-granted past cluster.facts number carried member carried.message.run carried.message.sequence request leased_is matched.flight there (message-is carried.message ends.Store (ends.Member member) (bodies.Granted request leased_is) from to body) in
+      let same : grant ≡ record { revision = told.revision; by = member.id; leased = leased_is } = some-is grant _ (sym grant-is ∙ told.grant) in
+      record {
+        answer = record {
+          number = number;
+          answer = _;
+          heard_is = refl;
+          is = told.flying;
+          member = refl;
+          run = run;
+          sequence_is = refl;
+          leader = sym (leader-is (find key_cmp keys.Leader carried.snapshot) leased);
+          failsafe = sym (failsafe-is (find key_cmp keys.Failsafe carried.snapshot));
+          unpaused = unpaused-told cluster number carried matched.unpaused there;
+        };
+        lease = λ awaited.
+            let sound = matched.waiting.agents member.id.number agent here in
+            let known = sound.waits awaited.waited awaited.is in
+            let asks = asks-and awaited.waited carried.message.sequence awaited.decision in
+            let question = told.answers.question in
+            let as_asked = known.as_asked asks.0 request question told.answers.is told.answers.asker (told.answers.in_run ∙ run) (told.answers.numbered ∙ sym asks.1) in
+            let leases : leased_is ≡ true = sym (ap (λ (g : Granted). g.leased) same) ∙ is-leased grant awaited.mine in
+            record {
+              told = record { revision = told.revision; sent = question.sent; moment = carried.sent.0; ttl = lease_span question.query; failsafe = failsafe_key_of (find key_cmp keys.Failsafe carried.snapshot) };
+              is = ap (λ (b : Bool). grant_if b told.revision carried.sent.0 question (failsafe_key_of (find key_cmp keys.Failsafe carried.snapshot))) leases;
+              revision = sym (ap (λ (g : Granted). g.revision) same);
+              ttl = as_asked.1;
+              sent = as_asked.0;
+              failsafe = sym (failsafe-is (find key_cmp keys.Failsafe carried.snapshot));
+              armable = armable-of head past cluster member machine matched found works;
+              margin = has-margin cluster member machine found;
+              young = is-young cluster member machine now awaited.waited found;
+            };
+      }
+
+  granted-by : (request : ℕ) (leased_is : Bool) → carried.message.body ≡ bodies.Granted request leased_is → (given : Option Granted) → carried.grant ≡ given → (heard : Heard)
+      → option_map (λ grant. heards.Granted carried.message.sequence grant (snapshot_in cluster carried)) given ≡ Some heard
+      → Hears Law member.id.number (Some number) now heard (made agent.role agent.knows machine [])
+  granted-by request leased_is body None is heard e = absurd (none-some heard e)
+  granted-by request leased_is body (Some grant) is heard e =
+      subst (λ (h : Heard). Hears Law member.id.number (Some number) now h (made agent.role agent.knows machine [])) (some-is _ heard e) (granted-heard request leased_is body grant is)
+
+  pub hears-by : (body : Body) → carried.message.body ≡ body → IsAnswer body → (heard : Heard) → heard_in cluster carried body ≡ Some heard
+      → Hears Law member.id.number (Some number) now heard (made agent.role agent.knows machine [])
+  hears-by bodies.Snapshot body is heard e =
+      subst (λ (h : Heard). Hears Law member.id.number (Some number) now h (made agent.role agent.knows machine [])) (some-is _ heard e) (snapshot-heard body)
+  hears-by (bodies.Granted request leased_is) body is heard e = granted-by request leased_is body carried.grant refl heard e
+  hears-by (bodies.Refused request key at) body is heard e =
+      subst (λ (h : Heard). Hears Law member.id.number (Some number) now h (made agent.role agent.knows machine [])) (some-is _ heard e) tt
+  hears-by _ body is heard e = absurd is
+
+-- the law hears nothing of what other members ask and answer
+unheard : (law : State) (m : ℕ) (number : Option ℕ) (now : Ticks) (o : Outcome) (run sequence : ℕ) (from : Option MemberId) (heard : Heard) → option_map (λ by. heards.Asked by run sequence) from ≡ Some heard → Hears law m number now heard o
+unheard law m number now o run sequence None heard e = absurd (none-some heard e)
+unheard law m number now o run sequence (Some by) heard e = subst (λ (h : Heard). Hears law m number now h o) (some-is _ heard e) tt
+
+pub peers-hear : (law : State) (m : ℕ) (number : Option ℕ) (now : Ticks) (o : Outcome) (cluster : Cluster) (carried : InFlightFacts) (body : Body) → IsPeerBody body → (heard : Heard) → heard_in cluster carried body ≡ Some heard → Hears law m number now heard o
+peers-hear law m number now o cluster carried bodies.Ask is heard e = unheard law m number now o carried.message.run carried.message.sequence (member_at_end carried.message.from) heard e
+peers-hear law m number now o cluster carried (bodies.Answer answer) is heard e = subst (λ (h : Heard). Hears law m number now h o) (some-is _ heard e) tt
+peers-hear law m number now o cluster carried _ is heard e = absurd is

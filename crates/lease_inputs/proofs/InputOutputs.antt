@@ -1,0 +1,453 @@
+-- All outputs of an input, one after another: the numbers of its messages, the machine that they leave, who begins in them, and what they
+-- feed.
+use Rattle.lease_parts.proofs.Upholding.{over-append}
+use Rattle.std.proofs.Common.{◌≡◌, ◌⊎◌, ◌+◌, ◌++◌, ◌||◌, ◌≤◌, ◌<◌, nat_le, ℕ, Bool, true, false, List, [], ◌∷◌, Option, Some, None, All, length, slice_get, refl, sym, subst, ap, ◌∙◌, arith, inl, inr}
+use Rattle.std.proofs.lemmas.List.Elements.{All-head, All-tail}
+use Rattle.pat_base.specs.declared.member_id.MemberId.{MemberId}
+use Rattle.pat_base.specs.declared.server_state.State.{State}
+use Rattle.pat_base.specs.declared.server_state.State.TheVariants as states
+use Rattle.pat_base.specs.declared.ticks.Ticks.{Ticks}
+use Rattle.pat_base.specs.ServerState.{live}
+use Rattle.pg_model.specs.Facts.{ServerFacts}
+use Rattle.event_book.specs.declared.agent_process.AgentProcess.{AgentProcess}
+use Rattle.event_book.specs.declared.event.Event.{Event}
+use Rattle.event_book.specs.declared.event.AgentEvent.TheVariants as agents
+use Rattle.event_book.specs.declared.event.EventKind.{EventKind}
+use Rattle.event_book.specs.declared.event.EventKind.TheVariants as kinds
+use Rattle.event_book.specs.declared.event.MessageEvent.TheVariants.{Sent, Delivered, Lost}
+use Rattle.event_book.specs.declared.event.ServerEvent.TheVariants as servers
+use Rattle.event_book.specs.declared.event.WatchdogEvent.TheVariants as watchdogs
+use Rattle.event_book.specs.declared.member.Member.{Member}
+use Rattle.event_book.specs.declared.member.ServerOf.{ServerOf}
+use Rattle.event_book.specs.declared.message.Body.{Body}
+use Rattle.event_book.specs.declared.message.Body.TheVariants as bodies
+use Rattle.event_book.specs.declared.message.Message.{Message}
+use Rattle.event_book.specs.declared.link.LinkEnd.{LinkEnd}
+use Rattle.event_book.specs.declared.reason.Basis.TheVariants as bases
+use Rattle.event_book.specs.Flight.{sent_after}
+use Rattle.event_book.specs.Members.{server_id_of}
+use Rattle.event_book.specs.Writers.{BeginsKind}
+use Rattle.agent_model.specs.declared.machine.Machine.{Machine}
+use Rattle.agent_model.specs.declared.output.Output.{Output}
+use Rattle.agent_model.specs.declared.output.Output.TheVariants as outputs
+use Rattle.agent_model.specs.declared.output.Repair.{Repair}
+use Rattle.agent_model.specs.declared.output.Target.TheVariants as targets
+use Rattle.agent_model.specs.Acting.{upstream_of}
+use Rattle.agent_law.specs.Orders.{EndsRepairing, IsOfTable, RepairsLast, machine_after_output, machine_after_outputs}
+use Rattle.agent_model.specs.Outputs.{is_arming, is_feeding, has_one, listed, BeginsOnly, OutputsBeginBehind}
+use Rattle.cluster_model.specs.declared.heard_message.HeardMessage.{HeardMessage}
+use Rattle.agent_law.proofs.Living.{follow-live, restart-live, start-live, stop-live, wipe-live}
+use Rattle.cluster_model.specs.Beginnings.{server_restart_in, server_restart_kinds}
+use Rattle.cluster_model.specs.Cluster.{cluster_after, cluster_over}
+use Rattle.cluster_model.specs.Limits.{most_in_flight}
+use Rattle.cluster_model.specs.Messages.{agent_message, lost_at_once, send_events, sending_events, replying_events, receiver_of, output_events}
+use Rattle.cluster_model.specs.Orders.{server_at}
+use Rattle.cluster_model.specs.Parts.{each, events_of, for_some}
+use Rattle.cluster_model.specs.State.{Cluster}
+use Rattle.lease_law.specs.Claims.{BeginsBehind, IsArmedIn}
+use Rattle.lease_law.specs.Premises.{KeepsMomentOf, IsFedBy}
+use Rattle.event_book.specs.Kinds.{AllAre}
+use Rattle.lease_law.proofs.Runs.{assoc, none-more}
+use Rattle.lease_book.specs.Groups.{IsNumberedAbove, AreNumberedAbove}
+use Rattle.cluster_model.proofs.Lists.{all-both, all-front, all-back, all-kinds}
+use Rattle.lease_inputs.specs.InputEvents.{IsMessageOf, Asks, AsksPeer, AnswersPeer, IsOfInput, IsToBegin}
+use Rattle.lease_parts.specs.Machines.{live_in, live_now}
+use Rattle.lease_inputs.proofs.InputEvents.{again-mine, output-mine}
+use Rattle.lease_inputs.proofs.InputMachines.{Mirrors, RepairsNone, Resembles, mirrored, output-here, repair-resembles}
+use Rattle.lease_inputs.proofs.InputStays.{Stays, stays-over}
+
+-- the number of the message that was sent last, behind these events
+abbrev pub sent_over : ℕ → List Event → ℕ
+sent_over last [] = last
+sent_over last (event ∷ events) = sent_over (sent_after last event.kind) events
+
+pub sent-is : (cluster : Cluster) (events : List Event) → (cluster_over cluster events).facts.sent ≡ sent_over cluster.facts.sent events
+sent-is cluster [] = refl
+sent-is cluster (event ∷ events) = sent-is (cluster_after cluster event.kind) events
+
+numbered-both : (last : ℕ) (xs ys : List Event) → AreNumberedAbove last xs → AreNumberedAbove (sent_over last xs) ys → AreNumberedAbove last (xs ++ ys)
+numbered-both last [] ys first second = second
+numbered-both last (x ∷ xs) ys first second = (first.0, numbered-both (sent_after last x.kind) xs ys first.1 second)
+
+-- ---- one event that sends nothing, or feeds nothing
+-- an output that sends no message
+abbrev pub no_message : Output → Type 0
+no_message (outputs.Send to sequence body) = ⊥
+no_message (outputs.Answer to asked sequence answer) = ⊥
+no_message _ = Unit {0}
+
+pub no-sent : (member : Member) (run : ℕ) (message : Message) → IsMessageOf member run no_message message → ⊥
+no-sent member run message (Asks question) = question.from
+no-sent member run message (AsksPeer peer id sequence is from) = from
+no-sent member run message (AnswersPeer peer id asked sequence answer is from) = from
+
+unnumbered : (member : Member) (run heard last : ℕ) (kind : EventKind) → IsOfInput member run heard no_message kind → IsNumberedAbove last kind × (sent_after last kind ≡ last)
+unnumbered member run heard last (kinds.Message (Sent number message)) is = absurd (no-sent member run message is)
+unnumbered member run heard last (kinds.Message (Delivered number)) is = absurd is
+unnumbered member run heard last (kinds.Message (Lost number)) is = (tt, refl)
+unnumbered member run heard last _ is = (tt, refl)
+
+unnumbered-all : (member : Member) (run heard last : ℕ) (events : List Event) → AllAre (IsOfInput member run heard no_message) events → AreNumberedAbove last events
+unnumbered-all member run heard last [] all = tt
+unnumbered-all member run heard last (event ∷ events) all =
+    let one = unnumbered member run heard last event.kind all.0 in
+    (one.0, subst (λ (n : ℕ). AreNumberedAbove n events) (sym one.1) (unnumbered-all member run heard last events all.1))
+
+-- an event at which the clock stands, no agent starts, and the message of this number isn't sent
+moments-kept : (member : Member) (run heard n : ℕ) (kind : EventKind) → (n < 0 → ⊥) → IsOfInput member run heard no_message kind → KeepsMomentOf n kind
+moments-kept member run heard n kinds.Tick low is = absurd is
+moments-kept member run heard n (kinds.Agent (agents.Passed by)) low is = tt
+moments-kept member run heard n (kinds.Agent _) low is = absurd is
+moments-kept member run heard n (kinds.Message (Sent number message)) low is = absurd (no-sent member run message is)
+moments-kept member run heard n _ low is = tt
+
+above-kept : (member : Member) (run heard last n : ℕ) (Q : Output → Type 0) (kind : EventKind) → n ≤ last → IsNumberedAbove last kind → IsOfInput member run heard Q kind → KeepsMomentOf n kind
+above-kept member run heard last n Q kinds.Tick low above is = absurd is
+above-kept member run heard last n Q (kinds.Agent (agents.Passed by)) low above is = tt
+above-kept member run heard last n Q (kinds.Agent _) low above is = absurd is
+above-kept member run heard last n Q (kinds.Message (Sent number message)) low above is = λ e. omega (arith, e, low, above)
+above-kept member run heard last n Q _ low above is = tt
+
+last-rises : (kind : EventKind) (last n : ℕ) → n ≤ last → IsNumberedAbove last kind → n ≤ sent_after last kind
+last-rises (kinds.Message (Sent number message)) last n small above = omega (arith, small, above)
+last-rises (kinds.Message (Delivered number)) last n small above = small
+last-rises (kinds.Message (Lost number)) last n small above = small
+last-rises _ last n small above = small
+
+pub moments-all : (member : Member) (run heard last n : ℕ) (Q : Output → Type 0) (events : List Event) → n ≤ last → AreNumberedAbove last events → AllAre (IsOfInput member run heard Q) events → AllAre (KeepsMomentOf n) events
+moments-all member run heard last n Q [] low numbered all = tt
+moments-all member run heard last n Q (event ∷ events) low numbered all =
+    (above-kept member run heard last n Q event.kind low numbered.0 all.0, moments-all member run heard (sent_after last event.kind) n Q events (last-rises event.kind last n low numbered.0) numbered.1 all.1)
+
+-- an output with which a server may come to accept writes has this
+abbrev MayBegin : Type 0 → Output → Type 0
+MayBegin X outputs.Begin = X
+MayBegin X (outputs.Restart as_primary) = X
+MayBegin X _ = Unit {0}
+
+-- no server starts again by this output
+abbrev RestartsNone : Output → Type 0
+RestartsNone (outputs.Restart as_primary) = ⊥
+RestartsNone _ = Unit {0}
+
+-- ---- the outputs
+module _ (member : Member) (run : ℕ) (message : HeardMessage) where
+  abbrev Runs : List AgentProcess → Type 0
+  Runs processes = (process : AgentProcess) → slice_get processes member.id.number ≡ Some process → process.run ≡ run
+
+  abbrev Brings : Cluster → Output → List Event
+  Brings cluster output = output_events member message cluster output
+
+  abbrev Later : Cluster → Output → Cluster
+  Later cluster output = cluster_over cluster (Brings cluster output)
+
+  abbrev Any : Output → Type 0
+  Any output = Unit {0}
+
+  any-all : (outs : List Output) → All Any outs
+  any-all outs = λ k d h. tt
+
+  pub stays-output : (cluster : Cluster) (output : Output) → Runs cluster.facts.processes → IsOfTable output → Stays member.id.number cluster (Later cluster output)
+  stays-output cluster output runs table = stays-over member run message.number Any cluster (Brings cluster output) (output-mine member run message.number Any cluster message refl runs output table tt)
+
+  runs-later : (cluster : Cluster) (output : Output) → Runs cluster.facts.processes → IsOfTable output → Runs (Later cluster output).facts.processes
+  runs-later cluster output runs table = subst Runs (sym (stays-output cluster output runs table).processes) runs
+
+  -- ---- numbers
+  lost-numbered : (cluster : Cluster) (test : Bool) (number last : ℕ) → AreNumberedAbove last (events_of cluster (lost_at_once test number))
+  lost-numbered cluster true number last = (tt, tt)
+  lost-numbered cluster false number last = tt
+
+  message-numbered : (cluster : Cluster) (sends : Message) → AreNumberedAbove cluster.facts.sent (send_events cluster sends)
+  message-numbered cluster sends =
+      let sent : EventKind = kinds.Message (Sent (cluster.facts.sent + 1) sends) in
+      (omega arith, lost-numbered (cluster_after cluster sent) (nat_le most_in_flight (length cluster.facts.flight)) (cluster.facts.sent + 1) (cluster.facts.sent + 1))
+
+  send-numbered : (cluster : Cluster) (to : Option LinkEnd) (sequence : ℕ) (body : Body) (found : Option AgentProcess) → AreNumberedAbove cluster.facts.sent (sending_events cluster member found to sequence body)
+  send-numbered cluster to sequence body None = tt
+  send-numbered cluster None sequence body (Some process) = tt
+  send-numbered cluster (Some to) sequence body (Some process) = message-numbered cluster (agent_message member to process.run sequence body)
+
+  reply-numbered : (cluster : Cluster) (to : Option LinkEnd) (asked sequence : ℕ) (body : Body) → AreNumberedAbove cluster.facts.sent (replying_events cluster member to asked sequence body)
+  reply-numbered cluster None asked sequence body = tt
+  reply-numbered cluster (Some to) asked sequence body = message-numbered cluster (agent_message member to asked sequence body)
+
+  other-numbered : (cluster : Cluster) (output : Output) → Runs cluster.facts.processes → IsOfTable output → no_message output → AreNumberedAbove cluster.facts.sent (Brings cluster output)
+  other-numbered cluster output runs table silent =
+      unnumbered-all member run message.number cluster.facts.sent (Brings cluster output) (output-mine member run message.number no_message cluster message refl runs output table silent)
+
+  pub output-numbered : (cluster : Cluster) (output : Output) → Runs cluster.facts.processes → IsOfTable output → AreNumberedAbove cluster.facts.sent (Brings cluster output)
+  output-numbered cluster (outputs.Send to sequence body) runs table = send-numbered cluster (receiver_of cluster.facts.members to) sequence body (slice_get cluster.facts.processes member.id.number)
+  output-numbered cluster (outputs.Answer to asked sequence answer) runs table = reply-numbered cluster (receiver_of cluster.facts.members (targets.Member to)) asked sequence (bodies.Answer answer)
+  output-numbered cluster outputs.Begin runs table = other-numbered cluster outputs.Begin runs table tt
+  output-numbered cluster (outputs.StartReplica leader) runs table = other-numbered cluster (outputs.StartReplica leader) runs table tt
+  output-numbered cluster (outputs.Stop reason) runs table = other-numbered cluster (outputs.Stop reason) runs table tt
+  output-numbered cluster (outputs.Follow leader) runs table = other-numbered cluster (outputs.Follow leader) runs table tt
+  output-numbered cluster (outputs.Require required) runs table = other-numbered cluster (outputs.Require required) runs table tt
+  output-numbered cluster (outputs.Armed until) runs table = other-numbered cluster (outputs.Armed until) runs table tt
+  output-numbered cluster (outputs.Fed until) runs table = other-numbered cluster (outputs.Fed until) runs table tt
+  output-numbered cluster outputs.Disarmed runs table = other-numbered cluster outputs.Disarmed runs table tt
+  output-numbered cluster outputs.CannotArm runs table = other-numbered cluster outputs.CannotArm runs table tt
+  output-numbered cluster outputs.DisablesWatchdog runs table = other-numbered cluster outputs.DisablesWatchdog runs table tt
+  output-numbered cluster outputs.RunsWithoutKey runs table = other-numbered cluster outputs.RunsWithoutKey runs table tt
+  output-numbered cluster outputs.Passes runs table = other-numbered cluster outputs.Passes runs table tt
+  output-numbered cluster outputs.PostponesPromotion runs table = other-numbered cluster outputs.PostponesPromotion runs table tt
+  output-numbered cluster (outputs.DoesNotRace bar) runs table = other-numbered cluster (outputs.DoesNotRace bar) runs table tt
+  output-numbered cluster outputs.ShutDown runs table = other-numbered cluster outputs.ShutDown runs table tt
+  output-numbered cluster (outputs.Repair leader repair) runs table = other-numbered cluster (outputs.Repair leader repair) runs table tt
+  output-numbered cluster (outputs.Restart as_primary) runs table = other-numbered cluster (outputs.Restart as_primary) runs table tt
+  output-numbered cluster outputs.Wipe runs table = other-numbered cluster outputs.Wipe runs table tt
+  output-numbered cluster (outputs.HandsOver candidate) runs table = other-numbered cluster (outputs.HandsOver candidate) runs table tt
+  output-numbered cluster (outputs.Told request told) runs table = other-numbered cluster (outputs.Told request told) runs table tt
+  output-numbered cluster (outputs.HoldTaken until from sequence) runs table = absurd table
+
+  pub each-numbered : (cluster : Cluster) (outs : List Output) → Runs cluster.facts.processes → All IsOfTable outs → AreNumberedAbove cluster.facts.sent (each (output_events member message) cluster outs)
+  each-numbered cluster [] runs table = tt
+  each-numbered cluster (output ∷ more) runs table =
+      let one = All-head IsOfTable output more table in
+      numbered-both cluster.facts.sent (Brings cluster output) (each (output_events member message) (Later cluster output) more) (output-numbered cluster output runs one)
+      (subst (λ (n : ℕ). AreNumberedAbove n (each (output_events member message) (Later cluster output) more)) (sent-is cluster (Brings cluster output))
+      (each-numbered (Later cluster output) more (runs-later cluster output runs one) (All-tail IsOfTable output more table)))
+
+  -- ---- the machine
+  -- a repair comes last
+  last-resembles : (cluster : Cluster) (machine : Machine) (leader : MemberId) (repair : Repair) (more : List Output) → more ≡ [] → Mirrors cluster member.id.number machine
+      → Resembles (cluster_over cluster (each (output_events member message) cluster (outputs.Repair leader repair ∷ more))) member.id.number machine
+  last-resembles cluster machine leader repair more none old =
+      subst (λ (l : List Output). Resembles (cluster_over cluster (each (output_events member message) cluster (outputs.Repair leader repair ∷ l))) member.id.number machine) (sym none)
+      (subst (λ (c : Cluster). Resembles c member.id.number machine) (sym (over-append cluster (Brings cluster (outputs.Repair leader repair)) []))
+      (repair-resembles cluster member message machine leader repair (mirrored cluster member.id.number machine old)))
+
+  -- one output is carried out, and then the others
+  more-resemble : (now : Ticks) (cluster : Cluster) (machine : Machine) (output : Output) (more : List Output) → RepairsNone output → IsOfTable output → cluster.facts.clock ≡ now.0 → Mirrors cluster member.id.number machine
+      → (Mirrors (Later cluster output) member.id.number (machine_after_output now machine output)
+      → Resembles (cluster_over (Later cluster output) (each (output_events member message) (Later cluster output) more)) member.id.number (machine_after_outputs now (machine_after_output now machine output) more))
+      → Resembles (cluster_over cluster (each (output_events member message) cluster (output ∷ more))) member.id.number (machine_after_outputs now (machine_after_output now machine output) more)
+  more-resemble now cluster machine output more none table clock old then =
+      let next = Later cluster output in
+      let made = output-here member cluster message machine output table none old in
+      subst (λ (c : Cluster). Resembles c member.id.number (machine_after_outputs now (machine_after_output now machine output) more)) (sym (over-append cluster (Brings cluster output) (each (output_events member message) next more)))
+      (then (subst (λ (n : ℕ). let t : Ticks = record { 0 = n } in Mirrors next member.id.number (machine_after_output t machine output)) clock made))
+
+  repairs-none : (output : Output) (later : List Output) → EndsRepairing output later → RepairsNone output ⊎ ((leader : MemberId) × ((repair : Repair) × ((output ≡ outputs.Repair leader repair) × (later ≡ []))))
+  repairs-none (outputs.Repair leader repair) later ends = inr (leader, (repair, (refl, ends)))
+  repairs-none _ later ends = inl tt
+
+  pub each-resembles : (now : Ticks) (cluster : Cluster) (machine : Machine) (outs : List Output) → Runs cluster.facts.processes → All IsOfTable outs → RepairsLast outs → cluster.facts.clock ≡ now.0 → Mirrors cluster member.id.number machine
+      → Resembles (cluster_over cluster (each (output_events member message) cluster outs)) member.id.number (machine_after_outputs now machine outs)
+  each-resembles now cluster machine [] runs table last clock old = mirrored cluster member.id.number machine old
+  each-resembles now cluster machine (output ∷ more) runs table last clock old =
+      let one = All-head IsOfTable output more table in
+      elim (repairs-none output more last.0) [
+        | inl none ↦ more-resemble now cluster machine output more none one clock old
+            (each-resembles now (Later cluster output) (machine_after_output now machine output) more (runs-later cluster output runs one) (All-tail IsOfTable output more table) last.1 ((stays-output cluster output runs one).clock ∙ clock))
+        | inr ends ↦ subst (λ (x : Output). Resembles (cluster_over cluster (each (output_events member message) cluster (x ∷ more))) member.id.number (machine_after_outputs now (machine_after_output now machine x) more)) (sym ends.1.1.0)
+            (subst (λ (l : List Output). Resembles (cluster_over cluster (each (output_events member message) cluster (outputs.Repair ends.0 ends.1.0 ∷ more))) member.id.number (machine_after_outputs now machine l)) (sym ends.1.1.1)
+            (last-resembles cluster machine ends.0 ends.1.0 more ends.1.1.1 old))
+      ]
+
+  -- ---- who begins
+  abbrev Keeps : List Event → Type 0
+  Keeps events = AllAre (KeepsMomentOf message.number) events
+
+  abbrev ArmedIn : List Event → Type 0
+  ArmedIn events = IsArmedIn member.id.number message.number events
+
+  pub armed-more : (m number : ℕ) (events more : List Event) → IsArmedIn m number events → IsArmedIn m number (events ++ more)
+  armed-more m number events more old = record {
+    front = old.front;
+    event = old.event;
+    rest = old.rest ++ more;
+    is = sym (assoc old.front (old.event ∷ old.rest) more) ∙ ap (λ (l : List Event). l ++ more) old.is;
+    aside = old.aside;
+    fed = old.fed;
+  }
+
+  begins-both : (R : List Event → ℕ → Type 0) (before xs ys : List Event) → BeginsBehind R before xs → BeginsBehind R (before ++ xs) ys → BeginsBehind R before (xs ++ ys)
+  begins-both R before [] ys first second = subst (λ (l : List Event). BeginsBehind R l ys) (none-more before) second
+  begins-both R before (x ∷ xs) ys first second =
+      (first.0, begins-both R (before ++ x ∷ []) xs ys first.1 (subst (λ (l : List Event). BeginsBehind R l ys) (sym (assoc before (x ∷ []) xs)) second))
+
+  -- in the events of one output
+  to-begin : (X : Type 0) → IsToBegin (MayBegin X) → X
+  to-begin X (inl x) = x
+  to-begin X (inr again) = again.1
+
+  one-begins : (X : Type 0) (P : ℕ → Type 0) (kind : EventKind) → (X → P member.id.number) → IsOfInput member run message.number (MayBegin X) kind → BeginsKind P kind
+  one-begins X P (kinds.Server (servers.Began server timeline)) may is = subst (λ (s : ServerOf). P s.id.number) (sym is.0) (may (to-begin X is.1))
+  one-begins X P _ may is = tt
+
+  output-begins : (X : Type 0) (R : List Event → ℕ → Type 0) → ((before more : List Event) → R before member.id.number → R (before ++ more) member.id.number) → (before events : List Event) → (X → R before member.id.number)
+      → AllAre (IsOfInput member run message.number (MayBegin X)) events → BeginsBehind R before events
+  output-begins X R grow before [] may all = tt
+  output-begins X R grow before (event ∷ events) may all =
+      (one-begins X (R before) event.kind may all.0, output-begins X R grow (before ++ event ∷ []) events (λ x. grow before (event ∷ []) (may x)) all.1)
+
+  or-none : (b : Bool) → (b || false) ≡ true → b ≡ true
+  or-none true e = refl
+  or-none false e = e
+
+  or-else : {X Y : Type 0} (b c : Bool) → (b ≡ true → X) → (c ≡ true → Y) → (b || c) ≡ true → X ⊎ Y
+  or-else true c first second e = inl (first refl)
+  or-else false c first second e = inr (second e)
+
+  or-left : (b c : Bool) → b ≡ true → (b || c) ≡ true
+  or-left true c e = refl
+  or-left false c e = absurd (no-way e)
+    where
+      no-way : false ≡ true → ⊥
+      no-way e = cc
+
+  or-right : (b c : Bool) → c ≡ true → (b || c) ≡ true
+  or-right true c e = refl
+  or-right false c e = e
+
+  arms-or : (outs : List Output) (output : Output) → has_one is_arming (outs ++ output ∷ []) ≡ true → (has_one is_arming outs ≡ true) ⊎ (is_arming output ≡ true)
+  arms-or [] output e = inr (or-none (is_arming output) e)
+  arms-or (one ∷ outs) output e = elim (or-else (is_arming one) (has_one is_arming (outs ++ output ∷ [])) (λ a. a) (λ b. b) e) [
+    | inl here ↦ inl (or-left (is_arming one) (has_one is_arming outs) here)
+    | inr later ↦ elim (arms-or outs output later) [ inl was ↦ inl (or-right (is_arming one) (has_one is_arming outs) was) | inr now ↦ inr now ]
+  ]
+
+  -- from when a feed is measured
+  abbrev measured : Cluster → Event
+  measured cluster = record { tick = record { 0 = cluster.facts.clock }; kind = kinds.Watchdog (watchdogs.Measured member message.sent) }
+
+  -- an arming is told
+  arming-told : (cluster : Cluster) (output : Output) (before : List Event) → Keeps before → is_arming output ≡ true → ArmedIn (before ++ Brings cluster output)
+  arming-told cluster (outputs.Armed until) before kept e = record {
+    front = before ++ measured cluster ∷ [];
+    event = record { tick = record { 0 = cluster.facts.clock }; kind = kinds.Watchdog (watchdogs.Armed member until message.number) };
+    rest = [];
+    is = assoc before (measured cluster ∷ []) _;
+    aside = all-both (KeepsMomentOf message.number) before (measured cluster ∷ []) kept (tt, tt);
+    fed = (refl, refl);
+  }
+  arming-told cluster outputs.Begin before kept e = absurd (no-way e)
+    where
+      no-way : false ≡ true → ⊥
+      no-way e = cc
+  arming-told cluster (outputs.Send to sequence body) before kept e = absurd (no-way e)
+    where
+      no-way : false ≡ true → ⊥
+      no-way e = cc
+  arming-told cluster (outputs.StartReplica leader) before kept e = absurd (no-way e)
+    where
+      no-way : false ≡ true → ⊥
+      no-way e = cc
+  arming-told cluster _ before kept e = absurd (no-way e)
+    where
+      no-way : false ≡ true → ⊥
+      no-way e = cc
+
+  -- a server that starts again accepted writes before, if it does behind its start
+  again-begins : (R : List Event → ℕ → Type 0) → ((before more : List Event) → R before member.id.number → R (before ++ more) member.id.number) → (cluster : Cluster) (before : List Event) (state : State) (s : ServerFacts)
+      → (live state ≡ true → R before member.id.number) → BeginsBehind R before (events_of cluster (server_restart_in member cluster.facts.acknowledged state s))
+  again-begins R grow cluster before states.Primary s may =
+      let list = server_restart_in member cluster.facts.acknowledged states.Primary s in
+      output-begins (R before member.id.number) R grow before (events_of cluster list) (λ begins. begins)
+      (all-kinds (IsOfInput member run message.number (MayBegin (R before member.id.number))) cluster list (again-mine member run message.number (MayBegin (R before member.id.number)) cluster.facts.acknowledged states.Primary s (inl (may refl))))
+  again-begins R grow cluster before states.Replica s may = (tt, tt)
+  again-begins R grow cluster before _ s may = tt
+
+  restart-begins : (R : List Event → ℕ → Type 0) → ((before more : List Event) → R before member.id.number → R (before ++ more) member.id.number) → (cluster : Cluster) (before : List Event) (found : Option ServerFacts)
+      → ((s : ServerFacts) → found ≡ Some s → live s.state ≡ true → R before member.id.number) → BeginsBehind R before (for_some found (λ s. events_of cluster (server_restart_kinds member cluster.facts.acknowledged s)))
+  restart-begins R grow cluster before None may = tt
+  restart-begins R grow cluster before (Some s) may = again-begins R grow cluster before s.state s (may s refl)
+
+  -- in those of any output: it begins by the order to, or was live before
+  may-begin : (X : Type 0) (output : Output) → RestartsNone output → BeginsOnly X output → MayBegin X output
+  may-begin X outputs.Begin none is = is
+  may-begin X (outputs.Restart as_primary) none is = absurd none
+  may-begin X _ none is = tt
+
+  restarts-none : (output : Output) → RestartsNone output ⊎ ((as_primary : Bool) × (output ≡ outputs.Restart as_primary))
+  restarts-none (outputs.Restart as_primary) = inr (as_primary, refl)
+  restarts-none _ = inl tt
+
+  brings-begin : (P : List Output → Type 0) (R : List Event → ℕ → Type 0) → ((before more : List Event) → R before member.id.number → R (before ++ more) member.id.number)
+      → (cluster : Cluster) (done : List Output) (before : List Event) (output : Output) → Runs cluster.facts.processes → IsOfTable output → BeginsOnly (P done) output → (P done → R before member.id.number)
+      → (live_in cluster.facts.servers member.id.number ≡ true → R before member.id.number) → BeginsBehind R before (Brings cluster output)
+  brings-begin P R grow cluster done before output runs table begin makes lives = elim (restarts-none output) [
+    | inl none ↦ output-begins (P done) R grow before (Brings cluster output) makes (output-mine member run message.number (MayBegin (P done)) cluster message refl runs output table (may-begin (P done) output none begin))
+    | inr again ↦ subst (λ (x : Output). BeginsBehind R before (Brings cluster x)) (sym again.1)
+        (restart-begins R grow cluster before (server_at cluster member) (λ s is alive. lives (ap live_now is ∙ alive)))
+  ]
+
+  -- behind an output that isn't the order to begin a server is live that was live before
+  lives-on : {Y : Type 0} (now : Ticks) (machine : Machine) (X : Type 0) (output : Output) → BeginsOnly X output → (X → Y) → (live machine.server.state ≡ true → Y) → live (machine_after_output now machine output).server.state ≡ true → Y
+  lives-on now machine X outputs.Begin begin may lives e = may begin
+  lives-on now machine X (outputs.StartReplica leader) begin may lives e = lives (start-live now (upstream_of leader) machine.server e)
+  lives-on now machine X (outputs.Stop reason) begin may lives e = lives (stop-live now machine.server e)
+  lives-on now machine X outputs.ShutDown begin may lives e = lives (stop-live now machine.server e)
+  lives-on now machine X (outputs.Restart as_primary) begin may lives e = lives (restart-live now machine.server e)
+  lives-on now machine X outputs.Wipe begin may lives e = lives (wipe-live machine.server e)
+  lives-on now machine X (outputs.Follow leader) begin may lives e = lives (follow-live (server_id_of leader) machine.server e)
+  lives-on now machine X _ begin may lives e = lives e
+
+  pub each-begins : (P : List Output → Type 0) (R : List Event → ℕ → Type 0) → ((before more : List Event) → R before member.id.number → R (before ++ more) member.id.number)
+      → ((outs : List Output) (before : List Event) → P outs → (has_one is_arming outs ≡ true → ArmedIn before) → R before member.id.number)
+      → (cluster : Cluster) (machine : Machine) (done : List Output) (before : List Event) (outs : List Output) → Mirrors cluster member.id.number machine → (live machine.server.state ≡ true → R before member.id.number)
+      → Runs cluster.facts.processes → All IsOfTable outs → RepairsLast outs → Keeps before → Keeps (each (output_events member message) cluster outs)
+      → (has_one is_arming done ≡ true → ArmedIn before) → OutputsBeginBehind P done outs → BeginsBehind R before (each (output_events member message) cluster outs)
+  each-begins P R grow makes cluster machine done before [] mirrors lives runs table last kept all armed begin = tt
+  each-begins P R grow makes cluster machine done before (output ∷ more) mirrors lives runs table last kept all armed begin =
+      let one = All-head IsOfTable output more table in
+      let next = Later cluster output in
+      let events = Brings cluster output in
+      let rest = each (output_events member message) next more in
+      let now : Ticks = record { 0 = cluster.facts.clock } in
+      let may : P done → R before member.id.number = (λ p. makes done before p armed) in
+      begins-both R before events rest
+      (brings-begin P R grow cluster done before output runs one begin.0 may (λ alive. lives (sym (mirrored cluster member.id.number machine mirrors).lives ∙ alive)))
+      (elim (repairs-none output more last.0) [
+        | inl none ↦ each-begins P R grow makes next (machine_after_output now machine output) (listed output done) (before ++ events) more (output-here member cluster message machine output one none mirrors)
+            (lives-on now machine (P done) output begin.0 (λ p. grow before events (may p)) (λ alive. grow before events (lives alive)))
+            (runs-later cluster output runs one) (All-tail IsOfTable output more table) last.1
+            (all-both (KeepsMomentOf message.number) before events kept (all-front (KeepsMomentOf message.number) events rest all))
+            (all-back (KeepsMomentOf message.number) events rest all)
+            (λ e. elim (arms-or done output e) [ inl was ↦ armed-more member.id.number message.number before events (armed was) | inr here ↦ arming-told cluster output before kept here ])
+            begin.1
+        | inr ends ↦ subst (λ (l : List Output). BeginsBehind R (before ++ events) (each (output_events member message) next l)) (sym ends.1.1.1) tt
+      ])
+
+  -- ---- what is fed
+  pub record FedIn (events : List Event) : Type 0 where
+    pub front : List Event
+    pub event : Event
+    pub rest : List Event
+    pub is : front ++ event ∷ rest ≡ events
+    pub fed : IsFedBy member.id.number message.number event.kind
+
+  fed-later : (events rest : List Event) → FedIn rest → FedIn (events ++ rest)
+  fed-later events rest old = record { front = events ++ old.front; event = old.event; rest = old.rest; is = assoc events old.front (old.event ∷ old.rest) ∙ ap (λ (l : List Event). events ++ l) old.is; fed = old.fed }
+
+  fed-now : (cluster : Cluster) (output : Output) (rest : List Event) → is_feeding output ≡ true → FedIn (Brings cluster output ++ rest)
+  fed-now cluster (outputs.Armed until) rest e = record {
+    front = measured cluster ∷ [];
+    event = record { tick = record { 0 = cluster.facts.clock }; kind = kinds.Watchdog (watchdogs.Armed member until message.number) };
+    rest = rest;
+    is = refl;
+    fed = (refl, refl);
+  }
+  fed-now cluster (outputs.Fed until) rest e = record {
+    front = measured cluster ∷ [];
+    event = record { tick = record { 0 = cluster.facts.clock }; kind = kinds.Watchdog (watchdogs.Fed member until (bases.Grant message.number)) };
+    rest = rest;
+    is = refl;
+    fed = (refl, refl);
+  }
+  fed-now cluster _ rest e = absurd (no-way e)
+    where
+      no-way : false ≡ true → ⊥
+      no-way e = cc
+
+  pub each-fed : (cluster : Cluster) (outs : List Output) → has_one is_feeding outs ≡ true → FedIn (each (output_events member message) cluster outs)
+  each-fed cluster [] e = absurd (no-way e)
+    where
+      no-way : false ≡ true → ⊥
+      no-way e = cc
+  each-fed cluster (output ∷ more) e = elim (or-else (is_feeding output) (has_one is_feeding more) (λ a. a) (λ b. b) e) [
+    | inl here ↦ fed-now cluster output (each (output_events member message) (Later cluster output) more) here
+    | inr later ↦ fed-later (Brings cluster output) (each (output_events member message) (Later cluster output) more) (each-fed (Later cluster output) more later)
+  ]

@@ -1,0 +1,140 @@
+-- What an input of an agent leaves as it was, beside its member's machine.
+use Rattle.std.proofs.Common.{◌≡◌, ◌≢◌, ℕ, List, [], ◌∷◌, Some, All, slice_get, option_map, refl, sym, subst, ap, ◌∙◌, Option, Some, None}
+use Rattle.std.proofs.lemmas.List.Elements.{All-head, All-tail}
+use Rattle.pat_base.specs.Changes.{with_changed}
+use Rattle.pg_model.specs.Facts.{ServerFacts}
+use Rattle.event_book.specs.declared.agent_process.AgentProcess.{AgentProcess}
+use Rattle.event_book.specs.declared.event.Event.{Event}
+use Rattle.event_book.specs.declared.event.AgentEvent.TheVariants as agents
+use Rattle.event_book.specs.declared.event.EventKind.{EventKind}
+use Rattle.event_book.specs.declared.event.EventKind.TheVariants as kinds
+use Rattle.event_book.specs.declared.event.MessageEvent.TheVariants.{Sent, Delivered, Lost}
+use Rattle.event_book.specs.declared.event.LogEvent.{LogEvent}
+use Rattle.event_book.specs.declared.event.LogEvent.TheVariants as logs
+use Rattle.event_book.specs.declared.event.ReplicationEvent.TheVariants as replications
+use Rattle.event_book.specs.declared.event.ServerEvent.TheVariants as servers
+use Rattle.event_book.specs.declared.event.ServerEvent.{ServerEvent}
+use Rattle.event_book.specs.declared.event.WatchdogEvent.TheVariants as watchdogs
+use Rattle.event_book.specs.declared.member.Member.{Member}
+use Rattle.event_book.specs.declared.member.ServerOf.{ServerOf}
+use Rattle.event_book.specs.Processes.{processes_after}
+use Rattle.event_book.specs.Clock.{now_after}
+use Rattle.event_book.specs.Members.{server_of}
+use Rattle.event_book.specs.Servers.{servers_after, becomes_copy, copied_by, servers_by_log}
+use Rattle.agent_model.specs.declared.output.Output.{Output}
+use Rattle.agent_law.specs.Orders.{IsOfTable}
+use Rattle.cluster_model.specs.declared.heard_message.HeardMessage.{HeardMessage}
+use Rattle.cluster_model.specs.Cluster.{agent_facts_after, cluster_after, cluster_over}
+use Rattle.cluster_model.specs.Messages.{output_events}
+use Rattle.cluster_model.specs.Parts.{each}
+use Rattle.cluster_model.specs.State.{Cluster}
+use Rattle.event_book.specs.Kinds.{AllAre}
+use Rattle.cluster_model.proofs.Lists.{all-both}
+use Rattle.lease_inputs.specs.InputEvents.{IsOfInput}
+use Rattle.lease_inputs.proofs.InputEvents.{output-mine}
+use Rattle.cluster_model.proofs.Places.{get-here, get-elsewhere}
+
+-- what stays as it was beside the machine of the member of this number, but for messages
+pub record Stays (m : ℕ) (cluster later : Cluster) : Type 0 where
+  pub agents : later.agents ≡ cluster.agents
+  pub processes : later.facts.processes ≡ cluster.facts.processes
+  pub clock : later.facts.clock ≡ cluster.facts.clock
+  pub servers : (n : ℕ) → n ≢ m → slice_get later.facts.servers n ≡ slice_get cluster.facts.servers n
+
+pub stays-same : (m : ℕ) (cluster : Cluster) → Stays m cluster cluster
+stays-same m cluster = record { agents = refl; processes = refl; clock = refl; servers = λ n other. refl }
+
+pub stays-then : (m : ℕ) (a b c : Cluster) → Stays m a b → Stays m b c → Stays m a c
+stays-then m a b c first second = record {
+  agents = second.agents ∙ first.agents;
+  processes = second.processes ∙ first.processes;
+  clock = second.clock ∙ first.clock;
+  servers = λ n other. second.servers n other ∙ first.servers n other;
+}
+
+-- the item of its own
+pub item-here : {A : Type 0} (xs : List A) (k : ℕ) (change : A → A) (x : A) → slice_get xs k ≡ Some x → slice_get (with_changed xs k change) k ≡ Some (change x)
+item-here xs k change x is = get-here xs k change ∙ ap (option_map change) is
+
+-- ---- one event of an input
+module _ (member : Member) (run heard : ℕ) (Q : Output → Type 0) where
+  abbrev Mine : EventKind → Type 0
+  Mine kind = IsOfInput member run heard Q kind
+
+  agents-one : (cluster : Cluster) (kind : EventKind) → Mine kind → agent_facts_after cluster kind ≡ cluster.agents
+  agents-one cluster (kinds.Message (Sent number message)) is = refl
+  agents-one cluster (kinds.Message (Delivered number)) is = absurd is
+  agents-one cluster (kinds.Message (Lost number)) is = refl
+  agents-one cluster (kinds.Watchdog (watchdogs.Reset by)) is = absurd is
+  agents-one cluster (kinds.Agent (agents.Passed by)) is = refl
+  agents-one cluster (kinds.Agent _) is = absurd is
+  agents-one cluster _ is = refl
+
+  processes-one : (processes : List AgentProcess) (kind : EventKind) → Mine kind → processes_after processes kind ≡ processes
+  processes-one processes (kinds.Watchdog (watchdogs.Reset by)) is = absurd is
+  processes-one processes (kinds.Agent (agents.Passed by)) is = refl
+  processes-one processes (kinds.Agent _) is = absurd is
+  processes-one processes _ is = refl
+
+  pub clock-one : (now : ℕ) (kind : EventKind) → Mine kind → now_after now kind ≡ now
+  clock-one now kinds.Tick is = absurd is
+  clock-one now _ is = refl
+
+  other-one : (known : List ServerFacts) (server : ServerOf) (change : ServerFacts → ServerFacts) (n : ℕ) → n ≢ member.id.number → server ≡ server_of member → slice_get (with_changed known server.id.number change) n ≡ slice_get known n
+  other-one known server change n other is = get-elsewhere known server.id.number n change (λ e. other (e ∙ ap (λ (s : ServerOf). s.id.number) is))
+
+  servers-by : (now : ℕ) (known : List ServerFacts) (happening : ServerEvent) → Mine (kinds.Server happening) → (n : ℕ) → n ≢ member.id.number → slice_get (servers_after now known (kinds.Server happening)) n ≡ slice_get known n
+  servers-by now known (servers.Began server timeline) is n other = other-one known server _ n other is.0
+  servers-by now known (servers.StartsAsPrimary server) is n other = other-one known server _ n other is
+  servers-by now known (servers.StartsAsReplica server) is n other = other-one known server _ n other is
+  servers-by now known (servers.Follows server upstream) is n other = other-one known server _ n other is
+  servers-by now known (servers.Ended server) is n other = other-one known server _ n other is
+  servers-by now known (servers.Stops server) is n other = other-one known server _ n other is
+  servers-by now known _ is n other = absurd is
+
+  copied-one : (known : List ServerFacts) (server : ServerOf) (source : Option ServerFacts) (n : ℕ) → n ≢ member.id.number → server ≡ server_of member → slice_get (copied_by known server.id.number source) n ≡ slice_get known n
+  copied-one known server None n other is = refl
+  copied-one known server (Some source) n other is = other-one known server (becomes_copy source) n other is
+
+  logs-by : (known : List ServerFacts) (happening : LogEvent) → Mine (kinds.Log happening) → (n : ℕ) → n ≢ member.id.number → slice_get (servers_by_log known happening) n ≡ slice_get known n
+  logs-by known (logs.Rewound server from kept at) is n other = other-one known server _ n other is
+  logs-by known (logs.Copied server from) is n other = copied-one known server (slice_get known from.id.number) n other is
+  logs-by known (logs.Wiped server) is n other = other-one known server _ n other is
+  logs-by known _ is n other = absurd is
+
+  servers-one : (now : ℕ) (known : List ServerFacts) (kind : EventKind) → Mine kind → (n : ℕ) → n ≢ member.id.number → slice_get (servers_after now known kind) n ≡ slice_get known n
+  servers-one now known (kinds.Server happening) is n other = servers-by now known happening is n other
+  servers-one now known (kinds.Replication (replications.RequiredSet server required names)) is n other = other-one known server _ n other is
+  servers-one now known (kinds.Replication (replications.Lacks server)) is n other = refl
+  servers-one now known (kinds.Replication _) is n other = absurd is
+  servers-one now known (kinds.Log happening) is n other = logs-by known happening is n other
+  servers-one now known (kinds.Watchdog (watchdogs.Reset by)) is n other = absurd is
+  servers-one now known kinds.Tick is n other = absurd is
+  servers-one now known _ is n other = refl
+
+  pub stays-one : (cluster : Cluster) (kind : EventKind) → Mine kind → Stays member.id.number cluster (cluster_after cluster kind)
+  stays-one cluster kind is = record {
+    agents = agents-one cluster kind is;
+    processes = processes-one cluster.facts.processes kind is;
+    clock = clock-one cluster.facts.clock kind is;
+    servers = servers-one (now_after cluster.facts.clock kind) cluster.facts.servers kind is;
+  }
+
+  pub stays-over : (cluster : Cluster) (events : List Event) → AllAre Mine events → Stays member.id.number cluster (cluster_over cluster events)
+  stays-over cluster [] all = stays-same member.id.number cluster
+  stays-over cluster (event ∷ events) all =
+      stays-then member.id.number cluster (cluster_after cluster event.kind) (cluster_over (cluster_after cluster event.kind) events) (stays-one cluster event.kind all.0) (stays-over (cluster_after cluster event.kind) events all.1)
+
+  -- ---- all outputs of an input
+  abbrev Runs : List AgentProcess → Type 0
+  Runs processes = (process : AgentProcess) → slice_get processes member.id.number ≡ Some process → process.run ≡ run
+
+  pub each-mine : (cluster : Cluster) (message : HeardMessage) → message.number ≡ heard → Runs cluster.facts.processes → (outs : List Output) → All IsOfTable outs → All Q outs → AllAre Mine (each (output_events member message) cluster outs)
+  each-mine cluster message at runs [] table all = tt
+  each-mine cluster message at runs (output ∷ more) table all =
+      let first = output-mine member run heard Q cluster message at runs output (All-head IsOfTable output more table) (All-head Q output more all) in
+      let events = output_events member message cluster output in
+      let later = cluster_over cluster events in
+      let stays = stays-over cluster events first in
+      all-both Mine events (each (output_events member message) later more) first
+      (each-mine later message at (subst Runs (sym stays.processes) runs) more (All-tail IsOfTable output more table) (All-tail Q output more all))

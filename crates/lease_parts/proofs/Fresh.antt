@@ -1,0 +1,15 @@
+-- What the law sees of an agent that starts.
+use Rattle.std.proofs.Common.{ℕ, ◌≡◌, ◌==◌, Bool, false, ap}
+use Rattle.std.proofs.Math.Path.{fun_ext}
+use Rattle.std.proofs.lemmas.Nat.Bits.{bit_at-zero}
+use Rattle.std.specs.Int.{bit_at}
+use Rattle.agent_model.specs.declared.who.Who.{Who}
+use Rattle.cluster_model.specs.Inputs.{starting_agent}
+use Rattle.lease_law.specs.States.{Agent, fresh_agent}
+use Rattle.lease_parts.specs.AgentSeen.{agent_seen}
+
+-- it knows nothing
+pub fresh-seen : (who : Who) (now run : ℕ) → agent_seen (starting_agent who now run) ≡ fresh_agent run
+fresh-seen who now run =
+    let none : ◌≡◌ {A = ℕ → Bool} (λ p. bit_at 0 p == 1) (λ p. false) = fun_ext (λ p. ap (λ b. b == 1) (bit_at-zero p)) in
+    ap (λ (known : ℕ → Bool). let agent : Agent = record (fresh_agent run) { known = known } in agent) none

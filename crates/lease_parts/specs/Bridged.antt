@@ -1,0 +1,49 @@
+-- What a run's book and cluster keep between two actions.
+use Rattle.std.specs.Prelude.{ℕ, ◌≡◌, true, false, List, Option, Some, length, slice_get}
+use Rattle.script_model.specs.Script.{HeadText}
+use Rattle.lease_book.specs.Flights.{IsSameFlight}
+use Rattle.event_book.specs.declared.agent_process.AgentProcess.{AgentProcess}
+use Rattle.event_book.specs.declared.event.Event.{Event}
+use Rattle.agent_model.specs.Agents.{AgentFacts}
+use Rattle.agent_model.specs.Pausing.{is_paused}
+use Rattle.cluster_model.specs.Starting.{options_of}
+use Rattle.cluster_model.specs.State.{Cluster}
+use Rattle.lease_law.specs.Carried.{IsCarried}
+use Rattle.lease_law.specs.Past.{Past, past_of, state_of}
+use Rattle.lease_law.specs.Pauses.{NobodyPauses}
+use Rattle.lease_law.specs.Stores.{IsSameStore}
+use Rattle.lease_parts.specs.Declaring.{declared_of, declared_members, member_count}
+use Rattle.lease_parts.specs.Machines.{IsSameEverywhere, IsSized}
+use Rattle.lease_parts.specs.Volatile.{volatile_of}
+use Rattle.lease_parts.specs.Waiting.{AgentsAreSound}
+
+-- the agent of the member of this number knows that number, and the run of its process, which runs; and it read of no pause
+pub record KnowsItself (m : ℕ) (process : Option AgentProcess) (agent : AgentFacts) : Type 0 where
+  pub found : AgentProcess
+  pub is : process ≡ Some found
+  pub running : found.running ≡ true
+  pub run : agent.knows.run ≡ found.run
+  pub me : agent.knows.who.me.number ≡ m
+  pub unpaused : is_paused agent.knows ≡ false
+
+-- each agent that is there does
+abbrev pub KnowThemselves : List AgentProcess → List (Option AgentFacts) → Type 0
+KnowThemselves processes agents = (m : ℕ) (agent : AgentFacts) → slice_get agents m ≡ Some (Some agent) → KnowsItself m (slice_get processes m) agent
+
+-- the past of a book fits a cluster of this head
+pub record IsMatched (head : HeadText) (past : Past) (cluster : Cluster) : Type 0 where
+  pub members : cluster.facts.members ≡ declared_members head
+  pub options : cluster.options ≡ options_of head
+  pub sized : IsSized (member_count head) cluster.facts
+  pub agents_sized : length cluster.agents ≡ member_count head
+  pub store : IsSameStore past cluster.facts
+  pub flight : IsSameFlight past cluster.facts
+  pub machines : IsSameEverywhere past cluster.facts
+  pub unpaused : NobodyPauses cluster.facts
+  pub agents : KnowThemselves cluster.facts.processes cluster.agents
+  pub waiting : AgentsAreSound past cluster
+
+-- a book and a cluster that it leaves, between two actions: what the law of one writer carries holds of them
+pub record Bridged (head : HeadText) (book : List Event) (cluster : Cluster) : Type 0 where
+  pub matched : IsMatched head (past_of book) cluster
+  pub carried : IsCarried (state_of (declared_of head) (past_of book) (volatile_of cluster))

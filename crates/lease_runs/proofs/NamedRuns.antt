@@ -1,0 +1,153 @@
+-- Each run names who begins.
+use Rattle.std.proofs.Common.{ℕ, ◌≡◌, ◌≤◌, ◌++◌, List, [], length, slice_get, Option, Some, None, option_map, refl, ◌∙◌, ap, sym, subst}
+use Rattle.pat_base.specs.declared.member_id.TheConstants.{MOST_MEMBERS}
+use Rattle.cluster_model.specs.declared.step.Step.{Step}
+use Rattle.script_model.specs.Script.{HeadText, IsHead, names_of}
+use Rattle.event_book.specs.declared.agent_process.AgentProcess.{AgentProcess}
+use Rattle.event_book.specs.declared.event.AgentEvent.TheVariants.{Operated, Woken}
+use Rattle.event_book.specs.declared.event.Event.{Event}
+use Rattle.event_book.specs.declared.event.EventKind.{EventKind}
+use Rattle.event_book.specs.declared.event.EventKind.TheVariants as kinds
+use Rattle.event_book.specs.declared.event.MessageEvent.TheVariants.{Delivered, Sent}
+use Rattle.event_book.specs.declared.event.ServerEvent.TheVariants as servers
+use Rattle.event_book.specs.declared.link.LinkEnd.{LinkEnd}
+use Rattle.event_book.specs.declared.link.LinkEnd.TheVariants as ends
+use Rattle.event_book.specs.declared.member.Member.{Member}
+use Rattle.event_book.specs.declared.member.ServerOf.{ServerOf}
+use Rattle.event_book.specs.declared.message.Body.{Body}
+use Rattle.event_book.specs.declared.message.Body.TheVariants as bodies
+use Rattle.event_book.specs.Kinds.{AllAre}
+use Rattle.agent_model.specs.declared.heard.Heard.TheVariants.{Operated as HearsOperator, Wake}
+use Rattle.agent_model.specs.declared.output.Output.{Output}
+use Rattle.agent_model.specs.declared.output.Output.TheVariants as outputs
+use Rattle.agent_model.specs.declared.output.Target.{Target}
+use Rattle.agent_model.specs.declared.output.Target.TheVariants as targets
+use Rattle.agent_model.specs.Agents.{Outcome}
+use Rattle.cluster_model.specs.declared.heard_message.HeardMessage.{HeardMessage}
+use Rattle.cluster_model.specs.Cluster.{cluster_after}
+use Rattle.cluster_model.specs.Hearing.{heard_from}
+use Rattle.cluster_model.specs.Inputs.{outcome_of, outcome_of_heard, outputs_of}
+use Rattle.cluster_model.specs.Messages.{agent_message, heard_message, input_events, no_message, output_events, receiver_of, replying_events, sending_events}
+use Rattle.cluster_model.specs.Next.{run_events}
+use Rattle.cluster_model.specs.Orders.{hold_taken}
+use Rattle.cluster_model.specs.Parts.{event_of}
+use Rattle.cluster_model.specs.Starting.{cluster_of}
+use Rattle.cluster_model.specs.State.{Cluster}
+use Rattle.cluster_model.proofs.Founds.{holds-mapped}
+use Rattle.cluster_model.proofs.Lists.{all-more}
+use Rattle.lease_law.proofs.Tools.{none-some}
+use Rattle.lease_parts.specs.Declaring.{declared_members}
+use Rattle.lease_parts.specs.Machines.{run_in, run_now}
+use Rattle.lease_parts.specs.Members.{IsDeclared}
+use Rattle.lease_parts.specs.Parts.{PartsUphold}
+use Rattle.lease_parts.specs.Promise.{Upholds, UpholdsAlways}
+use Rattle.lease_parts.proofs.Members.{declared-at, declared-named, few-names}
+use Rattle.lease_parts.proofs.Upholding.{upheld-then, upholds-all}
+use Rattle.lease_parts.proofs.Walking.{upholds-run}
+use Rattle.lease_inputs.specs.InputEvents.{IsOfInput}
+use Rattle.lease_inputs.proofs.InputEvents.{output-mine}
+use Rattle.lease_inputs.proofs.InputOutputs.{no-sent, no_message as sends_none}
+use Rattle.summary.specs.Listed.{NamesServer}
+use Rattle.lease_runs.proofs.NamedParts.{found-own, sends-own, upheld-arrival, upholds-acknowledge, upholds-command, upholds-promote, upholds-receive, upholds-restart, upholds-tick}
+use Rattle.lease_runs.proofs.Naming.{IsDeclaredEnd, IsOwn, NamesSoFar, composable, names_told, upheld-own}
+
+module _ (head : HeadText) (few : length (names_of head) ≤ MOST_MEMBERS) where
+  abbrev Own : EventKind → Type 0
+  Own kind = IsOwn head kind
+
+  -- whom an agent writes to, if that is declared
+  abbrev IsOwnReceiver : Option LinkEnd → Type 0
+  IsOwnReceiver None = Unit {0}
+  IsOwnReceiver (Some to) = IsDeclaredEnd head to
+
+  found-declared : (members : List Member) → members ≡ declared_members head → (i : ℕ) (found : Option Member) → slice_get members i ≡ found
+      → IsOwnReceiver (option_map (λ (m : Member). ends.Member m) found)
+  found-declared members same i None is = tt
+  found-declared members same i (Some m) is = declared-at head few i m (sym (ap (λ (ms : List Member). slice_get ms i) same) ∙ is)
+
+  receiver-declared : (members : List Member) → members ≡ declared_members head → (to : Target) → IsOwnReceiver (receiver_of members to)
+  receiver-declared members same targets.Store = tt
+  receiver-declared members same (targets.Member id) = found-declared members same id.number (slice_get members id.number) refl
+
+  -- ---- an output of the agent of a declared member
+  module _ (member : Member) (is : IsDeclared head member) where
+    sending-own : (cluster : Cluster) (found : Option AgentProcess) (to : Option LinkEnd) (sequence : ℕ) (body : Body) → IsOwnReceiver to
+        → AllAre Own (sending_events cluster member found to sequence body)
+    sending-own cluster None to sequence body own = tt
+    sending-own cluster (Some process) None sequence body own = tt
+    sending-own cluster (Some process) (Some to) sequence body own = sends-own head few cluster (agent_message member to process.run sequence body) (is, own)
+
+    replying-own : (cluster : Cluster) (to : Option LinkEnd) (run sequence : ℕ) (body : Body) → IsOwnReceiver to
+        → AllAre Own (replying_events cluster member to run sequence body)
+    replying-own cluster None run sequence body own = tt
+    replying-own cluster (Some to) run sequence body own = sends-own head few cluster (agent_message member to run sequence body) (is, own)
+
+    -- what comes of an output that sends no message
+    mine-own : (run heard : ℕ) (kind : EventKind) → IsOfInput member run heard sends_none kind → Own kind
+    mine-own run heard (kinds.Message (Sent number message)) mine = absurd (no-sent member run message mine)
+    mine-own run heard (kinds.Server (servers.Began server timeline)) mine =
+        subst (λ (s : ServerOf). slice_get (names_of head) s.id.number ≡ Some s.name) (sym mine.0) (declared-named head few member is)
+    mine-own run heard _ mine = tt
+
+    output-own : (heard : HeardMessage) (output : Output) (cluster : Cluster) → cluster.facts.members ≡ declared_members head
+        → AllAre Own (output_events member heard cluster output)
+    output-own heard (outputs.Send to sequence body) cluster members =
+        sending-own cluster (slice_get cluster.facts.processes member.id.number) (receiver_of cluster.facts.members to) sequence body
+        (receiver-declared cluster.facts.members members to)
+    output-own heard (outputs.Answer to run sequence answer) cluster members =
+        replying-own cluster (receiver_of cluster.facts.members (targets.Member to)) run sequence (bodies.Answer answer)
+        (receiver-declared cluster.facts.members members (targets.Member to))
+    output-own heard (outputs.HoldTaken until from sequence) cluster members =
+        let found = slice_get cluster.facts.members from.number in
+        let hold = hold_taken member until heard.run sequence in
+        found-own head few cluster (option_map hold found) (holds-mapped Own hold found (λ m. tt))
+    output-own heard output cluster members =
+        let run = run_in cluster.facts.processes member.id.number in
+        all-more (IsOfInput member run heard.number sends_none) Own (output_events member heard cluster output) (mine-own run heard.number)
+        (output-mine member run heard.number sends_none cluster heard refl (λ process found. sym (ap run_now found)) output tt tt)
+
+    upholds-output : (heard : HeardMessage) (output : Output) → UpholdsAlways (names_told head) (λ cluster. output_events member heard cluster output)
+    upholds-output heard output book cluster good =
+        upheld-own head book cluster (output_events member heard cluster output) good (output-own heard output cluster good.members)
+
+    -- what it does behind an event
+    upheld-input : (book : List Event) (cluster : Cluster) (kind : EventKind) (heard : HeardMessage) (outcome : Option Outcome) → NamesSoFar head book cluster → Own kind
+        → Upholds (names_told head) book cluster (event_of cluster kind ++ input_events (cluster_after cluster kind) member heard outcome)
+    upheld-input book cluster kind heard outcome good own =
+        upheld-then (names_told head) (composable head) book cluster (event_of cluster kind) (input_events (cluster_after cluster kind) member heard outcome)
+        (upheld-own head book cluster _ good (own, tt))
+        (upholds-all (names_told head) (composable head) (output_events member heard) (upholds-output heard) (outputs_of outcome)
+        (book ++ event_of cluster kind) (cluster_after cluster kind))
+
+  -- ---- every run
+  parts : PartsUphold head (names_told head)
+  parts = record {
+    members = λ book cluster good. good.members;
+    inputs = record {
+      wakes = λ book cluster member process good is found acts.
+          upheld-input member is book cluster (kinds.Agent (Woken member)) no_message (outcome_of cluster member Wake) good tt;
+      hears = λ book cluster number message member good found to through.
+          upheld-input member (subst (IsDeclaredEnd head) to (good.flight.ends number message found).1) book cluster (kinds.Message (Delivered number))
+          (heard_message number message) (outcome_of_heard cluster member (heard_from cluster message)) good tt;
+      operates = λ book cluster member process action good is found acts.
+          upheld-input member is book cluster (kinds.Agent (Operated member action)) no_message (outcome_of cluster member (HearsOperator action)) good tt;
+    };
+    arrivals = λ book cluster number message good found to. upheld-arrival head few book cluster number message good found;
+    losses = λ number book cluster good. upheld-own head book cluster _ good (tt, tt);
+    notes = λ note book cluster good. upheld-own head book cluster _ good (tt, tt);
+    ticks = upholds-tick head few;
+    receipts = upholds-receive head few;
+    acknowledgements = upholds-acknowledge head few;
+    restarts = upholds-restart head few;
+    promotions = upholds-promote head few;
+    commands = upholds-command head few;
+  }
+
+  -- before the first event nothing is in flight
+  names-first : NamesSoFar head [] (cluster_of head)
+  names-first = record { named = tt; members = refl; flight = record { order = tt; ends = λ i carried e. absurd (none-some carried e) } }
+
+pub runs-name : (head : HeadText) (steps : List Step) → IsHead head → AllAre (NamesServer (slice_get (names_of head))) (run_events (cluster_of head) steps)
+runs-name head steps is =
+    let few = few-names head is in
+    ((upholds-run head few (names_told head) (composable head) (parts head few) steps [] (cluster_of head) (names-first head few)).behind tt).named

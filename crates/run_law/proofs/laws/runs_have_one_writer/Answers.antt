@@ -1,8 +1,0 @@
-use Rattle.run_law.proofs.EveryRun.{runs-one, runs-one-by}
-use Rattle.run_law.proofs.laws.runs_have_one_writer.Goals as goal
-
-pub returns : goal.returns
-returns c = record {
-  declared = λ head steps front rest is whole timely hands_off. runs-one head is steps front rest whole timely hands_off;
-  alike = λ head steps front rest margin works is whole margins watched timely hands_off. runs-one-by head is steps front rest margin works whole margins watched timely hands_off;
-}
