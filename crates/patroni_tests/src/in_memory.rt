@@ -54,7 +54,6 @@ fn ran(
     faults: Faults,
     out: &mut MemorySink,
     err: &mut MemorySink,
-    door: &mut MemoryDoor,
 ) -> Result<Ended, AllocError> {
     let mut list = Vec::new(alloc);
     for word in words.split(' ') {
@@ -64,12 +63,9 @@ fn ran(
         script.as_bytes().to_vec(alloc)?,
         vec![in alloc; faults.input]?,
     );
-    Ok(run(alloc, &list, &mut input, out, err, door))
-}
-
-/// A door that nobody comes to.
-fn closed_door(alloc: Global) -> Result<MemoryDoor, AllocError> {
-    MemoryDoor::new(alloc, Vec::new(alloc), 0, Vec::new(alloc))
+    // Nobody comes to this door.
+    let mut door = MemoryDoor::new(alloc, Vec::new(alloc), 0, Vec::new(alloc))?;
+    Ok(run(alloc, &list, &mut input, out, err, &mut door))
 }
 
 /// What the program tells of a script.
@@ -79,21 +75,9 @@ pub fn run_in_memory(
     script: &str,
     faults: Faults,
 ) -> Result<Outcome, AllocError> {
-    let mut door = closed_door(alloc)?;
-    run_with_door(alloc, words, script, faults, &mut door)
-}
-
-/// What the program tells of a script and of the connections that come to a door.
-pub fn run_with_door(
-    alloc: Global,
-    words: &str,
-    script: &str,
-    faults: Faults,
-    door: &mut MemoryDoor,
-) -> Result<Outcome, AllocError> {
     let mut out = MemorySink::new(alloc, ROOM, vec![in alloc; faults.out]?)?;
     let mut err = MemorySink::new(alloc, 4096, vec![in alloc; faults.err]?)?;
-    let Ended { status, world } = ran(alloc, words, script, faults, &mut out, &mut err, door)?;
+    let Ended { status, world } = ran(alloc, words, script, faults, &mut out, &mut err)?;
     if let Some(world) = world {
         world.close();
     }
@@ -108,10 +92,7 @@ pub fn run_with_door(
 fn world_after(rt: &impl Abort, alloc: Global, script: &str) -> Result<World, AllocError> {
     let mut out = MemorySink::new(alloc, ROOM, Vec::new(alloc))?;
     let mut err = MemorySink::new(alloc, 4096, Vec::new(alloc))?;
-    let mut door = closed_door(alloc)?;
-    let Ended { world, status: _ } = ran(
-        alloc, "run", script, NO_FAULTS, &mut out, &mut err, &mut door,
-    )?;
+    let Ended { world, status: _ } = ran(alloc, "run", script, NO_FAULTS, &mut out, &mut err)?;
     Ok(world.expect(rt, "a world"))
 }
 

@@ -1,5 +1,5 @@
-//! What the worked runs (`worked_runs`) can't show of the whole program: faults of what is read and written, tables of words, runs
-//! that are repeated, connections that are served, scripts as long as they may be, and the world that a run leaves. A crate with tests
+//! What the worked runs (`worked_runs`) can't show of the whole program: faults at each read and write, tables of words, runs
+//! that are repeated, scripts as long as they may be, and the world that a run leaves. A crate with tests
 //! is proved twice, so they stand here and not in `patroni_top`.
 #![tactic(auto)]
 
@@ -7,8 +7,6 @@
 mod faults;
 #[cfg(test)]
 mod in_memory;
-#[cfg(test)]
-mod served;
 #[cfg(test)]
 mod sizes;
 #[cfg(test)]

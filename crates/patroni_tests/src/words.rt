@@ -21,7 +21,7 @@ const DRILLED: &str = "end at 700\n\
 /// Words over a faulty script, with the status that comes and what is said.
 #[test]
 fn words_that_print_nothing(rt: HostRuntime) -> Result<(), Fail> {
-    let cases: [(&str, u8, &str); 18] = [
+    let cases: [(&str, u8, &str); 21] = [
         ("runs", 2, USAGE),
         ("print 1", 2, USAGE),
         ("gen", 2, USAGE),
@@ -36,6 +36,9 @@ fn words_that_print_nothing(rt: HostRuntime) -> Result<(), Fail> {
         ("drill 1 01", 2, USAGE),
         ("drill -1 1", 2, USAGE),
         ("drill 1 1 1", 2, USAGE),
+        ("serve a 127.0.0.1:0", 2, USAGE),
+        ("serve a 127.0.0.1:0 01", 2, USAGE),
+        ("serve a 127.0.0.1:0 1 1", 2, USAGE),
         ("gen 1 2401", 7, "limit: count\n"),
         ("drill 1 2401", 7, "limit: count\n"),
         ("drill 0 18446744073709551615", 7, "limit: count\n"),

@@ -1,14 +1,21 @@
 //! Checks worked runs. For each file NAME.script of the folder that this program runs in, NAME.run has what the program prints that
-//! reads it, or NAME.refused has the status and the line with which it refuses. The program's words are those of the line in
-//! NAME.words; where there is no such file, the word `run` alone.
+//! reads it, or NAME.refused has the status and the line with which it refuses, and what it printed before. What the program is run
+//! with stands beside it:
+//!
+//! - NAME.words: its words, on a line; where there is no such file, the word `run` alone;
+//! - NAME.asked: what is asked on each connection that comes to its door, a line each; NAME.answered has what is answered on each;
+//! - NAME.faults: which calls fail, a line each, as `out 3` for the third write: of `input`, `out`, `err` and `door`.
 //!
 //! Where another outcome comes a line tells the first difference. The last line tells how many runs agree, and the exit status
 //! is 1 where one doesn't.
 #![tactic(auto)]
 
+mod case;
+mod connections;
 mod difference;
 mod outcome;
 
+use case::{case_of, text_or};
 use difference::first_difference;
 use outcome::outcome_of;
 use std::process::ExitCode;
@@ -41,43 +48,26 @@ fn names<R: Files + AllocGlobal + Clone + Drop>(rt: &R) -> io::Result<Vec<String
     Ok(names)
 }
 
-/// The bytes of a file; nothing where it is absent.
-fn bytes_of<R: Files + AllocGlobal>(rt: &R, file: &str) -> io::Result<Option<Vec<u8>>> {
-    match fs::read(rt, file) {
-        Ok(bytes) => Ok(Some(bytes)),
-        Err(error) if error.kind() == io::ErrorKind::NotFound => Ok(None),
-        Err(error) => Err(error),
-    }
-}
-
-/// The words that the program is run with for the script of this name.
-fn words_for<R: Files + AllocGlobal>(rt: &R, name: &str) -> io::Result<Vec<String>> {
-    let alloc = rt.alloc();
-    let line = match bytes_of(rt, format!(in alloc; "{name}.words")?.as_str())? {
-        Some(bytes) => String::from_utf8_lossy(alloc, &bytes)?,
-        None => String::from_str(alloc, "run")?,
-    };
-    let mut words = Vec::new(alloc);
-    for word in line.as_str().trim_end().split(' ') {
-        words.push(String::from_str(alloc, word)?)?;
-    }
-    Ok(words)
-}
-
-/// Whether the script of this name has the outcome that the file beside it says; a file that is absent says nothing. Prints the
-/// first difference.
+/// Whether the worked run of this name has the outcome that the files beside it say.
 fn agrees<R: Files + AllocGlobal + Print>(rt: &R, name: &str) -> io::Result<bool> {
-    let alloc = rt.alloc();
-    let script = fs::read(rt, format!(in alloc; "{name}.script")?.as_str())?;
-    let outcome = outcome_of(alloc, &words_for(rt, name)?, script)?;
-    let file = format!(in alloc; "{name}.{}", outcome.ending)?;
-    let wanted = bytes_of(rt, file.as_str())?.unwrap_or(Vec::new(alloc));
-    if outcome.text == wanted {
+    let outcome = outcome_of(rt.alloc(), case_of(rt, name)?)?;
+    let told = is_as_wanted(rt, name, outcome.ending, outcome.text.as_str())?;
+    let answered = is_as_wanted(rt, name, "answered", outcome.answered.as_str())?;
+    Ok(told && answered)
+}
+
+/// Whether this text is that of a file; a file that is absent has none. Prints the first difference.
+fn is_as_wanted<R: Files + AllocGlobal + Print>(
+    rt: &R,
+    name: &str,
+    ending: &str,
+    told: &str,
+) -> io::Result<bool> {
+    let wanted = text_or(rt, name, ending, "")?;
+    if told == wanted.as_str() {
         return Ok(true);
     }
-    let told = String::from_utf8_lossy(alloc, &outcome.text)?;
-    let wanted = String::from_utf8_lossy(alloc, &wanted)?;
-    let difference = first_difference(told.as_str(), wanted.as_str());
-    println!(rt; "{file}: {difference}")?;
+    let difference = first_difference(told, wanted.as_str());
+    println!(rt; "{name}.{ending}: {difference}")?;
     Ok(false)
 }
