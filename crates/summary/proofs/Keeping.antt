@@ -6,7 +6,7 @@ use Rattle.wal_model.specs.declared.entry.Entry.{Entry}
 use Rattle.wal_model.specs.Log.{received}
 use Rattle.pat_base.specs.Changes.{changed_at}
 use Rattle.pg_model.specs.Facts.{entries_of}
-use Rattle.pg_model.proofs.Clusters.{got-set_same, got-set_other}
+use Rattle.pg_model.proofs.Lists.{got-set_same, got-set_other}
 use Rattle.event_book.specs.declared.event.Event.{Event}
 use Rattle.event_book.specs.declared.event.EventKind.{EventKind}
 use Rattle.event_book.specs.declared.event.EventKind.TheVariants as kinds
