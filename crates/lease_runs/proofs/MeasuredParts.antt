@@ -40,7 +40,7 @@ use Rattle.cluster_model.specs.ServerCommands.{promote_kinds}
 use Rattle.cluster_model.specs.State.{Cluster}
 use Rattle.cluster_model.specs.Streaming.{confirm_of, source_of, unconfirmed_end}
 use Rattle.cluster_model.specs.Ticking.{tick_events}
-use Rattle.lease_law.specs.Premises.{Moments}
+use Rattle.event_book.specs.Premises.{Moments}
 use Rattle.event_book.specs.Kinds.{AllAre}
 use Rattle.lease_parts.specs.Asides.{IsAsideIn, IsQuiet}
 use Rattle.lease_parts.proofs.Commands.{command-quiet}

@@ -12,16 +12,16 @@ use Rattle.cluster_script.proofs.ReadLaws.{read-is-spelled}
 use Rattle.event_book.specs.declared.event.Event.{Event}
 use Rattle.event_book.specs.Kinds.{AllAre}
 use Rattle.cluster_model.specs.Starting.{cluster_of}
-use Rattle.lease_law.specs.Premises.{ArePremisesMet, IsTimely, first_moments}
-use Rattle.summary.specs.Claims.{IsSummaryOf, margin_of, works_of as is_watched}
+use Rattle.event_book.specs.Premises.{ArePremisesMet, IsTimely, first_moments}
+use Rattle.summary_model.specs.Claims.{IsSummaryOf, margin_of, works_of as is_watched}
 use Rattle.lease_parts.specs.Declaring.{margin_said, works_said}
 use Rattle.lease_parts.specs.Kept.{MeetsPremises, WhereMet}
-use Rattle.summary.specs.Sights.{first_since}
-use Rattle.summary.specs.Listed.{AreNamed, NamesServer}
-use Rattle.summary.specs.Telling.{AreMeasured}
-use Rattle.summary.proofs.Guarding.{commits-guarded}
-use Rattle.summary.proofs.Listing.{named-first}
-use Rattle.summary.proofs.Steps.{steps-guarded, steps-told}
+use Rattle.summary_model.specs.Sights.{first_since, book_of}
+use Rattle.summary_model.specs.Listed.{AreNamed, NamesServer}
+use Rattle.summary_model.specs.Telling.{AreMeasured}
+use Rattle.summary_law.proofs.Guarding.{commits-guarded}
+use Rattle.summary_law.proofs.Listing.{named-first}
+use Rattle.summary_law.proofs.Steps.{steps-guarded, steps-told}
 use Rattle.rest_law.proofs.Found.{one-found}
 use Rattle.lease_runs.proofs.EveryRun.{runs-one}
 use Rattle.lease_runs.proofs.MeasuredRuns.{runs-measured}
@@ -33,7 +33,6 @@ use Rattle.cluster_script.specs.Limits.{limit_of}
 use Rattle.cluster_model.specs.State.{Cluster}
 use Rattle.event_book.specs.Writers.{HasOneWriter}
 use Rattle.script_words.specs.declared.fault.Fault.{Fault}
-use Rattle.summary.specs.Sights.{book_of}
 use Rattle.run_player.specs.Run.{Played, closing_of_run, played_of, run_of}
 use Rattle.pat_world.specs.Book.{events_by_step}
 use Rattle.run_player.specs.Watches.{declared_watch, first_summary, is_off, watches_of}
