@@ -6,9 +6,9 @@ use mathlib.Core.Path.{fun_ext}
 use Rattle.leader_key.specs.declared.watchdog.Mode.{Mode}
 use Rattle.leader_key.specs.declared.watchdog.Mode.TheVariants as modes
 use Rattle.leader_key.specs.Watchdog.{is_armable}
-use Rattle.cluster_script.specs.Reading.{script_of}
+use Rattle.script_grammar.specs.Reading.{script_of}
 use Rattle.script_model.specs.Script.{HeadText, IsHead, MemberText, ScriptText, names_of}
-use Rattle.cluster_script.proofs.ReadLaws.{read-is-spelled}
+use Rattle.script_grammar.proofs.ReadLaws.{read-is-spelled}
 use Rattle.event_book.specs.declared.event.Event.{Event}
 use Rattle.event_book.specs.Kinds.{AllAre}
 use Rattle.cluster_model.specs.Starting.{cluster_of}
@@ -28,8 +28,8 @@ use Rattle.lease_runs.proofs.MeasuredRuns.{runs-measured}
 use Rattle.lease_runs.proofs.NamedRuns.{runs-name}
 use Rattle.commit_runs.specs.Runs.{KeepsCommitsIn, first_logs}
 use Rattle.commit_runs.proofs.EveryRun.{runs-in-order, runs-keep}
-use Rattle.cluster_script.specs.declared.limits.Limit.{Limit}
-use Rattle.cluster_script.specs.Limits.{limit_of}
+use Rattle.script_grammar.specs.declared.limit.Limit.{Limit}
+use Rattle.script_grammar.specs.Limits.{limit_of}
 use Rattle.cluster_model.specs.State.{Cluster}
 use Rattle.event_book.specs.Writers.{HasOneWriter}
 use Rattle.script_words.specs.declared.fault.Fault.{Fault}
@@ -40,9 +40,9 @@ use Rattle.pat_base.specs.declared.member_id.MemberId.{MemberId}
 use Rattle.serve_model.specs.Connections.{Connection, most_waiting}
 use Rattle.run_player.specs.Served.{served_of}
 use Rattle.patroni_top.specs.Claims.{KeepsPromises}
-use Rattle.script_generator.proofs.BodyLaws.{generated-IsScript}
-use Rattle.script_generator.specs.Generating.{generated_script}
-use Rattle.script_generator.specs.declared.generating.TheConstants.{MOST_GENERATED}
+use Rattle.generator_model.proofs.BodyLaws.{generated-IsScript}
+use Rattle.generator_model.specs.Generating.{generated_script}
+use Rattle.generator_model.specs.declared.bounds.TheConstants.{MOST_GENERATED}
 use Rattle.patroni_top.specs.Commands.{Command, Drill, Drills, Formats, Generate, IfPlayed, Makes, PastCount, Plays, Print, Run, Serve, Verdict, member_named, service_of, verdict_by, verdict_in, verdict_of}
 use Rattle.patroni_top.proofs.Books.{book-by-step, named-steps, steps-tell}
 
