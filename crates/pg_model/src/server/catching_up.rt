@@ -34,8 +34,9 @@ pub struct CaughtUp {
 }
 
 impl Server {
-    /// Receives from the upstream as `meet` does, and answers what changed. Where the logs are known to have parted, the
-    /// place isn't sought again. It fails only for want of memory, and then stays as it was.
+    /// Receives from the upstream as `stream` does, and answers what is new, and whether it received. It runs as a replica. One
+    /// that is known to be in step isn't compared with its upstream, and where the logs are known to have parted, the place isn't
+    /// sought again. It fails only for want of memory, and then stays as it was.
     pub fn catch_up(
         &mut self,
         upstream: &Server,
