@@ -11,7 +11,7 @@ use Rattle.pat_base.specs.declared.server_state.Required.TheVariants as required
 use Rattle.cluster_config.specs.declared.view.LeaderView.{LeaderView}
 use Rattle.cluster_config.specs.KeyValues.{config_in}
 use Rattle.cluster_config.specs.Snapshots.{SnapshotFacts}
-use Rattle.lease_law.specs.Past.{set_members}
+use Rattle.event_book.specs.Functions.{set_members}
 use Rattle.lease_law.proofs.Tools.{both as no-both, none-some, not-false}
 use Rattle.commit_law.specs.Keys.{Need, Nobody, All, AtLeast, Narrows}
 use Rattle.commit_law.specs.Past.{need_in}

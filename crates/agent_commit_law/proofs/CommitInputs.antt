@@ -16,7 +16,7 @@ use Rattle.cluster_config.specs.Snapshots.{SnapshotFacts}
 use Rattle.event_book.specs.declared.message.Body.{Body}
 use Rattle.event_book.specs.declared.message.Body.TheVariants as bodies
 use Rattle.event_book.specs.declared.reason.Reason.TheVariants.{StartTooLong, WatchdogNotArmed}
-use Rattle.lease_law.specs.Past.{set_members}
+use Rattle.event_book.specs.Functions.{set_members}
 use Rattle.lease_law.proofs.Tools.{some-is, none-some, not-false}
 use Rattle.sync_state.specs.Published.{published_in}
 use Rattle.sync_state.specs.Sets.{both, either}

@@ -15,7 +15,7 @@ use Rattle.pat_base.proofs.MemberBits.{within_both}
 use Rattle.lease_store.specs.declared.config.Config.{Config}
 use Rattle.cluster_config.specs.declared.view.LeaderView.{LeaderView}
 use Rattle.lease_law.proofs.Tools.{both as no-both, not-false, le-from}
-use Rattle.lease_law.specs.Past.{set_members}
+use Rattle.event_book.specs.Functions.{set_members}
 use Rattle.sync_state.specs.Sets.{nobody, both, either, is_within, set_of}
 use Rattle.sync_state.specs.Standbys.{required_members, noted_position, has_confirmed, confirmed_in}
 use Rattle.sync_state.proofs.SetBits.{bit_where, bit-set_of}

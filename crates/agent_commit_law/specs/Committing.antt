@@ -17,7 +17,7 @@ use Rattle.cluster_config.specs.KeyValues.{config_in}
 use Rattle.cluster_config.specs.Snapshots.{SnapshotFacts}
 use Rattle.event_book.specs.declared.message.Body.{Body}
 use Rattle.event_book.specs.declared.message.Body.TheVariants as bodies
-use Rattle.lease_law.specs.Past.{set_members}
+use Rattle.event_book.specs.Functions.{set_members}
 use Rattle.sync_state.specs.Published.{published_in}
 use Rattle.sync_state.specs.Standbys.{noted_position}
 use Rattle.commit_law.specs.Keys.{IsStrict, SyncKey, Need, Nobody, All as AllOf, AtLeast}

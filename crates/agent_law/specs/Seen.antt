@@ -8,7 +8,7 @@ use Rattle.lease_store.specs.declared.value.KeyEntry.{KeyEntry}
 use Rattle.cluster_config.specs.declared.snapshot.LeaderEntry.{LeaderEntry}
 use Rattle.cluster_config.specs.Snapshots.{SnapshotFacts, entry_in, leader_in, failsafe_by}
 use Rattle.lease_law.specs.Leases.{LeaderSeen, FailsafeKey}
-use Rattle.lease_law.specs.Past.{set_members}
+use Rattle.event_book.specs.Functions.{set_members}
 use Rattle.lease_law.specs.States.{Agent as AgentSeen, Machine as MachineSeen}
 use Rattle.agent_model.specs.declared.knowledge.Knowledge.{Knowledge}
 use Rattle.agent_model.specs.declared.knowledge.Waited.{Waited}

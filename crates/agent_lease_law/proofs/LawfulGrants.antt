@@ -11,7 +11,7 @@ use Rattle.leader_key.specs.Watchdog.{WatchdogFacts, IsLeaseSpan, greatest_margi
 use Rattle.lease_law.specs.Leases.{LeaderSeen, FailsafeKey}
 use Rattle.lease_law.specs.States.{Machine as MachineSeen, State}
 use Rattle.lease_law.specs.Inputs.{HeardGrant, HeardLeader, HeardFailsafe, IsDeadline, Fed}
-use Rattle.lease_law.specs.Past.{set_members}
+use Rattle.event_book.specs.Functions.{set_members}
 use Rattle.lease_law.proofs.Tools.{some-is, none-some}
 use Rattle.agent_model.specs.declared.knowledge.Knowledge.{Knowledge}
 use Rattle.agent_model.specs.declared.knowledge.Waited.{Waited}

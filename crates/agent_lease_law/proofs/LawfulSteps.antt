@@ -15,7 +15,7 @@ use Rattle.leader_key.specs.Watchdog.{IsLeaseSpan}
 use Rattle.lease_law.specs.Leases.{LeaderSeen, FailsafeKey}
 use Rattle.lease_law.specs.States.{Machine as MachineSeen, State}
 use Rattle.lease_law.specs.Inputs.{AgentInput, HeardLeader, HeardFailsafe, FedKnown, WatchdogMay, SetByGrant, Owns}
-use Rattle.lease_law.specs.Past.{set_members}
+use Rattle.event_book.specs.Functions.{set_members}
 use Rattle.lease_law.proofs.Tools.{some-is, none-some}
 use Rattle.agent_model.specs.declared.heard.Heard.{Heard}
 use Rattle.agent_model.specs.declared.heard.Heard.TheVariants.{Wake, Got, Granted as HeardGranted, Mismatch, Asked, Answered, Operated as HearsOperator}

@@ -1,15 +1,31 @@
 -- What single keys of a snapshot say.
 use Rattle.std.specs.Prelude.{Bool, true, false, Option, Some, None}
 use Rattle.pat_base.specs.declared.lsn.Lsn.{Lsn}
+use Rattle.pat_base.specs.declared.member_id.MemberId.{MemberId}
 use Rattle.lease_store.specs.Defaults.{default_config}
 use Rattle.lease_store.specs.declared.config.Config.{Config}
 use Rattle.lease_store.specs.declared.key.Key.TheVariants as keys
 use Rattle.lease_store.specs.declared.value.FailoverKey.{FailoverKey}
 use Rattle.lease_store.specs.declared.value.KeyEntry.{KeyEntry}
+use Rattle.lease_store.specs.declared.value.MemberInfo.{MemberInfo}
 use Rattle.lease_store.specs.declared.value.SyncKey.{SyncKey}
 use Rattle.lease_store.specs.declared.value.Value.{Value}
 use Rattle.lease_store.specs.declared.value.Value.TheVariants as values
 use Rattle.cluster_config.specs.Snapshots.{SnapshotFacts, entry_in, settings_in}
+
+-- what a member tells of itself, by a value of its key
+abbrev pub info_by : Value → Option MemberInfo
+info_by (values.Member info) = Some info
+info_by _ = None
+
+-- what a member tells of itself, by the entry of its key
+abbrev pub info_of_entry : Option KeyEntry → Option MemberInfo
+info_of_entry None = None
+info_of_entry (Some found) = info_by found.value
+
+-- what the member tells of itself, where its key is there
+abbrev pub info_in : SnapshotFacts → MemberId → Option MemberInfo
+info_in snapshot member = info_of_entry (entry_in (keys.Member member) snapshot)
 
 -- what the configuration sets
 abbrev pub config_in : SnapshotFacts → Config

@@ -1,12 +1,19 @@
 //! What single keys of a snapshot say.
 ghost use Rattle.std.specs.Prelude.{◌≡◌, option_copied};
-ghost use Rattle.cluster_config.specs.KeyValues.{config_in, failover_by, failover_of_entry, failover_in, sync_by, sync_of_entry, sync_in, status_by, status_of_entry, status_in, active_sync_in};
+ghost use Rattle.cluster_config.specs.KeyValues.{info_by, info_of_entry, info_in, config_in, failover_by, failover_of_entry, failover_in, sync_by, sync_of_entry, sync_in, status_by, status_of_entry, status_in, active_sync_in};
 
 use crate::Snapshot;
-use lease_store::{Config, FailoverKey, Key, KeyEntry, SyncKey, Value};
-use pat_base::Lsn;
+use lease_store::{Config, FailoverKey, Key, KeyEntry, MemberInfo, SyncKey, Value};
+use pat_base::{Lsn, MemberId};
 
 impl Snapshot {
+    /// What a member tells of itself. `None` exactly where its key is absent.
+    pub fn info(&self, member: MemberId) -> Option<MemberInfo>
+        ensures { result ≡ info_in self.now member }
+    {
+        info_of_entry(self.entry(Key::Member(member)))
+    }
+
     /// What the configuration sets.
     pub fn config(&self) -> Config
         ensures { result ≡ config_in self.now }
@@ -45,6 +52,23 @@ impl Snapshot {
         } else {
             None
         }
+    }
+}
+
+fn info_of_entry(found: Option<&KeyEntry>) -> Option<MemberInfo>
+    ensures { result ≡ info_of_entry (option_copied found.entry) }
+{
+    let found = found?;
+    info_by(&found.value)
+}
+
+/// What a member tells of itself by this value. `None` exactly where it is none of a member's key.
+pub fn info_by(value: &Value) -> Option<MemberInfo>
+    ensures { result ≡ info_by value.now }
+{
+    match value {
+        Value::Member(info) => Some(*info),
+        _ => None,
     }
 }
 

@@ -16,6 +16,7 @@ mod view;
 
 pub use config_fault::ConfigFault;
 pub use config_text::ConfigText;
+pub use key_values::info_by;
 pub use laws::{
     configurations_keep_times, patches_change_what_they_name, settings_are_those_of_the_text,
     texts_say_what_was_read,

@@ -1,8 +1,8 @@
 -- Events that are found, if any are, of which something holds.
 use Rattle.std.proofs.Common.{Bool, true, false, if◌then◌else◌, List, Option, Some, None, option_and_then, option_map}
 use Rattle.pg_model.specs.Facts.{ServerFacts}
-use Rattle.pg_model.specs.declared.answers.Rewound.{Rewound}
-use Rattle.pg_model.specs.Rewinding.{may_clone_at, rewind_at}
+use Rattle.pg_cluster.specs.declared.answers.Rewound.{Rewound}
+use Rattle.pg_cluster.specs.Rewinding.{may_clone_at, rewind_at}
 use Rattle.event_book.specs.declared.event.EventKind.{EventKind}
 use Rattle.event_book.specs.declared.member.Member.{Member}
 use Rattle.event_book.specs.Links.{CutLinks, is_cut}

@@ -9,8 +9,8 @@ use Rattle.pat_base.specs.declared.ticks.Ticks.{Ticks}
 use Rattle.pat_base.specs.ServerState.{live}
 use Rattle.lease_store.specs.declared.action.Bar.{Bar}
 use Rattle.lease_store.specs.declared.action.Bar.TheVariants as bars
-use Rattle.pg_model.specs.declared.answers.Rewound.{Rewound}
-use Rattle.pg_model.specs.Rewinding.{may_clone_at, rewind_at}
+use Rattle.pg_cluster.specs.declared.answers.Rewound.{Rewound}
+use Rattle.pg_cluster.specs.Rewinding.{may_clone_at, rewind_at}
 use Rattle.pg_model.specs.Facts.{ServerFacts, is_creating, is_down, is_replica, is_up}
 use Rattle.pg_model.specs.Running.{is_primary}
 use Rattle.event_book.specs.declared.event.EventKind.{EventKind}

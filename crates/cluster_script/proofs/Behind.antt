@@ -1,7 +1,7 @@
 -- What a function answers of the last words of a line.
 use Rattle.std.proofs.Common.{◌≡◌, ℕ, List, Option, Some, Result, ◌∙◌, ap, sym}
 use Rattle.pat_base.specs.declared.name.Name.{Name}
-use Rattle.cluster_script.specs.Arguments.{last_word, word_behind, words_behind}
+use Rattle.script_grammar.specs.Arguments.{last_word, word_behind, words_behind}
 use Rattle.script_words.specs.Faults.{both}
 use Rattle.script_words.specs.Words.{cut_word}
 use Rattle.script_words.specs.declared.fault.Fault.{Fault}

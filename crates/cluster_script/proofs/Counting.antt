@@ -2,11 +2,11 @@
 use Rattle.std.proofs.Common.{◌≡◌, ℕ, true, false, cond, List, Option, Some, None, is_none, Result, Ok, Err, refl, ap, ◌∙◌}
 use Rattle.pat_base.specs.declared.name.Name.{Name}
 use Rattle.lease_store.specs.Settings.{Settings}
-use Rattle.cluster_script.specs.Draft.{DraftText, draft_of}
+use Rattle.script_grammar.specs.Draft.{DraftText, draft_of}
 use Rattle.script_words.specs.Faults.{on_ok}
-use Rattle.cluster_script.specs.Reading.{known_addition, next_config, is_config, with_config, with_other, base_after, members_after, body_after, after_counted}
+use Rattle.script_grammar.specs.Reading.{known_addition, next_config, is_config, with_config, with_other, base_after, members_after, body_after, after_counted}
 use Rattle.script_model.specs.Script.{MemberText, member_names}
-use Rattle.cluster_script.specs.FirstWords.{keyword_of}
+use Rattle.script_grammar.specs.FirstWords.{keyword_of}
 use Rattle.script_words.specs.Words.{cut_word}
 use Rattle.script_words.specs.declared.fault.Fault.{Fault}
 use Rattle.script_model.specs.declared.line.Line.{Line}

@@ -2,8 +2,8 @@
 use Rattle.std.proofs.Common.{◌≡◌, ℕ, List, [], ◌∷◌, length, Option, Some, Ok, refl, ap}
 use Rattle.pat_base.specs.declared.name.Name.{Name}
 use Rattle.lease_store.specs.Settings.{Settings}
-use Rattle.cluster_script.specs.Draft.{draft_of}
-use Rattle.cluster_script.specs.Reading.{finished}
+use Rattle.script_grammar.specs.Draft.{draft_of}
+use Rattle.script_grammar.specs.Reading.{finished}
 use Rattle.script_model.specs.Script.{MemberText, ScriptText, IsScript, config_or_default, base_or_default}
 use Rattle.script_model.specs.declared.line.Line.{Line}
 

@@ -1,12 +1,3 @@
-pub mod ArgumentLaws
 pub mod Behind
-pub mod BlankLaws
 pub mod Counting
 pub mod Finishing
-pub mod FirstWordLaws
-pub mod LimitLaws
-pub mod MemberLaws
-pub mod NameLaws
-pub mod Places
-pub mod ReadLaws
-pub mod RequestLaws

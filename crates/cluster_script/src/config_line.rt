@@ -2,7 +2,7 @@
 ghost use Rattle.std.specs.Prelude.{◌≡◌, IfOk};
 ghost use Rattle.std.specs.Option.{option_copied};
 ghost use Rattle.cluster_config.specs.ConfigReading.{IsConfiguration};
-ghost use Rattle.cluster_script.specs.Reading.{config_in, next_config};
+ghost use Rattle.script_grammar.specs.Reading.{config_in, next_config};
 
 use cluster_config::{ConfigFault, ConfigText};
 use lease_store::ConfigValue;

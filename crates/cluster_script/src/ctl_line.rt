@@ -1,8 +1,8 @@
 //! The line of patronictl.
-ghost use Rattle.std.specs.Prelude.{◌≡◌, ◌≤◌, length, IfOk};
+ghost use Rattle.std.specs.Prelude.{◌≡◌, IfOk};
 ghost use Rattle.std.specs.Option.{option_copied};
 ghost use Rattle.indexmap.specs.IndexMap.{keys};
-ghost use Rattle.cluster_script.specs.Arguments.{ctl_line};
+ghost use Rattle.script_grammar.specs.Arguments.{ctl_line};
 
 use crate::arguments::{line_end, missing_word};
 use crate::members::Members;

@@ -5,10 +5,8 @@ ghost use Rattle.indexmap.specs.IndexMap.{keys};
 ghost use Rattle.cluster_config.specs.ConfigReading.{IsConfiguration};
 ghost use Rattle.pat_base.specs.declared.member_id.TheConstants.{MOST_MEMBERS};
 ghost use Rattle.script_model.specs.Script.{ScriptText, IsScript, config_or_default, base_or_default, member_names, members_in};
-ghost use Rattle.cluster_script.specs.Reading.{Gives, IsNew, base_addition, member_addition, body_addition, addition_of, known_addition, is_config, base_after, members_after, body_after, after_counted, after_line, after_lines, at_line, finished};
+ghost use Rattle.script_grammar.specs.Reading.{Gives, IsNew, base_addition, member_addition, body_addition, addition_of, known_addition, is_config, base_after, members_after, body_after, after_counted, after_line, after_lines, at_line, finished};
 
-use crate::ScriptFault;
-use crate::addition::Addition;
 use crate::arguments::line_of_words;
 use crate::config_line::next_config;
 use crate::first_words::keyword_of;
@@ -17,6 +15,7 @@ use crate::members::Members;
 use indexmap::IndexMap;
 use lease_store::ConfigValue;
 use pat_base::Name;
+use script_grammar::{Addition, ScriptFault};
 use script_model::{DEFAULT_BASE, Head, Keyword, Line, Script};
 use script_words::{Fault, cut_word, is_skipped, is_text};
 use std::alloc::{AllocError, Global};
@@ -37,7 +36,7 @@ pub struct Draft {
 
 impl Model for Draft {
     ghost use Rattle.std.specs.Prelude.{Option};
-    ghost use Rattle.cluster_script.specs.Draft.{DraftText, IsDraft, draft_of};
+    ghost use Rattle.script_grammar.specs.Draft.{DraftText, IsDraft, draft_of};
     ghost use Rattle.script_model.specs.Script.{members_in};
 
     ghost Value = { Option DraftText };

@@ -1,7 +1,7 @@
 //! The first words of lines.
 ghost use Rattle.std.specs.Prelude.{◌≡◌};
 ghost use Rattle.script_model.specs.Keywords.{word_of};
-ghost use Rattle.cluster_script.specs.FirstWords.{keyword_of};
+ghost use Rattle.script_grammar.specs.FirstWords.{keyword_of};
 
 use script_model::Keyword;
 

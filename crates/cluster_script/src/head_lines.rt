@@ -2,8 +2,8 @@
 ghost use Rattle.std.specs.Prelude.{◌≡◌, ◌<◌, length, None, IfOk};
 ghost use Rattle.std.specs.Option.{option_copied};
 ghost use Rattle.indexmap.specs.IndexMap.{keys};
-ghost use Rattle.cluster_script.specs.Members.{place_of};
-ghost use Rattle.cluster_script.specs.Reading.{in_head, declared_in_head, named_member, name_in, new_member, next_member, base_in, head_end, base_end, base_missing, next_base, second_cluster, cluster_in, first_line};
+ghost use Rattle.script_grammar.specs.Members.{place_of};
+ghost use Rattle.script_grammar.specs.Reading.{in_head, declared_in_head, named_member, name_in, new_member, next_member, base_in, head_end, base_end, base_missing, next_base, second_cluster, cluster_in, first_line};
 ghost use Rattle.pat_base.specs.declared.member_id.TheConstants.{MOST_MEMBERS};
 
 use crate::arguments::number_in;

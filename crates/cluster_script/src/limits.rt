@@ -1,18 +1,15 @@
 //! The limits of a script. Bytes that pass one are judged by it before any fault of their lines.
-ghost use Rattle.std.specs.Prelude.{ℕ, ◌≡◌, ◌≤◌, ◌+◌, List, length, map, IfOk, None, Ok};
+ghost use Rattle.std.specs.Prelude.{◌≡◌, map, IfOk};
 ghost use Rattle.std.specs.Option.{option_copied};
-ghost use Rattle.cluster_script.specs.Limits.{most_lines, most_ticks, limit_text, is_member_line, member_line_count, ticks_or_none, ticks_behind, ticks_in_line, ticks_in, limit_of_lines, limit_of};
-ghost use Rattle.cluster_script.specs.Reading.{script_of};
-ghost use Rattle.script_model.specs.Script.{ScriptText};
-ghost use Rattle.script_model.specs.Ticks.{total_ticks};
+ghost use Rattle.script_grammar.specs.Limits.{is_member_line, member_line_count, ticks_or_none, ticks_behind, ticks_in_line, ticks_in, limit_of_lines, limit_of};
 
 use crate::ScriptLines;
 use crate::first_words::keyword_of;
 use pat_base::MOST_MEMBERS;
+use script_grammar::Limit;
 use script_model::Keyword;
 use script_words::{cut_word, number};
 use std::alloc::{AllocError, Global};
-use std::fmt;
 
 /// The most bytes of a script.
 pub(crate) const MOST_BYTES: usize = 1_048_576;
@@ -22,43 +19,6 @@ const MOST_LINES: usize = 100_000;
 
 /// The most ticks, of 100 ms, of all lines `tick N` and `run N` of a script, with those that come beside them.
 const MOST_TICKS: u64 = 1_000_000;
-
-/// A limit that a script may pass.
-#[derive(Clone, Copy, Debug, PartialEq, Eq)]
-pub enum Limit {
-    /// 1,048,576 bytes.
-    Bytes,
-    /// 100,000 lines: the line feeds, and one for an unended last line.
-    Lines,
-    /// As many lines as there may be members, whose first word is `member`, whatever follows it.
-    Members,
-    /// 1,000,000 ticks of 100 ms, in all lines that are `tick N` or `run N` and nothing else, with those that come beside them.
-    Ticks,
-}
-
-/// What a limit is called, in at most 32 bytes.
-pub fn limit_text(limit: Limit) -> &'static str
-    ensures text { result.now ≡ limit_text limit }
-    ensures short { length result.now ≤ 32 }
-{
-    match limit {
-        Limit::Bytes => "bytes",
-        Limit::Lines => "lines",
-        Limit::Members => "members",
-        Limit::Ticks => "ticks",
-    }
-}
-
-impl fmt::Display for Limit {
-    ghost use Rattle.std.specs.Prelude.{Some};
-    ghost use Rattle.cluster_script.specs.Limits.{limit_text};
-
-    ghost output = { λ limit. Some (limit_text limit) };
-
-    fn fmt<W: fmt::Write>(&self, f: &mut fmt::Formatter<W>) -> fmt::Result {
-        f.write_str(limit_text(*self))
-    }
-}
 
 /// Whether a line's first word is `member`.
 fn is_member_line(line: &[u8]) -> bool
@@ -134,9 +94,3 @@ pub fn limit_passed(alloc: Global, bytes: &[u8], waited: u64) -> Result<Option<L
     let lines = ScriptLines::cut(alloc, bytes)?;
     Ok(lines.limit_passed(waited))
 }
-
-/// A script within the limits has at most 1,000,000 ticks, of 100 ms, with those that come beside its own, and a body of at
-/// most 100,000 lines.
-pub fn within_limits()
-    ensures { (waited : ℕ) (bytes : List ℕ) (text : ScriptText) → script_of bytes ≡ Ok text → limit_of waited bytes ≡ None → (total_ticks text.body + waited ≤ most_ticks) × (length text.body ≤ most_lines) }
-{}

@@ -1,7 +1,7 @@
 //! The table of members.
 ghost use Rattle.std.specs.Prelude.{◌≡◌, ◌<◌, ◌≤◌, length, IfSome};
 ghost use Rattle.indexmap.specs.IndexMap.{keys};
-ghost use Rattle.cluster_script.specs.Members.{place_of, member_named};
+ghost use Rattle.script_grammar.specs.Members.{place_of, member_named};
 ghost use Rattle.pat_base.specs.declared.member_id.TheConstants.{MOST_MEMBERS};
 
 use indexmap::IndexMap;

@@ -1,9 +1,10 @@
 //! The reader of scripts.
 ghost use Rattle.std.specs.Prelude.{IfOk};
 ghost use Rattle.script_model.specs.Script.{IsScript};
-ghost use Rattle.cluster_script.specs.Reading.{Gives, script_of};
+ghost use Rattle.script_grammar.specs.Reading.{Gives, script_of};
 
-use crate::{ScriptFault, ScriptLines};
+use crate::ScriptLines;
+use script_grammar::ScriptFault;
 use script_model::Script;
 use std::alloc::Global;
 

@@ -2,7 +2,7 @@
 ghost use Rattle.std.specs.Prelude.{◌≡◌, ◌≤◌, length, IfOk};
 ghost use Rattle.std.specs.Option.{option_copied};
 ghost use Rattle.indexmap.specs.IndexMap.{keys};
-ghost use Rattle.cluster_script.specs.Arguments.{method_in, target_in, target_behind, method_behind, asked_member, next_word, behind_word, bytes_or_none, request_behind, rest_line};
+ghost use Rattle.script_grammar.specs.Arguments.{method_in, target_in, target_behind, method_behind, asked_member, next_word, behind_word, bytes_or_none, request_behind, rest_line};
 ghost use Rattle.pat_base.specs.declared.member_id.TheConstants.{MOST_MEMBERS};
 
 use crate::arguments::{member_in, missing_behind, missing_word};

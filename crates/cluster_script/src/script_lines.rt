@@ -1,7 +1,7 @@
 //! The bytes of a script, cut into lines once.
 use crate::draft::Draft;
 use crate::limits::{MOST_BYTES, limit_of_lines};
-use crate::{Limit, ScriptFault};
+use script_grammar::{Limit, ScriptFault};
 use script_model::Script;
 use script_words::lines_in;
 use std::alloc::{AllocError, Global};
@@ -27,8 +27,8 @@ impl<'a> Model for ScriptLines<'a> {
 
 impl<'a> ScriptLines<'a> {
     ghost use Rattle.std.specs.Prelude.{ℕ, ◌≡◌, IfOk};
-    ghost use Rattle.cluster_script.specs.Limits.{limit_of};
-    ghost use Rattle.cluster_script.specs.Reading.{Gives, script_of};
+    ghost use Rattle.script_grammar.specs.Limits.{limit_of};
+    ghost use Rattle.script_grammar.specs.Reading.{Gives, script_of};
     ghost use Rattle.script_model.specs.Script.{IsScript};
 
     /// The lines of these bytes. It fails only for want of memory.

@@ -21,7 +21,7 @@ use Rattle.event_book.specs.declared.member.Member.{Member}
 use Rattle.event_book.specs.declared.message.Body.{Body}
 use Rattle.event_book.specs.declared.message.Body.TheVariants as bodies
 use Rattle.event_book.specs.declared.message.Message.{Message}
-use Rattle.event_book.specs.Functions.{put_at}
+use Rattle.event_book.specs.Functions.{put_at, set_members}
 use Rattle.script_model.specs.Script.{HeadText}
 use Rattle.agent_model.specs.declared.output.Output.{Output}
 use Rattle.agent_model.specs.declared.output.Output.TheVariants as outputs
@@ -45,7 +45,6 @@ use Rattle.commit_law.specs.Flights.{Flying, Requested, SyncRequest}
 use Rattle.commit_law.specs.Functions.{forget}
 use Rattle.commit_law.specs.Inputs.{IsGivenByLease, Sending}
 use Rattle.commit_law.specs.States.{Reaches}
-use Rattle.lease_law.specs.Past.{set_members}
 use Rattle.commit_law.specs.Past.{position_of, publish_request, LeaseQuery, CarryQuery, OtherQuery, Past, Query, Setup, SyncQuery, need_of, past_after, past_over, query_in_flight_of, query_of, request_in_flight_of, was_live_by_message, was_live_by_txn}
 use Rattle.commit_law.proofs.Fronts.{past-append}
 use Rattle.commit_servers.specs.Acting.{Fits}

@@ -54,7 +54,6 @@ use Rattle.commit_book.proofs.Hearing.{heard-lease, heard-snapshot, heard-write}
 use Rattle.lease_parts.specs.Declaring.{member_count}
 use Rattle.lease_parts.specs.Waiting.{IsAddressed, IsAnswer, IsPeerBody}
 use Rattle.lease_inputs.proofs.InputHears.{message-is, unpaused-told}
-use Rattle.commit_parts.specs.Agents.{}
 use Rattle.sync_order_law.specs.Order.{NamesMembers}
 use Rattle.commit_parts.specs.Bridged.{CommitsBridged}
 use Rattle.commit_parts.specs.Modes.{IsOnHeld, IsOnTold, IsOnValue}

@@ -90,7 +90,7 @@ use Rattle.sync_order_law.proofs.Inside.{Seen, all-aside, aside-front as order-a
 use Rattle.commit_inputs.proofs.Quietly.{AsksQuietly, covered-quietly, quietly-ordered, unasking-quietly}
 use Rattle.commit_outputs.proofs.Covering.{IsCarried, carried}
 use Rattle.commit_outputs.proofs.Page.{PassesNone, covered-passes, none-passes}
-use Rattle.summary.specs.Claims.{KeepMode}
+use Rattle.summary_model.specs.Claims.{KeepMode}
 use Rattle.pat_base.specs.declared.member_id.TheConstants.{MOST_MEMBERS}
 
 -- ---- events of which none changes what commits being kept speaks of, nor the order

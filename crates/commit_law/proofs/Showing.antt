@@ -15,7 +15,7 @@ use Rattle.lease_store.specs.declared.txn_kind.TxnKind.{TxnKind}
 use Rattle.wal_model.specs.declared.entry.Entry.{Entry}
 use Rattle.wal_model.specs.Log.{common_of, received, end_of}
 use Rattle.pg_model.specs.Facts.{entries_of, none_confirmed}
-use Rattle.pg_model.proofs.Clusters.{got-set_same, got-set_other}
+use Rattle.pg_model.proofs.Lists.{got-set_same, got-set_other}
 use Rattle.event_book.specs.declared.event.AgentEvent.TheVariants as agents
 use Rattle.event_book.specs.declared.event.Event.{Event}
 use Rattle.event_book.specs.declared.event.EventKind.{EventKind}

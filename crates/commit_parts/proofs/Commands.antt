@@ -21,7 +21,7 @@ use Rattle.cluster_model.specs.Parts.{event_of, events_of, for_some}
 use Rattle.cluster_model.specs.ServerCommands.{crash_of, is_gone}
 use Rattle.cluster_model.specs.State.{Cluster}
 use Rattle.cluster_model.proofs.Commanding.{EndsNothing, HoldsOfCommands, command-holds}
-use Rattle.lease_law.specs.Premises.{IsHandsOffKind}
+use Rattle.event_book.specs.Premises.{IsHandsOffKind}
 use Rattle.lease_law.proofs.Runs.{head-is, none-more}
 use Rattle.commit_law.specs.Actions.{Lose}
 use Rattle.commit_law.specs.Past.{Setup}

@@ -28,7 +28,7 @@ use Rattle.event_book.specs.Flight.{InFlightFacts, in_flight, snapshot_for}
 use Rattle.lease_law.proofs.Configurations.{SetsConfig, config-after}
 use Rattle.lease_law.proofs.Tools.{none-some}
 use Rattle.lease_book.specs.Flights.{Rises}
-use Rattle.summary.specs.Claims.{HasMode, KeepsMode}
+use Rattle.summary_model.specs.Claims.{HasMode, KeepsMode}
 use Rattle.commit_parts.specs.Modes.{IsOnHeld, IsOnIn, IsOnTold, IsSynchronous}
 use Rattle.commit_parts.proofs.Flights.{HoldsAsSent, all-after}
 

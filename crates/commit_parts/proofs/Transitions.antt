@@ -15,7 +15,7 @@ use Rattle.lease_parts.specs.Bridged.{Bridged}
 use Rattle.lease_parts.specs.Kept.{IsKept}
 use Rattle.lease_parts.specs.Promise.{IsComposable, Upholds}
 use Rattle.lease_parts.proofs.Composing.{premises-front}
-use Rattle.summary.specs.Claims.{KeepMode}
+use Rattle.summary_model.specs.Claims.{KeepMode}
 use Rattle.commit_parts.specs.Agents.{AsksAreNumbered}
 use Rattle.commit_parts.specs.Bridged.{CommitsBridged, FitsCommits, KeepsInOrder, kept_commits}
 use Rattle.commit_parts.specs.Ordered.{AllInOrder}

@@ -15,7 +15,7 @@ use Rattle.lease_parts.specs.Bridged.{Bridged}
 use Rattle.lease_parts.specs.Declaring.{member_count}
 use Rattle.lease_parts.specs.Kept.{MeetsPremises}
 use Rattle.lease_parts.specs.Promise.{Promise}
-use Rattle.summary.specs.Claims.{KeepMode}
+use Rattle.summary_model.specs.Claims.{KeepMode}
 use Rattle.commit_parts.specs.Agents.{AreAgentsSynchronous, AreSynchronous, AsksAreNumbered, TellsMembers}
 use Rattle.sync_order_law.specs.Order.{NamesMembers}
 use Rattle.commit_parts.specs.Modes.{IsSynchronous}

@@ -16,7 +16,7 @@ use Rattle.sync_state.specs.Standbys.{noted_position}
 use Rattle.cluster_model.specs.Cluster.{cluster_after}
 use Rattle.cluster_model.specs.Starting.{cluster_of}
 use Rattle.cluster_model.specs.State.{Cluster}
-use Rattle.lease_law.specs.Past.{set_members}
+use Rattle.event_book.specs.Functions.{set_members}
 use Rattle.commit_law.specs.Carried.{NamesMember}
 use Rattle.commit_law.specs.Past.{Past, past_after, publish_request}
 use Rattle.sync_order_law.specs.Order.{IsInOrder}

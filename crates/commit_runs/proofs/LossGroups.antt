@@ -44,11 +44,11 @@ use Rattle.lease_parts.proofs.Members.{counted, numbered}
 use Rattle.cluster_model.proofs.Places.{there}
 use Rattle.lease_parts.proofs.Streams.{acknowledge-quiet}
 use Rattle.wal_model.specs.Lacking.{has_serial, lacks_in}
-use Rattle.summary.specs.Losses.{WriterLacksOf}
-use Rattle.summary.specs.Seeing.{WriterLacks}
-use Rattle.summary.specs.Sights.{is_loss}
-use Rattle.summary.proofs.Keeping.{acknowledged-lacks, began-lacks}
-use Rattle.summary.proofs.Losing.{none-if-hold}
+use Rattle.summary_model.specs.Losses.{WriterLacksOf}
+use Rattle.summary_model.specs.Seeing.{WriterLacks}
+use Rattle.summary_model.specs.Sights.{is_loss}
+use Rattle.summary_law.proofs.Keeping.{acknowledged-lacks, began-lacks}
+use Rattle.summary_law.proofs.Losing.{none-if-hold}
 use Rattle.commit_parts.specs.Reading.{past_of}
 use Rattle.commit_runs.specs.Runs.{first_logs}
 use Rattle.commit_runs.proofs.Holding.{book-acknowledged, book-logs, book-writes, held-by-book, held-by-past}

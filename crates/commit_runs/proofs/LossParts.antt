@@ -8,7 +8,7 @@ use Rattle.wal_model.specs.declared.entry.Entry.{Entry}
 use Rattle.pg_model.specs.declared.answers.Streamed.{Streamed}
 use Rattle.pg_model.specs.declared.answers.Streamed.TheVariants as streams
 use Rattle.pg_model.specs.Facts.{ServerFacts, is_replica}
-use Rattle.pg_model.specs.Servers.{entry_for, news_at}
+use Rattle.pg_cluster.specs.Servers.{entry_for, news_at}
 use Rattle.leader_key.specs.Watchdog.{is_due_at}
 use Rattle.event_book.specs.declared.agent_process.AgentProcess.{AgentProcess}
 use Rattle.event_book.specs.declared.event.AgentEvent.TheVariants as agents

@@ -4,7 +4,7 @@ use Rattle.std.proofs.lemmas.List.{length-replicate}
 use Rattle.pat_base.specs.declared.server_state.State.{State}
 use Rattle.pat_base.specs.declared.server_state.State.TheVariants as states
 use Rattle.pat_base.specs.ServerState.{live}
-use Rattle.pg_model.specs.Facts.{ServerFacts, is_creating, is_down, is_replica, is_up}
+use Rattle.pg_model.specs.Facts.{ServerFacts, is_creating, is_down, is_replica, is_up, fresh}
 use Rattle.pg_model.specs.Running.{is_primary, stopped}
 use Rattle.cluster_model.specs.declared.step.Step.{Step}
 use Rattle.script_model.specs.Script.{HeadText, IsHead, names_of}
@@ -21,7 +21,6 @@ use Rattle.event_book.specs.declared.member.Member.{Member}
 use Rattle.event_book.specs.declared.message.Body.{Body}
 use Rattle.event_book.specs.declared.message.Body.TheVariants as bodies
 use Rattle.event_book.specs.Members.{server_of}
-use Rattle.pg_model.specs.Facts.{fresh}
 use Rattle.agent_model.specs.declared.heard.Heard.TheVariants.{Operated as HearsOperator, Wake}
 use Rattle.agent_model.specs.declared.output.Output.{Output}
 use Rattle.agent_model.specs.declared.output.Output.TheVariants as outputs
@@ -54,7 +53,7 @@ use Rattle.lease_inputs.proofs.InputStays.{item-here}
 use Rattle.cluster_model.proofs.Lists.{HoldsIf}
 use Rattle.lease_parts.proofs.Upholding.{upheld-for_some, upheld-none, upheld-then, upholds-all}
 use Rattle.lease_parts.proofs.Walking.{upholds-run}
-use Rattle.summary.specs.Telling.{TellLosses}
+use Rattle.summary_model.specs.Telling.{TellLosses}
 use Rattle.commit_runs.specs.Runs.{first_logs}
 use Rattle.lease_parts.proofs.Members.{few-names}
 use Rattle.commit_runs.proofs.Losses.{LosesNone, TellsSoFar, composable, losses_told, upheld-loseless}

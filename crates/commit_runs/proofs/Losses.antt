@@ -23,14 +23,14 @@ use Rattle.commit_servers.proofs.Matching.{same-by}
 use Rattle.lease_parts.specs.Declaring.{declared_members, member_count}
 use Rattle.lease_parts.specs.Promise.{IsComposable, Promise, Upholds}
 use Rattle.lease_parts.proofs.Members.{members-over}
-use Rattle.summary.specs.Losses.{may_lose}
-use Rattle.summary.specs.Moments.{AreAllFronts}
-use Rattle.summary.specs.Seeing.{WriterLacks}
-use Rattle.summary.specs.Sights.{is_loss, tells_loss}
-use Rattle.summary.specs.Telling.{TellLosses, TellsLoss}
-use Rattle.summary.proofs.Fronts.{whole-front}
-use Rattle.summary.proofs.Keeping.{others-keep}
-use Rattle.summary.proofs.Losing.{none-if-hold}
+use Rattle.summary_model.specs.Losses.{may_lose}
+use Rattle.summary_model.specs.Moments.{AreAllFronts}
+use Rattle.summary_model.specs.Seeing.{WriterLacks}
+use Rattle.summary_model.specs.Sights.{is_loss, tells_loss}
+use Rattle.summary_model.specs.Telling.{TellLosses, TellsLoss}
+use Rattle.summary_law.proofs.Fronts.{whole-front}
+use Rattle.summary_law.proofs.Keeping.{others-keep}
+use Rattle.summary_law.proofs.Losing.{none-if-hold}
 use Rattle.commit_parts.specs.Reading.{past_of}
 use Rattle.commit_runs.specs.Runs.{first_logs}
 use Rattle.commit_parts.proofs.Transitions.{past-more}

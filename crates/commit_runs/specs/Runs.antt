@@ -6,7 +6,7 @@ use Rattle.event_book.specs.Facts.{start_of}
 use Rattle.event_book.specs.Kept.{KeepsCommits}
 use Rattle.event_book.specs.Logs.{Logs, logs_in}
 use Rattle.lease_parts.specs.Kept.{WhereMet}
-use Rattle.summary.specs.Claims.{KeepMode}
+use Rattle.summary_model.specs.Claims.{KeepMode}
 use Rattle.commit_parts.specs.Ordered.{KeepsOrder}
 
 -- the logs that the servers of this head begin with

@@ -4,7 +4,7 @@ ghost use Rattle.cluster_model.specs.declared.step.Step.{Step};
 ghost use Rattle.script_model.specs.Script.{HeadText, IsHead};
 ghost use Rattle.cluster_model.specs.Next.{run_events};
 ghost use Rattle.cluster_model.specs.Starting.{cluster_of};
-ghost use Rattle.summary.specs.Telling.{TellLosses};
+ghost use Rattle.summary_model.specs.Telling.{TellLosses};
 ghost use Rattle.commit_runs.specs.Runs.{KeepsCommitsIn, KeepsOrderIn, first_logs};
 
 /// Every run of a cluster whose head has synchronous mode on keeps commits: each server that accepts writes has each acknowledged commit in

@@ -5,7 +5,7 @@ use Rattle.pat_base.specs.ServerState.{writes}
 use Rattle.wal_model.specs.Log.{end_of}
 use Rattle.pg_model.specs.Facts.{ServerFacts, entries_of}
 use Rattle.pg_model.specs.Replication.{entry_of}
-use Rattle.pg_model.specs.Servers.{entry_at, entry_for}
+use Rattle.pg_cluster.specs.Servers.{entry_at, entry_for}
 use Rattle.event_book.specs.declared.member.Member.{Member}
 use Rattle.event_book.specs.Facts.{Facts}
 use Rattle.cluster_model.specs.ServerCommands.{commit_of}

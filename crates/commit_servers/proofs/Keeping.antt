@@ -8,8 +8,7 @@ use Rattle.wal_model.specs.declared.entry.Entry.{Entry}
 use Rattle.pg_model.specs.Facts.{ServerFacts, has_data, is_creating}
 use Rattle.pg_model.specs.Replication.{appended, following, received_from}
 use Rattle.pg_model.specs.Rewinding.{cloned, is_rewindable, rewound_to}
-use Rattle.pg_model.specs.Running.{crashed, delayed, stopped, wiped}
-use Rattle.pg_model.specs.Servers.{ticked_unless_live}
+use Rattle.pg_model.specs.Running.{crashed, delayed, stopped, wiped, ticked_unless_live}
 use Rattle.event_book.specs.declared.event.EventKind.{EventKind}
 use Rattle.event_book.specs.declared.event.EventKind.TheVariants as kinds
 use Rattle.event_book.specs.declared.event.LogEvent.{LogEvent}

@@ -9,8 +9,7 @@ use Rattle.pat_base.specs.declared.ticks.Ticks.{Ticks}
 use Rattle.pat_base.specs.Changes.{with_changed}
 use Rattle.pat_base.specs.ServerState.{live}
 use Rattle.pg_model.specs.Facts.{ServerFacts}
-use Rattle.pg_model.specs.Running.{completed, crashed, crashed_state, moment_after, replica_started, started, stopped}
-use Rattle.pg_model.specs.Servers.{ticked_unless_live}
+use Rattle.pg_model.specs.Running.{completed, crashed, crashed_state, moment_after, replica_started, started, stopped, ticked_unless_live}
 use Rattle.event_book.specs.declared.event.EventKind.{EventKind}
 use Rattle.event_book.specs.declared.event.EventKind.TheVariants as kinds
 use Rattle.event_book.specs.declared.event.ServerEvent.{ServerEvent}

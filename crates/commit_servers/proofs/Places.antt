@@ -3,7 +3,7 @@ use Rattle.std.proofs.Common.{ℕ, ◌≡◌, List, map, slice_get, Option, Some
 use Rattle.std.proofs.lemmas.Bool.{cases_eq}
 use Rattle.std.proofs.lemmas.Option.{slice_get_within, slice_get-map, none-some, same_Some}
 use Rattle.pat_base.specs.Changes.{changed_at, with_changed}
-use Rattle.pg_model.proofs.Clusters.{got-set_same, got-set_other}
+use Rattle.pg_model.proofs.Lists.{got-set_same, got-set_other}
 
 pub changed-here : {A : Type 0} (items : List A) (k : ℕ) (change : A → A) (item : A) → slice_get items k ≡ Some item → slice_get (with_changed items k change) k ≡ Some (change item)
 changed-here items k change item is = ap (λ (o : Option _). slice_get (changed_at items k change o) k) is ∙ got-set_same items k (change item) (slice_get_within items k item is)

@@ -8,9 +8,10 @@ use Rattle.pat_base.specs.declared.server_state.State.TheVariants as states
 use Rattle.pat_base.specs.Lsn.{lsn_at}
 use Rattle.pat_base.specs.ServerState.{writes, live}
 use Rattle.wal_model.specs.Log.{end_of}
-use Rattle.pg_model.specs.declared.answers.Rewound.{Rewound}
+use Rattle.pg_cluster.specs.declared.answers.Rewound.{Rewound}
 use Rattle.pg_model.specs.Facts.{ServerFacts, is_creating}
-use Rattle.pg_model.specs.Rewinding.{common_log, holds_between, is_rewindable, may_clone, may_rewind, rewind_at, rewind_between}
+use Rattle.pg_model.specs.Rewinding.{common_log, is_rewindable, may_clone, may_rewind}
+use Rattle.pg_cluster.specs.Rewinding.{holds_between, rewind_at, rewind_between}
 use Rattle.event_book.specs.declared.event.EventKind.{EventKind}
 use Rattle.event_book.specs.declared.event.EventKind.TheVariants as kinds
 use Rattle.event_book.specs.declared.event.LogEvent.TheVariants as logs

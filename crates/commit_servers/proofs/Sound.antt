@@ -17,10 +17,9 @@ use Rattle.wal_model.specs.declared.entry.Entry.{Entry}
 use Rattle.wal_model.specs.Log.{IsPrefixOf, end_of, received}
 use Rattle.pg_model.specs.declared.waiting.Waiting.{Waiting}
 use Rattle.pg_model.specs.Facts.{ServerFacts, entries_of, has_data, is_down, is_up}
-use Rattle.pg_model.specs.Replication.{appended, confirming, received_from}
+use Rattle.pg_model.specs.Replication.{appended, confirming, received_from, requiring}
 use Rattle.pg_model.specs.Rewinding.{cloned, rewound_to}
-use Rattle.pg_model.specs.Running.{completed, crashed, crashed_state, is_primary, moment_after, promoted, replica_started, started, stopped, stopping, wiped}
-use Rattle.pg_model.specs.Servers.{requiring, ticked_unless_live}
+use Rattle.pg_model.specs.Running.{completed, crashed, crashed_state, is_primary, moment_after, promoted, replica_started, started, stopped, stopping, wiped, ticked_unless_live}
 use Rattle.event_book.specs.Servers.{begun_in, replica_starts_in, starts_as_primary, starts_as_replica, stops, stops_quietly}
 use Rattle.lease_law.proofs.Tools.{both}
 use Rattle.commit_law.specs.States.{HasLog}

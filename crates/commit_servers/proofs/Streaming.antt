@@ -18,7 +18,7 @@ use Rattle.pg_model.specs.declared.answers.Streamed.{Streamed}
 use Rattle.pg_model.specs.declared.answers.Streamed.TheVariants as streams
 use Rattle.pg_model.specs.Facts.{ServerFacts, entries_of, has_data, is_replica}
 use Rattle.pg_model.specs.Replication.{is_current, news_of, news_where, received_from, stream_by}
-use Rattle.pg_model.specs.Servers.{news_at, news_between}
+use Rattle.pg_cluster.specs.Servers.{news_at, news_between}
 use Rattle.pg_model.proofs.News.{news-answer}
 use Rattle.event_book.specs.declared.event.EventKind.{EventKind}
 use Rattle.event_book.specs.declared.event.EventKind.TheVariants as kinds

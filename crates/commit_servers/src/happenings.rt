@@ -2,7 +2,7 @@
 ghost use Rattle.std.specs.Prelude.{ℕ, ◌≡◌, ◌≤◌, ◌+◌, Bool, List, slice_get, Option, Some, true};
 ghost use Rattle.pat_base.specs.declared.server_state.Required.{Required};
 ghost use Rattle.pg_model.specs.Facts.{ServerFacts, has_data};
-ghost use Rattle.pg_model.specs.Servers.{entry_for};
+ghost use Rattle.pg_cluster.specs.Servers.{entry_for};
 ghost use Rattle.event_book.specs.declared.event.EventKind.{EventKind};
 ghost use Rattle.event_book.specs.declared.member.Member.{Member};
 ghost use Rattle.event_book.specs.declared.reason.Reason.{Reason};

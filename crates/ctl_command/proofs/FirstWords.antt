@@ -10,7 +10,7 @@ use Rattle.ctl_command.specs.Reading.{with_next, with_words, command_by, command
 use Rattle.ctl_command.specs.Commands.{CommandText}
 use Rattle.ctl_command.specs.Tables.{command_named}
 use Rattle.ctl_command.specs.Texts.{SaidText, FaultText}
-use Rattle.ctl_command.specs.Words.{is_byte, cut_once, parts_between, words_behind, words_of}
+use Rattle.ctl_command.specs.Words.{space, is_byte, cut_once, parts_between, words_behind, line_words}
 use Rattle.ctl_command.specs.declared.command_name.CommandName.{CommandName}
 
 -- how many bytes are left, and whether there is a word
@@ -29,18 +29,18 @@ last-part : (mark : ℕ) (bytes : List ℕ) → nat_lt (position_or_len (is_byte
 last-part mark [] h = refl
 last-part mark (b ∷ bs) h = last-step (is_byte mark b) b bs (parts_between mark bs) (position_or_len (is_byte mark) bs) (last-part mark bs) h
 
-first-by : (bytes : List ℕ) (t : Bool) → nat_lt (position_or_len (is_byte 32) bytes) (length bytes) ≡ t
-    → let cut : List ℕ × Option (List ℕ) = cond t (before_first (is_byte 32) bytes, Some (after_first (is_byte 32) bytes)) (bytes, None) in parts_between 32 bytes ≡ cut.0 ∷ words_behind cut.1
-first-by bytes true h = slice_split_first (is_byte 32) bytes 0 (ltb-true _ _ h)
-first-by bytes false h = last-part 32 bytes h
+first-by : (bytes : List ℕ) (t : Bool) → nat_lt (position_or_len (is_byte space) bytes) (length bytes) ≡ t
+    → let cut : List ℕ × Option (List ℕ) = cond t (before_first (is_byte space) bytes, Some (after_first (is_byte space) bytes)) (bytes, None) in parts_between space bytes ≡ cut.0 ∷ words_behind cut.1
+first-by bytes true h = slice_split_first (is_byte space) bytes 0 (ltb-true _ _ h)
+first-by bytes false h = last-part space bytes h
 
 -- the first word, and then the others
-pub words-first : (bytes : List ℕ) → parts_between 32 bytes ≡ (cut_once 32 bytes).0 ∷ words_behind (cut_once 32 bytes).1
-words-first bytes = first-by bytes (nat_lt (position_or_len (is_byte 32) bytes) (length bytes)) refl
+pub words-first : (bytes : List ℕ) → parts_between space bytes ≡ (cut_once space bytes).0 ∷ words_behind (cut_once space bytes).1
+words-first bytes = first-by bytes (nat_lt (position_or_len (is_byte space) bytes) (length bytes)) refl
 
 -- one more word is judged
 pub word-judged : (command : CommandName) (cluster : Name) (members : List (Name × Host)) (outcome next said : Result SaidText FaultText) (rest : Option (List ℕ)) (words : List ℕ) (cut : List ℕ × Option (List ℕ))
-    → rest ≡ Some words → cut ≡ cut_once 32 words → next ≡ with_next command cluster members outcome cut.0
+    → rest ≡ Some words → cut ≡ cut_once space words → next ≡ with_next command cluster members outcome cut.0
     → with_words command cluster members outcome (words_behind rest) ≡ said → with_words command cluster members next (words_behind cut.1) ≡ said
 word-judged command cluster members outcome next said rest words cut some same is all =
     ap (λ r. with_words command cluster members r (words_behind cut.1)) is
@@ -51,8 +51,8 @@ word-judged command cluster members outcome next said rest words cut some same i
 
 -- a line that isn't empty is read from its first word on
 pub line-read : (cluster : Name) (members : List (Name × Host)) (line : List ℕ) (cut : List ℕ × Option (List ℕ)) (command : Option CommandName) (read : Result CommandText FaultText)
-    → false ≡ (length line == 0) → cut ≡ cut_once 32 line → command ≡ command_named cut.0
-    → read ≡ command_by cluster members command cut.0 (words_behind cut.1) → read ≡ command_of cluster members (words_of line)
+    → false ≡ (length line == 0) → cut ≡ cut_once space line → command ≡ command_named cut.0
+    → read ≡ command_by cluster members command cut.0 (words_behind cut.1) → read ≡ command_of cluster members (line_words line)
 line-read cluster members [] cut command read some cuts names reads = cc
 line-read cluster members (b ∷ bs) cut command read some cuts names reads =
     reads

@@ -8,11 +8,12 @@ use Rattle.pat_base.specs.declared.name.Name.{Name}
 use Rattle.pat_base.specs.Name.{name_bytes}
 use Rattle.ctl_command.specs.Commands.{CommandText}
 use Rattle.ctl_command.specs.Laws.{is_among, awaits_value}
-use Rattle.ctl_command.specs.Reading.{member_named, is_option, is_said, with_leader, with_candidate, with_setting, with_value, with_new_option, with_force, with_known_option, with_option, with_member, awaits_member, with_name, at_place, with_next, with_words, nothing_said, said_in, built, lacks_cluster, ended, finished, if_said, command_by, command_of}
+use Rattle.member_names.specs.Naming.{member_named}
+use Rattle.ctl_command.specs.Reading.{is_option, is_said, with_leader, with_candidate, with_setting, with_value, with_new_option, with_force, with_known_option, with_option, with_member, awaits_member, with_name, at_place, with_next, with_words, nothing_said, said_in, built, lacks_cluster, ended, finished, if_said, command_by, command_of}
 use Rattle.ctl_command.specs.Settings.{setting_in}
 use Rattle.ctl_command.specs.Tables.{command_named, option_named, value_option_named, force_text}
 use Rattle.ctl_command.specs.Texts.{SettingText, SaidText, FaultText, Missing, Extra}
-use Rattle.ctl_command.specs.Words.{cut_once}
+use Rattle.ctl_command.specs.Words.{equals_sign, cut_once}
 use Rattle.ctl_command.proofs.WordByWord.{with_words-append}
 use Rattle.ctl_command.specs.declared.command_name.CommandName.{CommandName}
 use Rattle.ctl_command.specs.declared.command_name.CommandName.TheVariants as names
@@ -68,7 +69,7 @@ uncut-by true before behind word h = cc
 uncut-by false before behind word h = refl
 
 -- a word without '=' is its own name
-uncut : (word : List ℕ) → (cut_once 61 word).1 ≡ None → (cut_once 61 word).0 ≡ word
+uncut : (word : List ℕ) → (cut_once equals_sign word).1 ≡ None → (cut_once equals_sign word).0 ≡ word
 uncut word h = uncut-by _ _ _ word h
 
 force-by : (test : Bool) (option : Option ValueOption) → cond test (Some options.Force) (option_map (λ o. options.Value o) option) ≡ Some options.Force → test ≡ true
@@ -84,8 +85,8 @@ not-force word h k =
 
 option-keeps : (command : CommandName) (members : List (Name × Host)) (said : SaidText) (word : List ℕ) → bytes_eq force_text word ≡ false → said.force ≡ false → has_force (with_option command members said word) ≡ false
 option-keeps command members said word k h =
-    known-keeps members (option_named command (cut_once 61 word).0) said word (cut_once 61 word).1
-    (λ named none. not-force word k (ap (λ w. bytes_eq w force_text) (sym (uncut word none)) ∙ force-by _ (value_option_named command (cut_once 61 word).0) named))
+    known-keeps members (option_named command (cut_once equals_sign word).0) said word (cut_once equals_sign word).1
+    (λ named none. not-force word k (ap (λ w. bytes_eq w force_text) (sym (uncut word none)) ∙ force-by _ (value_option_named command (cut_once equals_sign word).0) named))
     h
 
 member-keeps : (said : SaidText) (word : List ℕ) (member : Option MemberId) → said.force ≡ false → has_force (with_member said word member) ≡ false

@@ -5,11 +5,12 @@ use Rattle.pat_base.specs.declared.member_id.MemberId.{MemberId}
 use Rattle.pat_base.specs.declared.name.Name.{Name}
 use Rattle.ctl_command.specs.Commands.{CommandText}
 use Rattle.ctl_command.specs.Laws.{awaits_value, IsWholeOption}
-use Rattle.ctl_command.specs.Reading.{member_named, is_option, with_leader, with_candidate, with_setting, with_value_option, with_known_option, with_option, with_name, at_place, with_word, with_next, with_words, nothing_said, said_in, if_said, command_by, command_of}
+use Rattle.member_names.specs.Naming.{member_named}
+use Rattle.ctl_command.specs.Reading.{is_option, with_leader, with_candidate, with_setting, with_value_option, with_known_option, with_option, with_name, at_place, with_word, with_next, with_words, nothing_said, said_in, if_said, command_by, command_of}
 use Rattle.ctl_command.specs.Settings.{setting_in}
 use Rattle.ctl_command.specs.Tables.{command_named, option_named, force_text}
 use Rattle.ctl_command.specs.Texts.{SettingText, SaidText, FaultText, Extra}
-use Rattle.ctl_command.specs.Words.{cut_once}
+use Rattle.ctl_command.specs.Words.{equals_sign, cut_once}
 use Rattle.ctl_command.proofs.WordByWord.{with_words-append, with_words-fault}
 use Rattle.ctl_command.specs.declared.command_name.CommandName.{CommandName}
 use Rattle.ctl_command.specs.declared.option_name.OptionName.{OptionName}
@@ -132,12 +133,12 @@ known-makes members (Some options.Force) (Some value) word said next whole h = a
 known-makes members (Some (options.Value option)) None word said next whole h = absurd (no-value option whole)
 known-makes members (Some (options.Value option)) (Some value) word said next whole h = value-makes members option word value said next h
 
-whole-cut : (command : CommandName) (word : List ℕ) → (word ≡ force_text) ⊎ ((value : List ℕ) × ((cut_once 61 word).1 ≡ Some value)) → IsWhole (option_named command (cut_once 61 word).0) (cut_once 61 word).1
-whole-cut command word (inl same) = inl (ap (λ w. option_named command (cut_once 61 w).0) same)
+whole-cut : (command : CommandName) (word : List ℕ) → (word ≡ force_text) ⊎ ((value : List ℕ) × ((cut_once equals_sign word).1 ≡ Some value)) → IsWhole (option_named command (cut_once equals_sign word).0) (cut_once equals_sign word).1
+whole-cut command word (inl same) = inl (ap (λ w. option_named command (cut_once equals_sign w).0) same)
 whole-cut command word (inr value) = inr value
 
 option-makes : (command : CommandName) (members : List (Name × Host)) (word : List ℕ) (said next : SaidText) → IsWholeOption word → with_option command members said word ≡ Ok next → Makes (λ s. with_option command members s word) said next
-option-makes command members word said next is h = known-makes members (option_named command (cut_once 61 word).0) (cut_once 61 word).1 word said next (whole-cut command word is.whole) h
+option-makes command members word said next is h = known-makes members (option_named command (cut_once equals_sign word).0) (cut_once equals_sign word).1 word said next (whole-cut command word is.whole) h
 
 -- a word that is an option, where no value is awaited
 pub place-option : (command : CommandName) (cluster : Name) (members : List (Name × Host)) (place : Place) (said : SaidText) (word : List ℕ) → is_option word ≡ true → awaits_value place ≡ false → at_place command cluster members place said word ≡ with_option command members said word

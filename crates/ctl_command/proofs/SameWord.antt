@@ -7,11 +7,12 @@ use Rattle.pat_base.specs.declared.host.Host.{Host}
 use Rattle.pat_base.specs.declared.member_id.MemberId.{MemberId}
 use Rattle.pat_base.specs.declared.name.Name.{Name}
 use Rattle.ctl_command.specs.Laws.{awaits_value, joined}
-use Rattle.ctl_command.specs.Reading.{member_named, is_option, is_said, with_leader, with_candidate, with_setting, with_value, with_value_option, awaiting, with_known_option, with_option, with_word, with_next, with_words, said_in, if_said, command_of}
+use Rattle.member_names.specs.Naming.{member_named}
+use Rattle.ctl_command.specs.Reading.{is_option, is_said, with_leader, with_candidate, with_setting, with_value, with_value_option, awaiting, with_known_option, with_option, with_word, with_next, with_words, said_in, if_said, command_of}
 use Rattle.ctl_command.specs.Settings.{setting_in}
 use Rattle.ctl_command.specs.Tables.{command_named, option_named, value_option_named, option_text}
 use Rattle.ctl_command.specs.Texts.{SettingText, SaidText, Extra}
-use Rattle.ctl_command.specs.Words.{is_byte, cut_once}
+use Rattle.ctl_command.specs.Words.{equals_sign, is_byte, cut_once}
 use Rattle.ctl_command.proofs.ForceAtEnd.{neither}
 use Rattle.ctl_command.proofs.OptionOrder.{place-option, behind-front}
 use Rattle.ctl_command.specs.declared.command_name.CommandName.{CommandName}
@@ -20,22 +21,22 @@ use Rattle.ctl_command.specs.declared.option_name.ValueOption.{ValueOption}
 use Rattle.ctl_command.specs.declared.option_name.ValueOption.TheVariants as values
 
 -- where '=' stands behind a name that has none
-mark-place : (name value : List ℕ) → list_any (is_byte 61) name ≡ false → position_or_len (is_byte 61) (name ++ 61 ∷ value) ≡ length name
+mark-place : (name value : List ℕ) → list_any (is_byte equals_sign) name ≡ false → position_or_len (is_byte equals_sign) (name ++ equals_sign ∷ value) ≡ length name
 mark-place [] value h = refl
 mark-place (b ∷ name) value h =
-    let parts = neither (is_byte 61 b) (list_any (is_byte 61) name) h in
+    let parts = neither (is_byte equals_sign b) (list_any (is_byte equals_sign) name) h in
     rw (parts.0, mark-place name value parts.1) (omega arith)
 
 -- a name without '=' and a value, cut apart again
-cut-mark : (name value : List ℕ) → list_any (is_byte 61) name ≡ false → cut_once 61 (name ++ 61 ∷ value) ≡ (name, Some value)
+cut-mark : (name value : List ℕ) → list_any (is_byte equals_sign) name ≡ false → cut_once equals_sign (name ++ equals_sign ∷ value) ≡ (name, Some value)
 cut-mark name value h =
-    let whole : List ℕ = name ++ 61 ∷ value in
-    let place : position_or_len (is_byte 61) whole ≡ length name = mark-place name value h in
-    let within : length name < length whole = omega (arith, length-append name (61 ∷ value)) in
+    let whole : List ℕ = name ++ equals_sign ∷ value in
+    let place : position_or_len (is_byte equals_sign) whole ≡ length name = mark-place name value h in
+    let within : length name < length whole = omega (arith, length-append name (equals_sign ∷ value)) in
     let test : nat_lt (length name) (length whole) ≡ true = lt-ltb (length name) (length whole) within in
-    rw (place, test, take-append_seam name (61 ∷ value), drop-append-add name (61 ∷ value) 1) refl
+    rw (place, test, take-append_seam name (equals_sign ∷ value), drop-append-add name (equals_sign ∷ value) 1) refl
 
-unmarked : (option : ValueOption) → list_any (is_byte 61) (option_text option) ≡ false
+unmarked : (option : ValueOption) → list_any (is_byte equals_sign) (option_text option) ≡ false
 unmarked values.Leader = refl
 unmarked values.Candidate = refl
 unmarked values.Set = refl
@@ -50,7 +51,7 @@ joined-option values.Leader value = refl
 joined-option values.Candidate value = refl
 joined-option values.Set value = refl
 
-cut-text : (option : ValueOption) → cut_once 61 (option_text option) ≡ (option_text option, None)
+cut-text : (option : ValueOption) → cut_once equals_sign (option_text option) ≡ (option_text option, None)
 cut-text values.Leader = refl
 cut-text values.Candidate = refl
 cut-text values.Set = refl
@@ -61,7 +62,7 @@ text-named command values.Candidate h = ap (option_map (λ o. options.Value o)) 
 text-named command values.Set h = ap (option_map (λ o. options.Value o)) h
 
 -- an option that is cut like this, where it isn't there yet
-cut-read : (command : CommandName) (members : List (Name × Host)) (option : ValueOption) (said : SaidText) (word : List ℕ) (value : Option (List ℕ)) → value_option_named command (option_text option) ≡ Some option → cut_once 61 word ≡ (option_text option, value)
+cut-read : (command : CommandName) (members : List (Name × Host)) (option : ValueOption) (said : SaidText) (word : List ℕ) (value : Option (List ℕ)) → value_option_named command (option_text option) ≡ Some option → cut_once equals_sign word ≡ (option_text option, value)
     → with_option command members said word ≡ with_value_option members option said word value
 cut-read command members option said word value named cut =
     ap (λ c. with_known_option members (option_named command c.0) said word c.1) cut

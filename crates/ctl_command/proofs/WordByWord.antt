@@ -9,11 +9,12 @@ use Rattle.pat_base.specs.declared.name.Name.{Name}
 use Rattle.pat_base.specs.Name.{name_bytes}
 use Rattle.ctl_command.specs.Commands.{CommandText}
 use Rattle.ctl_command.specs.Laws.{is_among, is_word_or_value, is_word_or_value_among, is_at_word}
-use Rattle.ctl_command.specs.Reading.{member_named, is_option, is_said, with_leader, with_candidate, with_setting, with_value, with_new_option, with_force, with_known_option, with_option, with_member, awaits_member, with_name, at_place, with_word, with_next, with_words, nothing_said, said_in, edit_config, switchover, failover, restart, reinit, built, lacks_cluster, ended, finished, if_said, command_by, command_of}
+use Rattle.member_names.specs.Naming.{member_named}
+use Rattle.ctl_command.specs.Reading.{is_option, is_said, with_leader, with_candidate, with_setting, with_value, with_new_option, with_force, with_known_option, with_option, with_member, awaits_member, with_name, at_place, with_word, with_next, with_words, nothing_said, said_in, edit_config, switchover, failover, restart, reinit, built, lacks_cluster, ended, finished, if_said, command_by, command_of}
 use Rattle.ctl_command.specs.Settings.{setting_in}
 use Rattle.ctl_command.specs.Tables.{command_named, option_named}
 use Rattle.ctl_command.specs.Texts.{SettingText, SaidText, FaultText, NoCommand, Unknown, Missing, Extra}
-use Rattle.ctl_command.specs.Words.{cut_once}
+use Rattle.ctl_command.specs.Words.{equals_sign, cut_once}
 use Rattle.ctl_command.specs.declared.command_name.CommandName.{CommandName}
 use Rattle.ctl_command.specs.declared.command_name.CommandName.TheVariants as names
 use Rattle.ctl_command.specs.declared.option_name.OptionName.{OptionName}
@@ -47,7 +48,7 @@ same-bytes word = (bytes_eq-Decides word word).1 refl
 itself : (word : List ℕ) → is_word_or_value word word ≡ true
 itself word = rw (same-bytes word) refl
 
-its-value : (word value : List ℕ) → (cut_once 61 word).1 ≡ Some value → is_word_or_value value word ≡ true
+its-value : (word value : List ℕ) → (cut_once equals_sign word).1 ≡ Some value → is_word_or_value value word ≡ true
 its-value word value h = rw (h, same-bytes value) (or-true (bytes_eq value word))
 
 of-test : (word : List ℕ) (test : Bool) (first second : Result SaidText FaultText) → is_of word first ≡ true → is_of word second ≡ true → is_of word (cond test first second) ≡ true
@@ -71,7 +72,7 @@ value-of word members values.Leader said value h = leader-of word said value (me
 value-of word members values.Candidate said value h = candidate-of word said value (member_named members value) h
 value-of word members values.Set said value h = setting-of word said value (setting_in value) h
 
-new-option-of : (word : List ℕ) (members : List (Name × Host)) (option : ValueOption) (said : SaidText) (value : Option (List ℕ)) → (cut_once 61 word).1 ≡ value → is_of word (with_new_option members option said value) ≡ true
+new-option-of : (word : List ℕ) (members : List (Name × Host)) (option : ValueOption) (said : SaidText) (value : Option (List ℕ)) → (cut_once equals_sign word).1 ≡ value → is_of word (with_new_option members option said value) ≡ true
 new-option-of word members option said None h = refl
 new-option-of word members option said (Some value) h = value-of word members option said value (its-value word value h)
 
@@ -79,13 +80,13 @@ force-of : (word : List ℕ) (said : SaidText) (value : Option (List ℕ)) → i
 force-of word said None = of-test word said.force _ _ (same-bytes word) refl
 force-of word said (Some value) = itself word
 
-known-of : (word : List ℕ) (members : List (Name × Host)) (option : Option OptionName) (said : SaidText) → is_of word (with_known_option members option said word (cut_once 61 word).1) ≡ true
+known-of : (word : List ℕ) (members : List (Name × Host)) (option : Option OptionName) (said : SaidText) → is_of word (with_known_option members option said word (cut_once equals_sign word).1) ≡ true
 known-of word members None said = itself word
-known-of word members (Some options.Force) said = force-of word said (cut_once 61 word).1
-known-of word members (Some (options.Value option)) said = of-test word (is_said option said) _ _ (same-bytes word) (new-option-of word members option said (cut_once 61 word).1 refl)
+known-of word members (Some options.Force) said = force-of word said (cut_once equals_sign word).1
+known-of word members (Some (options.Value option)) said = of-test word (is_said option said) _ _ (same-bytes word) (new-option-of word members option said (cut_once equals_sign word).1 refl)
 
 option-of : (word : List ℕ) (command : CommandName) (members : List (Name × Host)) (said : SaidText) → is_of word (with_option command members said word) ≡ true
-option-of word command members said = known-of word members (option_named command (cut_once 61 word).0) said
+option-of word command members said = known-of word members (option_named command (cut_once equals_sign word).0) said
 
 member-of : (word : List ℕ) (said : SaidText) (member : Option MemberId) → is_of word (with_member said word member) ≡ true
 member-of word said None = itself word

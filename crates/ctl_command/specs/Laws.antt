@@ -6,7 +6,7 @@ use Rattle.ctl_command.specs.Reading.{is_option}
 use Rattle.ctl_command.specs.Tables.{force_text, option_text}
 use Rattle.ctl_command.specs.Texts.{FaultText}
 use Rattle.ctl_command.specs.Texts as texts
-use Rattle.ctl_command.specs.Words.{cut_once}
+use Rattle.ctl_command.specs.Words.{equals_sign, cut_once}
 use Rattle.ctl_command.specs.declared.option_name.ValueOption.{ValueOption}
 use Rattle.ctl_command.specs.declared.said.Place.{Place}
 use Rattle.ctl_command.specs.declared.said.Place.TheVariants as places
@@ -22,7 +22,7 @@ is_value text (Some value) = bytes_eq text value
 
 -- a text is a word, or what stands behind its '='
 abbrev pub is_word_or_value : List ℕ → List ℕ → Bool
-is_word_or_value text word = bytes_eq text word || is_value text (cut_once 61 word).1
+is_word_or_value text word = bytes_eq text word || is_value text (cut_once equals_sign word).1
 
 -- a text is one of these words, or what stands behind the '=' of one
 abbrev pub is_word_or_value_among : List ℕ → List (List ℕ) → Bool
@@ -44,8 +44,8 @@ awaits_value (places.Value option) = true
 -- a word is an option by itself: '--force', or one that has its value behind '='
 pub record IsWholeOption (word : List ℕ) : Type 0 where
   pub option : is_option word ≡ true
-  pub whole : (word ≡ force_text) ⊎ ((value : List ℕ) × ((cut_once 61 word).1 ≡ Some value))
+  pub whole : (word ≡ force_text) ⊎ ((value : List ℕ) × ((cut_once equals_sign word).1 ≡ Some value))
 
 -- an option and its value in one word
 abbrev pub joined : ValueOption → List ℕ → List ℕ
-joined option value = option_text option ++ (61 ∷ value)
+joined option value = option_text option ++ (equals_sign ∷ value)

@@ -1,18 +1,18 @@
 -- What the words of a line ask for, or the first of them that is at fault, or else what they lack.
-use Rattle.std.specs.Prelude.{ℕ, nat_eq, ◌&&◌, not, Bool, true, false, if◌then◌else◌, List, [], ◌∷◌, Option, Some, None, is_some, is_none, option_and_then, Result, Ok, Err, codes, position}
+use Rattle.std.specs.Prelude.{ℕ, nat_eq, ◌&&◌, not, Bool, true, false, if◌then◌else◌, List, [], ◌∷◌, Option, Some, None, is_some, is_none, Result, Ok, Err, codes}
 use Rattle.std.specs.List.{starts_with}
 use Rattle.std.specs.Str.{bytes_eq}
-use Rattle.pat_base.specs.MemberId.{member_of}
 use Rattle.pat_base.specs.Name.{name_bytes}
 use Rattle.pat_base.specs.declared.host.Host.{Host}
 use Rattle.pat_base.specs.declared.member_id.MemberId.{MemberId}
 use Rattle.pat_base.specs.declared.name.Name.{Name}
+use Rattle.member_names.specs.Naming.{member_named}
 use Rattle.ctl_command.specs.Commands.{CommandText}
 use Rattle.ctl_command.specs.Commands as commands
 use Rattle.ctl_command.specs.Settings.{setting_in}
 use Rattle.ctl_command.specs.Tables.{command_named, option_named, takes_member}
 use Rattle.ctl_command.specs.Texts.{SettingText, SaidText, FaultText, Unknown, Missing, Extra, NoCommand}
-use Rattle.ctl_command.specs.Words.{cut_once}
+use Rattle.ctl_command.specs.Words.{equals_sign, cut_once}
 use Rattle.ctl_command.specs.declared.command_name.CommandName.{CommandName}
 use Rattle.ctl_command.specs.declared.command_name.CommandName.TheVariants as names
 use Rattle.ctl_command.specs.declared.ctl_fault.Needed.TheVariants as needs
@@ -22,14 +22,6 @@ use Rattle.ctl_command.specs.declared.option_name.ValueOption.{ValueOption}
 use Rattle.ctl_command.specs.declared.option_name.ValueOption.TheVariants as values
 use Rattle.ctl_command.specs.declared.said.Place.{Place}
 use Rattle.ctl_command.specs.declared.said.Place.TheVariants as places
-
--- a member has this text as its name
-abbrev pub has_name : List ℕ → Name × Host → Bool
-has_name text member = bytes_eq (name_bytes member.0) text
-
--- the member of this name
-abbrev pub member_named : List (Name × Host) → List ℕ → Option MemberId
-member_named members text = option_and_then member_of (position (has_name text) members)
 
 -- a word is an option, known or not
 abbrev pub is_option : List ℕ → Bool
@@ -88,7 +80,7 @@ with_known_option members (Some (options.Value option)) said word value = with_v
 
 -- a word that is an option, known or not
 abbrev pub with_option : CommandName → List (Name × Host) → SaidText → List ℕ → Result SaidText FaultText
-with_option command members said word = with_known_option members (option_named command (cut_once 61 word).0) said word (cut_once 61 word).1
+with_option command members said word = with_known_option members (option_named command (cut_once equals_sign word).0) said word (cut_once equals_sign word).1
 
 -- the cluster's name
 abbrev pub with_cluster : Name → SaidText → List ℕ → Result SaidText FaultText

@@ -2,7 +2,7 @@
 use Rattle.std.specs.Prelude.{ℕ, ◌==◌, Bool, if◌then◌else◌, List, Option, Some, None, length}
 use Rattle.std.specs.List.{list_any}
 use Rattle.ctl_command.specs.Texts.{SettingText}
-use Rattle.ctl_command.specs.Words.{cut_once, parts_between}
+use Rattle.ctl_command.specs.Words.{equals_sign, cut_once, parts_between}
 use Rattle.ctl_command.specs.declared.setting.Setting.{Setting}
 
 -- the key and the value of a setting
@@ -28,4 +28,4 @@ setting_by key (Some value) = if has_empty_part key then None else Some (record 
 
 -- the setting that KEY=VALUE is; the value begins behind the first '='
 abbrev pub setting_in : List ℕ → Option SettingText
-setting_in text = setting_by (cut_once 61 text).0 (cut_once 61 text).1
+setting_in text = setting_by (cut_once equals_sign text).0 (cut_once equals_sign text).1

@@ -2,6 +2,14 @@
 use Rattle.std.specs.Prelude.{ℕ, ◌==◌, nat_lt, Bool, if◌then◌else◌, List, [], ◌∷◌, Option, Some, None, length}
 use Rattle.std.specs.List.{slice_split, position_or_len, before_first, after_first}
 
+-- the byte between two words
+abbrev pub space : ℕ
+space = 32
+
+-- the byte between an option and its value, or the path of a setting and its value
+abbrev pub equals_sign : ℕ
+equals_sign = 61
+
 -- whether a byte is this one
 abbrev pub is_byte : ℕ → ℕ → Bool
 is_byte mark b = b == mark
@@ -17,9 +25,9 @@ parts_between mark bytes = slice_split (is_byte mark) bytes
 -- the words of what stands behind a space, if there is one
 abbrev pub words_behind : Option (List ℕ) → List (List ℕ)
 words_behind None = []
-words_behind (Some text) = parts_between 32 text
+words_behind (Some text) = parts_between space text
 
 -- the words of a line, with one space between two of them; the empty text has none
-abbrev pub words_of : List ℕ → List (List ℕ)
-words_of [] = []
-words_of (b ∷ bs) = parts_between 32 (b ∷ bs)
+abbrev pub line_words : List ℕ → List (List ℕ)
+line_words [] = []
+line_words (b ∷ bs) = parts_between space (b ∷ bs)

@@ -1,11 +1,10 @@
 //! What the words of a line ask for.
-ghost use Rattle.std.specs.Prelude.{◌≡◌, position, option_map};
+ghost use Rattle.std.specs.Prelude.{◌≡◌, option_map};
 ghost use Rattle.std.specs.Option.{option_copied};
-ghost use Rattle.pat_base.specs.MemberId.{member_of};
 ghost use Rattle.ctl_command.specs.Seen.{seen_said, seen_command, seen_outcome, seen_result};
 ghost use Rattle.ctl_command.specs.Settings.{setting_text};
 ghost use Rattle.ctl_command.specs.Words.{words_behind};
-ghost use Rattle.ctl_command.specs.Reading.{has_name, member_named, is_option, is_said, with_leader, with_candidate, with_setting, with_value, awaiting, with_value_option, with_force, with_known_option, with_option, with_cluster, with_member, awaits_member, behind_cluster, with_name, among_names, among_options, with_word, with_next, nothing_said, said_in, edit_config, switchover, failover, restart, reinit, built, lacks_cluster, at_end, finished, command_by};
+ghost use Rattle.ctl_command.specs.Reading.{is_option, is_said, with_leader, with_candidate, with_setting, with_value, awaiting, with_value_option, with_force, with_known_option, with_option, with_cluster, with_member, awaits_member, behind_cluster, with_name, among_names, among_options, with_word, with_next, nothing_said, said_in, edit_config, switchover, failover, restart, reinit, built, lacks_cluster, at_end, finished, command_by};
 
 use crate::command_name::CommandName;
 use crate::cutting::cut_once;
@@ -14,6 +13,7 @@ use crate::said::{Place, Said};
 use crate::setting_parts::setting_in;
 use crate::tables::{command_named, option_named, takes_member};
 use crate::{Command, CtlFault, Needed, Setting, ValueOption};
+use member_names::member_named;
 use pat_base::{Host, MemberId, Name};
 
 /// The names that a line may say.
@@ -21,31 +21,6 @@ use pat_base::{Host, MemberId, Name};
 struct Known<'a> {
     cluster: Name,
     members: &'a [(Name, Host)],
-}
-
-/// The place of the member of this name.
-fn place_named(members: &[(Name, Host)], text: &str) -> Option<usize>
-    ensures { result ≡ position (has_name text.now) members.now }
-{
-    members.iter().position(|(name, _)| name.as_str() == text)
-}
-
-/// The member at a place among all members.
-fn member_at(place: usize) -> Option<MemberId>
-    ensures { result ≡ member_of place }
-{
-    match u8::try_from(place) {
-        Ok(number) => MemberId::new(number),
-        Err(_) => None,
-    }
-}
-
-/// The member of this name.
-fn member_named(members: &[(Name, Host)], text: &str) -> Option<MemberId>
-    ensures { result ≡ member_named members.now text.now }
-{
-    let place = place_named(members, text)?;
-    member_at(place)
 }
 
 /// Whether a word is an option, known or not.
@@ -73,14 +48,12 @@ fn with_leader<'a>(
 ) -> Result<Said<'a>, CtlFault<'a>>
     ensures { seen_outcome result ≡ with_leader (seen_said said.entry) value.now member }
 {
-    match member {
-        None => Err(CtlFault::Unknown(value)),
-        Some(member) => Ok(Said {
-            leader: Some(member),
-            place: Place::Options,
-            ..said
-        }),
-    }
+    let member = member.ok_or(CtlFault::Unknown(value))?;
+    Ok(Said {
+        leader: Some(member),
+        place: Place::Options,
+        ..said
+    })
 }
 
 fn with_candidate<'a>(
@@ -90,14 +63,12 @@ fn with_candidate<'a>(
 ) -> Result<Said<'a>, CtlFault<'a>>
     ensures { seen_outcome result ≡ with_candidate (seen_said said.entry) value.now member }
 {
-    match member {
-        None => Err(CtlFault::Unknown(value)),
-        Some(member) => Ok(Said {
-            candidate: Some(member),
-            place: Place::Options,
-            ..said
-        }),
-    }
+    let member = member.ok_or(CtlFault::Unknown(value))?;
+    Ok(Said {
+        candidate: Some(member),
+        place: Place::Options,
+        ..said
+    })
 }
 
 fn with_setting<'a>(
@@ -107,14 +78,12 @@ fn with_setting<'a>(
 ) -> Result<Said<'a>, CtlFault<'a>>
     ensures { seen_outcome result ≡ with_setting (seen_said said.entry) value.now (option_map setting_text setting.entry) }
 {
-    match setting {
-        None => Err(CtlFault::Unknown(value)),
-        Some(setting) => Ok(Said {
-            setting: Some(setting),
-            place: Place::Options,
-            ..said
-        }),
-    }
+    let setting = setting.ok_or(CtlFault::Unknown(value))?;
+    Ok(Said {
+        setting: Some(setting),
+        place: Place::Options,
+        ..said
+    })
 }
 
 /// What is said, with the value of an option.
@@ -233,13 +202,11 @@ fn with_member<'a>(
 ) -> Result<Said<'a>, CtlFault<'a>>
     ensures { seen_outcome result ≡ with_member (seen_said said.entry) word.now member }
 {
-    match member {
-        None => Err(CtlFault::Unknown(word)),
-        Some(member) => Ok(Said {
-            member: Some(member),
-            ..said
-        }),
-    }
+    let member = member.ok_or(CtlFault::Unknown(word))?;
+    Ok(Said {
+        member: Some(member),
+        ..said
+    })
 }
 
 /// Whether the next name is that of a member.
@@ -377,10 +344,8 @@ fn said_in<'a>(
 fn edit_config<'a>(setting: Option<Setting<'a>>) -> Result<Command<'a>, CtlFault<'a>>
     ensures { seen_result result ≡ edit_config (option_map setting_text setting.entry) }
 {
-    match setting {
-        None => Err(CtlFault::Missing(Needed::Value(ValueOption::Set))),
-        Some(setting) => Ok(Command::EditConfig(setting)),
-    }
+    let setting = setting.ok_or(CtlFault::Missing(Needed::Value(ValueOption::Set)))?;
+    Ok(Command::EditConfig(setting))
 }
 
 fn switchover<'a>(
@@ -389,37 +354,29 @@ fn switchover<'a>(
 ) -> Result<Command<'a>, CtlFault<'a>>
     ensures { seen_result result ≡ switchover leader candidate }
 {
-    match leader {
-        None => Err(CtlFault::Missing(Needed::Value(ValueOption::Leader))),
-        Some(leader) => Ok(Command::Switchover { leader, candidate }),
-    }
+    let leader = leader.ok_or(CtlFault::Missing(Needed::Value(ValueOption::Leader)))?;
+    Ok(Command::Switchover { leader, candidate })
 }
 
 fn failover<'a>(candidate: Option<MemberId>) -> Result<Command<'a>, CtlFault<'a>>
     ensures { seen_result result ≡ failover candidate }
 {
-    match candidate {
-        None => Err(CtlFault::Missing(Needed::Value(ValueOption::Candidate))),
-        Some(candidate) => Ok(Command::Failover { candidate }),
-    }
+    let candidate = candidate.ok_or(CtlFault::Missing(Needed::Value(ValueOption::Candidate)))?;
+    Ok(Command::Failover { candidate })
 }
 
 fn restart<'a>(member: Option<MemberId>) -> Result<Command<'a>, CtlFault<'a>>
     ensures { seen_result result ≡ restart member }
 {
-    match member {
-        None => Err(CtlFault::Missing(Needed::Member)),
-        Some(member) => Ok(Command::Restart(member)),
-    }
+    let member = member.ok_or(CtlFault::Missing(Needed::Member))?;
+    Ok(Command::Restart(member))
 }
 
 fn reinit<'a>(member: Option<MemberId>) -> Result<Command<'a>, CtlFault<'a>>
     ensures { seen_result result ≡ reinit member }
 {
-    match member {
-        None => Err(CtlFault::Missing(Needed::Member)),
-        Some(member) => Ok(Command::Reinit(member)),
-    }
+    let member = member.ok_or(CtlFault::Missing(Needed::Member))?;
+    Ok(Command::Reinit(member))
 }
 
 /// The command of what is said, where nothing that is required lacks but perhaps the cluster's name.
@@ -491,7 +448,7 @@ impl<'a> Command<'a> {
     ghost use Rattle.std.specs.Prelude.{◌≡◌};
     ghost use Rattle.ctl_command.specs.Reading.{command_of};
     ghost use Rattle.ctl_command.specs.Seen.{seen_result};
-    ghost use Rattle.ctl_command.specs.Words.{words_of};
+    ghost use Rattle.ctl_command.specs.Words.{line_words};
 
     /// What these words ask for, with one space between two of them, where this is the cluster's name and these are its
     /// members. `Err` says which word is the first at fault, or else what lacks.
@@ -500,7 +457,7 @@ impl<'a> Command<'a> {
         members: &[(Name, Host)],
         words: &'a str,
     ) -> Result<Command<'a>, CtlFault<'a>>
-        ensures { seen_result result ≡ command_of cluster.now members.now (words_of words.now) }
+        ensures { seen_result result ≡ command_of cluster.now members.now (line_words words.now) }
     {
         if words.is_empty() {
             return Err(CtlFault::NoCommand);

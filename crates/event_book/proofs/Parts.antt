@@ -7,9 +7,8 @@ use Rattle.pat_base.specs.declared.ticks.Ticks.{Ticks}
 use Rattle.pat_base.specs.ServerState.{writes, live}
 use Rattle.pg_model.specs.Facts.{ServerFacts, is_creating, is_down}
 use Rattle.pg_model.specs.Rewinding.{cloned, is_rewindable, rewound_to}
-use Rattle.pg_model.specs.Running.{completed, crashed, delayed, is_primary, moment_after, replica_started, started, stopped, stopping, wiped}
+use Rattle.pg_model.specs.Running.{completed, crashed, delayed, is_primary, moment_after, replica_started, started, stopped, stopping, wiped, ticked_unless_live}
 use Rattle.pg_model.specs.Replication.{following}
-use Rattle.pg_model.specs.Servers.{ticked_unless_live}
 use Rattle.event_book.specs.declared.event.LogEvent.{LogEvent}
 use Rattle.event_book.specs.declared.event.LogEvent.TheVariants as logs
 use Rattle.event_book.specs.declared.event.ReplicationEvent.{ReplicationEvent}

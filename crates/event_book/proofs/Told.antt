@@ -14,8 +14,7 @@ use Rattle.pat_base.specs.Changes.{changed_at, with_changed}
 use Rattle.pat_base.specs.ServerState.{writes, live}
 use Rattle.pg_model.specs.Facts.{ServerFacts, entries_of, is_creating, is_down, is_up, none_confirmed}
 use Rattle.pg_model.specs.Rewinding.{cloned, is_rewindable, rewound_to}
-use Rattle.pg_model.specs.Running.{completed, crashed_state, is_primary, moment_after, replica_started, started, stopped, wiped}
-use Rattle.pg_model.specs.Servers.{ticked_unless_live}
+use Rattle.pg_model.specs.Running.{completed, crashed_state, is_primary, moment_after, replica_started, started, stopped, wiped, ticked_unless_live}
 use Rattle.event_book.specs.declared.event.Event.{Event}
 use Rattle.event_book.specs.declared.event.EventKind.{EventKind}
 use Rattle.event_book.specs.declared.event.EventKind.TheVariants as kinds

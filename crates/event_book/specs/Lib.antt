@@ -15,6 +15,7 @@ pub mod Logs
 pub mod Members
 pub mod NameLists
 pub mod NoteText
+pub mod Premises
 pub mod Reasons
 pub mod Required
 pub mod Servers

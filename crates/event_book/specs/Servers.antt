@@ -6,10 +6,9 @@ use Rattle.pat_base.specs.declared.ticks.Ticks.{Ticks}
 use Rattle.pat_base.specs.Changes.{with_changed}
 use Rattle.pat_base.specs.ServerState.{live}
 use Rattle.pg_model.specs.Facts.{ServerFacts, entries_of, is_creating, is_down, is_up}
-use Rattle.pg_model.specs.Replication.{appended, confirming, following, received_from}
+use Rattle.pg_model.specs.Replication.{appended, confirming, following, received_from, requiring}
 use Rattle.pg_model.specs.Rewinding.{cloned, is_rewindable, rewound_to}
-use Rattle.pg_model.specs.Running.{crashed, delayed, is_primary, primary_started, promoted, replica_started, started, stopped, stopping, wiped}
-use Rattle.pg_model.specs.Servers.{ticked_unless_live, requiring}
+use Rattle.pg_model.specs.Running.{crashed, delayed, is_primary, primary_started, promoted, replica_started, started, stopped, stopping, wiped, ticked_unless_live}
 use Rattle.event_book.specs.declared.event.EventKind.{EventKind}
 use Rattle.event_book.specs.declared.event.EventKind.TheVariants as kinds
 use Rattle.event_book.specs.declared.event.LogEvent.{LogEvent}

@@ -1,7 +1,8 @@
 //! Scripts: one that is read, one that is refused, and the texts of faults.
-use cluster_script::{Limit, ScriptFault, ScriptLines, limit_passed, read};
+use cluster_script::{ScriptLines, limit_passed, read};
 use pat_base::{NotLsn, NotSize, ReadError, State};
 use pg_model::{CommitFault, InState, PgFault};
+use script_grammar::{Limit, ScriptFault};
 use script_words::Fault;
 use std::test::Fail;
 use wal_model::WalFault;

@@ -7,7 +7,7 @@ use Rattle.pat_base.specs.declared.name.Name.{Name}
 use Rattle.pat_base.specs.declared.ticks.Ticks.{Ticks}
 use Rattle.pat_base.specs.Changes.{changed_at, with_changed}
 use Rattle.pg_model.specs.Facts.{ServerFacts, fresh}
-use Rattle.pg_model.proofs.Clusters.{got-set_same, got-set_other}
+use Rattle.pg_model.proofs.Lists.{got-set_same, got-set_other}
 use Rattle.lease_store.specs.Settings.{Settings}
 use Rattle.event_book.specs.declared.agent_process.AgentProcess.{AgentProcess}
 use Rattle.event_book.specs.declared.event.AgentEvent.{AgentEvent}
@@ -26,7 +26,8 @@ use Rattle.event_book.specs.Servers.{servers_after}
 use Rattle.event_book.specs.Watchdogs.{deadlines_after, deadlines_by, holds_after, holds_by, prolonged_to}
 use Rattle.event_book.specs.Writers.{writes_in, writes_after, writes_over}
 use Rattle.event_book.proofs.Told.{count-of, writes-of, writes-same}
-use Rattle.lease_law.specs.Past.{Past, first_past, past_after, past_over, past_of, deadline_after, deadline_by, hold_after, hold_by, runs_after}
+use Rattle.lease_law.specs.Past.{Past, first_past, past_after, past_over, past_of, deadline_after, deadline_by, hold_after, hold_by}
+use Rattle.event_book.specs.Premises.{runs_after}
 use Rattle.event_book.specs.Kinds.{AllAre}
 use Rattle.lease_law.proofs.Tools.{put-all, put-here, put-there}
 use Rattle.std.proofs.lemmas.Bool.{cases_eq}

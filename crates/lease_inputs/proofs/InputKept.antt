@@ -44,13 +44,14 @@ use Rattle.cluster_model.specs.Machines.{points_of}
 use Rattle.cluster_model.specs.Messages.{output_events}
 use Rattle.cluster_model.specs.Parts.{each}
 use Rattle.cluster_model.specs.State.{Cluster}
-use Rattle.lease_law.specs.Leases.{Grant, Question, Requested, Taking}
+use Rattle.lease_law.specs.Leases.{Grant, Question, Requested}
+use Rattle.event_book.specs.Premises.{Taking, IsOnTime, taken_after, IsTimely}
 use Rattle.lease_law.specs.Actions.{Input}
 use Rattle.lease_law.specs.Books.{IsShown}
 use Rattle.lease_law.specs.Claims.{BeginsBehind, MayBeginBehind, ShowsIt, IsArmedIn}
-use Rattle.lease_law.specs.Inputs.{AgentInput, Fed, HeardGrant, IsOnTime, Kept, Removed, SetAlone, SetByFailsafe, SetByGrant, Undone, WatchdogMay}
-use Rattle.lease_law.specs.Past.{Past, VolatileState, first_past, past_after, past_of, past_over, state_of, machine_of as machine_told, taken_after}
-use Rattle.lease_law.specs.Premises.{IsFedBy, IsTimely, KeepsMomentOf}
+use Rattle.lease_law.specs.Inputs.{AgentInput, Fed, HeardGrant, Kept, Removed, SetAlone, SetByFailsafe, SetByGrant, Undone, WatchdogMay}
+use Rattle.lease_law.specs.Past.{Past, VolatileState, first_past, past_after, past_of, past_over, state_of, machine_of as machine_told}
+use Rattle.lease_law.specs.Feeds.{IsFedBy, KeepsMomentOf}
 use Rattle.event_book.specs.Kinds.{AllAre}
 use Rattle.lease_law.specs.Showing.{IsOwn, input_of}
 use Rattle.lease_law.specs.States.{Acts, Agent, Machine as MachineSeen, State}

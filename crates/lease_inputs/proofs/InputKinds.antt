@@ -21,9 +21,10 @@ use Rattle.agent_model.specs.declared.output.Output.TheVariants as outputs
 use Rattle.agent_model.specs.declared.output.Target.TheVariants as targets
 use Rattle.agent_lease_law.specs.Lawful.{query_in}
 use Rattle.cluster_model.specs.Messages.{agent_message}
-use Rattle.lease_law.specs.Leases.{Query, Read, Question, Flying, Requested, Taking}
-use Rattle.lease_law.specs.Past.{Past, first_past, flying_of, past_after, past_over, query_of, taken_after}
-use Rattle.lease_law.specs.Premises.{IsHandsOffKind, KeepsMomentOf}
+use Rattle.lease_law.specs.Leases.{Query, Read, Question, Flying, Requested}
+use Rattle.event_book.specs.Premises.{Taking, taken_after, IsHandsOffKind}
+use Rattle.lease_law.specs.Past.{Past, first_past, flying_of, past_after, past_over, query_of}
+use Rattle.lease_law.specs.Feeds.{KeepsMomentOf}
 use Rattle.event_book.specs.Kinds.{AllAre}
 use Rattle.lease_law.specs.Showing.{IsOwn}
 use Rattle.lease_law.specs.Stores.{IsSpanned}

@@ -45,7 +45,7 @@ use Rattle.cluster_model.specs.Orders.{server_at}
 use Rattle.cluster_model.specs.Parts.{each, events_of, for_some}
 use Rattle.cluster_model.specs.State.{Cluster}
 use Rattle.lease_law.specs.Claims.{BeginsBehind, IsArmedIn}
-use Rattle.lease_law.specs.Premises.{KeepsMomentOf, IsFedBy}
+use Rattle.lease_law.specs.Feeds.{KeepsMomentOf, IsFedBy}
 use Rattle.event_book.specs.Kinds.{AllAre}
 use Rattle.lease_law.proofs.Runs.{assoc, none-more}
 use Rattle.lease_book.specs.Groups.{IsNumberedAbove, AreNumberedAbove}

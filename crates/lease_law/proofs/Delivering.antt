@@ -19,7 +19,8 @@ use Rattle.event_book.specs.declared.event.MessageEvent.TheVariants as messages
 use Rattle.event_book.specs.declared.member.Member.{Member}
 use Rattle.event_book.specs.Facts.{Facts}
 use Rattle.event_book.specs.Writers.{writes_over}
-use Rattle.lease_law.specs.Leases.{LeaderKey, FailsafeKey, Read, Question, Grant, Answer, FailsafeRequest, Acknowledgement, Flying, Requested, Answered, FailsafeRequested, Acknowledged, Taking}
+use Rattle.lease_law.specs.Leases.{LeaderKey, FailsafeKey, Read, Question, Grant, Answer, FailsafeRequest, Acknowledgement, Flying, Requested, Answered, FailsafeRequested, Acknowledged}
+use Rattle.event_book.specs.Premises.{Taking}
 use Rattle.lease_law.specs.States.{Machine, Declared, State}
 use Rattle.lease_law.specs.Outcomes.{Outcome, refused_outcome, outcome_of, with_outcome, with_question, delivered}
 use Rattle.lease_law.specs.Actions.{Action, Tick, Deliver, Lose, Input, Start, Kill, Crash, Note, act}

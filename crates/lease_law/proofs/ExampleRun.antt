@@ -23,7 +23,8 @@ use Rattle.lease_law.specs.Inputs.{AgentInput, FedKnown, Removed, SetByGrant, Ma
 use Rattle.lease_law.specs.Actions.{Deliver, Input, act}
 use Rattle.lease_law.specs.Past.{Past, past_of, VolatileState, state_of}
 use Rattle.lease_law.specs.Books.{Transition, first_volatile_states, book_of}
-use Rattle.lease_law.specs.Premises.{IsTimely, ShowsFeed}
+use Rattle.event_book.specs.Premises.{IsTimely}
+use Rattle.lease_law.specs.Feeds.{ShowsFeed}
 use Rattle.lease_law.specs.Claims.{IsArmedIn, AreLawful}
 use Rattle.lease_law.specs.Showing.{input_of}
 use Rattle.lease_law.proofs.Tools.{some-is, none-some, both, put-all}

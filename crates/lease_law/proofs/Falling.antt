@@ -2,7 +2,7 @@
 use Rattle.std.proofs.Common.{ℕ, List, [], ◌∷◌, ◌++◌, Option, Bool}
 use Rattle.lease_store.specs.Settings.{Settings}
 use Rattle.event_book.specs.declared.event.Event.{Event}
-use Rattle.lease_law.specs.Premises.{Moments, moments_after, first_moments, AreInTime, IsTimely, AreHandsOff, IsHandsOff}
+use Rattle.event_book.specs.Premises.{Moments, moments_after, first_moments, AreInTime, IsTimely, AreHandsOff, IsHandsOff}
 
 in-time-front : (margin : ℕ → Option ℕ) (moments : Moments) (front rest : List Event) → AreInTime margin moments (front ++ rest) → AreInTime margin moments front
 in-time-front margin moments [] rest is = tt

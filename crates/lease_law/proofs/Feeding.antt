@@ -14,11 +14,12 @@ use Rattle.event_book.specs.declared.message.Body.{Body}
 use Rattle.event_book.specs.declared.message.Body.TheVariants as bodies
 use Rattle.event_book.specs.Clock.{now_after}
 use Rattle.event_book.specs.Functions.{put_at}
-use Rattle.lease_law.specs.Leases.{Question, Grant, Answer, Flying, Requested, Answered, Taking, IsTaken}
+use Rattle.lease_law.specs.Leases.{Question, Grant, Answer, Flying, Requested, Answered}
+use Rattle.event_book.specs.Premises.{Taking, IsTaken, IsOnTime, moments_sent_after, taken_after, runs_after, Moments, IsFeedInTime, IsKindInTime, AreInTime, IsTimely}
 use Rattle.lease_law.specs.States.{Declared}
-use Rattle.lease_law.specs.Inputs.{AgentInput, IsOnTime, IsInTime}
-use Rattle.lease_law.specs.Past.{Past, grant_of, answer_of, question_in_flight_of, answer_in_flight_of, peer_in_flight_of, flying_of, past_flight_by, moments_sent_after, taken_after, runs_after, past_after, past_over, first_past, past_of, VolatileState, state_of}
-use Rattle.lease_law.specs.Premises.{Moments, IsFeedInTime, IsKindInTime, AreInTime, IsTimely, KeepsClockAndRuns, KeepsMomentOf, IsFedBy, IsFedOn, ShowsFeed}
+use Rattle.lease_law.specs.Inputs.{AgentInput, IsInTime}
+use Rattle.lease_law.specs.Past.{Past, grant_of, answer_of, question_in_flight_of, answer_in_flight_of, peer_in_flight_of, flying_of, past_flight_by, past_after, past_over, first_past, past_of, VolatileState, state_of}
+use Rattle.lease_law.specs.Feeds.{KeepsClockAndRuns, KeepsMomentOf, IsFedBy, IsFedOn, ShowsFeed}
 use Rattle.event_book.specs.Kinds.{AllAre}
 use Rattle.lease_law.proofs.Tools.{some-is, none-some, put-all, dropped, put-here, put-there}
 

@@ -2,7 +2,8 @@
 use Rattle.std.proofs.Common.{◌≡◌, ◌⊎◌, ℕ, ◌+◌, ◌≤◌, Bool, true, false, List, Option, Some, None, refl, ◌∙◌, ap, sym, subst, arith, inl, inr}
 use Rattle.lease_store.specs.declared.txn.Expected.TheVariants.{Absent, Revision}
 use Rattle.event_book.specs.Functions.{put_at}
-use Rattle.lease_law.specs.Leases.{LeaderSeen, FailsafeKey, Query, Create, Renew, Release, Write, Read, Question, Grant, Answer, FailsafeRequest, Acknowledgement, Requested, Answered, FailsafeRequested, Acknowledged, Taking, IsTaken}
+use Rattle.lease_law.specs.Leases.{LeaderSeen, FailsafeKey, Query, Create, Renew, Release, Write, Read, Question, Grant, Answer, FailsafeRequest, Acknowledgement, Requested, Answered, FailsafeRequested, Acknowledged}
+use Rattle.event_book.specs.Premises.{Taking, IsTaken}
 use Rattle.lease_law.specs.States.{FailsafeCheck, Agent, Machine, State, is_ready, Acts}
 use Rattle.lease_law.specs.Inputs.{AgentInput, Waits, HeardLeader, HeardFailsafe, WatchdogMay, Owns, MayQuery, ContinuesCheck, BeginsCheck, IsLawful, IsInTime}
 use Rattle.lease_law.specs.Actions.{taken_by, with_input}

@@ -10,7 +10,8 @@ use Rattle.event_book.specs.declared.event.WatchdogEvent.TheVariants as watchdog
 use Rattle.event_book.specs.declared.event.AgentEvent.TheVariants as agents
 use Rattle.event_book.specs.Functions.{put_at}
 use Rattle.event_book.specs.Writers.{writes_over}
-use Rattle.lease_law.specs.Leases.{LeaderKey, FailsafeKey, FailsafeRequest, Flying, Taking}
+use Rattle.lease_law.specs.Leases.{LeaderKey, FailsafeKey, FailsafeRequest, Flying}
+use Rattle.event_book.specs.Premises.{Taking}
 use Rattle.lease_law.specs.States.{Agent, Machine, Declared, State}
 use Rattle.lease_law.specs.Actions.{Input, taken_by, state_after}
 use Rattle.lease_law.specs.Past.{Past, is_acknowledged, past_after, past_over, first_past, past_of, VolatileState, machine_of, state_of}

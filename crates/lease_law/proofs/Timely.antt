@@ -8,7 +8,7 @@ use Rattle.lease_law.specs.Actions.{Action, Tick, Deliver, Lose, Input, Start, K
 use Rattle.lease_law.specs.Past.{VolatileState, past_of, state_of}
 use Rattle.lease_law.specs.Books.{Transition, first_volatile_states, book_of}
 use Rattle.lease_law.specs.Carried.{IsCarried}
-use Rattle.lease_law.specs.Premises.{IsTimely}
+use Rattle.event_book.specs.Premises.{IsTimely}
 use Rattle.lease_law.specs.Claims.{MayBeginArmed, MayBeginBehind, BeginsBehind, ShowsIt, IsLawfulTransition, AreLawful}
 use Rattle.lease_law.proofs.Tools.{not-false}
 use Rattle.lease_law.proofs.Starting.{good-start}

@@ -2,7 +2,8 @@
 use Rattle.std.proofs.Common.{◌≡◌, ◌⊎◌, ℕ, ◌+◌, ◌≤◌, ◌<◌, nat_le, Bool, true, false, Option, Some, None, refl, ◌∙◌, ap, sym, subst, arith, inl, inr}
 use Rattle.lease_store.specs.declared.txn.Expected.TheVariants.{Absent, Revision}
 use Rattle.event_book.specs.Functions.{put_at}
-use Rattle.lease_law.specs.Leases.{LeaderKey, FailsafeKey, Query, Create, Renew, Release, Write, Read, Question, Grant, Flying, Requested, Answered, FailsafeRequested, Acknowledged, Taking}
+use Rattle.lease_law.specs.Leases.{LeaderKey, FailsafeKey, Query, Create, Renew, Release, Write, Read, Question, Grant, Flying, Requested, Answered, FailsafeRequested, Acknowledged}
+use Rattle.event_book.specs.Premises.{Taking}
 use Rattle.lease_law.specs.States.{FailsafeCheck, Agent, Machine, State, is_ready, Acts, is_due, tick_machine, kept_if, leader_kept, state_after_tick, deadline_if, fresh_agent, start_machine, kill_machine, crash_machine}
 use Rattle.lease_law.proofs.Tools.{some-is, none-some, both, not-false, le-from, gt-from, put-all, dropped}
 use Rattle.lease_law.specs.Carried.{Spans, AwaitsIt, IsTakingKept, IsGuarded, IsQueryKept, IsNumbered, IsAgentKept, IsPresent, IsFresh, IsSound}

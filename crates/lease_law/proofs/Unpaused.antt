@@ -32,7 +32,7 @@ use Rattle.event_book.specs.declared.message.Body.TheVariants as bodies
 use Rattle.event_book.specs.Flight.{InFlightFacts, Flight, snapshot_for, launched, flight_by}
 use Rattle.event_book.specs.Facts.{Facts, facts_after, start_of}
 use Rattle.lease_law.proofs.Configurations.{SetsConfig, config-after}
-use Rattle.lease_law.specs.Premises.{IsUnpaused, IsHandsOffKind}
+use Rattle.event_book.specs.Premises.{IsUnpaused, IsHandsOffKind}
 use Rattle.lease_law.specs.Pauses.{IsUnpausedHeld, IsUnpausedIn, AreUnpaused, NobodyPauses}
 
 pub pauses-first : (first : Settings) (names : List Name) (base : ℕ) → first.config.pause ≡ false → NobodyPauses (start_of first names base)

@@ -7,7 +7,7 @@ use Rattle.lease_law.specs.Inputs.{AgentInput, Fed}
 use Rattle.lease_law.specs.Actions.{Action, Tick, Input, act, IsLawfulAction}
 use Rattle.lease_law.specs.Past.{VolatileState, past_of, state_of}
 use Rattle.lease_law.specs.Books.{Transition, IsShown}
-use Rattle.lease_law.specs.Premises.{KeepsMomentOf, IsFedBy, ShowsFeed}
+use Rattle.lease_law.specs.Feeds.{KeepsMomentOf, IsFedBy, ShowsFeed}
 use Rattle.event_book.specs.Kinds.{AllAre}
 
 -- among these events the watchdog of m is armed or fed by the grant that the answer of this number tells

@@ -2,7 +2,8 @@
 use Rattle.std.specs.Prelude.{ℕ, ◌≡◌, ◌⊎◌, ◌+◌, ◌-◌, ◌/◌, ◌≤◌, ◌<◌, Bool, true, false, Option, Some, None}
 use Rattle.lease_store.specs.declared.txn.Expected.{Expected}
 use Rattle.lease_store.specs.declared.txn.Expected.TheVariants.{Absent, Revision}
-use Rattle.lease_law.specs.Leases.{LeaderSeen, FailsafeKey, Query, Create, Renew, Release, Write, Read, Question, Grant, Answer, FailsafeRequest, Acknowledgement, Flying, Requested, Answered, FailsafeRequested, Acknowledged, IsTaken}
+use Rattle.lease_law.specs.Leases.{LeaderSeen, FailsafeKey, Query, Create, Renew, Release, Write, Read, Question, Grant, Answer, FailsafeRequest, Acknowledgement, Flying, Requested, Answered, FailsafeRequested, Acknowledged}
+use Rattle.event_book.specs.Premises.{IsTaken, IsOnTime}
 use Rattle.lease_law.specs.States.{FailsafeCheck, Agent, Machine, State, is_ready, Acts}
 
 -- one input of an agent: the message that it hears, if one; whether it arms or feeds the watchdog; the failsafe request that it
@@ -64,12 +65,6 @@ pub record HeardYes (s : State) (m run sequence p : ℕ) : Type 0 where
 abbrev pub IsDeadline : Option ℕ → ℕ → ℕ → ℕ → ℕ → Type 0
 IsDeadline (Some margin) now ttl sent deadline = (margin < ttl) × (deadline ≡ now + (ttl - margin))
 IsDeadline None now ttl sent deadline = (2 ≤ ttl) × (now ≤ sent + ttl / 2) × (deadline ≡ now + ttl / 2)
-
--- a watchdog is armed or fed at most the margin after this moment; without a margin `IsDeadline` looks at the age of the request
--- instead
-abbrev pub IsOnTime : Option ℕ → ℕ → ℕ → Type 0
-IsOnTime (Some margin) now moment = now ≤ moment + margin
-IsOnTime None now moment = Unit {0}
 
 -- the deadline that a heard grant gives
 pub record Fed (s : State) (m : ℕ) (heard : Option ℕ) : Type 0 where

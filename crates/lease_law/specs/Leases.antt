@@ -1,5 +1,5 @@
 -- The keys of the lease, and the messages about it.
-use Rattle.std.specs.Prelude.{ℕ, ◌≡◌, ◌⊎◌, Bool, List, [], ◌∷◌, Option}
+use Rattle.std.specs.Prelude.{ℕ, Bool, Option}
 use Rattle.lease_store.specs.declared.txn.Expected.{Expected}
 
 -- the leader key that is there
@@ -73,16 +73,3 @@ pub data Flying : Type 0 where
   Answered : (answer : Answer) → Flying
   FailsafeRequested : (failsafe_request : FailsafeRequest) → Flying
   Acknowledged : (acknowledgement : Acknowledgement) → Flying
-
--- a member took a hold at this moment, for a failsafe request of another
-pub record Taking : Type 0 where
-  pub by : ℕ
-  pub from : ℕ
-  pub run : ℕ
-  pub sequence : ℕ
-  pub moment : ℕ
-
--- this hold is among those that were taken
-abbrev pub IsTaken : List Taking → Taking → Type 0
-IsTaken [] taking = ⊥
-IsTaken (one ∷ others) taking = (one ≡ taking) ⊎ IsTaken others taking

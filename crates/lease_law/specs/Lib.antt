@@ -5,7 +5,7 @@ pub mod Inputs
 pub mod Actions
 pub mod Carried
 pub mod Past
-pub mod Premises
+pub mod Feeds
 pub mod Books
 pub mod Showing
 pub mod Stores

@@ -1,6 +1,5 @@
 -- What the events of a book determine of the lease, each part by a small definition of its own.
-use Rattle.std.specs.Prelude.{ℕ, ◌+◌, ◌==◌, max, Bool, true, false, List, [], ◌∷◌, Option, Some, None}
-use Rattle.std.specs.Int.{bit_at}
+use Rattle.std.specs.Prelude.{ℕ, ◌+◌, max, Bool, true, false, List, [], ◌∷◌, Option, Some, None}
 use Rattle.pat_base.specs.declared.member_set.MemberSet.{MemberSet}
 use Rattle.lease_store.specs.declared.txn.Txn.{Txn}
 use Rattle.lease_store.specs.declared.txn.Txn.TheVariants as txns
@@ -12,7 +11,6 @@ use Rattle.event_book.specs.declared.event.MessageEvent.TheVariants.{Sent, Deliv
 use Rattle.event_book.specs.declared.event.StoreEvent.TheVariants as stores
 use Rattle.event_book.specs.declared.event.WatchdogEvent.{WatchdogEvent}
 use Rattle.event_book.specs.declared.event.WatchdogEvent.TheVariants as watchdogs
-use Rattle.event_book.specs.declared.event.AgentEvent.TheVariants as agents
 use Rattle.event_book.specs.declared.reason.Basis.{Basis}
 use Rattle.event_book.specs.declared.reason.Basis.TheVariants as bases
 use Rattle.event_book.specs.declared.link.LinkEnd.{LinkEnd}
@@ -20,15 +18,12 @@ use Rattle.event_book.specs.declared.link.LinkEnd.TheVariants as ends
 use Rattle.event_book.specs.declared.message.Body.{Body}
 use Rattle.event_book.specs.declared.message.Body.TheVariants as bodies
 use Rattle.event_book.specs.Clock.{now_after}
-use Rattle.event_book.specs.Functions.{put_at}
+use Rattle.event_book.specs.Functions.{put_at, set_members}
+use Rattle.event_book.specs.Premises.{Taking, moments_sent_after, taken_after, runs_after}
 use Rattle.event_book.specs.Writers.{writes_after}
-use Rattle.lease_law.specs.Leases.{LeaderKey, FailsafeKey, Query, Create, Renew, Release, Write, Read, Question, Grant, Answer, Flying, Requested, Answered, FailsafeRequested, Acknowledged, Taking}
+use Rattle.lease_law.specs.Leases.{LeaderKey, FailsafeKey, Query, Create, Renew, Release, Write, Read, Question, Grant, Answer, Flying, Requested, Answered, FailsafeRequested, Acknowledged}
 use Rattle.lease_law.specs.Outcomes.{seen_of, shown_if, failsafe_carried, renewed}
 use Rattle.lease_law.specs.States.{Agent, Machine, Declared, State, leader_kept, fresh_agent}
-
--- who is in the set, by the numbers of members
-abbrev pub set_members : MemberSet → ℕ → Bool
-set_members set p = bit_at set.bits p == 1
 
 -- the same of a set that may be absent
 abbrev pub members_if : Option MemberSet → Option (ℕ → Bool)
@@ -160,11 +155,6 @@ abbrev pub asked_after : Past → EventKind → ℕ → Option Question
 asked_after past (kinds.Message happening) = asked_by past happening
 asked_after past _ = past.asked
 
--- the moment at which each message was sent, after an event
-abbrev pub moments_sent_after : ℕ → (ℕ → Option ℕ) → EventKind → ℕ → Option ℕ
-moments_sent_after clock sent (kinds.Message (Sent number message)) = put_at sent number (Some clock)
-moments_sent_after clock sent _ = sent
-
 -- the deadline of each watchdog, after one is armed, fed or disarmed, or resets its machine
 abbrev pub deadline_by : (ℕ → Option ℕ) → WatchdogEvent → ℕ → Option ℕ
 deadline_by deadline (watchdogs.Armed member until answer) = put_at deadline member.id.number (Some until.0)
@@ -203,16 +193,6 @@ by_failsafe_after by_failsafe _ = by_failsafe
 abbrev pub hold_after : (ℕ → ℕ) → EventKind → ℕ → ℕ
 hold_after hold (kinds.Watchdog happening) = hold_by hold happening
 hold_after hold _ = hold
-
--- each hold that was taken, after an event
-abbrev pub taken_after : ℕ → List Taking → EventKind → List Taking
-taken_after clock taken (kinds.Watchdog (watchdogs.HoldTaken member until from run sequence)) = record { by = member.id.number; from = from.id.number; run = run; sequence = sequence; moment = clock } ∷ taken
-taken_after clock taken _ = taken
-
--- the run of each agent, after an event
-abbrev pub runs_after : (ℕ → ℕ) → EventKind → ℕ → ℕ
-runs_after runs (kinds.Agent (agents.Started agent run)) = put_at runs agent.id.number run
-runs_after runs _ = runs
 
 -- what one more event leaves
 abbrev pub past_after : Past → EventKind → Past

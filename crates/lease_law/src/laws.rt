@@ -24,7 +24,7 @@ ghost use Rattle.lease_law.specs.Leases.{FailsafeRequest, Requested, Read};
 ghost use Rattle.lease_law.specs.Outcomes.{outcome_of};
 ghost use Rattle.lease_law.specs.Past.{Past, VolatileState, first_past, past_after, past_of, past_over, machine_of, query_of, state_of};
 ghost use Rattle.lease_law.specs.Pauses.{NobodyPauses};
-ghost use Rattle.lease_law.specs.Premises.{IsTimely, IsHandsOff, IsHandsOffKind};
+ghost use Rattle.event_book.specs.Premises.{IsTimely, IsHandsOff, IsHandsOffKind};
 ghost use Rattle.event_book.specs.Kinds.{AllAre};
 ghost use Rattle.lease_law.specs.States.{Declared, is_due, tick_machine};
 ghost use Rattle.lease_law.specs.Stores.{IsSameStore, IsSpanned, is_granted, outcome_by};

@@ -20,7 +20,7 @@ use Rattle.script_model.specs.Script.{HeadText}
 use Rattle.cluster_model.specs.State.{Cluster}
 use Rattle.lease_law.specs.Claims.{BeginsBehind}
 use Rattle.lease_law.specs.Past.{Past, past_after, past_over, past_of, first_past}
-use Rattle.lease_law.specs.Premises.{IsHandsOffKind}
+use Rattle.event_book.specs.Premises.{IsHandsOffKind}
 use Rattle.event_book.specs.Kinds.{AllAre}
 use Rattle.lease_law.specs.Stores.{IsSpanned}
 use Rattle.lease_law.proofs.SameStore.{same-by}

@@ -3,7 +3,7 @@ use Rattle.std.proofs.Common.{◌≡◌, ◌+◌, ◌<◌, Bool, true, false, co
 use Rattle.pat_base.specs.declared.member_id.MemberId.{MemberId}
 use Rattle.wal_model.specs.declared.entry.Entry.{Entry}
 use Rattle.pg_model.specs.Facts.{ServerFacts, is_replica}
-use Rattle.pg_model.specs.Servers.{entry_for}
+use Rattle.pg_cluster.specs.Servers.{entry_for}
 use Rattle.event_book.specs.declared.agent_process.AgentProcess.{AgentProcess}
 use Rattle.event_book.specs.declared.event.AgentEvent.TheVariants as agents
 use Rattle.event_book.specs.declared.event.Event.{Event}

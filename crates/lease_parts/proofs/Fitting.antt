@@ -21,7 +21,7 @@ use Rattle.cluster_model.specs.Starting.{options_of}
 use Rattle.cluster_model.specs.State.{Cluster}
 use Rattle.lease_law.specs.Past.{Past, past_after, past_over}
 use Rattle.lease_law.specs.Pauses.{NobodyPauses}
-use Rattle.lease_law.specs.Premises.{IsHandsOffKind}
+use Rattle.event_book.specs.Premises.{IsHandsOffKind}
 use Rattle.event_book.specs.Kinds.{AllAre}
 use Rattle.lease_law.specs.Stores.{IsLeased}
 use Rattle.lease_law.proofs.Tools.{dropped, put-all, some-is}

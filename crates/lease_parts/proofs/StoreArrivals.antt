@@ -27,7 +27,7 @@ use Rattle.lease_law.specs.Books.{IsShown}
 use Rattle.lease_law.specs.Claims.{BeginsBehind, MayBeginBehind}
 use Rattle.lease_law.specs.Leases.{Question}
 use Rattle.lease_law.specs.Past.{Past, VolatileState, first_past, past_of, past_over, state_of}
-use Rattle.lease_law.specs.Premises.{AreHandsOff}
+use Rattle.event_book.specs.Premises.{AreHandsOff}
 use Rattle.event_book.specs.Kinds.{AllAre}
 use Rattle.lease_law.specs.Showing.{granted_events, read_events, refused_events}
 use Rattle.lease_law.specs.Stores.{IsSpannedTxn}

@@ -4,7 +4,7 @@ use Rattle.pat_base.specs.declared.lsn.Lsn.{Lsn}
 use Rattle.pg_model.specs.declared.answers.Streamed.{Streamed}
 use Rattle.pg_model.specs.declared.answers.Streamed.TheVariants as streams
 use Rattle.pg_model.specs.Facts.{ServerFacts}
-use Rattle.pg_model.specs.Servers.{news_at}
+use Rattle.pg_cluster.specs.Servers.{news_at}
 use Rattle.event_book.specs.declared.event.Event.{Event}
 use Rattle.event_book.specs.declared.event.EventKind.{EventKind}
 use Rattle.event_book.specs.declared.event.EventKind.TheVariants as kinds

@@ -6,8 +6,7 @@ use Rattle.pat_base.specs.declared.server_state.State.TheVariants as states
 use Rattle.pat_base.specs.declared.ticks.Ticks.{Ticks}
 use Rattle.pat_base.specs.ServerState.{live}
 use Rattle.pg_model.specs.Facts.{ServerFacts, entries_of}
-use Rattle.pg_model.specs.Running.{completed, started, stopped}
-use Rattle.pg_model.specs.Servers.{ticked_unless_live}
+use Rattle.pg_model.specs.Running.{completed, started, stopped, ticked_unless_live}
 use Rattle.event_book.specs.declared.event.EventKind.{EventKind}
 use Rattle.event_book.specs.declared.event.EventKind.TheVariants as kinds
 use Rattle.event_book.specs.declared.event.ServerEvent.TheVariants as servers

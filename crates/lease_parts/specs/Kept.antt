@@ -5,7 +5,7 @@ use Rattle.event_book.specs.declared.event.Event.{Event}
 use Rattle.event_book.specs.Writers.{HasOneWriter}
 use Rattle.cluster_model.specs.Cluster.{cluster_over}
 use Rattle.cluster_model.specs.State.{Cluster}
-use Rattle.lease_law.specs.Premises.{ArePremisesMet}
+use Rattle.event_book.specs.Premises.{ArePremisesMet}
 use Rattle.lease_law.specs.Actions.{Action, IsLawfulAction}
 use Rattle.lease_law.specs.Books.{IsShown}
 use Rattle.lease_law.specs.Claims.{ShowsIt}

@@ -7,7 +7,7 @@ use Rattle.event_book.specs.Writers.{HasOneWriter}
 use Rattle.script_model.specs.Script.{HeadText, IsHead}
 use Rattle.cluster_model.specs.Next.{run_events}
 use Rattle.cluster_model.specs.Starting.{cluster_of}
-use Rattle.lease_law.specs.Premises.{IsTimely, IsHandsOff}
+use Rattle.event_book.specs.Premises.{IsTimely, IsHandsOff}
 use Rattle.lease_parts.specs.Declaring.{declared_of, works_of}
 use Rattle.lease_parts.proofs.First.{bridged-first}
 use Rattle.lease_parts.proofs.Members.{few-names}

@@ -33,10 +33,10 @@ use Rattle.cluster_model.specs.Machines.{machine_of, points_of}
 use Rattle.cluster_model.specs.Messages.{hear_events, heard_message, input_events, no_message, operate_events, output_events, wake_events_of}
 use Rattle.cluster_model.specs.Parts.{each}
 use Rattle.cluster_model.specs.State.{Cluster}
-use Rattle.lease_law.specs.Premises.{Moments, moments_after}
+use Rattle.event_book.specs.Premises.{Moments, moments_after}
 use Rattle.lease_law.proofs.Tools.{put-there}
 use Rattle.lease_book.specs.Groups.{AreNumberedAbove, IsNumberedAbove}
-use Rattle.summary.specs.Telling.{AreMeasured}
+use Rattle.summary_model.specs.Telling.{AreMeasured}
 use Rattle.lease_inputs.specs.InputEvents.{IsOfInput}
 use Rattle.lease_parts.specs.Machines.{run_in, run_now}
 use Rattle.lease_inputs.proofs.InputEvents.{output-mine}

@@ -32,10 +32,10 @@ use Rattle.cluster_model.specs.Requests.{action_of, answer_at, asked_in_words, s
 use Rattle.cluster_model.specs.Starting.{cluster_of}
 use Rattle.cluster_model.specs.State.{Cluster}
 use Rattle.cluster_model.specs.Ticking.{tick_events}
-use Rattle.lease_law.specs.Premises.{Moments, first_moments}
+use Rattle.event_book.specs.Premises.{Moments, first_moments}
 use Rattle.lease_law.proofs.Tools.{none-some}
-use Rattle.summary.specs.Sights.{first_since}
-use Rattle.summary.specs.Telling.{AreMeasured}
+use Rattle.summary_model.specs.Sights.{first_since}
+use Rattle.summary_model.specs.Telling.{AreMeasured}
 use Rattle.lease_runs.specs.Fencing.{AreFenced}
 use Rattle.lease_runs.proofs.Fencing.{decided-fenced}
 use Rattle.lease_runs.proofs.MeasuredInputs.{told-hearing, told-operated, told-wake}

@@ -15,11 +15,11 @@ use Rattle.cluster_model.specs.Messages.{lost_at_once, send_events}
 use Rattle.cluster_model.specs.Parts.{each, events_of, events_then, for_some}
 use Rattle.cluster_model.specs.State.{Cluster}
 use Rattle.cluster_model.proofs.Lists.{all-more}
-use Rattle.lease_law.specs.Premises.{Moments, moments_after}
+use Rattle.event_book.specs.Premises.{Moments, moments_after}
 use Rattle.event_book.specs.Kinds.{AllAre}
 use Rattle.lease_book.specs.Groups.{AreNumberedAbove, IsNumberedAbove}
-use Rattle.summary.specs.Sights.{since_after}
-use Rattle.summary.specs.Telling.{AreMeasured, IsMeasured}
+use Rattle.summary_model.specs.Sights.{since_after}
+use Rattle.summary_model.specs.Telling.{AreMeasured, IsMeasured}
 use Rattle.lease_runs.proofs.Fencing.{AreDecided, IsUngranted, decided-both, ungranted-decided}
 use Rattle.lease_runs.proofs.Moments.{KnowsSending, moments_over, sending-over}
 

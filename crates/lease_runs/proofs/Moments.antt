@@ -9,7 +9,7 @@ use Rattle.event_book.specs.Flight.{InFlightFacts, in_flight, launched}
 use Rattle.event_book.specs.Functions.{put_at}
 use Rattle.cluster_model.specs.Cluster.{cluster_after, cluster_over}
 use Rattle.cluster_model.specs.State.{Cluster}
-use Rattle.lease_law.specs.Premises.{Moments, moments_after}
+use Rattle.event_book.specs.Premises.{Moments, moments_after}
 use Rattle.lease_law.proofs.Tools.{dropped, put-all, put-here, put-there, some-is}
 use Rattle.std.proofs.lemmas.Bool.{cases_eq}
 use Rattle.lease_book.specs.Flights.{Rises}

@@ -22,7 +22,7 @@ use Rattle.lease_parts.specs.Declaring.{declared_members}
 use Rattle.lease_parts.specs.Members.{IsDeclared}
 use Rattle.lease_parts.specs.Promise.{IsComposable, Promise, Upholds}
 use Rattle.lease_parts.proofs.Members.{members-over}
-use Rattle.summary.specs.Listed.{NamesServer}
+use Rattle.summary_model.specs.Listed.{NamesServer}
 
 -- this end of a link is the key store, or a declared member
 abbrev pub IsDeclaredEnd : HeadText → LinkEnd → Type 0

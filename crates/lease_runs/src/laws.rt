@@ -7,11 +7,11 @@ ghost use Rattle.event_book.specs.Kinds.{AllAre};
 ghost use Rattle.event_book.specs.Writers.{HasOneWriter};
 ghost use Rattle.cluster_model.specs.Next.{run_events};
 ghost use Rattle.cluster_model.specs.Starting.{cluster_of};
-ghost use Rattle.lease_law.specs.Premises.{IsTimely, IsHandsOff, first_moments};
+ghost use Rattle.event_book.specs.Premises.{IsTimely, IsHandsOff, first_moments};
 ghost use Rattle.lease_runs.specs.Fencing.{AreFenced};
-ghost use Rattle.summary.specs.Listed.{NamesServer};
-ghost use Rattle.summary.specs.Sights.{first_since};
-ghost use Rattle.summary.specs.Telling.{AreMeasured};
+ghost use Rattle.summary_model.specs.Listed.{NamesServer};
+ghost use Rattle.summary_model.specs.Sights.{first_since};
+ghost use Rattle.summary_model.specs.Telling.{AreMeasured};
 ghost use Rattle.lease_parts.specs.Declaring.{declared_of, works_of};
 
 /// At most one server accepts writes, in every run of every script, at each moment up to which feeds keep the margin, each watchdog is on

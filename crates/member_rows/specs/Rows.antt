@@ -9,12 +9,9 @@ use Rattle.pat_base.specs.declared.member_id.TheConstants.{MOST_MEMBERS}
 use Rattle.pat_base.specs.declared.name.Name.{Name}
 use Rattle.pat_base.specs.MemberId.{member_of}
 use Rattle.pat_base.specs.Name.{name_bytes}
-use Rattle.lease_store.specs.declared.key.Key.TheVariants as keys
-use Rattle.lease_store.specs.declared.value.KeyEntry.{KeyEntry}
 use Rattle.lease_store.specs.declared.value.MemberInfo.{MemberInfo}
-use Rattle.lease_store.specs.declared.value.Value.{Value}
-use Rattle.lease_store.specs.declared.value.Value.TheVariants as values
-use Rattle.cluster_config.specs.Snapshots.{SnapshotFacts, entry_in}
+use Rattle.cluster_config.specs.KeyValues.{info_in}
+use Rattle.cluster_config.specs.Snapshots.{SnapshotFacts}
 use Rattle.member_rows.specs.declared.rows.Row.{Row}
 
 -- what there was, with what was found added, if something was
@@ -25,20 +22,6 @@ with_found add before (Some found) = add before found
 -- the name and the host of the member, if the cluster has it
 abbrev pub declared_in : SnapshotFacts → MemberId → Option (Name × Host)
 declared_in snapshot member = slice_get snapshot.members member.number
-
--- what a member tells of itself, by a value of its key
-abbrev pub info_by : Value → Option MemberInfo
-info_by (values.Member info) = Some info
-info_by _ = None
-
--- what a member tells of itself, by the entry of its key
-abbrev pub info_of_entry : Option KeyEntry → Option MemberInfo
-info_of_entry None = None
-info_of_entry (Some found) = info_by found.value
-
--- what the member tells of itself, where its key is there
-abbrev pub info_in : SnapshotFacts → MemberId → Option MemberInfo
-info_in snapshot member = info_of_entry (entry_in (keys.Member member) snapshot)
 
 -- the row of a member that the cluster has and that tells of itself
 abbrev pub row_by : MemberId → Option (Name × Host) → Option MemberInfo → Option Row

@@ -9,7 +9,8 @@ ghost use Rattle.lease_store.specs.declared.value.MemberInfo.{MemberInfo};
 ghost use Rattle.cluster_config.specs.Snapshots.{IsRead, SnapshotFacts};
 ghost use Rattle.member_rows.specs.Endings.{endings};
 ghost use Rattle.member_rows.specs.Laws.{is_row_of};
-ghost use Rattle.member_rows.specs.Rows.{declared_in, is_before, row_in, rows_of, info_in};
+ghost use Rattle.cluster_config.specs.KeyValues.{info_in};
+ghost use Rattle.member_rows.specs.Rows.{declared_in, is_before, row_in, rows_of};
 
 /// Each member of the cluster with a member key has just one row, and nothing else has one: each row is that of its member.
 pub fn each_member_has_one_row()

@@ -1,10 +1,10 @@
 //! The members that tell of themselves, in the order of their names.
-ghost use Rattle.std.specs.Prelude.{◌≡◌, ◌≤◌, length, IfOk, OnOk, option_copied};
+ghost use Rattle.std.specs.Prelude.{◌≡◌, ◌≤◌, length, IfOk, OnOk};
 ghost use Rattle.std.specs.List.{position, position_or_len};
-ghost use Rattle.member_rows.specs.Rows.{with_found, declared_in, info_by, info_of_entry, info_in, row_by, row_in, row_numbered, is_before, placed, rows_of};
+ghost use Rattle.member_rows.specs.Rows.{with_found, declared_in, row_by, row_in, row_numbered, is_before, placed, rows_of};
 
 use cluster_config::Snapshot;
-use lease_store::{Key, KeyEntry, MemberInfo, Value};
+use lease_store::MemberInfo;
 use pat_base::{Host, MOST_MEMBERS, MemberId, Name};
 use std::alloc::{AllocError, Global};
 
@@ -82,11 +82,7 @@ fn row_numbered(snapshot: &Snapshot, number: u8) -> Option<Row>
 fn row_in(snapshot: &Snapshot, member: MemberId) -> Option<Row>
     ensures { result ≡ row_in snapshot.now member }
 {
-    row_by(
-        member,
-        declared_in(snapshot, member),
-        info_in(snapshot, member),
-    )
+    row_by(member, declared_in(snapshot, member), snapshot.info(member))
 }
 
 fn row_by(member: MemberId, declared: Option<(Name, Host)>, told: Option<MemberInfo>) -> Option<Row>
@@ -103,29 +99,4 @@ pub fn declared_in(snapshot: &Snapshot, member: MemberId) -> Option<(Name, Host)
     ensures { result ≡ declared_in snapshot.now member }
 {
     snapshot.members().get(member.number as usize).copied()
-}
-
-/// What a member tells of itself. `None` exactly where its key is absent.
-fn info_in(snapshot: &Snapshot, member: MemberId) -> Option<MemberInfo>
-    ensures { result ≡ info_in snapshot.now member }
-{
-    info_of_entry(snapshot.entry(Key::Member(member)))
-}
-
-fn info_of_entry(found: Option<&KeyEntry>) -> Option<MemberInfo>
-    ensures { result ≡ info_of_entry (option_copied found.entry) }
-{
-    match found {
-        None => None,
-        Some(found) => info_by(&found.value),
-    }
-}
-
-fn info_by(value: &Value) -> Option<MemberInfo>
-    ensures { result ≡ info_by value.now }
-{
-    match value {
-        Value::Member(info) => Some(*info),
-        _ => None,
-    }
 }

@@ -12,7 +12,6 @@ use Rattle.pat_base.specs.declared.name.Name.{Name}
 use Rattle.pat_base.specs.MemberId.{member_of}
 use Rattle.pat_base.specs.Name.{name_bytes}
 use Rattle.pat_base.proofs.Members.{number-member_of}
-use Rattle.lease_store.specs.declared.key.Key.TheVariants as keys
 use Rattle.lease_store.specs.declared.value.FailoverKey.{FailoverKey}
 use Rattle.lease_store.specs.declared.value.MemberInfo.{MemberInfo}
 use Rattle.lease_store.specs.declared.value.SyncKey.{SyncKey}
@@ -20,18 +19,19 @@ use Rattle.serde_json.specs.Data.{Data}
 use Rattle.cluster_config.specs.declared.snapshot.LeaderEntry.{LeaderEntry}
 use Rattle.cluster_config.specs.declared.view.AgentView.{AgentView}
 use Rattle.cluster_config.specs.ConfigReading.{json_of}
-use Rattle.cluster_config.specs.KeyValues.{config_in, failover_in, active_sync_in}
+use Rattle.cluster_config.specs.KeyValues.{config_in, failover_in, active_sync_in, info_in}
 use Rattle.cluster_config.specs.Naming.{is_standby}
-use Rattle.cluster_config.specs.Snapshots.{SnapshotFacts, entry_in, leader_in}
+use Rattle.cluster_config.specs.Snapshots.{SnapshotFacts, leader_in}
 use Rattle.leader_race.specs.Eligibility.{may_fail_over}
 use Rattle.leader_race.proofs.Barring.{no, no-bar}
 use Rattle.operator_keys.specs.declared.answer_text.Text.TheVariants as texts
 use Rattle.operator_keys.specs.declared.asked.Asked.{Asked}
 use Rattle.operator_keys.specs.declared.asked.Named.{Named}
 use Rattle.operator_keys.specs.declared.asked.Named.TheVariants as named
-use Rattle.operator_keys.specs.Asking.{has_name, member_named, member_or_unknown, named_by, is_same_text, asked_by, is_nobody, member_if}
+use Rattle.member_names.specs.Naming.{has_name, member_named}
+use Rattle.operator_keys.specs.Asking.{member_or_unknown, named_by, is_same_text, asked_by, is_nobody, member_if}
 use Rattle.operator_keys.specs.Bodies.{text_at}
-use Rattle.operator_keys.specs.Candidates.{leads, names_leader, info_of, info_of_entry, anyone_may_take_over}
+use Rattle.operator_keys.specs.Candidates.{leads, names_leader, info_of, anyone_may_take_over}
 use Rattle.operator_keys.specs.Checks.{switchover_key, failover_key, switchover_of, failover_of}
 use Rattle.operator_keys.specs.Laws.{MayFollow, IsCalled}
 use Rattle.operator_keys.specs.Statuses.{bad_request, precondition_failed}
@@ -70,7 +70,7 @@ at-place : (o : Option ℕ) (member : MemberId) → option_and_then member_of o 
 at-place None member e = absurd (nobody-is member e)
 at-place (Some place) member e = ap Some (sym (number-member_of place member e))
 
-named-at : (members : List (Name × Host)) (text : List ℕ) (member : MemberId) → member_named text members ≡ Some member → StandsAt member.number text members
+named-at : (members : List (Name × Host)) (text : List ℕ) (member : MemberId) → member_named members text ≡ Some member → StandsAt member.number text members
 named-at members text member e = stands-at members text member.number (at-place (position (has_name text) members) member e)
 
 -- a member that is named is so by a text, which is its name
@@ -81,7 +81,7 @@ record IsNamedBy (o : Option (List ℕ)) (member : MemberId) (members : List (Na
 
 named-by : (members : List (Name × Host)) (o : Option (List ℕ)) (member : MemberId) → named_by members o ≡ named.Member member → IsNamedBy o member members
 named-by members None member e = absurd (nobody-member member e)
-named-by members (Some text) member e = record { text = text; is = refl; stands = named-at members text member (some-member (member_named text members) member e) }
+named-by members (Some text) member e = record { text = text; is = refl; stands = named-at members text member (some-member (member_named members text) member e) }
 
 member_if-some : (who : Named) (member : MemberId) → member_if who ≡ Some member → who ≡ named.Member member
 member_if-some named.Nobody member e = absurd (nobody-is member e)
@@ -141,8 +141,8 @@ follows named.Nobody seen candidate fit is other = absurd (nobody-member candida
 follows named.Unknown seen candidate fit is other = absurd (unknown-member candidate is)
 follows (named.Member member) seen candidate fit is other =
     let same : member ≡ candidate = same-member member candidate is in
-    let told = told-of (info_of_entry (entry_in (keys.Member member) seen)) fit.known fit.may in
-    let there : info_of_entry (entry_in (keys.Member candidate) seen) ≡ Some told.0 = ap (λ (m : MemberId). info_of_entry (entry_in (keys.Member m) seen)) (sym same) ∙ told.1 in
+    let told = told-of (info_in seen member) fit.known fit.may in
+    let there : info_in seen candidate ≡ Some told.0 = ap (λ (m : MemberId). info_in seen m) (sym same) ∙ told.1 in
     record { other = other; info = told.0; told = there; may = told.2 }
 
 nobody-left : (who : Named) (seen : SnapshotFacts) → IsFit who seen → member_if who ≡ None → who ≡ named.Nobody

@@ -1,24 +1,15 @@
 -- What the body of a request asks, by the members of the cluster.
-use Rattle.std.specs.Prelude.{ℕ, Bool, true, false, is_some, bytes_eq, codes, List, position, Option, Some, None, option_and_then}
+use Rattle.std.specs.Prelude.{ℕ, Bool, true, false, is_some, bytes_eq, codes, List, Option, Some, None}
 use Rattle.pat_base.specs.declared.host.Host.{Host}
 use Rattle.pat_base.specs.declared.member_id.MemberId.{MemberId}
 use Rattle.pat_base.specs.declared.name.Name.{Name}
-use Rattle.pat_base.specs.MemberId.{member_of}
-use Rattle.pat_base.specs.Name.{name_bytes}
+use Rattle.member_names.specs.Naming.{member_named}
 use Rattle.serde_json.specs.Data.{Data}
 use Rattle.serde_json.specs.Find.{get}
 use Rattle.operator_keys.specs.declared.asked.Asked.{Asked}
 use Rattle.operator_keys.specs.declared.asked.Named.{Named}
 use Rattle.operator_keys.specs.declared.asked.Named.TheVariants as named
 use Rattle.operator_keys.specs.Bodies.{text_at}
-
--- a member has this name
-abbrev pub has_name : List ℕ → Name × Host → Bool
-has_name text member = bytes_eq (name_bytes member.0) text
-
--- the member of this name, if the cluster has one
-abbrev pub member_named : List ℕ → List (Name × Host) → Option MemberId
-member_named text members = option_and_then member_of (position (has_name text) members)
 
 -- a name is that of a member, or unknown
 abbrev pub member_or_unknown : Option MemberId → Named
@@ -28,7 +19,7 @@ member_or_unknown (Some member) = named.Member member
 -- whom a text names, if there is one
 abbrev pub named_by : List (Name × Host) → Option (List ℕ) → Named
 named_by members None = named.Nobody
-named_by members (Some text) = member_or_unknown (member_named text members)
+named_by members (Some text) = member_or_unknown (member_named members text)
 
 -- two texts are there and are the same
 abbrev pub is_same_text : Option (List ℕ) → Option (List ℕ) → Bool

@@ -4,12 +4,11 @@ use Rattle.std.specs.List.{list_any}
 use Rattle.pat_base.specs.declared.member_id.MemberId.{MemberId}
 use Rattle.lease_store.specs.declared.key.Key.{Key}
 use Rattle.lease_store.specs.declared.key.Key.TheVariants as keys
-use Rattle.lease_store.specs.declared.value.KeyEntry.{KeyEntry}
 use Rattle.lease_store.specs.declared.value.MemberInfo.{MemberInfo}
 use Rattle.lease_store.specs.declared.value.Value.{Value}
-use Rattle.lease_store.specs.declared.value.Value.TheVariants as values
 use Rattle.cluster_config.specs.declared.snapshot.LeaderEntry.{LeaderEntry}
-use Rattle.cluster_config.specs.Snapshots.{SnapshotFacts, entry_in, leader_in}
+use Rattle.cluster_config.specs.KeyValues.{info_by, info_in}
+use Rattle.cluster_config.specs.Snapshots.{SnapshotFacts, leader_in}
 use Rattle.leader_race.specs.Eligibility.{may_fail_over}
 use Rattle.operator_keys.specs.declared.asked.Named.{Named}
 use Rattle.operator_keys.specs.declared.asked.Named.TheVariants as named
@@ -25,21 +24,11 @@ names_leader named.Nobody leader = false
 names_leader named.Unknown leader = false
 names_leader (named.Member member) leader = leads member leader
 
--- what a member tells of itself, by a value of its key
-abbrev pub info_by : Value → Option MemberInfo
-info_by (values.Member info) = Some info
-info_by _ = None
-
--- what a member tells of itself, by the entry of its key
-abbrev pub info_of_entry : Option KeyEntry → Option MemberInfo
-info_of_entry None = None
-info_of_entry (Some found) = info_by found.value
-
 -- what the one who is named tells of itself, where it is a member with a member key
 abbrev pub info_of : Named → SnapshotFacts → Option MemberInfo
 info_of named.Nobody seen = None
 info_of named.Unknown seen = None
-info_of (named.Member member) seen = info_of_entry (entry_in (keys.Member member) seen)
+info_of (named.Member member) seen = info_in seen member
 
 -- a member may take over that tells this of itself: it doesn't lead, and may fail over
 abbrev pub may_take_over : MemberId → Option LeaderEntry → Option MemberInfo → Bool

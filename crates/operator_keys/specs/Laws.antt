@@ -4,17 +4,17 @@ use Rattle.pat_base.specs.declared.member_id.MemberId.{MemberId}
 use Rattle.pat_base.specs.declared.host.Host.{Host}
 use Rattle.pat_base.specs.declared.name.Name.{Name}
 use Rattle.pat_base.specs.Name.{name_bytes}
-use Rattle.lease_store.specs.declared.key.Key.TheVariants as keys
 use Rattle.lease_store.specs.declared.value.MemberInfo.{MemberInfo}
-use Rattle.cluster_config.specs.Snapshots.{SnapshotFacts, entry_in, leader_in}
+use Rattle.cluster_config.specs.KeyValues.{info_in}
+use Rattle.cluster_config.specs.Snapshots.{SnapshotFacts, leader_in}
 use Rattle.leader_race.specs.Eligibility.{may_fail_over}
-use Rattle.operator_keys.specs.Candidates.{leads, info_of_entry}
+use Rattle.operator_keys.specs.Candidates.{leads}
 
 -- a member may follow whoever leads: it is another one, it has a member key, and by that key it may fail over
 pub record MayFollow (member : MemberId) (seen : SnapshotFacts) : Type 0 where
   pub other : leads member (leader_in seen) ≡ false
   pub info : MemberInfo
-  pub told : info_of_entry (entry_in (keys.Member member) seen) ≡ Some info
+  pub told : info_in seen member ≡ Some info
   pub may : may_fail_over info.tags ≡ true
 
 -- the member has this name in the cluster

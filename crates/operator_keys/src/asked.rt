@@ -1,10 +1,10 @@
 //! What a body asks, by the members of the cluster.
-ghost use Rattle.std.specs.Prelude.{◌≡◌, option_copied, position};
-ghost use Rattle.pat_base.specs.MemberId.{member_of};
+ghost use Rattle.std.specs.Prelude.{◌≡◌, option_copied};
 ghost use Rattle.serde_json.specs.View.{view};
-ghost use Rattle.operator_keys.specs.Asking.{has_name, member_named, member_or_unknown, named_by, is_same_text, asked_by, is_nobody, member_if};
+ghost use Rattle.operator_keys.specs.Asking.{member_or_unknown, named_by, is_same_text, asked_by, is_nobody, member_if};
 
 use crate::body::{is_there, text_at};
+use member_names::member_named;
 use pat_base::{Host, MemberId, Name};
 use serde_json::Value;
 
@@ -56,31 +56,6 @@ fn member_or_unknown(member: Option<MemberId>) -> Named
     match member {
         None => Named::Unknown,
         Some(member) => Named::Member(member),
-    }
-}
-
-/// The member of this name.
-fn member_named(members: &[(Name, Host)], text: &str) -> Option<MemberId>
-    ensures { result ≡ member_named text.now members.now }
-{
-    let place = place_named(members, text)?;
-    member_at(place)
-}
-
-/// The place of the member of this name.
-fn place_named(members: &[(Name, Host)], text: &str) -> Option<usize>
-    ensures { result ≡ position (has_name text.now) members.now }
-{
-    members.iter().position(|(name, _)| name.as_str() == text)
-}
-
-/// The member at a place among all members.
-fn member_at(place: usize) -> Option<MemberId>
-    ensures { result ≡ member_of place }
-{
-    match u8::try_from(place) {
-        Ok(number) => MemberId::new(number),
-        Err(_) => None,
     }
 }
 

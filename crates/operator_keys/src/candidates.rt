@@ -1,12 +1,12 @@
 //! Who leads and who may take over, by a snapshot.
-ghost use Rattle.std.specs.Prelude.{◌≡◌, option_copied};
+ghost use Rattle.std.specs.Prelude.{◌≡◌};
 ghost use Rattle.leader_race.specs.Eligibility.{may_fail_over};
-ghost use Rattle.operator_keys.specs.Candidates.{leads, names_leader, info_by, info_of_entry, info_of, may_take_over, may_take_over_by, anyone_may_take_over};
+ghost use Rattle.operator_keys.specs.Candidates.{leads, names_leader, info_of, may_take_over, may_take_over_by, anyone_may_take_over};
 
 use crate::asked::Named;
-use cluster_config::{LeaderEntry, Snapshot};
+use cluster_config::{LeaderEntry, Snapshot, info_by};
 use leader_race::may_fail_over;
-use lease_store::{Key, KeyEntry, MemberInfo, Value};
+use lease_store::{Key, MemberInfo, Value};
 use pat_base::{MemberId, Tags};
 
 /// Whether the member leads.
@@ -34,26 +34,8 @@ pub(crate) fn info_of(who: Named, seen: &Snapshot) -> Option<MemberInfo>
     ensures { result ≡ info_of who seen.now }
 {
     match who {
-        Named::Member(member) => info_of_entry(seen.entry(Key::Member(member))),
+        Named::Member(member) => seen.info(member),
         Named::Nobody | Named::Unknown => None,
-    }
-}
-
-fn info_of_entry(found: Option<&KeyEntry>) -> Option<MemberInfo>
-    ensures { result ≡ info_of_entry (option_copied found.entry) }
-{
-    match found {
-        None => None,
-        Some(found) => info_by(&found.value),
-    }
-}
-
-fn info_by(value: &Value) -> Option<MemberInfo>
-    ensures { result ≡ info_by value.now }
-{
-    match value {
-        Value::Member(info) => Some(*info),
-        _ => None,
     }
 }
 

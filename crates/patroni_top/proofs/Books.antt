@@ -10,10 +10,10 @@ use Rattle.cluster_model.specs.Next.{next_events, run_events}
 use Rattle.cluster_model.specs.Starting.{cluster_of}
 use Rattle.cluster_model.specs.State.{Cluster}
 use Rattle.cluster_model.proofs.Lists.{all-back, all-front}
-use Rattle.summary.specs.Listed.{AreNamed, NamesServer}
-use Rattle.summary.specs.Sights.{SummaryFacts, book_of, noted_step, noted_steps}
-use Rattle.summary.specs.Telling.{EachTellsLosses, TellLosses}
-use Rattle.summary.proofs.Listing.{named-step}
+use Rattle.summary_model.specs.Listed.{AreNamed, NamesServer}
+use Rattle.summary_model.specs.Sights.{SummaryFacts, book_of, noted_step, noted_steps}
+use Rattle.summary_model.specs.Telling.{EachTellsLosses, TellLosses}
+use Rattle.summary_law.proofs.Listing.{named-step}
 use Rattle.commit_runs.specs.Runs.{first_logs}
 use Rattle.commit_runs.proofs.Losses.{told-back}
 use Rattle.commit_runs.proofs.LossRuns.{runs-tell}

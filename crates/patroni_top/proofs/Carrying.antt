@@ -9,10 +9,10 @@ use Rattle.pat_base.specs.Prints.{Prints}
 use Rattle.pat_base.proofs.Contents.{Grew-nothing}
 use Rattle.pat_base.proofs.Printing.{Prints-stop}
 use Rattle.pat_door.specs.declared.door.Door.{Ghosts as DoorGhosts}
-use Rattle.cluster_script.specs.Limits.{limit_of}
-use Rattle.cluster_script.specs.Reading.{script_of}
-use Rattle.script_generator.specs.Generating.{generated_script}
-use Rattle.script_generator.specs.declared.generating.TheConstants.{MOST_GENERATED}
+use Rattle.script_grammar.specs.Limits.{limit_of}
+use Rattle.script_grammar.specs.Reading.{script_of}
+use Rattle.generator_model.specs.Generating.{generated_script}
+use Rattle.generator_model.specs.declared.bounds.TheConstants.{MOST_GENERATED}
 use Rattle.script_model.specs.Script.{ScriptText, spelling_of}
 use Rattle.cluster_model.specs.Starting.{cluster_of}
 use Rattle.cluster_model.specs.State.{Cluster}

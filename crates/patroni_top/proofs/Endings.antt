@@ -8,9 +8,9 @@ use Rattle.pat_base.specs.Prints.{Prints}
 use Rattle.pat_base.proofs.Contents.{Grew-nothing}
 use Rattle.pat_base.proofs.Printing.{Prints-stop}
 use Rattle.pat_door.specs.declared.door.Door.{Ghosts as DoorGhosts}
-use Rattle.cluster_script.specs.declared.limits.Limit.{Limit}
-use Rattle.cluster_script.specs.Limits.{limit_of}
-use Rattle.cluster_script.specs.Reading.{script_of}
+use Rattle.script_grammar.specs.declared.limit.Limit.{Limit}
+use Rattle.script_grammar.specs.Limits.{limit_of}
+use Rattle.script_grammar.specs.Reading.{script_of}
 use Rattle.script_model.specs.Script.{HeadText, ScriptText}
 use Rattle.script_words.specs.declared.fault.Fault.{Fault}
 use Rattle.cluster_model.specs.Starting.{cluster_of}

@@ -3,12 +3,12 @@ use Rattle.std.proofs.Common.{◌≡◌, ℕ, ◌<◌, ◌+◌, ◌-◌, ◌^◌
 use Rattle.std.proofs.lemmas.List.{length-take, drop_all}
 use Rattle.std.proofs.lemmas.Bool.Decides.{nat_tests}
 use Rattle.std.proofs.lemmas.Bool.{cases_lt}
-use Rattle.cluster_script.specs.Limits.{limit_of, most_ticks, ticks_in}
-use Rattle.cluster_script.specs.Reading.{script_of}
+use Rattle.script_grammar.specs.Limits.{limit_of, most_ticks, ticks_in}
+use Rattle.script_grammar.specs.Reading.{script_of}
 use Rattle.script_words.specs.Lines.{lines_in}
 use Rattle.script_model.specs.Script.{ScriptText}
 use Rattle.patroni_top.specs.Limits.{KeepsLimits}
-use Rattle.cluster_script.specs.declared.limits.Limit.TheVariants.{Bytes}
+use Rattle.script_grammar.specs.declared.limit.Limit.TheVariants.{Bytes}
 use Rattle.patroni_top.specs.declared.ending.Ending.{Ending}
 use Rattle.patroni_top.specs.declared.ending.Ending.TheVariants as endings
 use Rattle.patroni_top.specs.Status.{Refuses}

@@ -6,34 +6,33 @@ use mathlib.Core.Path.{fun_ext}
 use Rattle.leader_key.specs.declared.watchdog.Mode.{Mode}
 use Rattle.leader_key.specs.declared.watchdog.Mode.TheVariants as modes
 use Rattle.leader_key.specs.Watchdog.{is_armable}
-use Rattle.cluster_script.specs.Reading.{script_of}
+use Rattle.script_grammar.specs.Reading.{script_of}
 use Rattle.script_model.specs.Script.{HeadText, IsHead, MemberText, ScriptText, names_of}
-use Rattle.cluster_script.proofs.ReadLaws.{read-is-spelled}
+use Rattle.script_grammar.proofs.ReadLaws.{read-is-spelled}
 use Rattle.event_book.specs.declared.event.Event.{Event}
 use Rattle.event_book.specs.Kinds.{AllAre}
 use Rattle.cluster_model.specs.Starting.{cluster_of}
-use Rattle.lease_law.specs.Premises.{ArePremisesMet, IsTimely, first_moments}
-use Rattle.summary.specs.Claims.{IsSummaryOf, margin_of, works_of as is_watched}
+use Rattle.event_book.specs.Premises.{ArePremisesMet, IsTimely, first_moments}
+use Rattle.summary_model.specs.Claims.{IsSummaryOf, margin_of, works_of as is_watched}
 use Rattle.lease_parts.specs.Declaring.{margin_said, works_said}
 use Rattle.lease_parts.specs.Kept.{MeetsPremises, WhereMet}
-use Rattle.summary.specs.Sights.{first_since}
-use Rattle.summary.specs.Listed.{AreNamed, NamesServer}
-use Rattle.summary.specs.Telling.{AreMeasured}
-use Rattle.summary.proofs.Guarding.{commits-guarded}
-use Rattle.summary.proofs.Listing.{named-first}
-use Rattle.summary.proofs.Steps.{steps-guarded, steps-told}
+use Rattle.summary_model.specs.Sights.{first_since, book_of}
+use Rattle.summary_model.specs.Listed.{AreNamed, NamesServer}
+use Rattle.summary_model.specs.Telling.{AreMeasured}
+use Rattle.summary_law.proofs.Guarding.{commits-guarded}
+use Rattle.summary_law.proofs.Listing.{named-first}
+use Rattle.summary_law.proofs.Steps.{steps-guarded, steps-told}
 use Rattle.rest_law.proofs.Found.{one-found}
 use Rattle.lease_runs.proofs.EveryRun.{runs-one}
 use Rattle.lease_runs.proofs.MeasuredRuns.{runs-measured}
 use Rattle.lease_runs.proofs.NamedRuns.{runs-name}
 use Rattle.commit_runs.specs.Runs.{KeepsCommitsIn, first_logs}
 use Rattle.commit_runs.proofs.EveryRun.{runs-in-order, runs-keep}
-use Rattle.cluster_script.specs.declared.limits.Limit.{Limit}
-use Rattle.cluster_script.specs.Limits.{limit_of}
+use Rattle.script_grammar.specs.declared.limit.Limit.{Limit}
+use Rattle.script_grammar.specs.Limits.{limit_of}
 use Rattle.cluster_model.specs.State.{Cluster}
 use Rattle.event_book.specs.Writers.{HasOneWriter}
 use Rattle.script_words.specs.declared.fault.Fault.{Fault}
-use Rattle.summary.specs.Sights.{book_of}
 use Rattle.run_player.specs.Run.{Played, closing_of_run, played_of, run_of}
 use Rattle.pat_world.specs.Book.{events_by_step}
 use Rattle.run_player.specs.Watches.{declared_watch, first_summary, is_off, watches_of}
@@ -41,9 +40,9 @@ use Rattle.pat_base.specs.declared.member_id.MemberId.{MemberId}
 use Rattle.serve_model.specs.Connections.{Connection, most_waiting}
 use Rattle.run_player.specs.Served.{served_of}
 use Rattle.patroni_top.specs.Claims.{KeepsPromises}
-use Rattle.script_generator.proofs.BodyLaws.{generated-IsScript}
-use Rattle.script_generator.specs.Generating.{generated_script}
-use Rattle.script_generator.specs.declared.generating.TheConstants.{MOST_GENERATED}
+use Rattle.generator_model.proofs.BodyLaws.{generated-IsScript}
+use Rattle.generator_model.specs.Generating.{generated_script}
+use Rattle.generator_model.specs.declared.bounds.TheConstants.{MOST_GENERATED}
 use Rattle.patroni_top.specs.Commands.{Command, Drill, Drills, Formats, Generate, IfPlayed, Makes, PastCount, Plays, Print, Run, Serve, Verdict, member_named, service_of, verdict_by, verdict_in, verdict_of}
 use Rattle.patroni_top.proofs.Books.{book-by-step, named-steps, steps-tell}
 

@@ -6,9 +6,9 @@ use Rattle.cluster_model.specs.declared.step.Step.TheVariants as steps
 use Rattle.cluster_model.specs.Steps.{steps_of, steps_of_line}
 use Rattle.script_model.specs.declared.line.Line.{Line}
 use Rattle.script_model.specs.declared.line.Line.TheVariants as lines
-use Rattle.script_generator.proofs.BodyLaws.{generated-lines, generated-ticks}
-use Rattle.script_generator.specs.Generating.{generated_body, generated_script}
-use Rattle.script_generator.specs.Opening.{generated_head}
+use Rattle.generator_model.proofs.BodyLaws.{generated-lines, generated-ticks}
+use Rattle.generator_model.specs.Generating.{generated_body, generated_script}
+use Rattle.generator_model.specs.Opening.{generated_head}
 use Rattle.script_model.specs.Script.{ScriptText, line_text, names_of}
 use Rattle.script_model.specs.Ticks.{ticks_of_line, total_ticks}
 use Rattle.serve_model.specs.Connections.{connection_cost, most_waiting}

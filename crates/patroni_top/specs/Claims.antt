@@ -2,8 +2,8 @@
 use Rattle.std.specs.Prelude.{◌≡◌, true, slice_get}
 use Rattle.script_model.specs.Script.{names_of}
 use Rattle.event_book.specs.Writers.{HasOneWriter}
-use Rattle.summary.specs.Claims.{AreCommitsGuarded, IsGuarded, IsSummaryOf}
-use Rattle.summary.specs.Listed.{AreNamed}
+use Rattle.summary_model.specs.Claims.{AreCommitsGuarded, IsGuarded, IsSummaryOf}
+use Rattle.summary_model.specs.Listed.{AreNamed}
 use Rattle.rest_law.specs.Finding.{FindsOne}
 use Rattle.lease_parts.specs.Kept.{WhereMet}
 use Rattle.commit_runs.specs.Runs.{KeepsCommitsIn, KeepsOrderIn, first_logs}

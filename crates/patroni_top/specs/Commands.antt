@@ -6,11 +6,11 @@ use Rattle.pat_base.specs.MemberId.{member_of}
 use Rattle.pat_base.specs.Name.{name_bytes}
 use Rattle.script_words.specs.declared.fault.Fault.{Fault}
 use Rattle.script_words.specs.Numbers.{number}
-use Rattle.cluster_script.specs.declared.limits.Limit.{Limit}
-use Rattle.cluster_script.specs.Limits.{limit_of}
-use Rattle.cluster_script.specs.Reading.{script_of}
-use Rattle.script_generator.specs.Generating.{generated_script}
-use Rattle.script_generator.specs.declared.generating.TheConstants.{MOST_GENERATED}
+use Rattle.script_grammar.specs.declared.limit.Limit.{Limit}
+use Rattle.script_grammar.specs.Limits.{limit_of}
+use Rattle.script_grammar.specs.Reading.{script_of}
+use Rattle.generator_model.specs.Generating.{generated_script}
+use Rattle.generator_model.specs.declared.bounds.TheConstants.{MOST_GENERATED}
 use Rattle.script_model.specs.Script.{HeadText, MemberText, ScriptText, spelling_of}
 use Rattle.serve_model.specs.Connections.{Connection, most_waiting}
 use Rattle.run_player.specs.Run.{EndsAtStep, Played, played_of, summary_of_run, text_of_run}

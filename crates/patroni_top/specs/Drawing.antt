@@ -1,6 +1,6 @@
 -- How many lines may be drawn.
 use Rattle.std.specs.Prelude.{ℕ, ◌≤◌, ◌<◌}
-use Rattle.script_generator.specs.declared.generating.TheConstants.{MOST_GENERATED}
+use Rattle.generator_model.specs.declared.bounds.TheConstants.{MOST_GENERATED}
 use Rattle.patroni_top.specs.declared.ending.Ending.{Ending}
 use Rattle.patroni_top.specs.declared.ending.Ending.TheVariants as endings
 

@@ -1,6 +1,6 @@
 -- Scripts within the limits.
 use Rattle.std.specs.Prelude.{ℕ, ◌+◌, ◌≤◌, length}
-use Rattle.cluster_script.specs.Limits.{most_lines, most_ticks}
+use Rattle.script_grammar.specs.Limits.{most_lines, most_ticks}
 use Rattle.script_model.specs.Script.{ScriptText}
 use Rattle.script_model.specs.Ticks.{total_ticks}
 

@@ -6,12 +6,12 @@ use Rattle.pat_base.specs.declared.transfer.ReadError.{ReadError}
 use Rattle.pat_base.specs.declared.transfer.ReadError.TheVariants as reads
 use Rattle.pat_base.specs.Outside.{Rose, Grew, GrewByPrefix}
 use Rattle.script_words.specs.declared.fault.Fault.{Fault}
-use Rattle.cluster_script.specs.declared.limits.Limit.{Limit}
-use Rattle.cluster_script.specs.declared.script_fault.ScriptFault.{ScriptFault}
-use Rattle.cluster_script.specs.declared.script_fault.ScriptFault.TheVariants as faults
+use Rattle.script_grammar.specs.declared.limit.Limit.{Limit}
+use Rattle.script_grammar.specs.declared.script_fault.ScriptFault.{ScriptFault}
+use Rattle.script_grammar.specs.declared.script_fault.ScriptFault.TheVariants as faults
 use Rattle.script_words.specs.Faults.{text_of}
-use Rattle.cluster_script.specs.Limits.{limit_text, limit_of}
-use Rattle.cluster_script.specs.Reading.{script_of}
+use Rattle.script_grammar.specs.Limits.{limit_text, limit_of}
+use Rattle.script_grammar.specs.Reading.{script_of}
 use Rattle.patroni_top.specs.declared.ending.Ending.{Ending}
 use Rattle.patroni_top.specs.declared.ending.Ending.TheVariants as endings
 use Rattle.run_player.specs.declared.print_error.PrintError.{PrintError}

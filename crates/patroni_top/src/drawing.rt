@@ -1,10 +1,11 @@
 //! Scripts that nobody wrote.
 ghost use Rattle.std.specs.Prelude.{◌≡◌, IfOk, IfErr};
-ghost use Rattle.script_generator.specs.Generating.{generated_script};
+ghost use Rattle.generator_model.specs.Generating.{generated_script};
 ghost use Rattle.patroni_top.specs.Drawing.{CanBeDrawn, RefusesToDraw};
 
 use crate::ending::Ending;
-use script_generator::{MOST_GENERATED, generate};
+use generator_model::MOST_GENERATED;
+use script_generator::generate;
 use script_model::Script;
 use std::alloc::Global;
 

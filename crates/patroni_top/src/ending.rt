@@ -5,10 +5,10 @@ ghost use Rattle.patroni_top.specs.declared.ending.Ending.TheVariants as endings
 
 use crate::Status;
 use arrayvec::ArrayString;
-use cluster_script::{Limit, ScriptFault, limit_text};
 use itoa::Buffer;
 use pat_base::ReadError;
 use run_player::{PrintError, ServeError};
+use script_grammar::{Limit, ScriptFault, limit_text};
 use script_words::{Fault, fault_text};
 use std::alloc::AllocError;
 

@@ -1,8 +1,8 @@
 //! The script of a source.
 ghost use Rattle.std.specs.Prelude.{◌≡◌, ◌≢◌, Some, None, Ok, Err, [], IfOk, IfErr, IsErrOf};
 ghost use Rattle.pat_base.specs.Outside.{Known, Rose, Consumed};
-ghost use Rattle.cluster_script.specs.Limits.{limit_of};
-ghost use Rattle.cluster_script.specs.Reading.{script_of};
+ghost use Rattle.script_grammar.specs.Limits.{limit_of};
+ghost use Rattle.script_grammar.specs.Reading.{script_of};
 ghost use Rattle.patroni_top.specs.Limits.{KeepsLimits};
 ghost use Rattle.patroni_top.specs.Status.{Refuses, IsRefusal};
 

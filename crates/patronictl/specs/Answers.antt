@@ -7,7 +7,7 @@ use Rattle.ctl_command.specs.Commands.{CommandText}
 use Rattle.ctl_command.specs.FaultTexts.{fault_text}
 use Rattle.ctl_command.specs.Reading.{command_of}
 use Rattle.ctl_command.specs.Texts.{FaultText}
-use Rattle.ctl_command.specs.Words.{words_of}
+use Rattle.ctl_command.specs.Words.{line_words}
 use Rattle.patronictl.specs.declared.answer.CtlAnswer.{CtlAnswer}
 use Rattle.patronictl.specs.declared.answer.CtlAnswer.TheVariants as answers
 use Rattle.patronictl.specs.Acting.{ActedText, act_of}
@@ -40,4 +40,4 @@ told_by seen (Ok command) = told_of (act_of seen command)
 
 -- what the words of a command come to
 abbrev pub ctl_answer : SnapshotFacts → List ℕ → CtlTold
-ctl_answer seen words = told_by seen (command_of seen.scope seen.members (words_of words))
+ctl_answer seen words = told_by seen (command_of seen.scope seen.members (line_words words))

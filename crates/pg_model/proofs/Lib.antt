@@ -1,9 +1,4 @@
 pub mod Acks
-pub mod Clusters
-pub mod Completions
+pub mod Lists
 pub mod News
-pub mod Pairs
 pub mod Rewinds
-pub mod Rounds
-pub mod Sights
-pub mod Streams

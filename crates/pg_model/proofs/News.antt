@@ -1,6 +1,6 @@
 -- What a replica gets from its upstream, and what it is then.
 use Rattle.std.proofs.Common.{◌≡◌, ℕ, ◌-◌, ◌==◌, ◌&&◌, Bool, true, false, cond, min, List, [], ◌++◌, length, take, drop, Option, Some, None, refl, sym, ap, subst, ◌∙◌, arith, append-nil, append_assoc, length-drop, take-append-drop}
-use Rattle.std.specs.Prelude.{slice_get, IsSome, IsTrue}
+use Rattle.std.specs.Prelude.{IsSome, IsTrue}
 use Rattle.std.proofs.lemmas.Bool.{and_parts, and_from}
 use Rattle.std.proofs.lemmas.Bool.Decides.{nat_tests}
 use Rattle.std.proofs.lemmas.Option.{same_Some}
@@ -10,7 +10,6 @@ use Rattle.pat_base.specs.ServerState.{writes}
 use Rattle.wal_model.specs.History.{same_points}
 use Rattle.wal_model.specs.Log.{IsPrefixOf, is_prefix, fork_of, received}
 use Rattle.pat_base.specs.declared.lsn.Lsn.{Lsn}
-use Rattle.pat_base.specs.Changes.{with_changed}
 use Rattle.pat_base.specs.Lsn.{lsn_at}
 use Rattle.pg_model.specs.declared.answers.Streamed.{Streamed}
 use Rattle.pg_model.specs.declared.answers.Streamed.TheVariants as streams
@@ -18,8 +17,7 @@ use Rattle.pg_model.specs.Facts.{ServerFacts, entries_of}
 use Rattle.pg_model.specs.Replication.{stream_by, stream_of, streamed, received_from, is_current, news_where, news_by, news_of, after_streamed, after_news}
 use Rattle.pg_model.specs.declared.server.catching_up.Met.{Met}
 use Rattle.pg_model.specs.declared.server.catching_up.Met.TheVariants as mets
-use Rattle.pg_model.specs.InStep.{log_position_of, IsBehind, CatchesUp, answer_of, has_received}
-use Rattle.pg_model.specs.Servers.{news_between, news_at, after_streamed_from, after_news_at, streamed_at}
+use Rattle.pg_model.specs.CatchingUp.{log_position_of, IsBehind, CatchesUp, answer_of, has_received}
 use Rattle.wal_model.proofs.Entries.{is_prefix-to}
 use Rattle.wal_model.proofs.Points.{same-points-to, same-points-from}
 
@@ -177,34 +175,3 @@ caught_up met s upstream after most news diverged current received there is chan
       behind = λ e. subst (λ (t : ServerFacts). IsBehind (log_position_of t) (log_position_of upstream)) (sym changed) (behind-met met s upstream most is (sym got ∙ e));
       log_position = λ e. ap log_position_of changed ∙ log_position-met met s upstream (sym got ∙ e);
     }
-
--- the servers after news of one at another
-pub streamed_at-after_streamed : (servers : List ServerFacts) (place from most : ℕ) (upstream : ServerFacts) (news : Streamed) → slice_get servers from ≡ Some upstream → news_at servers place from most ≡ Some news → streamed_at servers place from most ≡ with_changed servers place (λ s. after_streamed news s upstream)
-streamed_at-after_streamed servers place from most upstream news found e =
-    ap (after_news_at servers place from) e ∙ ap (after_streamed_from servers place news) found
-
-pub streamed_at-received : (servers : List ServerFacts) (place from most : ℕ) (upstream : ServerFacts) (count : ℕ) → slice_get servers from ≡ Some upstream → news_at servers place from most ≡ Some (streams.Received count) → streamed_at servers place from most ≡ with_changed servers place (λ s. received_from count s upstream)
-streamed_at-received servers place from most upstream count found e = streamed_at-after_streamed servers place from most upstream (streams.Received count) found e
-
-pub streamed_at-diverged : (servers : List ServerFacts) (place from most : ℕ) (upstream : ServerFacts) (at : Lsn) → slice_get servers from ≡ Some upstream → news_at servers place from most ≡ Some (streams.Diverged at) → streamed_at servers place from most ≡ with_changed servers place (λ s. record s { diverged = true })
-streamed_at-diverged servers place from most upstream at found e = streamed_at-after_streamed servers place from most upstream (streams.Diverged at) found e
-
-pub streamed_at-none : (servers : List ServerFacts) (place from most : ℕ) → news_at servers place from most ≡ None → streamed_at servers place from most ≡ servers
-streamed_at-none servers place from most e = ap (after_news_at servers place from) e
-
--- the two servers of which there are news
-pub record Between (servers : List ServerFacts) (place from most : ℕ) (news : Streamed) : Type 0 where
-  pub replica : ServerFacts
-  pub upstream : ServerFacts
-  pub replica_at : slice_get servers place ≡ Some replica
-  pub upstream_at : slice_get servers from ≡ Some upstream
-  pub news_are : news_of replica upstream most ≡ Some news
-
-between : (most : ℕ) (news : Streamed) (s upstream : Option ServerFacts) (servers : List ServerFacts) (place from : ℕ) → slice_get servers place ≡ s → slice_get servers from ≡ upstream → news_between s upstream most ≡ Some news → Between servers place from most news
-between most news None upstream servers place from p q e = absurd (no-some news e)
-between most news (Some s) None servers place from p q e = absurd (no-some news e)
-between most news (Some s) (Some upstream) servers place from p q e = record { replica = s; upstream = upstream; replica_at = p; upstream_at = q; news_are = e }
-
--- news come of two servers that are there
-pub news_at-between : (servers : List ServerFacts) (place from most : ℕ) (news : Streamed) → news_at servers place from most ≡ Some news → Between servers place from most news
-news_at-between servers place from most news e = between most news (slice_get servers place) (slice_get servers from) servers place from refl refl e

@@ -1,8 +1,6 @@
-pub mod Completing
+pub mod CatchingUp
 pub mod Facts
-pub mod InStep
 pub mod Replication
 pub mod Rewinding
 pub mod Running
-pub mod Servers
 pub mod Status

@@ -93,6 +93,10 @@ after_news (Some news) s upstream = after_streamed news s upstream
 abbrev pub confirming : MemberId → Lsn → ServerFacts → ServerFacts
 confirming by end s = record s { confirmed = slice_set s.confirmed by.number (Some end) }
 
+-- its commits wait for these
+abbrev pub requiring : Required → ServerFacts → ServerFacts
+requiring required s = record s { required = required }
+
 -- what was confirmed is at or past the end of a commit
 abbrev pub reaches : Lsn → Option Lsn → Bool
 reaches end None = false

@@ -5,6 +5,7 @@ use Rattle.pat_base.specs.declared.server_id.ServerId.{ServerId}
 use Rattle.pat_base.specs.declared.server_state.State.{State}
 use Rattle.pat_base.specs.declared.server_state.State.TheVariants as states
 use Rattle.pat_base.specs.Lsn.{lsn_at}
+use Rattle.pat_base.specs.ServerState.{live}
 use Rattle.wal_model.specs.Log.{end_of}
 use Rattle.pg_model.specs.Facts.{ServerFacts, none_confirmed, entries_of}
 
@@ -89,6 +90,10 @@ completed now _ s = s
 -- the server at a moment
 abbrev pub ticked : Ticks → ServerFacts → ServerFacts
 ticked now s = completed now s.state s
+
+-- a start or a stop is complete whose moment has come, but for a start as a primary and the stop of one
+abbrev pub ticked_unless_live : Ticks → ServerFacts → ServerFacts
+ticked_unless_live now s = if live s.state then s else ticked now s
 
 -- the delay that is set, or the one that was
 abbrev pub delay_or : Option Ticks → Ticks → Ticks

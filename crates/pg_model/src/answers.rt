@@ -49,13 +49,6 @@ pub enum CommitFault {
     Memory,
 }
 
-/// What a rewound server kept of its log: so many entries, which end at this position.
-#[derive(Clone, Copy, Debug, PartialEq, Eq)]
-pub struct Rewound {
-    pub kept: u64,
-    pub at: Lsn,
-}
-
 /// Why a server wasn't rewound or cloned. It is as it was.
 #[derive(Clone, Copy, Debug, PartialEq, Eq, Error)]
 pub enum PgFault {

@@ -17,9 +17,9 @@ mod catching_up;
 mod rewinding;
 
 use crate::{CommitFault, InState, StreamFault, Streamed, Waiting};
-pub(crate) use catching_up::CaughtUp;
+pub use catching_up::CaughtUp;
 use pat_base::{Lsn, MOST_MEMBERS, MemberId, MemberSet, Required, ServerId, State, Ticks};
-pub(crate) use rewinding::is_rewindable;
+pub use rewinding::is_rewindable;
 use std::alloc::{AllocError, Global};
 use std::collections::VecDeque;
 use std::marker::Model;
@@ -464,7 +464,7 @@ impl Server {
     }
 
     /// Follows another server from now on, or from when it runs as a replica.
-    pub(crate) fn set_upstream(&mut self, upstream: ServerId)
+    pub fn set_upstream(&mut self, upstream: ServerId)
         ensures { self.new ≡ following upstream self.old }
     {
         self.upstream = Some(upstream);

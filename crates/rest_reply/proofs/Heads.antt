@@ -2,7 +2,7 @@
 use Rattle.std.proofs.Common.{◌≡◌, ℕ, List, [], ◌++◌, length, refl, append_assoc}
 use Rattle.std.specs.Prelude.{codes, decimal}
 use Rattle.rest_message.specs.Replies.{ReplyText}
-use Rattle.rest_reply.specs.Replies.{HasField, head_bytes, head_of, kind_of, phrase_of, status_line}
+use Rattle.rest_reply.specs.Replies.{HasField, head_bytes, head_of, content_type_of, phrase_of, status_line}
 
 joined : (version status space phrase end type colon kind length size connection close : List ℕ)
     → ((version ++ (status ++ (space ++ phrase))) ++ end) ++ (((type ++ (colon ++ kind)) ++ end) ++ (((length ++ (colon ++ size)) ++ end) ++ (((connection ++ (colon ++ close)) ++ end) ++ ([] ++ end))))
@@ -21,5 +21,5 @@ regrouped front text end rest = simp append_assoc refl
 -- a head has the length of the body
 pub tells-length : (reply : ReplyText) → HasField (codes "Content-Length") (decimal (length reply.body)) (head_of reply)
 tells-length reply =
-    let type : List ℕ = codes "Content-Type" ++ (codes ": " ++ kind_of reply.json) in
+    let type : List ℕ = codes "Content-Type" ++ (codes ": " ++ content_type_of reply.json) in
     (status_line reply.status (phrase_of reply.status) ++ type, _, regrouped (status_line reply.status (phrase_of reply.status)) type (codes "\r\n") _)

@@ -8,8 +8,8 @@ unfoldable pub phrase_of : ℕ → List ℕ
 phrase_of status = unwrap_or (reason_phrase status) []
 
 -- the type of a body
-abbrev pub kind_of : Bool → List ℕ
-kind_of json = if json then codes "application/json" else codes "text/plain"
+abbrev pub content_type_of : Bool → List ℕ
+content_type_of json = if json then codes "application/json" else codes "text/plain"
 
 -- a line of a head
 abbrev pub line : List ℕ → List ℕ
@@ -25,16 +25,16 @@ status_line status phrase = line (codes "HTTP/1.1 " ++ (decimal status ++ (codes
 
 -- what stands before a body of this type and length
 abbrev pub head_bytes : ℕ → List ℕ → List ℕ → ℕ → List ℕ
-head_bytes status phrase kind length =
+head_bytes status phrase content_type length =
     status_line status phrase
-    ++ (field_line (codes "Content-Type") kind
+    ++ (field_line (codes "Content-Type") content_type
     ++ (field_line (codes "Content-Length") (decimal length)
     ++ (field_line (codes "Connection") (codes "close")
     ++ line [])))
 
 -- the head of a reply
 abbrev pub head_of : ReplyText → List ℕ
-head_of reply = head_bytes reply.status (phrase_of reply.status) (kind_of reply.json) (length reply.body)
+head_of reply = head_bytes reply.status (phrase_of reply.status) (content_type_of reply.json) (length reply.body)
 
 -- a reply, or its head alone
 abbrev pub reply_bytes : ReplyText → Bool → List ℕ

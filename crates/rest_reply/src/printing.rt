@@ -1,7 +1,7 @@
 //! Printing of replies.
 ghost use Rattle.std.specs.Prelude.{◌≡◌, IfOk, string_bytes};
 ghost use Rattle.rest_message.specs.Replies.{reply_text};
-ghost use Rattle.rest_reply.specs.Replies.{reply_bytes, head_bytes, kind_of, phrase_of};
+ghost use Rattle.rest_reply.specs.Replies.{reply_bytes, head_bytes, content_type_of, phrase_of};
 
 use http::StatusCode;
 use rest_message::Reply;
@@ -14,9 +14,9 @@ pub fn print_reply(alloc: Global, reply: &Reply, head_only: bool) -> Result<Vec<
     ensures { IfOk result (λ bytes. bytes.items ≡ reply_bytes (reply_text reply.now) head_only) }
 {
     let phrase = phrase_of(reply.status);
-    let kind = kind_of(reply.json);
+    let content_type = content_type_of(reply.json);
     let length = reply.body.len();
-    let head = print_head(alloc, reply.status, phrase, kind, length)?;
+    let head = print_head(alloc, reply.status, phrase, content_type, length)?;
     let mut bytes = Vec::from_slice(alloc, head.as_bytes())?;
     if head_only {
         return Ok(bytes);
@@ -30,13 +30,13 @@ fn print_head(
     alloc: Global,
     status: u16,
     phrase: &str,
-    kind: &str,
+    content_type: &str,
     length: usize,
 ) -> Result<String, AllocError>
-    ensures { IfOk result (λ text. string_bytes text ≡ head_bytes status phrase.now kind.now length) }
+    ensures { IfOk result (λ text. string_bytes text ≡ head_bytes status phrase.now content_type.now length) }
 {
     format!(in alloc;
-        "HTTP/1.1 {status} {phrase}\r\nContent-Type: {kind}\r\nContent-Length: {length}\r\nConnection: close\r\n\r\n"
+        "HTTP/1.1 {status} {phrase}\r\nContent-Type: {content_type}\r\nContent-Length: {length}\r\nConnection: close\r\n\r\n"
     )
 }
 
@@ -52,8 +52,8 @@ fn phrase_of(status: u16) -> &'static str
 }
 
 /// The type of a body.
-fn kind_of(json: bool) -> &'static str
-    ensures { result.now ≡ kind_of json }
+fn content_type_of(json: bool) -> &'static str
+    ensures { result.now ≡ content_type_of json }
 {
     if json {
         "application/json"

@@ -13,15 +13,14 @@ use Rattle.cluster_model.specs.State.{Cluster}
 use Rattle.cluster_model.specs.Next.{run_events}
 use Rattle.cluster_model.specs.Steps.{names_in, steps_of}
 use Rattle.pat_base.specs.declared.name.Name.{Name}
-use Rattle.script_model.specs.Script.{IsMember}
+use Rattle.script_model.specs.Script.{IsMember, ScriptText}
 use Rattle.world_model.proofs.Taking.{members-stay}
-use Rattle.script_model.specs.Script.{ScriptText}
 use Rattle.pat_door.specs.declared.door.Door.{Ghosts as DoorGhosts}
 use Rattle.serve_model.specs.Connections.{Connection, connection_cost}
 use Rattle.pat_world.specs.Steps.{HasStepsLeft, IsCounted, TookSteps, WorldFacts}
-use Rattle.summary.specs.declared.answers.Closing.{Closing}
-use Rattle.summary.specs.Sights.{SummaryFacts}
-use Rattle.summary.specs.SummaryText.{closing_text}
+use Rattle.summary_model.specs.declared.answers.Closing.{Closing}
+use Rattle.summary_model.specs.Sights.{SummaryFacts}
+use Rattle.summary_model.specs.SummaryText.{closing_text}
 use Rattle.world_model.specs.Room.{most_steps}
 use Rattle.run_player.specs.declared.player.Player.{Player}
 use Rattle.run_player.specs.declared.print_error.PrintError.{PrintError}

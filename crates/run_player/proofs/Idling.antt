@@ -15,8 +15,8 @@ use Rattle.cluster_model.specs.Cluster.{cluster_over}
 use Rattle.cluster_model.specs.Next.{next_events, run_events}
 use Rattle.cluster_model.specs.State.{Cluster}
 use Rattle.cluster_model.specs.Steps.{IsStep}
-use Rattle.summary.specs.Passing.{IsTickAlone}
-use Rattle.summary.specs.Sights.{noted_steps}
+use Rattle.summary_model.specs.Passing.{IsTickAlone}
+use Rattle.summary_model.specs.Sights.{noted_steps}
 use Rattle.world_model.specs.Idle.{BringsTicks, IsTick}
 use Rattle.pat_world.specs.Steps.{TookSteps}
 use Rattle.run_player.specs.declared.player.Player.{Player}

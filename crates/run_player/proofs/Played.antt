@@ -18,7 +18,7 @@ use Rattle.cluster_model.specs.Steps.{steps_of, steps_of_line}
 use Rattle.cluster_model.specs.Cluster.{cluster_over}
 use Rattle.cluster_model.specs.Next.{next_events, run_events}
 use Rattle.cluster_model.specs.State.{Cluster}
-use Rattle.summary.specs.Sights.{SummaryFacts, noted_step}
+use Rattle.summary_model.specs.Sights.{SummaryFacts, noted_step}
 use Rattle.pat_world.specs.Steps.{HasStepsLeft, TookSteps}
 use Rattle.world_model.specs.Room.{step_cost}
 use Rattle.world_model.specs.Emits.{Emits}

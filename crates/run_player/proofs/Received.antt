@@ -10,7 +10,7 @@ use Rattle.pat_base.specs.Prints.{Prints}
 use Rattle.pat_base.proofs.Contents.{Grew-Grew, Grew-nothing}
 use Rattle.pat_base.proofs.Printing.{Prints-none, Prints-nothing, Prints-ok, Prints-stop, Prints-then}
 use Rattle.event_book.specs.declared.event.Event.{Event}
-use Rattle.summary.specs.Sights.{SummaryFacts, noted_steps}
+use Rattle.summary_model.specs.Sights.{SummaryFacts, noted_steps}
 use Rattle.cluster_model.specs.declared.step.Step.{Step}
 use Rattle.cluster_model.specs.Next.{run_events}
 use Rattle.cluster_model.specs.State.{Cluster}

@@ -11,7 +11,7 @@ use Rattle.pat_base.specs.Prints.{Prints, failed}
 use Rattle.pat_base.proofs.Printing.{Prints-none, Prints-nothing, Prints-ok, Prints-stop, Prints-then}
 use Rattle.event_book.specs.declared.event.Event.{Event}
 use Rattle.event_book.specs.Text.{lines_of}
-use Rattle.summary.specs.Sights.{SummaryFacts, noted_step, noted_steps}
+use Rattle.summary_model.specs.Sights.{SummaryFacts, noted_step, noted_steps}
 use Rattle.cluster_model.specs.declared.step.Step.{Step}
 use Rattle.cluster_model.specs.declared.step.Step.TheVariants as steps
 use Rattle.cluster_model.specs.Cluster.{cluster_over}

@@ -2,7 +2,7 @@
 use Rattle.std.proofs.Common.{◌≡◌, ℕ, ◌+◌, ◌≤◌, List, [], ◌∷◌, ◌++◌, length, drop, Some, append_assoc, append-nil, ◌∙◌, ap, sym}
 use Rattle.std.specs.Prelude.{slice_get}
 use Rattle.std.proofs.lemmas.List.{drop_all}
-use Rattle.summary.specs.declared.answers.WatchOf.{WatchOf}
+use Rattle.summary_model.specs.declared.answers.WatchOf.{WatchOf}
 use Rattle.world_model.proofs.Starting.{drop-get}
 
 -- one watchdog more

@@ -6,8 +6,8 @@ use Rattle.cluster_model.specs.Starting.{cluster_of}
 use Rattle.cluster_model.specs.State.{Cluster}
 use Rattle.cluster_model.specs.Cluster.{cluster_over}
 use Rattle.cluster_model.specs.Next.{run_events}
-use Rattle.summary.specs.Sights.{SummaryFacts}
-use Rattle.summary.specs.SummaryText.{closing_text}
+use Rattle.summary_model.specs.Sights.{SummaryFacts}
+use Rattle.summary_model.specs.SummaryText.{closing_text}
 use Rattle.pat_world.specs.Steps.{HasStepsLeft, IsCounted, TookSteps, WorldFacts}
 use Rattle.pat_world.proofs.Standing.{is-stands}
 use Rattle.pat_world.proofs.Stepping.{steps-left-behind}

@@ -8,7 +8,7 @@ use Rattle.cluster_model.specs.declared.step.Step.{Step}
 use Rattle.pat_door.specs.declared.door.Door.{Ghosts as DoorGhosts}
 use Rattle.serve_model.specs.Connections.{Connection}
 use Rattle.pat_world.specs.Steps.{TookSteps}
-use Rattle.summary.specs.SummaryText.{closing_text}
+use Rattle.summary_model.specs.SummaryText.{closing_text}
 use Rattle.run_player.specs.declared.player.Player.{Player}
 use Rattle.run_player.specs.declared.serve_error.ServeError.{ServeError}
 use Rattle.run_player.specs.declared.serve_error.ServeError.TheVariants.{Door, Memory, Write}

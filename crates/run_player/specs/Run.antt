@@ -13,9 +13,9 @@ use Rattle.cluster_model.specs.Next.{next_events, run_events}
 use Rattle.cluster_model.specs.Starting.{cluster_of}
 use Rattle.cluster_model.specs.State.{Cluster}
 use Rattle.pat_world.specs.Book.{events_by_step}
-use Rattle.summary.specs.declared.answers.Closing.{Closing}
-use Rattle.summary.specs.Sights.{SummaryFacts, noted_steps}
-use Rattle.summary.specs.SummaryText.{closing_text}
+use Rattle.summary_model.specs.declared.answers.Closing.{Closing}
+use Rattle.summary_model.specs.Sights.{SummaryFacts, noted_steps}
+use Rattle.summary_model.specs.SummaryText.{closing_text}
 use Rattle.run_player.specs.Watches.{first_summary}
 
 -- what is played: a cluster from its beginning on, and the steps that it takes

@@ -5,7 +5,7 @@ use Rattle.pat_base.specs.Outside.{Grew}
 use Rattle.pat_base.specs.Prints.{Prints}
 use Rattle.event_book.specs.declared.event.Event.{Event}
 use Rattle.event_book.specs.Text.{lines_of}
-use Rattle.summary.specs.Sights.{SummaryFacts, noted_steps}
+use Rattle.summary_model.specs.Sights.{SummaryFacts, noted_steps}
 use Rattle.run_player.specs.declared.print_error.PrintError.{PrintError}
 use Rattle.run_player.specs.declared.print_error.PrintError.TheVariants.{Memory, Write}
 

@@ -4,8 +4,8 @@ use Rattle.leader_key.specs.declared.watchdog.Mode.{Mode}
 use Rattle.leader_key.specs.declared.watchdog.Mode.TheVariants as modes
 use Rattle.script_model.specs.Script.{HeadText, MemberText}
 use Rattle.pat_base.specs.declared.ticks.TheConstants.{TICKS_OF_SECOND}
-use Rattle.summary.specs.declared.answers.WatchOf.{WatchOf}
-use Rattle.summary.specs.Sights.{SummaryFacts, summary_of}
+use Rattle.summary_model.specs.declared.answers.WatchOf.{WatchOf}
+use Rattle.summary_model.specs.Sights.{SummaryFacts, summary_of}
 
 -- no watchdog is used
 abbrev pub is_off : Mode → Bool

@@ -6,7 +6,7 @@ ghost use Rattle.cluster_model.specs.Cluster.{cluster_over};
 ghost use Rattle.cluster_model.specs.Next.{run_events};
 ghost use Rattle.cluster_model.specs.Starting.{cluster_of};
 ghost use Rattle.cluster_model.specs.Steps.{IsStep, names_in, steps_of, steps_of_line};
-ghost use Rattle.summary.specs.SummaryText.{closing_text};
+ghost use Rattle.summary_model.specs.SummaryText.{closing_text};
 ghost use Rattle.world_model.specs.Idle.{IsTick};
 ghost use Rattle.world_model.specs.Room.{most_steps};
 ghost use Rattle.pat_world.specs.Steps.{HasStepsLeft, IsCounted, TookSteps};

@@ -3,14 +3,15 @@ ghost use Rattle.std.specs.Prelude.{◌≡◌, ◌≤◌, ◌<◌, length, strin
 ghost use Rattle.pat_base.specs.Outside.{Grew};
 ghost use Rattle.pat_base.specs.Prints.{Prints, failed};
 ghost use Rattle.event_book.specs.Text.{lines_of};
-ghost use Rattle.summary.specs.SummaryText.{closing_text};
+ghost use Rattle.summary_model.specs.SummaryText.{closing_text};
 ghost use Rattle.run_player.specs.LineParts.{line_length};
 
 use crate::print_error::PrintError;
 use event_book::{Event, write_line};
 use pat_base::{Failed, Sink, write_all};
 use std::alloc::{AllocError, Global};
-use summary::Closing;
+use summary::closing_text;
+use summary_model::Closing;
 
 /// Sets a buffer to the lines of events. Those of messages are there only while messages are traced.
 pub fn set_text(text: &mut String, events: &[Event], trace: bool) -> Result<(), AllocError>
@@ -32,7 +33,7 @@ pub fn print_closing<K: Sink>(
     ensures printed { Prints K.Sink out.old out.new PrintError.Write result (closing_text closing.now) }
     ensures memory { IsErrOf result PrintError.Memory → out.new ≡ out.old }
 {
-    let text = closing.text(alloc)?;
+    let text = closing_text(alloc, closing)?;
     print_lines(text.as_bytes(), out)?;
     Ok(())
 }

@@ -1,8 +1,8 @@
 //! What steps brought, noted for the closing summary and printed.
 ghost use Rattle.std.specs.Prelude.{◌≡◌, All, List, length, map, OnOk};
 ghost use Rattle.event_book.specs.declared.event.Event.{Event};
-ghost use Rattle.summary.specs.Passing.{IsTickAlone};
-ghost use Rattle.summary.specs.Sights.{noted_step, noted_steps};
+ghost use Rattle.summary_model.specs.Passing.{IsTickAlone};
+ghost use Rattle.summary_model.specs.Sights.{noted_step, noted_steps};
 ghost use Rattle.run_player.specs.Showing.{Shows};
 
 use crate::print_error::PrintError;

@@ -8,7 +8,8 @@ use member_options::MemberOptions;
 use pat_base::{Name, TICKS_OF_SECOND, Ticks};
 use script_model::Head;
 use std::alloc::{AllocError, Global};
-use summary::{Summary, WatchOf};
+use summary::Summary;
+use summary_model::WatchOf;
 
 /// The summary of a script of this head before the first event. It fails only for want of memory.
 pub fn first_summary(alloc: Global, head: &Head) -> Result<Summary, AllocError>

@@ -1,3 +1,0 @@
-pub mod BodyLaws
-pub mod HeadLaws
-pub mod ReadingLaws

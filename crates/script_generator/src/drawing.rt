@@ -1,7 +1,8 @@
 //! The line that a draw gives.
 ghost use Rattle.std.specs.Prelude.{◌≡◌};
-ghost use Rattle.script_generator.specs.Drawing.{kind_of, drawn_member, drawn_amount, drawn_size, is_even, link_command, line_of_kind, drawn_line};
+ghost use Rattle.generator_model.specs.Drawing.{kind_of, drawn_member, drawn_amount, drawn_size, is_even, link_command, line_of_kind, drawn_line};
 
+use generator_model::DrawnKind;
 use pat_base::MemberId;
 use script_model::{Command, CommitSize, End, Line};
 
@@ -13,18 +14,6 @@ const MEMBER_COUNT: u64 = 3;
 
 /// It says an amount from 1 to this.
 const GREATEST_AMOUNT: u64 = 400;
-
-/// What a line asks for.
-#[derive(Clone, Copy, Debug, PartialEq, Eq)]
-pub enum DrawnKind {
-    Run,
-    Commit,
-    Suspend,
-    Resume,
-    Crash,
-    StartAgent,
-    Link,
-}
 
 /// The kind of a draw: two draws of eight are runs, and of each other kind there is one.
 fn kind_of(draw: u64) -> DrawnKind

@@ -1,18 +1,16 @@
 //! A script made of a number.
 ghost use Rattle.std.specs.Prelude.{◌≡◌, ◌≤◌, ◌∷◌, ◌++◌, [], IfOk, OnOk};
-ghost use Rattle.script_generator.specs.Drawing.{drawn_line};
-ghost use Rattle.script_generator.specs.NumberSequence.{draw_of};
-ghost use Rattle.script_generator.specs.Generating.{generated_body, generated_script};
-ghost use Rattle.script_generator.specs.declared.generating.TheConstants.{MOST_GENERATED};
+ghost use Rattle.generator_model.specs.Drawing.{drawn_line};
+ghost use Rattle.generator_model.specs.NumberSequence.{draw_of};
+ghost use Rattle.generator_model.specs.Generating.{generated_body, generated_script};
+ghost use Rattle.generator_model.specs.declared.bounds.TheConstants.{MOST_GENERATED};
 
 use crate::drawing::drawn_line;
 use crate::number_sequence::{draw_of, next_number};
 use crate::opening::generated_head;
+use generator_model::MOST_GENERATED;
 use script_model::{Line, Script};
 use std::alloc::{AllocError, Global};
-
-/// So many lines are drawn at most.
-pub const MOST_GENERATED: u64 = 2_400;
 
 /// Before the lines that are drawn the cluster runs for so many ticks, to find its leader.
 const TICKS_BEFORE: u64 = 100;

@@ -1,6 +1,6 @@
 //! The numbers of which lines are made.
 ghost use Rattle.std.specs.Prelude.{◌≡◌};
-ghost use Rattle.script_generator.specs.NumberSequence.{next_number, draw_of};
+ghost use Rattle.generator_model.specs.NumberSequence.{next_number, draw_of};
 
 /// Each number is the one before it times this.
 const MULTIPLIER: u64 = 6_364_136_223_846_793_005;

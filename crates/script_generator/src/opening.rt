@@ -2,7 +2,7 @@
 ghost use Rattle.std.specs.Prelude.{◌≡◌, IfOk, IsTrue};
 ghost use Rattle.pat_base.specs.Name.{name_bytes};
 ghost use Rattle.pat_base.specs.NameText.{is_name};
-ghost use Rattle.script_generator.specs.Opening.{generated_options, generated_head, generated_members};
+ghost use Rattle.generator_model.specs.Opening.{generated_options, generated_head, generated_members};
 ghost use Rattle.script_model.specs.Script.{members_in};
 
 use indexmap::IndexMap;

@@ -4,8 +4,7 @@ use Rattle.std.specs.Fmt.{decimal}
 use Rattle.std.specs.List.{list_all}
 use Rattle.std.specs.Str.{is_utf8, bytes_eq}
 use Rattle.std.specs.Option.{option_to_list}
-use Rattle.std.proofs.lemmas.Bool.{and_parts, eqb-true}
-use Rattle.std.proofs.lemmas.Bool.Decides.{nat_tests}
+use Rattle.std.proofs.lemmas.Bool.{eqb-true}
 use Rattle.std.proofs.lemmas.List.Folds.{list_all-append}
 use Rattle.std.proofs.lemmas.Grind.{flat_map-append}
 use Rattle.std.proofs.lemmas.List.{map-append}
@@ -21,7 +20,7 @@ use Rattle.cluster_config.specs.declared.config_fault.ConfigFault.{ConfigFault}
 use Rattle.cluster_config.proofs.LineLaws.{config_read-line, config_read-utf8, config_read-empty}
 use Rattle.script_words.specs.Lines.{ended, lines_in, is_skipped, counted_lines, is_in_line}
 use Rattle.member_options.specs.Options.{option_text, behind_blanks, options_to_say}
-use Rattle.cluster_script.specs.Reading.{script_of}
+use Rattle.script_grammar.specs.Reading.{script_of}
 use Rattle.script_model.specs.Bounds.{longest_line}
 use Rattle.script_model.specs.Script.{MemberText, HeadText, ScriptText, names_of, cluster_text, shortest_line, IsScript, IsCommand, IsLine, AllAreLines, member_text, end_word, switch_text, slowed_call_text, two_texts, command_text, line_text, config_text, config_or_default, default_base, base_or_default, base_lines, base_to_say, config_lines, config_to_say, head_lines, body_lines, script_lines, spelling_of, IsShort, request_text, rest_text, IsRequest}
 use Rattle.script_model.specs.Spelling.{MemberLine, HeadLine, ConfigLine, BaseLine, MembersLine, head_line_text, config_said, base_said, member_said, configs_said, bases_said, members_said, read_at_most_once, IsHeadLines, AllInForm, OwnText, SpellBody, Spells}
@@ -40,8 +39,9 @@ use Rattle.member_options.specs.declared.member_option.MemberOption.{MemberOptio
 use Rattle.script_model.specs.declared.request_words.RequestWords.{RequestWords}
 use Rattle.member_options.proofs.OptionCanonLaws.{few-options, options-enough}
 use Rattle.member_options.proofs.OptionTexts.{options-IsPlain}
+use Rattle.script_words.proofs.Cutting.{line-again}
 use Rattle.script_words.proofs.PlainTexts.{IsPlain, IsPlain-append, IsPlain-most, blank-IsPlain, name-IsPlain, decimal-IsPlain, plain-is_utf8, no-feeds}
-use Rattle.cluster_script.proofs.FirstWordLaws.{longest_word, some_name-IsPlain, word-IsPlain}
+use Rattle.script_grammar.proofs.FirstWordLaws.{longest_word, some_name-IsPlain, word-IsPlain}
 use Rattle.script_law.proofs.SpellLaws.{size-fits, delay-fits, base-fits, spelled-is-read}
 use Rattle.script_law.proofs.FirstWords.{spelled-counts}
 
@@ -223,15 +223,6 @@ script-AllLineTexts s h is short =
     )
 
 -- such lines are cut again
-feeds-apart : (b : ℕ) → is_in_line b ≡ true → (b == 10) ≡ false
-feeds-apart b h = grind (arith, nat_tests)
-
-line-again : (line rest : List ℕ) → list_all is_in_line line ≡ true → lines_in (line ++ (10 ∷ rest)) ≡ line ∷ lines_in rest
-line-again [] rest h = refl
-line-again (b ∷ bs) rest h =
-    let both = and_parts (is_in_line b) (list_all is_in_line bs) h in
-    rw (feeds-apart b both.0, line-again bs rest both.1) refl
-
 lines-again : (lines : List (List ℕ)) → AllLineTexts lines → lines_in (ended lines) ≡ lines
 lines-again [] h = refl
 lines-again (line ∷ lines) h = line-again line (ended lines) h.0.alone ∙ ap (λ ls. line ∷ ls) (lines-again lines h.1)

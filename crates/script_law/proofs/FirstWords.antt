@@ -5,7 +5,7 @@ use Rattle.script_words.specs.Words.{cut_word}
 use Rattle.script_model.specs.Keywords.{word_of, spelled}
 use Rattle.script_model.specs.declared.keyword.Keyword.{Keyword}
 use Rattle.script_model.specs.declared.keyword.Keyword.TheVariants.{Cluster}
-use Rattle.cluster_script.specs.FirstWords.{keyword_of}
+use Rattle.script_grammar.specs.FirstWords.{keyword_of}
 
 pub cut_word-spelled : (keyword : Keyword) (rest : List ℕ) → cut_word (spelled keyword rest) ≡ (word_of keyword, Some rest)
 cut_word-spelled Cluster rest = refl

@@ -18,27 +18,25 @@ use Rattle.lease_store.specs.Settings.{Settings}
 use Rattle.cluster_config.specs.ConfigReading.{config_read}
 use Rattle.cluster_config.specs.declared.config_fault.ConfigFault.{ConfigFault}
 use Rattle.script_words.specs.Numbers.{number}
-use Rattle.script_words.specs.Lines.{first_at}
+use Rattle.script_words.specs.Lines.{first_at, lines_in, is_skipped, counted_lines}
 use Rattle.script_model.specs.Bounds.{longest_line, greatest_base}
 use Rattle.pat_base.specs.declared.member_id.TheConstants.{MOST_MEMBERS}
 use Rattle.script_model.specs.Ranges.{commit_size_of, delay_of}
-use Rattle.cluster_script.specs.Arguments.{number_in, switch_in, slowed_call_in, commit_size_in, delay_in, known_member, member_in, end_in, line_end, last_word, one_word, word_behind, two_words, words_behind, same_end, apart, two_ends, commit_in, stream_in, slow_in, command}
-use Rattle.cluster_script.specs.Draft.{DraftText, script_so_far}
-use Rattle.script_words.specs.Faults.{both}
+use Rattle.script_grammar.specs.Arguments.{number_in, switch_in, slowed_call_in, commit_size_in, delay_in, known_member, member_in, end_in, line_end, last_word, one_word, word_behind, two_words, words_behind, same_end, apart, two_ends, commit_in, stream_in, slow_in, command}
+use Rattle.script_grammar.specs.Draft.{DraftText, script_so_far}
+use Rattle.script_words.specs.Faults.{both, on_ok}
 use Rattle.script_model.specs.Script.{end_word, switch_text, slowed_call_text, two_texts, base_text, config_text, config_or_default, base_or_default, AreDifferent, MemberText, ScriptText, member_names, names_of, IsScript, IsMember, IsEnd, IsLink, IsCommand, IsLine, AllAreLines, cluster_text, line_text, IsInForm, IsRequest, request_text, rest_text, member_text, text_of_name}
 use Rattle.script_model.specs.Spelling.{HeadLine, ConfigLine, BaseLine, MembersLine, head_line_text, configs_said, bases_said, members_said, read_at_most_once, head_with, IsHeadLines, MemberLine, member_of_line, member_line_text, AllInForm, SpellsLine, OwnText, BlankBehind, SpellBody, Spells}
 use Rattle.pat_base.specs.Name.{name_bytes, name_of}
 use Rattle.pat_base.specs.declared.name.Name.{Name}
-use Rattle.script_words.specs.Faults.{on_ok}
-use Rattle.script_words.specs.Lines.{lines_in, is_skipped, counted_lines}
-use Rattle.cluster_script.specs.Members.{place_of}
+use Rattle.script_grammar.specs.Members.{place_of}
 use Rattle.member_options.specs.Options.{option_text, behind_blanks, options_or_default}
-use Rattle.cluster_script.specs.Reading.{name_in, declared_once, named_member, new_member, next_member, ranged_base, base_in, base_end, next_base, addition_of, with_addition, config_if_read, with_keyword, with_line, cluster_named, cluster_by_keyword, first_line, first_draft, after_counted, after_text, after_line, after_lines, at_line, with_some, finished, script_of}
-use Rattle.cluster_script.specs.FirstWords.{keyword_of}
+use Rattle.script_grammar.specs.Reading.{name_in, declared_once, named_member, new_member, next_member, ranged_base, base_in, base_end, next_base, addition_of, with_addition, config_if_read, with_keyword, with_line, cluster_named, cluster_by_keyword, first_line, first_draft, after_counted, after_text, after_line, after_lines, at_line, with_some, finished, script_of}
+use Rattle.script_grammar.specs.FirstWords.{keyword_of}
 use Rattle.script_model.specs.Keywords.{spelled}
 use Rattle.script_words.specs.Words.{cut_word}
-use Rattle.cluster_script.specs.declared.addition.Addition.{Addition}
-use Rattle.cluster_script.specs.declared.addition.Addition.TheVariants as additions
+use Rattle.script_grammar.specs.declared.addition.Addition.{Addition}
+use Rattle.script_grammar.specs.declared.addition.Addition.TheVariants as additions
 use Rattle.script_words.specs.declared.fault.Fault.{Fault}
 use Rattle.script_words.specs.declared.fault.Fault.TheVariants as faults
 use Rattle.member_options.specs.declared.member_option.MemberOptions.{MemberOptions}
@@ -56,13 +54,13 @@ use Rattle.script_model.specs.declared.ranges.CommitSize.{CommitSize}
 use Rattle.script_model.specs.declared.ranges.Delay.{Delay}
 use Rattle.script_model.specs.declared.request_words.RequestWords.{RequestWords}
 use Rattle.script_words.proofs.Outcomes.{err_is}
-use Rattle.cluster_script.proofs.NameLaws.{place_of-Some, place_of-None}
+use Rattle.script_grammar.proofs.NameLaws.{place_of-Some, place_of-None}
 use Rattle.script_words.proofs.NumberLaws.{number-decimal, first_at-decimal}
 use Rattle.member_options.proofs.OptionSpellLaws.{options_in-again}
 use Rattle.member_options.proofs.OptionWords.{options-cut}
 use Rattle.script_model.proofs.RangeLaws.{commit_size_of-Some, delay_of-Some}
-use Rattle.cluster_script.proofs.BlankLaws.{first_at-all}
-use Rattle.cluster_script.proofs.RequestLaws.{words_with, request_with, blank-text, request-again, own-again}
+use Rattle.script_grammar.proofs.BlankLaws.{first_at-all}
+use Rattle.script_grammar.proofs.RequestLaws.{words_with, request_with, blank-text, request-again, own-again}
 use Rattle.script_words.proofs.WordLaws.{cut_word-again, cut_word-alone}
 use Rattle.script_law.proofs.FirstWords.{cut_word-spelled, keyword_of-word_of}
 

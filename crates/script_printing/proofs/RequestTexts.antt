@@ -4,7 +4,7 @@ use Rattle.std.specs.Str.{IsUtf8}
 use Rattle.std.proofs.lemmas.Str.{IsUtf8-nil, IsUtf8-from_is_utf8}
 use Rattle.pat_base.specs.declared.name.Name.{Name}
 use Rattle.pat_base.specs.declared.member_id.MemberId.{MemberId}
-use Rattle.cluster_script.proofs.BlankLaws.{text-before, text-behind}
+use Rattle.script_grammar.proofs.BlankLaws.{text-before, text-behind}
 use Rattle.script_model.specs.Keywords.{word_of}
 use Rattle.script_model.specs.Script.{member_text, two_texts, body_text, request_text, rest_text, IsRequest}
 use Rattle.script_model.specs.declared.keyword.Keyword.TheVariants as words

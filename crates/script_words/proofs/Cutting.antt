@@ -1,6 +1,9 @@
 -- Lines from the front.
 use Rattle.std.proofs.Common.{◌≡◌, ℕ, ◌+◌, ◌-◌, ◌<◌, ◌==◌, Bool, true, false, cond, List, [], ◌∷◌, ◌++◌, length, take, drop, Option, Some, None, arith, append_assoc, refl, ◌∙◌, ap, sym, suc, take_all, length-drop}
-use Rattle.script_words.specs.Lines.{lines_in, first_at, push_byte, one_more}
+use Rattle.std.specs.List.{list_all}
+use Rattle.std.proofs.lemmas.Bool.{and_parts}
+use Rattle.std.proofs.lemmas.Bool.Decides.{nat_tests}
+use Rattle.script_words.specs.Lines.{lines_in, first_at, push_byte, one_more, is_in_line}
 
 cut-step : (t : Bool) (b : ℕ) (bs : List ℕ) (o : Option ℕ) (n : ℕ) → ((m : ℕ) → o ≡ Some m → lines_in bs ≡ take m bs ∷ lines_in (drop 1 (drop m bs))) → cond t (Some 0) (one_more o) ≡ Some n → cond t ([] ∷ lines_in bs) (push_byte b (lines_in bs)) ≡ take n (b ∷ bs) ∷ lines_in (drop 1 (drop n (b ∷ bs)))
 cut-step true b bs o n ih h =
@@ -35,3 +38,13 @@ pub cut-more : (front more : List (List ℕ)) (bytes rest tail : List ℕ) (n : 
 cut-more front more bytes rest tail n so end is put =
     let all : take (length tail - 1) (drop 1 tail) ≡ drop 1 tail = take_all (length tail - 1) (drop 1 tail) (omega (arith, length-drop 1 tail)) in
     rw (all, put, is) (append_assoc front (take n rest ∷ []) (lines_in (drop 1 (drop n rest))) ∙ ap (λ ls. front ++ ls) (sym (lines_in-first rest n end)) ∙ so)
+
+-- a line is cut again where it was ended
+feeds-apart : (b : ℕ) → is_in_line b ≡ true → (b == 10) ≡ false
+feeds-apart b h = grind (arith, nat_tests)
+
+pub line-again : (line rest : List ℕ) → list_all is_in_line line ≡ true → lines_in (line ++ (10 ∷ rest)) ≡ line ∷ lines_in rest
+line-again [] rest h = refl
+line-again (b ∷ bs) rest h =
+    let both = and_parts (is_in_line b) (list_all is_in_line bs) h in
+    rw (feeds-apart b both.0, line-again bs rest both.1) refl

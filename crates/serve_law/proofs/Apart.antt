@@ -17,7 +17,7 @@ use Rattle.pg_model.specs.declared.answers.Streamed.{Streamed}
 use Rattle.pg_model.specs.declared.answers.Streamed.TheVariants as streams
 use Rattle.pg_model.specs.Facts.{ServerFacts, entries_of, is_creating, is_down, is_replica, is_up}
 use Rattle.pg_model.specs.Running.{is_primary}
-use Rattle.pg_model.specs.Servers.{news_at}
+use Rattle.pg_cluster.specs.Servers.{news_at}
 use Rattle.event_book.specs.declared.agent_process.AgentProcess.{AgentProcess}
 use Rattle.event_book.specs.declared.event.AgentEvent.TheVariants as agents
 use Rattle.event_book.specs.declared.event.Event.{Event}

@@ -3,8 +3,8 @@ use Rattle.std.proofs.Common.{◌≡◌, ℕ, ◌<◌, List, [], ◌∷◌, leng
 use Rattle.std.proofs.lemmas.Option.{same_Some}
 use Rattle.std.specs.Prelude.{slice_get, slice_set}
 use Rattle.pat_base.specs.declared.ticks.Ticks.{Ticks}
-use Rattle.summary.specs.declared.answers.WatchOf.{WatchOf}
-use Rattle.summary.specs.Heads.{filled}
+use Rattle.summary_model.specs.declared.answers.WatchOf.{WatchOf}
+use Rattle.summary_model.specs.Heads.{filled}
 
 -- one more member's margin at its place
 pub filled-more : (places : List (Option Ticks)) (members : List WatchOf) (i : ℕ) (member : WatchOf) → i < length places → slice_get members i ≡ Some member → slice_set (filled places (take i members)) i member.margin ≡ filled places (take (suc i) members)

@@ -1,13 +1,2 @@
 pub mod Filling
-pub mod Fronts
-pub mod Writing
-pub mod Breaking
-pub mod Modes
-pub mod Losing
-pub mod Standing
-pub mod Guarding
-pub mod Keeping
-pub mod Measuring
-pub mod Steps
-pub mod Listing
 pub mod Ticks

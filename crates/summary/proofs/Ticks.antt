@@ -6,15 +6,15 @@ use Rattle.pat_base.specs.declared.ticks.Ticks.{Ticks}
 use Rattle.event_book.specs.declared.event.Event.{Event}
 use Rattle.event_book.specs.declared.event.EventKind.{EventKind}
 use Rattle.event_book.specs.declared.event.EventKind.TheVariants as kinds
-use Rattle.summary.specs.declared.answers.FirstMoment.{FirstMoment}
-use Rattle.summary.specs.declared.answers.FirstMoment.TheVariants as moments
-use Rattle.summary.specs.declared.answers.Premises.{Premises}
-use Rattle.summary.specs.declared.answers.Premises.TheVariants as premises
-use Rattle.summary.specs.declared.answers.Synchronous.{Synchronous}
-use Rattle.summary.specs.declared.answers.Synchronous.TheVariants as synchronous
-use Rattle.summary.specs.Noting.{first_if, premises_after, synchronous_after}
-use Rattle.summary.specs.Passing.{IsTickAlone, summary_later}
-use Rattle.summary.specs.Sights.{SummaryFacts, noted_step, noted_steps}
+use Rattle.summary_model.specs.declared.answers.FirstMoment.{FirstMoment}
+use Rattle.summary_model.specs.declared.answers.FirstMoment.TheVariants as moments
+use Rattle.summary_model.specs.declared.answers.Premises.{Premises}
+use Rattle.summary_model.specs.declared.answers.Premises.TheVariants as premises
+use Rattle.summary_model.specs.declared.answers.Synchronous.{Synchronous}
+use Rattle.summary_model.specs.declared.answers.Synchronous.TheVariants as synchronous
+use Rattle.summary_model.specs.Noting.{first_if, premises_after, synchronous_after}
+use Rattle.summary_model.specs.Passing.{IsTickAlone, summary_later}
+use Rattle.summary_model.specs.Sights.{SummaryFacts, noted_step, noted_steps}
 use Rattle.std.proofs.Common.{Option, false}
 
 premises-same : (met : Premises) (now : Ticks) (margins : List (Option Ticks)) (lateness : ℕ) → premises_after met now margins lateness kinds.Tick ≡ met

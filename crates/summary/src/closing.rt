@@ -1,104 +1,42 @@
 //! The text of the summary.
 ghost use Rattle.std.specs.Prelude.{◌≡◌, IfOk, OnOk, [], string_bytes};
 ghost use Rattle.event_book.specs.NameLists.{name_cmp};
-ghost use Rattle.summary.specs.SummaryText.{closing_text, claims_text, counts_text, with_writer, sorted_from};
+ghost use Rattle.summary_model.specs.SummaryText.{closing_text, claims_text, counts_text, with_writer, sorted_from};
 
-use crate::{Breach, Closing, FirstMoment, Premises, Synchronous};
 use event_book::{listed, put_name};
 use pat_base::Name;
 use std::alloc::{AllocError, Global};
-use std::fmt;
+use summary_model::Closing;
 
-impl fmt::Display for Breach {
-    ghost use Rattle.std.specs.Prelude.{Some};
-    ghost use Rattle.summary.specs.SummaryText.{breach_text};
-
-    ghost output = { λ breach. Some (breach_text breach) };
-
-    fn fmt<W: fmt::Write>(&self, f: &mut fmt::Formatter<W>) -> fmt::Result {
-        match self {
-            Breach::Watchdog(name) => write!(f, "the watchdog of {name}"),
-            Breach::LateWatchdog(name) => write!(f, "a late watchdog of {name}"),
-            Breach::Pause => f.write_str("a pause"),
-            Breach::Operator(name) => write!(f, "an operator on {name}"),
-        }
-    }
+/// The seven lines of the summary, each with its line feed. It fails only for want of memory.
+pub fn closing_text(alloc: Global, closing: &Closing) -> Result<String, AllocError>
+    ensures { IfOk result (λ text. string_bytes text ≡ closing_text closing.now) }
+{
+    let names = writer_names(alloc, &closing.writers)?;
+    let writers = listed(alloc, "none", &names)?;
+    let counts = counts_text(alloc, closing, writers.as_str())?;
+    let mut text = claims_text(alloc, closing)?;
+    text.push_str(counts.as_str())?;
+    Ok(text)
 }
 
-impl fmt::Display for Premises {
-    ghost use Rattle.std.specs.Prelude.{Some};
-    ghost use Rattle.summary.specs.SummaryText.{premises_text};
-
-    ghost output = { λ premises. Some (premises_text premises) };
-
-    fn fmt<W: fmt::Write>(&self, f: &mut fmt::Formatter<W>) -> fmt::Result {
-        match self {
-            Premises::Met => f.write_str("met"),
-            Premises::Broken { tick, why } => write!(f, "broken at {tick} by {why}"),
-        }
-    }
+/// The four lines up to the claim of one writer.
+fn claims_text(alloc: Global, closing: &Closing) -> Result<String, AllocError>
+    ensures { IfOk result (λ text. string_bytes text ≡ claims_text closing.now) }
+{
+    let (end, premises, synchronous) = (closing.end, closing.premises, closing.synchronous);
+    let two_writers = closing.two_writers;
+    format!(in alloc;
+        "end at {end}\npremises {premises}\nsynchronous {synchronous}\ntwo writers {two_writers}\n"
+    )
 }
 
-impl fmt::Display for Synchronous {
-    ghost use Rattle.std.specs.Prelude.{Some};
-    ghost use Rattle.summary.specs.SummaryText.{synchronous_text};
-
-    ghost output = { λ synchronous. Some (synchronous_text synchronous) };
-
-    fn fmt<W: fmt::Write>(&self, f: &mut fmt::Formatter<W>) -> fmt::Result {
-        match self {
-            Synchronous::On => f.write_str("on"),
-            Synchronous::Off => f.write_str("off"),
-            Synchronous::Broken(tick) => write!(f, "broken at {tick}"),
-        }
-    }
-}
-
-impl fmt::Display for FirstMoment {
-    ghost use Rattle.std.specs.Prelude.{Some};
-    ghost use Rattle.summary.specs.SummaryText.{first_text};
-
-    ghost output = { λ first. Some (first_text first) };
-
-    fn fmt<W: fmt::Write>(&self, f: &mut fmt::Formatter<W>) -> fmt::Result {
-        match self {
-            FirstMoment::Never => f.write_str("never"),
-            FirstMoment::At(tick) => write!(f, "first at {tick}"),
-        }
-    }
-}
-
-impl Closing {
-    /// The seven lines of the summary, each with its line feed. It fails only for want of memory.
-    pub fn text(&self, alloc: Global) -> Result<String, AllocError>
-        ensures { IfOk result (λ text. string_bytes text ≡ closing_text self.now) }
-    {
-        let names = writer_names(alloc, &self.writers)?;
-        let writers = listed(alloc, "none", &names)?;
-        let counts = self.counts(alloc, writers.as_str())?;
-        let mut text = self.claims(alloc)?;
-        text.push_str(counts.as_str())?;
-        Ok(text)
-    }
-
-    /// The four lines up to the claim of one writer.
-    fn claims(&self, alloc: Global) -> Result<String, AllocError>
-        ensures { IfOk result (λ text. string_bytes text ≡ claims_text self.now) }
-    {
-        let (end, premises, synchronous) = (self.end, self.premises, self.synchronous);
-        let two_writers = self.two_writers;
-        format!(in alloc;
-            "end at {end}\npremises {premises}\nsynchronous {synchronous}\ntwo writers {two_writers}\n"
-        )
-    }
-
-    /// The three lines from the list of writers on.
-    fn counts(&self, alloc: Global, writers: &str) -> Result<String, AllocError>
-        ensures { IfOk result (λ text. string_bytes text ≡ counts_text self.now writers.now) }
-    {
-        let (acknowledged, lost) = (self.acknowledged, self.lost);
-        format!(in alloc; "writers {writers}\nacknowledged {acknowledged}\nlost {lost}\n")
-    }
+/// The three lines from the list of writers on.
+fn counts_text(alloc: Global, closing: &Closing, writers: &str) -> Result<String, AllocError>
+    ensures { IfOk result (λ text. string_bytes text ≡ counts_text closing.now writers.now) }
+{
+    let (acknowledged, lost) = (closing.acknowledged, closing.lost);
+    format!(in alloc; "writers {writers}\nacknowledged {acknowledged}\nlost {lost}\n")
 }
 
 /// The names of the servers that accept writes, in byte order.

@@ -1,10 +1,10 @@
 //! What the head of a script makes of the summary, before the first event.
 ghost use Rattle.std.specs.Prelude.{◌≡◌, ◌≤◌, length, replicate, None};
 ghost use Rattle.pat_base.specs.declared.member_id.TheConstants.{MOST_MEMBERS};
-ghost use Rattle.summary.specs.Heads.{filled, is_watching, first_unwatched, head_breach, declared_mode};
+ghost use Rattle.summary_model.specs.Heads.{filled, is_watching, first_unwatched, head_breach, declared_mode};
 
-use crate::{Breach, Synchronous, WatchOf};
 use pat_base::{MOST_MEMBERS, Name, Ticks};
+use summary_model::{Breach, Synchronous, WatchOf};
 
 /// The margins of the watchdogs of these members, by the numbers of the members.
 pub fn margins_of(members: &[WatchOf]) -> [Option<Ticks>; MOST_MEMBERS]

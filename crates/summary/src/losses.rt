@@ -1,6 +1,6 @@
 //! Which events may lose a commit.
 ghost use Rattle.std.specs.Prelude.{◌≡◌, not};
-ghost use Rattle.summary.specs.Losses.{may_lose, may_lose_by_log};
+ghost use Rattle.summary_model.specs.Losses.{may_lose, may_lose_by_log};
 
 use event_book::{EventKind, LogEvent, ReplicationEvent, ServerEvent};
 

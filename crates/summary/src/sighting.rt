@@ -1,10 +1,10 @@
 //! What the events alone tell of what is seen beside each.
 ghost use Rattle.std.specs.Prelude.{◌≡◌};
-ghost use Rattle.summary.specs.Sights.{since_by_watchdog, since_after, lateness_by_watchdog, lateness_at, is_loss, tells_loss, seen_beside};
+ghost use Rattle.summary_model.specs.Sights.{since_by_watchdog, since_after, lateness_by_watchdog, lateness_at, is_loss, tells_loss, seen_beside};
 
-use crate::Seen;
 use event_book::{Event, EventKind, ReplicationEvent, WatchdogEvent};
 use pat_base::Ticks;
+use summary_model::Seen;
 
 fn since_by_watchdog(before: Ticks, event: &WatchdogEvent) -> Ticks
     ensures { result ≡ since_by_watchdog before event.now }

@@ -2,16 +2,17 @@
 ghost use Rattle.std.specs.Prelude.{◌≡◌, ◌+◌, ◌^◌, ◌<◌, ◌≤◌, All, List, length};
 ghost use Rattle.pat_base.specs.declared.member_id.TheConstants.{MOST_MEMBERS};
 ghost use Rattle.event_book.specs.declared.event.Event.{Event};
-ghost use Rattle.summary.specs.Passing.{IsTickAlone, summary_later};
-ghost use Rattle.summary.specs.Sights.{summary_of, noted_before, noted_step, noted_steps};
+ghost use Rattle.summary_model.specs.Passing.{IsTickAlone, summary_later};
+ghost use Rattle.summary_model.specs.Sights.{summary_of, noted_before, noted_step, noted_steps};
 
+use crate::Watch;
 use crate::noting::ticks_after;
 use crate::sighting::{seen_beside, since_after};
-use crate::{Closing, Watch, WatchOf};
 use event_book::Event;
 use lease_store::Config;
 use pat_base::Ticks;
 use std::marker::Model;
+use summary_model::{Closing, WatchOf};
 
 /// The summary of the steps noted so far. It is of fixed size, and keeps no event. What is seen beside an event it reads from the
 /// silent events: the one before each feed, which tells from when that is measured, and the one behind a loss.
@@ -22,7 +23,7 @@ pub struct Summary {
 }
 
 impl Model for Summary {
-    ghost use Rattle.summary.specs.Sights.{SummaryFacts};
+    ghost use Rattle.summary_model.specs.Sights.{SummaryFacts};
 
     ghost Value = { SummaryFacts };
 

@@ -1,19 +1,19 @@
 //! The summary that notes events.
 ghost use Rattle.std.specs.Prelude.{◌≡◌, ◌+◌, ◌^◌, ◌<◌, ◌≤◌, length};
-ghost use Rattle.summary.specs.Heads.{watch_of};
-ghost use Rattle.summary.specs.Noting.{noted};
-ghost use Rattle.summary.specs.Passing.{watch_later};
+ghost use Rattle.summary_model.specs.Heads.{watch_of};
+ghost use Rattle.summary_model.specs.Noting.{noted};
+ghost use Rattle.summary_model.specs.Passing.{watch_later};
 
 use crate::head::{declared_mode, first_unwatched, head_breach, margins_of};
 use crate::noting::{
     broken_by, count_after, first_if, premises_after, synchronous_after, ticks_after,
 };
 use crate::writers::{note_writers, two_after};
-use crate::{Closing, FirstMoment, SERVERS, Seen, WatchOf};
 use event_book::Event;
 use lease_store::Config;
 use pat_base::{MOST_MEMBERS, Ticks};
 use std::marker::Model;
+use summary_model::{Closing, FirstMoment, SERVERS, Seen, WatchOf};
 
 /// The summary of the events noted so far. It is of fixed size, and keeps none of them.
 #[derive(Drop)]
@@ -23,7 +23,7 @@ pub struct Watch {
 }
 
 impl Model for Watch {
-    ghost use Rattle.summary.specs.Noting.{WatchFacts};
+    ghost use Rattle.summary_model.specs.Noting.{WatchFacts};
 
     ghost Value = { WatchFacts };
 

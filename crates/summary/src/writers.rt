@@ -1,11 +1,11 @@
 //! Which servers accept writes.
 ghost use Rattle.std.specs.Prelude.{◌≡◌, length};
-ghost use Rattle.summary.specs.Noting.{writers_by_server, writers_by_watchdog, writers_after, has_two, two_by_server, two_after};
+ghost use Rattle.summary_model.specs.Noting.{writers_by_server, writers_by_watchdog, writers_after, has_two, two_by_server, two_after};
 
 use crate::noting::first_if;
-use crate::{FirstMoment, SERVERS};
 use event_book::{EventKind, ServerEvent, WatchdogEvent};
 use pat_base::{Name, Ticks};
+use summary_model::{FirstMoment, SERVERS};
 
 /// The names of the servers that accept writes, by their numbers, after an event.
 pub fn note_writers(writers: &mut [Option<Name>; SERVERS], kind: &EventKind)

@@ -7,19 +7,19 @@ use Rattle.text_table.specs.declared.alignment.Alignment.{Alignment}
 use Rattle.text_table.specs.declared.alignment.Alignment.TheVariants as sides
 use Rattle.text_table.specs.declared.slot.Slot.{Slot}
 use Rattle.text_table.specs.Laws.{HasRoom, heading_room, rule_of}
-use Rattle.text_table.specs.Tables.{ColumnText, TableText, aligned, cell_at, cell_text, cells_from, column_width, dashes, headings, on_side, over, row_line, rule_line, slot_of, slots_from, slots_of, spaces, table_lines, top_line, wider}
+use Rattle.text_table.specs.Tables.{ColumnText, TableText, aligned, cell_at, cell_text, cells_from, column_width, dashes, headings, hyphen, on_side, over, row_line, rule_line, slot_of, slots_from, slots_of, space, spaces, table_lines, top_line, wider}
 
-length-side : (side : Alignment) (text space : List ℕ) → length (on_side side text space) ≡ length text + length space
-length-side sides.Left text space = length-append text space
-length-side sides.Right text space = omega (arith, length-append space text)
+length-side : (side : Alignment) (text room : List ℕ) → length (on_side side text room) ≡ length text + length room
+length-side sides.Left text room = length-append text room
+length-side sides.Right text room = omega (arith, length-append room text)
 
 -- a cell that fits its column takes the width of that and three signs
 cell-width : (slot : Slot) (text : List ℕ) → length text ≤ slot.width → length (cell_text slot text) ≡ slot.width + 3
 cell-width slot text fits =
-    omega (arith, length-append (aligned slot text) (codes " |"), length-side slot.alignment text (spaces (slot.width - length text)), length-replicate {A = ℕ} (slot.width - length text) 32)
+    omega (arith, length-append (aligned slot text) (codes " |"), length-side slot.alignment text (spaces (slot.width - length text)), length-replicate {A = ℕ} (slot.width - length text) space)
 
 dashes-width : (slot : Slot) → length (dashes slot) ≡ slot.width + 3
-dashes-width slot = omega (arith, length-append (replicate slot.width 45) (codes "-+"), length-replicate {A = ℕ} slot.width 45)
+dashes-width slot = omega (arith, length-append (replicate slot.width hyphen) (codes "-+"), length-replicate {A = ℕ} slot.width hyphen)
 
 -- the cells of the row fit the columns, of which the first stands at this place
 abbrev Fits : ℕ → List Slot → List (List ℕ) → Type 0

@@ -45,14 +45,22 @@ slots_from place (column ∷ columns) rows = slot_of place column rows ∷ slots
 abbrev pub slots_of : List ColumnText → List (List (List ℕ)) → List Slot
 slots_of columns rows = slots_from 0 columns rows
 
+-- the byte that fills a cell
+abbrev pub space : ℕ
+space = 32
+
+-- the byte of a rule between two corners
+abbrev pub hyphen : ℕ
+hyphen = 45
+
 -- so many spaces
 abbrev pub spaces : ℕ → List ℕ
-spaces count = replicate count 32
+spaces count = replicate count space
 
--- a text with space on its other side
+-- a text with room on its other side
 abbrev pub on_side : Alignment → List ℕ → List ℕ → List ℕ
-on_side sides.Left text space = text ++ space
-on_side sides.Right text space = space ++ text
+on_side sides.Left text room = text ++ room
+on_side sides.Right text room = room ++ text
 
 -- a text, on its side of the column, as wide as that
 abbrev pub aligned : Slot → List ℕ → List ℕ
@@ -73,7 +81,7 @@ row_line slots row = codes "|" ++ cells_from 0 slots row
 
 -- the part of a rule that a column has
 abbrev pub dashes : Slot → List ℕ
-dashes slot = codes "-" ++ (replicate slot.width 45 ++ codes "-+")
+dashes slot = codes "-" ++ (replicate slot.width hyphen ++ codes "-+")
 
 -- a rule, from the first bar to the last
 abbrev pub rule_line : List Slot → List ℕ

@@ -21,11 +21,11 @@ use Rattle.lease_store.specs.Keys.{Keys, is_present}
 use Rattle.pg_model.specs.declared.answers.Streamed.{Streamed}
 use Rattle.pg_model.specs.declared.answers.Streamed.TheVariants as streams
 use Rattle.pg_model.specs.declared.waiting.Waiting.{Waiting}
-use Rattle.pg_model.specs.Completing.{NoneComplete, is_complete_at}
+use Rattle.pg_cluster.specs.Completing.{NoneComplete, is_complete_at}
 use Rattle.pg_model.specs.Facts.{ServerFacts}
 use Rattle.pg_model.specs.Replication.{first_is_met}
-use Rattle.pg_model.specs.Running.{completed, started, stopped}
-use Rattle.pg_model.specs.Servers.{news_at, ticked_unless_live}
+use Rattle.pg_model.specs.Running.{completed, started, stopped, ticked_unless_live}
+use Rattle.pg_cluster.specs.Servers.{news_at}
 use Rattle.pg_model.specs.Status.{status_of}
 use Rattle.event_book.specs.declared.agent_process.AgentProcess.{AgentProcess}
 use Rattle.event_book.specs.declared.event.Event.{Event}

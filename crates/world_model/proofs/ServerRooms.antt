@@ -12,8 +12,7 @@ use Rattle.pat_base.specs.ServerState.{live}
 use Rattle.pg_model.specs.Facts.{ServerFacts, is_creating, is_down}
 use Rattle.pg_model.specs.Replication.{received_from}
 use Rattle.pg_model.specs.Rewinding.{cloned, is_rewindable, rewound_to}
-use Rattle.pg_model.specs.Running.{completed, is_primary, primary_started, replica_started, started, stopped, stopping, ticked, wiped}
-use Rattle.pg_model.specs.Servers.{ticked_unless_live}
+use Rattle.pg_model.specs.Running.{completed, is_primary, primary_started, replica_started, started, stopped, stopping, ticked, wiped, ticked_unless_live}
 use Rattle.event_book.specs.declared.event.EventKind.{EventKind}
 use Rattle.event_book.specs.declared.event.EventKind.TheVariants as kinds
 use Rattle.event_book.specs.declared.event.LogEvent.{LogEvent}

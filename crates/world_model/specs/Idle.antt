@@ -6,9 +6,9 @@ use Rattle.leader_key.specs.Watchdog.{is_due_at}
 use Rattle.lease_store.specs.Answers.{expired_keys}
 use Rattle.pg_model.specs.declared.answers.Streamed.{Streamed}
 use Rattle.pg_model.specs.declared.answers.Streamed.TheVariants as streams
-use Rattle.pg_model.specs.Completing.{NoneComplete}
+use Rattle.pg_cluster.specs.Completing.{NoneComplete}
 use Rattle.pg_model.specs.Facts.{ServerFacts}
-use Rattle.pg_model.specs.Servers.{news_at}
+use Rattle.pg_cluster.specs.Servers.{news_at}
 use Rattle.event_book.specs.declared.agent_process.AgentProcess.{AgentProcess}
 use Rattle.event_book.specs.declared.event.EventKind.TheVariants as kinds
 use Rattle.event_book.specs.declared.member.Member.{Member}

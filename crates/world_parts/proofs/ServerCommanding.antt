@@ -13,7 +13,7 @@ use Rattle.wal_model.specs.Log.{end_of}
 use Rattle.pg_model.specs.Facts.{ServerFacts, entries_of, is_down}
 use Rattle.pg_model.specs.Replication.{entry_of}
 use Rattle.pg_model.specs.Running.{primary_started, stopping}
-use Rattle.pg_model.specs.Servers.{entry_at, entry_for}
+use Rattle.pg_cluster.specs.Servers.{entry_at, entry_for}
 use Rattle.event_book.specs.declared.member.Member.{Member}
 use Rattle.event_book.specs.Servers.{replica_starts_in, starts_as_primary, starts_as_replica, starts_slowly, stops, stops_quietly}
 use Rattle.cluster_model.specs.State.{Cluster}

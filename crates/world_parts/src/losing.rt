@@ -8,7 +8,8 @@ ghost use Rattle.world_model.specs.Comes.{MayCome};
 ghost use Rattle.world_model.specs.Promoting.{loss_at, loss_of_any};
 
 use event_book::{EventKind, Member, ReplicationEvent, ServerOf};
-use pg_model::{Server, Servers};
+use pg_cluster::Servers;
+use pg_model::Server;
 use std::alloc::{AllocError, Global};
 use wal_model::{Wal, has_serial, lacks};
 

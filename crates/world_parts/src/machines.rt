@@ -1,6 +1,6 @@
 //! The machines of members, as their agents find them.
 ghost use Rattle.std.specs.Prelude.{◌≡◌, ◌≤◌, ◌<◌, ◌^◌, IfSome, option_map, option_copied, length, slice_get};
-ghost use Rattle.pg_model.specs.Servers.{without_spare};
+ghost use Rattle.pg_cluster.specs.Servers.{without_spare};
 ghost use Rattle.agent_model.specs.Agents.{IsWithin};
 ghost use Rattle.pat_base.specs.declared.member_id.TheConstants.{MOST_MEMBERS};
 ghost use Rattle.cluster_model.specs.Machines.{watchdog_of, machine_from, declared_options, who_of};

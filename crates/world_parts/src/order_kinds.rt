@@ -15,7 +15,7 @@ use event_book::{
 };
 use lease_store::Bar;
 use pat_base::{MemberId, Name, Required, State, Ticks};
-use pg_model::Servers;
+use pg_cluster::Servers;
 use std::alloc::{AllocError, Global};
 
 /// The declared member of this number, if there is a number.

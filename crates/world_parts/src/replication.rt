@@ -8,7 +8,8 @@ use crate::sources::source_of;
 use agent_model::Replication;
 use event_book::Member;
 use pat_base::{Lsn, MOST_MEMBERS, MemberId};
-use pg_model::{Server, Servers};
+use pg_cluster::Servers;
+use pg_model::Server;
 
 /// Whom the commits of a member's server wait for, and how far each connected member has confirmed. `None` exactly where there is
 /// no server.

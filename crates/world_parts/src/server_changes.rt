@@ -9,7 +9,7 @@ ghost use Rattle.pat_base.specs.Moments.{latest};
 
 use event_book::{EventKind, LogEvent, ReplicationEvent, ServerEvent, WatchdogEvent};
 use pat_base::{State, Ticks};
-use pg_model::Servers;
+use pg_cluster::Servers;
 use std::alloc::AllocError;
 
 /// The servers after a happening of this moment. It fails only for want of memory.

@@ -1,6 +1,6 @@
 //! What commands of a script come to at servers.
 ghost use Rattle.std.specs.Prelude.{◌≡◌, ◌<◌, ◌^◌, IfSome, option_and_then, option_map, slice_get};
-ghost use Rattle.pg_model.specs.Servers.{entry_for};
+ghost use Rattle.pg_cluster.specs.Servers.{entry_for};
 ghost use Rattle.cluster_model.specs.State.{Cluster};
 ghost use Rattle.cluster_model.specs.Beginnings.{again_by, beginning_of, completion_in, completion_of};
 ghost use Rattle.world_model.specs.Comes.{MayCome};
@@ -10,7 +10,7 @@ ghost use Rattle.cluster_model.specs.ServerCommands.{is_gone, commit_of, crash_o
 use cluster_model::{Beginning, Completion};
 use event_book::{EventKind, LogEvent, Member, Note, ServerEvent, ServerOf};
 use pat_base::{State, Ticks};
-use pg_model::Servers;
+use pg_cluster::Servers;
 use script_model::{Delay, SlowedCall};
 use wal_model::Entry;
 

@@ -7,7 +7,8 @@ ghost use Rattle.cluster_model.specs.Streaming.{link_of_members, source_at, sour
 use crate::links::CutLinks;
 use event_book::{Link, LinkEnd, Member};
 use pat_base::{Lsn, ServerId, State};
-use pg_model::{Server, Servers};
+use pg_cluster::Servers;
+use pg_model::Server;
 
 /// The member from whose server that of this member receives: it is a replica whose log didn't diverge, its upstream
 /// accepts writes, and the link between the two is joined.

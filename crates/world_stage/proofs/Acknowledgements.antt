@@ -12,7 +12,7 @@ use Rattle.pat_base.specs.ServerState.{writes}
 use Rattle.pg_model.specs.declared.waiting.Waiting.{Waiting}
 use Rattle.pg_model.specs.Facts.{ServerFacts}
 use Rattle.pg_model.specs.Replication.{acknowledged, first_is_met, first_serial, is_met, may_acknowledge, next_acknowledged}
-use Rattle.pg_model.proofs.Clusters.{got-set_other, got-set_same}
+use Rattle.pg_model.proofs.Lists.{got-set_other, got-set_same}
 use Rattle.event_book.specs.declared.event.Event.{Event}
 use Rattle.event_book.specs.declared.event.EventKind.{EventKind}
 use Rattle.event_book.specs.declared.event.EventKind.TheVariants as kinds

@@ -4,10 +4,11 @@ use Rattle.std.specs.Prelude.{slice_get, if◌then◌else◌}
 use Rattle.pat_base.specs.declared.ticks.Ticks.{Ticks}
 use Rattle.pat_base.specs.Changes.{changed_at, with_changed}
 use Rattle.pat_base.specs.ServerState.{writes}
-use Rattle.pg_model.specs.declared.answers.Rewound.{Rewound}
+use Rattle.pg_cluster.specs.declared.answers.Rewound.{Rewound}
 use Rattle.pg_model.specs.Facts.{ServerFacts, is_creating}
-use Rattle.pg_model.specs.Rewinding.{changed_from, cloned, cloned_at, holds_between, is_rewindable, may_clone, may_clone_at, may_rewind, may_rewind_at, rewind_at, rewind_between, rewound, rewound_at, rewound_to}
-use Rattle.pg_model.proofs.Rewinds.{rewound_at-told}
+use Rattle.pg_cluster.specs.Rewinding.{changed_from, cloned_at, holds_between, may_clone_at, may_rewind_at, rewind_at, rewind_between, rewound_at}
+use Rattle.pg_model.specs.Rewinding.{cloned, is_rewindable, may_clone, may_rewind, rewound, rewound_to}
+use Rattle.pg_cluster.proofs.Rewinds.{rewound_at-told}
 use Rattle.event_book.specs.declared.event.Event.{Event}
 use Rattle.event_book.specs.declared.event.EventKind.TheVariants as kinds
 use Rattle.event_book.specs.declared.event.LogEvent.TheVariants as logs

@@ -8,7 +8,7 @@ use Rattle.pat_base.specs.declared.ticks.Ticks.{Ticks}
 use Rattle.pat_base.specs.Changes.{changed_at, with_changed}
 use Rattle.pg_model.specs.Facts.{ServerFacts}
 use Rattle.pg_model.specs.Running.{moment_after, primary_started, restarted, restarted_in, started, stopped}
-use Rattle.pg_model.proofs.Clusters.{got-set_same}
+use Rattle.pg_model.proofs.Lists.{got-set_same}
 use Rattle.event_book.specs.declared.event.Event.{Event}
 use Rattle.event_book.specs.declared.event.EventKind.{EventKind}
 use Rattle.event_book.specs.declared.event.EventKind.TheVariants as kinds

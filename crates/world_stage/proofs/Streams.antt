@@ -8,7 +8,7 @@ use Rattle.pg_model.specs.declared.answers.Streamed.{Streamed}
 use Rattle.pg_model.specs.declared.answers.Streamed.TheVariants as streams
 use Rattle.pg_model.specs.Facts.{ServerFacts}
 use Rattle.pg_model.specs.Replication.{confirming, is_current, news_by, stream_of}
-use Rattle.pg_model.specs.Servers.{after_news_at, news_at, news_between, streamed_at, after_streamed_from}
+use Rattle.pg_cluster.specs.Servers.{after_news_at, news_at, news_between, streamed_at, after_streamed_from}
 use Rattle.event_book.specs.declared.event.Event.{Event}
 use Rattle.event_book.specs.declared.event.EventKind.{EventKind}
 use Rattle.event_book.specs.declared.event.EventKind.TheVariants as kinds

@@ -22,7 +22,7 @@ use ha_loop::{Agent, Outputs};
 use lease_store::Store;
 use member_options::MemberOptions;
 use pat_base::{Host, MemberId, Name, Ticks};
-use pg_model::Servers;
+use pg_cluster::Servers;
 use rest_paths::Routes;
 use script_model::{End, Head};
 use std::alloc::{AllocError, Global};

@@ -4,7 +4,7 @@ ghost use Rattle.pat_base.specs.Lsn.{lsn_at};
 ghost use Rattle.pat_base.specs.ServerState.{writes};
 ghost use Rattle.wal_model.specs.Log.{IsPrefixOf, is_prefix, fork_of, received};
 ghost use Rattle.pg_model.specs.Facts.{entries_of, is_replica};
-ghost use Rattle.pg_model.specs.InStep.{CatchesUp, IsBehind, log_position_of, answer_of, has_received};
+ghost use Rattle.pg_model.specs.CatchingUp.{CatchesUp, IsBehind, log_position_of, answer_of, has_received};
 ghost use Rattle.pg_model.specs.Replication.{is_current, stream_of, news_where, after_streamed, received_from};
 ghost use Rattle.pg_model.specs.declared.server.catching_up.Met.TheVariants as mets;
 
@@ -26,7 +26,7 @@ pub(crate) enum Met {
 
 /// What a replica heard: its news, and whether it received from its upstream, and so is in step with it.
 #[derive(Clone, Copy, Debug, PartialEq, Eq)]
-pub(crate) struct CaughtUp {
+pub struct CaughtUp {
     /// What changed, if anything did.
     pub news: Option<Streamed>,
     /// Whether it received, though it may have been nothing.
@@ -34,9 +34,10 @@ pub(crate) struct CaughtUp {
 }
 
 impl Server {
-    /// Receives from the upstream as `meet` does, and answers what changed. Where the logs are known to have parted, the
-    /// place isn't sought again. It fails only for want of memory, and then stays as it was.
-    pub(crate) fn catch_up(
+    /// Receives from the upstream as `stream` does, and answers what is new, and whether it received. It runs as a replica. One
+    /// that is known to be in step isn't compared with its upstream, and where the logs are known to have parted, the place isn't
+    /// sought again. It fails only for want of memory, and then stays as it was.
+    pub fn catch_up(
         &mut self,
         upstream: &Server,
         most: usize,

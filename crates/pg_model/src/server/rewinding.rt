@@ -70,7 +70,7 @@ impl Server {
 }
 
 /// Whether a server in this state may be rewound.
-pub(crate) fn is_rewindable(state: State) -> bool
+pub fn is_rewindable(state: State) -> bool
     ensures { result ≡ is_rewindable state }
 {
     matches!(state, State::Replica | State::Stopped)

@@ -1,8 +1,8 @@
 //! What becomes of the logs of servers by that of another one: what replicas receive and confirm, rewinds and copies.
 ghost use Rattle.std.specs.Prelude.{OnOk, IfSome, IsTrue, slice_get, option_map, if◌then◌else◌, Some, None};
 ghost use Rattle.pg_model.specs.Facts.{is_replica};
-ghost use Rattle.pg_model.specs.Rewinding.{may_clone_at, rewind_at};
-ghost use Rattle.pg_model.specs.Servers.{news_at};
+ghost use Rattle.pg_cluster.specs.Rewinding.{may_clone_at, rewind_at};
+ghost use Rattle.pg_cluster.specs.Servers.{news_at};
 ghost use Rattle.cluster_model.specs.Commands.{kinds_of};
 ghost use Rattle.cluster_model.specs.Orders.{copying, rewinding};
 ghost use Rattle.cluster_model.specs.Parts.{events_of};

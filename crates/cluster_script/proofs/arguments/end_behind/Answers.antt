@@ -1,7 +1,7 @@
 use Rattle.std.proofs.Common.{ap}
 use Rattle.std.specs.Option.{option_copied}
 use Rattle.indexmap.specs.IndexMap.{keys}
-use Rattle.cluster_script.specs.Arguments.{end_in}
+use Rattle.script_grammar.specs.Arguments.{end_in}
 use Rattle.cluster_script.proofs.Behind.{word_behind-is}
 use Rattle.cluster_script.proofs.arguments.end_behind.Goals as goal
 

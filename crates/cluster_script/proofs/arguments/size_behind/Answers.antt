@@ -1,6 +1,6 @@
 use Rattle.std.proofs.Common.{ap}
 use Rattle.std.specs.Option.{option_copied}
-use Rattle.cluster_script.specs.Arguments.{commit_size_in}
+use Rattle.script_grammar.specs.Arguments.{commit_size_in}
 use Rattle.cluster_script.proofs.Behind.{word_behind-is}
 use Rattle.cluster_script.proofs.arguments.size_behind.Goals as goal
 

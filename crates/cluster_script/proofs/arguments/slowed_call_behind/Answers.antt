@@ -1,6 +1,6 @@
 use Rattle.std.proofs.Common.{ap}
 use Rattle.std.specs.Option.{option_copied}
-use Rattle.cluster_script.specs.Arguments.{slowed_call_in, delay_in}
+use Rattle.script_grammar.specs.Arguments.{slowed_call_in, delay_in}
 use Rattle.cluster_script.proofs.Behind.{words_behind-is}
 use Rattle.cluster_script.proofs.arguments.slowed_call_behind.Goals as goal
 

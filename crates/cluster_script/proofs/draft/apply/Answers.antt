@@ -1,11 +1,11 @@
 use Rattle.std.proofs.Common.{◌≡◌, ◌<◌, ◌∙◌, ap, subst, None, length}
 use Rattle.pat_base.proofs.Names.{same_fields-Decides}
 use Rattle.pat_base.specs.declared.member_id.TheConstants.{MOST_MEMBERS}
-use Rattle.cluster_script.specs.Members.{place_of}
-use Rattle.cluster_script.specs.Reading.{IsNew}
+use Rattle.script_grammar.specs.Members.{place_of}
+use Rattle.script_grammar.specs.Reading.{IsNew}
 use Rattle.script_model.specs.Script.{member_names, members_in}
-use Rattle.cluster_script.specs.declared.addition.Addition.{Addition}
-use Rattle.cluster_script.proofs.MemberLaws.{members-insert_entry}
+use Rattle.script_grammar.specs.declared.addition.Addition.{Addition}
+use Rattle.script_grammar.proofs.MemberLaws.{members-insert_entry}
 use Rattle.cluster_script.proofs.draft.apply.Goals as goal
 
 pub returns-in_ok-insert-in-Member-clause-members : goal.returns-in_ok-insert-in-Member-clause-members

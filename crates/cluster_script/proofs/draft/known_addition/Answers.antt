@@ -1,5 +1,5 @@
 use Rattle.std.proofs.Common.{rules}
-use Rattle.cluster_script.proofs.MemberLaws.{names-are-keys}
+use Rattle.script_grammar.proofs.MemberLaws.{names-are-keys}
 use Rattle.cluster_script.proofs.draft.known_addition.Goals as goal
 
 pub returns-in-Some-clause-value : goal.returns-in-Some-clause-value

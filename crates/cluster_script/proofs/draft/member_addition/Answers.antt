@@ -1,4 +1,4 @@
-use Rattle.cluster_script.proofs.MemberLaws.{among-members}
+use Rattle.script_grammar.proofs.MemberLaws.{among-members}
 use Rattle.cluster_script.proofs.draft.member_addition.Goals as goal
 
 pub returns-clause-new : goal.returns-clause-new

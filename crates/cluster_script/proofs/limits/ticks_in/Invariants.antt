@@ -1,6 +1,6 @@
 use Rattle.std.proofs.Common.{◌≡◌, ◌+◌, ◌-◌, ◌^◌, ◌≤◌, drop, map, min}
 use Rattle.std.specs.List.{sum_by}
-use Rattle.cluster_script.specs.Limits.{ticks_in_line, ticks_in}
+use Rattle.script_grammar.specs.Limits.{ticks_in_line, ticks_in}
 use Rattle.cluster_script.proofs.limits.ticks_in.Given as goal
 
 abbrev pub invariant-loop-line : goal.invariant-loop-line

@@ -1,7 +1,7 @@
 use Rattle.std.proofs.Common.{◌∙◌}
 use Rattle.indexmap.specs.IndexMap.{keys}
 use Rattle.pat_base.proofs.Names.{same_fields-Decides}
-use Rattle.cluster_script.proofs.Places.{place_of-position}
+use Rattle.script_grammar.proofs.Places.{place_of-position}
 use Rattle.cluster_script.proofs.members.place_of.Goals as goal
 
 pub returns-clause-place : goal.returns-clause-place

@@ -1,4 +1,4 @@
-use Rattle.script_generator.proofs.BodyLaws.{parts-IsScript}
+use Rattle.generator_model.proofs.BodyLaws.{parts-IsScript}
 use Rattle.script_generator.proofs.generating.generate.Goals as goal
 
 pub new-requires : goal.new-requires

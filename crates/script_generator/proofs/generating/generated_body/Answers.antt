@@ -1,7 +1,7 @@
 use Rattle.std.proofs.Common.{◌+◌, [], ◌∷◌, arith}
 use Rattle.script_model.specs.declared.line.Line.TheVariants as lines
-use Rattle.script_generator.specs.Generating.{ticks_behind, generated_body}
-use Rattle.script_generator.proofs.BodyLaws.{drawn-step}
+use Rattle.generator_model.specs.Generating.{ticks_behind, generated_body}
+use Rattle.generator_model.proofs.BodyLaws.{drawn-step}
 use Rattle.script_generator.proofs.generating.generated_body.Goals as goal
 
 pub loop-drawn-preserved : goal.loop-drawn-preserved

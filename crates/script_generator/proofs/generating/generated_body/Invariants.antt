@@ -1,6 +1,6 @@
 use Rattle.std.proofs.Common.{◌≡◌, ◌-◌, [], ◌∷◌, ◌++◌}
 use Rattle.script_model.specs.declared.line.Line.TheVariants as lines
-use Rattle.script_generator.specs.Generating.{ticks_behind, drawn_lines, generated_body}
+use Rattle.generator_model.specs.Generating.{ticks_behind, drawn_lines, generated_body}
 use Rattle.script_generator.proofs.generating.generated_body.Given as goal
 
 abbrev pub invariant-loop-drawn : goal.invariant-loop-drawn

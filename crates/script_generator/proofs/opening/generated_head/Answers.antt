@@ -3,8 +3,8 @@ use Rattle.pat_base.proofs.Names.{name_bytes-injective}
 use Rattle.cluster_config.specs.ConfigReading.{IsConfiguration}
 use Rattle.cluster_config.proofs.LineLaws.{default-IsConfiguration}
 use Rattle.script_model.specs.Script.{default_base, members_in}
-use Rattle.script_generator.specs.Opening.{generated_cluster}
-use Rattle.script_generator.proofs.HeadLaws.{generated-IsHead}
+use Rattle.generator_model.specs.Opening.{generated_cluster}
+use Rattle.generator_model.proofs.HeadLaws.{generated-IsHead}
 use Rattle.script_generator.proofs.opening.generated_head.Goals as goal
 
 pub new-requires : goal.new-requires

@@ -1,8 +1,8 @@
 use Rattle.std.proofs.Common.{[], ◌∷◌, refl, ap}
 use Rattle.pat_base.proofs.Names.{name_bytes-injective, same_fields-Decides}
 use Rattle.script_model.specs.Script.{members_in}
-use Rattle.script_generator.specs.Opening.{first_name, second_name, third_name, generated_member}
-use Rattle.script_generator.proofs.HeadLaws.{member-put}
+use Rattle.generator_model.specs.Opening.{first_name, second_name, third_name, generated_member}
+use Rattle.generator_model.proofs.HeadLaws.{member-put}
 use Rattle.script_generator.proofs.opening.generated_members.Goals as goal
 
 pub returns : goal.returns

@@ -1,5 +1,5 @@
 use Rattle.script_law.proofs.CanonLaws.{spelling-Spells, spelling-is-read}
-use Rattle.cluster_script.proofs.ReadLaws.{read-is-spelled}
+use Rattle.script_grammar.proofs.ReadLaws.{read-is-spelled}
 use Rattle.script_law.proofs.SaidConfigs.{spelled-IsSaid}
 use Rattle.script_law.proofs.laws.canonical_spelling_is_read.Goals as goal
 

@@ -1,5 +1,5 @@
 use Rattle.std.proofs.Common.{◌≡◌, [], drop}
-use Rattle.summary.specs.SummaryText.{sorted_from}
+use Rattle.summary_model.specs.SummaryText.{sorted_from}
 use Rattle.summary.proofs.closing.writer_names.Given as goal
 
 abbrev pub invariant-loop-writer : goal.invariant-loop-writer

@@ -1,5 +1,5 @@
 use Rattle.std.proofs.Common.{◌≡◌, drop}
-use Rattle.summary.specs.Heads.{first_unwatched}
+use Rattle.summary_model.specs.Heads.{first_unwatched}
 use Rattle.summary.proofs.head.first_unwatched.Given as goal
 
 abbrev pub invariant-loop-member : goal.invariant-loop-member

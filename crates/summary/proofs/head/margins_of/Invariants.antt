@@ -1,7 +1,7 @@
 use Rattle.std.proofs.Common.{◌≡◌, take, None}
 use Rattle.std.specs.Prelude.{replicate}
 use Rattle.pat_base.specs.declared.member_id.TheConstants.{MOST_MEMBERS}
-use Rattle.summary.specs.Heads.{filled}
+use Rattle.summary_model.specs.Heads.{filled}
 use Rattle.summary.proofs.head.margins_of.Given as goal
 
 abbrev pub invariant-loop-place : goal.invariant-loop-place

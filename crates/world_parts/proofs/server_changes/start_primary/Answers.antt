@@ -1,7 +1,7 @@
 use Rattle.std.proofs.Common.{◌≡◌, ◌&&◌, false, Some, rules}
 use Rattle.std.specs.Prelude.{slice_get}
 use Rattle.pg_model.specs.Facts.{is_down}
-use Rattle.pg_model.specs.Servers.{without_spare}
+use Rattle.pg_cluster.specs.Servers.{without_spare}
 use Rattle.event_book.specs.Servers.{starts_slowly}
 use Rattle.world_parts.proofs.ServerCommanding.{no-primary-start}
 use Rattle.world_parts.proofs.server_changes.start_primary.Goals as goal

@@ -1,6 +1,6 @@
 use Rattle.std.proofs.Common.{◌≡◌, Some, rules, ◌∙◌}
 use Rattle.std.specs.Prelude.{slice_get}
-use Rattle.pg_model.specs.Servers.{without_spare}
+use Rattle.pg_cluster.specs.Servers.{without_spare}
 use Rattle.world_parts.proofs.ServerCommanding.{others-stay-at}
 use Rattle.world_parts.proofs.server_changes.start_replica.Goals as goal
 

@@ -4,7 +4,7 @@ use Rattle.pat_base.specs.declared.server_state.State.{State}
 use Rattle.pat_base.specs.declared.ticks.Ticks.{Ticks}
 use Rattle.pg_model.specs.Facts.{is_up}
 use Rattle.pg_model.specs.Running.{is_primary}
-use Rattle.pg_model.specs.Servers.{without_spare}
+use Rattle.pg_cluster.specs.Servers.{without_spare}
 use Rattle.event_book.specs.Servers.{stops_quietly}
 use Rattle.world_parts.proofs.ServerCommanding.{not-quiet}
 use Rattle.world_parts.proofs.server_changes.stop.Goals as goal

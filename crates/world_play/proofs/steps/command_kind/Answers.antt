@@ -1,7 +1,7 @@
 use Rattle.std.proofs.Common.{◌∙◌, ◌+◌, ℕ, List, ap, sym, subst}
 use Rattle.event_book.specs.declared.event.EventKind.{EventKind}
 use Rattle.pg_model.specs.Facts.{ServerFacts}
-use Rattle.pg_model.specs.Servers.{entry_for}
+use Rattle.pg_cluster.specs.Servers.{entry_for}
 use Rattle.world_model.specs.Comes.{MayCome}
 use Rattle.cluster_model.specs.ServerCommands.{commit_of}
 use Rattle.world_parts.proofs.ServerCommanding.{commit-comes}

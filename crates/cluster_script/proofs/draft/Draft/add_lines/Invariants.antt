@@ -1,5 +1,5 @@
 use Rattle.std.proofs.Common.{◌≡◌, ◌+◌, drop, map}
-use Rattle.cluster_script.specs.Reading.{after_lines}
+use Rattle.script_grammar.specs.Reading.{after_lines}
 use Rattle.cluster_script.proofs.draft.Draft.add_lines.Given as goal
 
 abbrev pub invariant-loop-place : goal.invariant-loop-place

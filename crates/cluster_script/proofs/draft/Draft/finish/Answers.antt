@@ -1,6 +1,6 @@
 use Rattle.std.proofs.Common.{◌≡◌, length, sym, ap, ◌∙◌, true, false}
 use Rattle.std.proofs.lemmas.List.{length-map}
-use Rattle.cluster_script.specs.Reading.{at_line}
+use Rattle.script_grammar.specs.Reading.{at_line}
 use Rattle.script_model.specs.Script.{member_of_entry, members_in}
 use Rattle.cluster_script.proofs.Finishing.{finished-IsScript, finished-is}
 use Rattle.cluster_script.proofs.draft.Draft.finish.Goals as goal

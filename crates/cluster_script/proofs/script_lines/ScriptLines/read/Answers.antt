@@ -1,8 +1,8 @@
 use Rattle.std.proofs.Common.{◌≡◌, List, ℕ, map, Option, None, Ok, sym, ap, ◌∙◌}
 use Rattle.script_words.specs.Lines.{lines_in}
-use Rattle.cluster_script.specs.Reading.{after_lines}
-use Rattle.cluster_script.specs.Draft.{DraftText}
-use Rattle.cluster_script.proofs.ReadLaws.{lines-cut, lines-read}
+use Rattle.script_grammar.specs.Reading.{after_lines}
+use Rattle.script_grammar.specs.Draft.{DraftText}
+use Rattle.script_grammar.proofs.ReadLaws.{lines-cut, lines-read}
 use Rattle.cluster_script.proofs.script_lines.ScriptLines.read.Goals as goal
 
 pub finish-requires : goal.finish-requires

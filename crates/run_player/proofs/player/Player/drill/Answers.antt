@@ -2,9 +2,9 @@ use Rattle.std.proofs.Common.{Err, ap, ◌∙◌, subst}
 use Rattle.std.proofs.lemmas.Result.{err_from_is_err_and}
 use Rattle.pat_base.specs.Prints.{Prints}
 use Rattle.pat_base.proofs.Printing.{Prints-none}
-use Rattle.summary.specs.declared.answers.Closing.{Closing}
-use Rattle.summary.specs.Sights.{SummaryFacts}
-use Rattle.summary.specs.SummaryText.{closing_text}
+use Rattle.summary_model.specs.declared.answers.Closing.{Closing}
+use Rattle.summary_model.specs.Sights.{SummaryFacts}
+use Rattle.summary_model.specs.SummaryText.{closing_text}
 use Rattle.run_player.specs.declared.print_error.PrintError.TheVariants.{Memory, Write}
 use Rattle.run_player.proofs.Played.{memory-is-no-write}
 use Rattle.run_player.proofs.Silence.{no-write}

@@ -4,9 +4,9 @@ use Rattle.pat_base.specs.Outside.{Grew}
 use Rattle.pat_base.specs.Prints.{Prints}
 use Rattle.pat_base.proofs.Printing.{Prints-then, Prints-stop}
 use Rattle.cluster_model.specs.Steps.{steps_of}
-use Rattle.summary.specs.declared.answers.Closing.{Closing}
-use Rattle.summary.specs.Sights.{SummaryFacts}
-use Rattle.summary.specs.SummaryText.{closing_text}
+use Rattle.summary_model.specs.declared.answers.Closing.{Closing}
+use Rattle.summary_model.specs.Sights.{SummaryFacts}
+use Rattle.summary_model.specs.SummaryText.{closing_text}
 use Rattle.run_player.specs.declared.print_error.PrintError.TheVariants.{Write}
 use Rattle.run_player.specs.Run.{printed_from}
 use Rattle.run_player.proofs.Played.{same-error}

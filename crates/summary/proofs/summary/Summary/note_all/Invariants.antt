@@ -1,5 +1,5 @@
 use Rattle.std.proofs.Common.{◌≡◌, ◌+◌, ◌≤◌, length}
-use Rattle.summary.specs.Sights.{noted_step}
+use Rattle.summary_model.specs.Sights.{noted_step}
 use Rattle.summary.proofs.summary.Summary.note_all.Given as goal
 
 abbrev pub invariant-loop-event : goal.invariant-loop-event

@@ -1,5 +1,5 @@
 use Rattle.std.proofs.Common.{ℕ, ap, sym, ◌∙◌}
-use Rattle.summary.specs.Passing.{summary_later}
+use Rattle.summary_model.specs.Passing.{summary_later}
 use Rattle.summary.proofs.Ticks.{ticks-noted}
 use Rattle.summary.proofs.summary.Summary.note_ticks.Goals as goal
 

@@ -1,6 +1,6 @@
 use Rattle.std.proofs.Common.{◌≡◌, ◌∙◌, Some, ap, sym, subst, rules}
 use Rattle.std.specs.Prelude.{slice_get}
-use Rattle.pg_model.specs.Servers.{without_spare}
+use Rattle.pg_cluster.specs.Servers.{without_spare}
 use Rattle.cluster_model.specs.Cluster.{agent_facts_with}
 use Rattle.cluster_model.specs.Inputs.{outcome_of, outputs_of}
 use Rattle.cluster_model.specs.Machines.{machine_of, points_from, points_of}

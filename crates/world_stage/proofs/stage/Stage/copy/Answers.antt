@@ -1,6 +1,6 @@
 use Rattle.std.proofs.Common.{◌∙◌, if◌then◌else◌, Some, None, refl, sym, subst}
 use Rattle.std.proofs.lemmas.Result.{on_ok_weaker}
-use Rattle.pg_model.specs.Rewinding.{may_clone_at}
+use Rattle.pg_cluster.specs.Rewinding.{may_clone_at}
 use Rattle.cluster_model.specs.Commands.{kinds_of}
 use Rattle.cluster_model.specs.Orders.{copying}
 use Rattle.cluster_model.specs.Parts.{events_of}

@@ -1,6 +1,6 @@
 use Rattle.std.proofs.Common.{◌∙◌, ap, refl, sym, subst, Some}
 use Rattle.std.proofs.lemmas.Result.{on_ok_weaker}
-use Rattle.pg_model.specs.Servers.{news_at}
+use Rattle.pg_cluster.specs.Servers.{news_at}
 use Rattle.cluster_model.specs.State.{Cluster}
 use Rattle.cluster_model.specs.Next.{receive_events}
 use Rattle.world_model.specs.Room.{HasRoom}

@@ -1,6 +1,6 @@
 use Rattle.std.proofs.Common.{◌∙◌, option_map, refl, sym, subst}
 use Rattle.std.proofs.lemmas.Result.{on_ok_weaker}
-use Rattle.pg_model.specs.Rewinding.{rewind_at}
+use Rattle.pg_cluster.specs.Rewinding.{rewind_at}
 use Rattle.cluster_model.specs.Commands.{kinds_of}
 use Rattle.cluster_model.specs.Orders.{rewinding}
 use Rattle.cluster_model.specs.Parts.{events_of}

@@ -1,0 +1,5 @@
+pub mod Drawing
+pub mod Generating
+pub mod Laws
+pub mod NumberSequence
+pub mod Opening

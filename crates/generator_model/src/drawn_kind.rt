@@ -1,0 +1,13 @@
+//! What a line asks for that a draw gives.
+
+/// What a line asks for.
+#[derive(Clone, Copy, Debug, PartialEq, Eq)]
+pub enum DrawnKind {
+    Run,
+    Commit,
+    Suspend,
+    Resume,
+    Crash,
+    StartAgent,
+    Link,
+}

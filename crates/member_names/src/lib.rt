@@ -1,0 +1,6 @@
+//! Members by their names.
+#![tactic(auto)]
+
+mod names;
+
+pub use names::member_named;

@@ -1,0 +1,4 @@
+pub mod Completing
+pub mod InStep
+pub mod Rewinding
+pub mod Servers

@@ -1,7 +1,0 @@
-use Rattle.std.proofs.Common.{map}
-use Rattle.pg_model.specs.InStep.{log_position_of}
-use Rattle.pg_model.proofs.Rounds.{ForgetsBelow}
-use Rattle.pg_model.proofs.servers.forget.Given as goal
-
-abbrev pub invariant-loop-k : goal.invariant-loop-k
-invariant-loop-k l = ForgetsBelow l.initial.in_step l.in_step (map log_position_of l.servers) l.place l.k

@@ -1,0 +1,9 @@
+pub mod ArgumentLaws
+pub mod BlankLaws
+pub mod FirstWordLaws
+pub mod LimitLaws
+pub mod MemberLaws
+pub mod NameLaws
+pub mod Places
+pub mod ReadLaws
+pub mod RequestLaws

@@ -1,5 +1,0 @@
-use Rattle.summary.proofs.Standing.{stands-first, stands-more, stands-all}
-use Rattle.summary.proofs.laws.summary_tells_the_book.Goals as goal
-
-pub returns : goal.returns
-returns c = record { first = stands-first; each = stands-more; all = stands-all }

@@ -1,5 +1,0 @@
-use Rattle.summary.proofs.Steps.{watches-first, step-watches, steps-watched, watched-guarded, steps-guarded}
-use Rattle.summary.proofs.sight_laws.measured_sights_suffice.Goals as goal
-
-pub returns : goal.returns
-returns c = record { first = watches-first; each = step-watches; all = steps-watched; watched = watched-guarded; guard = steps-guarded }

@@ -1,0 +1,11 @@
+pub mod Claims
+pub mod Heads
+pub mod Listed
+pub mod Losses
+pub mod Moments
+pub mod Noting
+pub mod Passing
+pub mod Seeing
+pub mod Sights
+pub mod SummaryText
+pub mod Telling
