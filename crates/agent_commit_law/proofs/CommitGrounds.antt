@@ -21,7 +21,7 @@ use Rattle.lease_law.specs.Past.{set_members}
 use Rattle.sync_state.specs.Published.{standbys_of, published_in}
 use Rattle.sync_state.specs.Standbys.{required_members, noted_position}
 use Rattle.commit_law.proofs.Tools.{or-cases}
-use Rattle.commit_law.specs.Keys.{SyncKey, Need, Overlaps}
+use Rattle.commit_law.specs.Keys.{SyncKey, Need, Overlaps, IsStrict}
 use Rattle.commit_law.specs.Flights.{LeaseGrant, SyncGrant}
 use Rattle.commit_law.specs.States.{State, Reaches, Waits}
 use Rattle.commit_law.specs.Inputs.{AgentInput, HearsLeaseGrant, HearsSyncGrant, WinsByName, HasConfirmed, sync_revision_of}
@@ -36,19 +36,18 @@ use Rattle.agent_model.specs.declared.who.Who.{Who}
 use Rattle.agent_model.specs.Agents.{RoleFacts, Leader, Outcome, Ready, is_leader, is_ready}
 use Rattle.agent_model.specs.Before.{before, before_as, finds_live, has_ended}
 use Rattle.agent_commit_law.specs.Committing.{sync_seen, number_waited, IsConnected, IsEndOf, StandsToCommit, IsAwaitedWrite, HearsLease, HearsWrite}
-use Rattle.commit_law.specs.Keys.{IsStrict}
 use Rattle.agent_model.specs.Decisions.{asks_lease, asks_sync, is_lease_of, is_write_of, may_create}
 use Rattle.agent_model.specs.Fits.{Fits}
-use Rattle.agent_law.specs.Powers.{IsAwaitedLease}
+use Rattle.agent_roles.specs.Powers.{IsAwaitedLease}
 use Rattle.agent_model.specs.Synchronous.{sync_read_by, sync_read_of_entry, sync_read_in, expected_of, is_named_if}
 use Rattle.agent_commit_law.proofs.CommitIdling.{TurnsOn, Idle, before-idle}
 use Rattle.agent_commit_law.proofs.CommitLawful.{was_of}
 use Rattle.agent_commit_law.proofs.CommitSteps.{IsForeign}
 use Rattle.agent_commit_law.proofs.CommitTools.{IsWithin, HasReached, required-covers}
-use Rattle.agent_law.proofs.Fitting.{before-fits}
-use Rattle.agent_law.proofs.Knowing.{Onward, before-onward}
-use Rattle.agent_law.proofs.Staying.{before-waits}
-use Rattle.agent_law.proofs.Living.{no-way}
+use Rattle.agent_roles.proofs.Fitting.{before-fits}
+use Rattle.agent_roles.proofs.Knowing.{Onward, before-onward}
+use Rattle.agent_roles.proofs.Staying.{before-waits}
+use Rattle.agent_roles.proofs.Living.{no-way}
 use Rattle.agent_model.proofs.Rows.{before-by, if-cases}
 use Rattle.agent_model.specs.Acting.{disarming}
 

@@ -1,15 +1,15 @@
 use Rattle.std.proofs.Common.{◌≡◌, [], rules, subst, sym}
 use Rattle.agent_model.specs.Agents.{made}
 use Rattle.ha_loop.specs.Roles.{role_of}
-use Rattle.agent_law.specs.FreeKey.{AsksWhereFree, AsksWhereWon, BeginsWhereGranted}
+use Rattle.agent_succession.specs.FreeKey.{AsksWhereFree, AsksWhereWon, BeginsWhereGranted}
 use Rattle.agent_model.specs.Table.{prepared, step}
 use Rattle.agent_model.specs.Bounds.{IsSmall}
 use Rattle.agent_model.proofs.Bounds.{step-small}
-use Rattle.agent_law.proofs.Beginning.{step-asks, step-begins, step-wins}
+use Rattle.agent_succession.proofs.Beginning.{step-asks, step-begins, step-wins}
 use Rattle.agent_commit_law.proofs.CommitInputs.{input-commits-as}
 use Rattle.agent_lease_law.proofs.LawfulSteps.{input-lawful-as}
-use Rattle.agent_law.proofs.OperatorAnswers.{input-decides-as, input-right-as, right-causes}
-use Rattle.agent_law.proofs.Staying.{input-ends-as, input-counts}
+use Rattle.agent_answers.proofs.OperatorAnswers.{input-decides-as, input-right-as, right-causes}
+use Rattle.agent_roles.proofs.Staying.{input-ends-as, input-counts}
 use Rattle.ha_loop.proofs.agent.Agent.step.Goals as goal
 
 pub invariant_of-result : goal.invariant_of-result
