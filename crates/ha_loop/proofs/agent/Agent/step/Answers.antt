@@ -7,6 +7,7 @@ use Rattle.agent_model.specs.Bounds.{IsSmall}
 use Rattle.agent_model.proofs.Bounds.{step-small}
 use Rattle.agent_succession.proofs.Beginning.{step-asks, step-begins, step-wins}
 use Rattle.agent_commit_law.proofs.CommitInputs.{input-commits-as}
+use Rattle.agent_rules.proofs.Grounds.{input-has-grounds-as}
 use Rattle.agent_lease_law.proofs.LawfulSteps.{input-lawful-as}
 use Rattle.agent_answers.proofs.OperatorAnswers.{input-decides-as, input-right-as, right-causes}
 use Rattle.agent_roles.proofs.Staying.{input-ends-as, input-counts}
@@ -23,6 +24,10 @@ invariant_of-result c = record {
 
 pub returns-clause-lawful : goal.returns-clause-lawful
 returns-clause-lawful c = input-lawful-as c.args.now c.args.history.now.points c.args.heard c.args.self.role c.args.self.knows c.args.machine.now c.args.out.now.outputs
+    (made (role_of c.hear-role.result) c.hear-role.new.knows c.hear-role.new.machine c.hear-role.new.out.outputs) (search rules) (search rules)
+
+pub returns-clause-grounds : goal.returns-clause-grounds
+returns-clause-grounds c = input-has-grounds-as c.args.now c.args.history.now.points c.args.heard c.args.self.role c.args.self.knows c.args.machine.now c.args.out.now.outputs
     (made (role_of c.hear-role.result) c.hear-role.new.knows c.hear-role.new.machine c.hear-role.new.out.outputs) (search rules) (search rules)
 
 pub returns-clause-commits : goal.returns-clause-commits
