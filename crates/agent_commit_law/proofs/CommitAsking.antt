@@ -32,14 +32,14 @@ use Rattle.agent_model.specs.Answers.{all_answered}
 use Rattle.agent_model.specs.HandingOver.{check_answered, handover_judged, judged_if_leading, whom_answered}
 use Rattle.agent_model.specs.Operators.{operator_granted, looked, given_up, operated}
 use Rattle.agent_model.specs.Peers.{is_asking, awaits_answer, awaits_check, judged_if_all, keeping, accepted_answer, answered_for, answered}
-use Rattle.agent_law.specs.Powers.{IsAwaitedLease}
+use Rattle.agent_roles.specs.Powers.{IsAwaitedLease}
 use Rattle.agent_model.specs.Racing.{judged, finds_free, unheard}
 use Rattle.agent_model.specs.Repairs.{repair_of, repairing}
 use Rattle.agent_model.specs.Snapshots.{follow_row, follows, read_noted, got, led_by_another}
 use Rattle.agent_model.specs.Table.{refused_any}
 use Rattle.agent_model.specs.Wake.{out_of_reach_as, unanswered, overdue_for, overdue, turned, woken, out_of_reach}
-use Rattle.agent_law.proofs.Granting.{both-true}
-use Rattle.agent_law.proofs.Living.{no-way}
+use Rattle.agent_roles.proofs.Granting.{both-true}
+use Rattle.agent_roles.proofs.Living.{no-way}
 use Rattle.agent_model.proofs.Rows.{ReplyRows, if-cases, before-by, turn-by, wake-by, got-by, refused-by, follow-by, repaired-by, free-by, judged-by, handover-by, looked-by, given-up-by, operator-granted-by, refused-any-by, operated-by}
 use Rattle.agent_model.specs.Pausing.{is_paused, may_start_behind}
 

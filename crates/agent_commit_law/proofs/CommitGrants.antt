@@ -27,16 +27,16 @@ use Rattle.agent_model.specs.Acting.{deadline_after}
 use Rattle.agent_model.specs.Agents.{RoleFacts, Ready, Leader, Outcome, is_ready, is_leader}
 use Rattle.agent_commit_law.specs.Committing.{StandsToCommit, IsAwaitedWrite, HearsLease, HearsWrite, GrowsByConnected, IsCommitInputOf, IsLawfulAs}
 use Rattle.agent_model.specs.Planning.{naming}
-use Rattle.agent_law.specs.Powers.{IsAwaitedLease}
+use Rattle.agent_roles.specs.Powers.{IsAwaitedLease}
 use Rattle.agent_model.specs.Synchronous.{sync_read_in, expected_of}
 use Rattle.agent_commit_law.proofs.CommitGrounds.{IsBehind, lease_granted_as, write_granted_as, hears-lease, hears-write, leads-live, IsLedBy, compared-as, has-confirmed, confirmed-any}
 use Rattle.agent_commit_law.proofs.CommitIdling.{Idle, idle-then, waits-nothing, waits-new}
 use Rattle.agent_commit_law.proofs.CommitLawful.{was_of, lawful-as, keeps-turn, keeps-live, keeps-server, keeps-ready, keeps-noted, sends-nothing, sends-one, idle-lawful}
 use Rattle.agent_commit_law.proofs.CommitQuiet.{IsQuiet, IsUnasking, asks-none, asks-unbegun, quiet-fed, last-request, last-unbegun, unasking}
 use Rattle.agent_commit_law.proofs.CommitTools.{IsWithin, HasReached, covers-required}
-use Rattle.agent_law.proofs.Granting.{Told}
-use Rattle.agent_law.proofs.Knowing.{Onward}
-use Rattle.agent_law.proofs.Living.{no-way}
+use Rattle.agent_roles.proofs.Granting.{Told}
+use Rattle.agent_roles.proofs.Knowing.{Onward}
+use Rattle.agent_roles.proofs.Living.{no-way}
 use Rattle.agent_model.proofs.Rows.{led_on}
 
 -- what a granted request is heard on, with what stands after what comes before it

@@ -38,16 +38,16 @@ use Rattle.agent_model.specs.Before.{before, before_as, finds_live, has_ended}
 use Rattle.agent_commit_law.specs.Committing.{sync_seen, number_waited, IsConnected, IsEndOf, StandsToCommit, IsAwaitedWrite, HearsLease, HearsWrite}
 use Rattle.agent_model.specs.Decisions.{asks_lease, asks_sync, is_lease_of, is_write_of, may_create}
 use Rattle.agent_model.specs.Fits.{Fits}
-use Rattle.agent_law.specs.Powers.{IsAwaitedLease}
+use Rattle.agent_roles.specs.Powers.{IsAwaitedLease}
 use Rattle.agent_model.specs.Synchronous.{sync_read_by, sync_read_of_entry, sync_read_in, expected_of, is_named_if}
 use Rattle.agent_commit_law.proofs.CommitIdling.{TurnsOn, Idle, before-idle}
 use Rattle.agent_commit_law.proofs.CommitLawful.{was_of}
 use Rattle.agent_commit_law.proofs.CommitSteps.{IsForeign}
 use Rattle.agent_commit_law.proofs.CommitTools.{IsWithin, HasReached, required-covers}
-use Rattle.agent_law.proofs.Fitting.{before-fits}
-use Rattle.agent_law.proofs.Knowing.{Onward, before-onward}
-use Rattle.agent_law.proofs.Staying.{before-waits}
-use Rattle.agent_law.proofs.Living.{no-way}
+use Rattle.agent_roles.proofs.Fitting.{before-fits}
+use Rattle.agent_roles.proofs.Knowing.{Onward, before-onward}
+use Rattle.agent_roles.proofs.Staying.{before-waits}
+use Rattle.agent_roles.proofs.Living.{no-way}
 use Rattle.agent_model.proofs.Rows.{before-by, if-cases}
 use Rattle.agent_model.specs.Acting.{disarming}
 

@@ -37,8 +37,8 @@ use Rattle.agent_model.specs.Synchronous.{sync_read_in}
 use Rattle.agent_model.specs.Table.{refused_any}
 use Rattle.agent_model.specs.Wake.{reading, turn_noted, leader_out_of_reach, stray_out_of_reach, overdue, turned, woken}
 use Rattle.agent_commit_law.proofs.CommitQuiet.{IsQuiet, quietly, quiet-disarmed, asks-quiet, whom-quiet}
-use Rattle.agent_law.proofs.Knowing.{before-onward, given-up-onward, overdue-onward}
-use Rattle.agent_law.proofs.Living.{no-way}
+use Rattle.agent_roles.proofs.Knowing.{before-onward, given-up-onward, overdue-onward}
+use Rattle.agent_roles.proofs.Living.{no-way}
 use Rattle.agent_model.proofs.Rows.{HandoverRows, FailoverRows, ReplyRows, IsOperatorTxn, dropping, before-by, overdue-by, turn-by, wake-by, got-by, refused-by, follow-by, repaired-by, free-by, judged-by, answered-by, looked-by, given-up-by, operator-granted-by, refused-any-by, operated-by}
 use Rattle.agent_model.specs.Pausing.{may_start_behind, running_without_key}
 

@@ -64,11 +64,11 @@ use Rattle.agent_commit_law.proofs.CommitRows.{grant-commits, led-idle}
 use Rattle.agent_commit_law.proofs.CommitGrounds.{IsBehind, before-behind}
 use Rattle.agent_commit_law.proofs.CommitTools.{both-first, confirmed-reached, no-members, within-set}
 use Rattle.agent_commit_law.proofs.CommitSteps.{confirmed_at, wanted_at, required_at, PlanSteps, LeaseSteps, WriteSteps, granted-steps}
-use Rattle.agent_law.proofs.Granting.{Told}
-use Rattle.agent_law.proofs.Knowing.{Onward, before-onward, wake-onward, looked-onward, got-onward, any-granted-onward, any-refused-onward, operated-onward, answered-onward, asked-onward, onward-then}
+use Rattle.agent_roles.proofs.Granting.{Told}
+use Rattle.agent_roles.proofs.Knowing.{Onward, before-onward, wake-onward, looked-onward, got-onward, any-granted-onward, any-refused-onward, operated-onward, answered-onward, asked-onward, onward-then}
 use Rattle.agent_model.proofs.Rows.{FailoverRows, dropping, before-by, if-cases, led_on, passing-by}
 use Rattle.agent_model.specs.Pausing.{is_paused}
-use Rattle.agent_law.proofs.Staying.{stays-unpaused}
+use Rattle.agent_roles.proofs.Staying.{stays-unpaused}
 
 -- what comes before an input is covered by it
 pub before-covered : (now : Ticks) (o : Outcome) → All IsCovered o.outputs → All IsCovered (before now o).outputs

@@ -21,8 +21,8 @@ use Rattle.agent_model.specs.Outputs.{has_one}
 use Rattle.agent_model.specs.Synchronous.{sync_read_in}
 use Rattle.agent_commit_law.proofs.CommitIdling.{WaitsOn, Idle}
 use Rattle.agent_commit_law.proofs.CommitQuiet.{IsQuiet, quiet-none, quiet-unbegun}
-use Rattle.agent_law.proofs.Knowing.{Onward}
-use Rattle.agent_law.proofs.Living.{no-way}
+use Rattle.agent_roles.proofs.Knowing.{Onward}
+use Rattle.agent_roles.proofs.Living.{no-way}
 
 -- what the law sees of an agent
 abbrev pub was_of : Outcome → Agent

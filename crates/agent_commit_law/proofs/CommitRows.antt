@@ -47,7 +47,7 @@ use Rattle.agent_model.specs.Decisions.{takes_over, gives_back, may_create, gran
 use Rattle.agent_model.specs.HandingOver.{checking, hands_over}
 use Rattle.agent_model.specs.Outputs.{has_one, listed}
 use Rattle.agent_model.specs.Planning.{leader_view, noting}
-use Rattle.agent_law.specs.Powers.{IsAwaitedLease}
+use Rattle.agent_roles.specs.Powers.{IsAwaitedLease}
 use Rattle.agent_model.specs.Racing.{unheard}
 use Rattle.agent_model.specs.Synchronous.{expected_of, is_named_if, unnamed, waiting_for}
 use Rattle.agent_commit_law.proofs.CommitAsking.{before-asks, leases-on}
@@ -59,13 +59,13 @@ use Rattle.agent_commit_law.proofs.CommitGrowing.{narrows-grows, required-needs,
 use Rattle.agent_commit_law.proofs.CommitQuiet.{IsQuiet, IsUnasking, asks-last, quietly, quiet-armed, quiet-fed, quiet-none, quiet-unbegun, last-unbegun, passing-unasked, unasked}
 use Rattle.agent_commit_law.proofs.CommitSteps.{IsForeign, wanted_at, confirmed_at, required_at, PlanSteps, LeaseSteps, WriteSteps, granted-steps}
 use Rattle.agent_commit_law.proofs.CommitTools.{IsWithin, HasReached, within-set, both-first, either-first, either-one, either-within, unnamed-need, waiting-covers, waiting-narrows, confirmed-reached}
-use Rattle.agent_law.proofs.Fitting.{ended-for}
-use Rattle.agent_law.proofs.Granting.{Told, one-before, one-last}
-use Rattle.agent_law.proofs.Knowing.{before-onward, granted-onward, onward-then}
-use Rattle.agent_law.proofs.Living.{no-way}
+use Rattle.agent_roles.proofs.Fitting.{ended-for}
+use Rattle.agent_roles.proofs.Granting.{Told, one-before, one-last}
+use Rattle.agent_roles.proofs.Knowing.{before-onward, granted-onward, onward-then}
+use Rattle.agent_roles.proofs.Living.{no-way}
 use Rattle.agent_model.proofs.Rows.{FailoverRows, dropping, led_on}
 use Rattle.agent_model.specs.Pausing.{is_paused}
-use Rattle.agent_law.proofs.Staying.{stays-unpaused}
+use Rattle.agent_roles.proofs.Staying.{stays-unpaused}
 
 -- where nobody passes the sync key, that names who claims it
 inside-named : (named : Bool) (outs : List Output) (claim : Output) → has_one is_passing (listed claim (told_passing named outs)) ≡ false → named ≡ true

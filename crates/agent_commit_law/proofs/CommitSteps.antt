@@ -33,10 +33,10 @@ use Rattle.agent_model.specs.Decisions.{is_decision, is_sync_decision, is_lease_
 use Rattle.agent_model.specs.HandingOver.{duties}
 use Rattle.agent_model.specs.Outputs.{listed}
 use Rattle.agent_model.specs.Planning.{leader_view, naming, noting, planned_as, planned_on, settled}
-use Rattle.agent_law.specs.Powers.{IsAwaitedLease}
+use Rattle.agent_roles.specs.Powers.{IsAwaitedLease}
 use Rattle.agent_model.specs.Synchronous.{waiting_for}
-use Rattle.agent_law.proofs.Granting.{Told, both-true}
-use Rattle.agent_law.proofs.Living.{no-way}
+use Rattle.agent_roles.proofs.Granting.{Told, both-true}
+use Rattle.agent_roles.proofs.Living.{no-way}
 use Rattle.agent_model.proofs.Rows.{FailoverRows, led_on, if-cases, duties-by}
 use Rattle.agent_model.specs.Pausing.{is_paused, is_wanted_by}
 

@@ -42,7 +42,7 @@ use Rattle.agent_model.specs.Claiming.{can_begin_on_claim}
 use Rattle.agent_model.specs.Decisions.{asks_lease, asks_sync, is_sync_decision, is_write_of}
 use Rattle.agent_model.specs.Outputs.{has_one}
 use Rattle.agent_model.specs.Pausing.{is_paused}
-use Rattle.agent_law.specs.Powers.{IsAwaitedLease}
+use Rattle.agent_roles.specs.Powers.{IsAwaitedLease}
 use Rattle.agent_model.specs.Synchronous.{sync_read_in}
 
 -- what the law sees of a sync key that was read: none of its standbys may lack an acknowledged commit

@@ -37,14 +37,14 @@ use Rattle.agent_model.specs.Operators.{answering, given_up, learned, looked, op
 use Rattle.agent_model.specs.Table.{step}
 use Rattle.agent_model.specs.Wake.{reading, turn_noted, leader_out_of_reach, stray_out_of_reach, overdue, turned, woken}
 use Rattle.agent_model.specs.declared.why.Why.TheVariants.{HandOver}
-use Rattle.agent_law.proofs.Granting.{Told}
-use Rattle.agent_law.proofs.Knowing.{IsAlone, alone-of, before-onward, given-up-onward}
-use Rattle.agent_law.proofs.Staying.{before-waits}
-use Rattle.agent_law.proofs.Living.{no-way}
+use Rattle.agent_roles.proofs.Granting.{Told}
+use Rattle.agent_roles.proofs.Knowing.{IsAlone, alone-of, before-onward, given-up-onward}
+use Rattle.agent_roles.proofs.Staying.{before-waits}
+use Rattle.agent_roles.proofs.Living.{no-way}
 use Rattle.agent_model.proofs.Rows.{led_on, if-cases, renewed-by, begins-or-claims-by, overdue-by, turn-by, wake-by, got-by, refused-by, follow-by, repaired-by, free-by, granted-by, judged-by, answered-by, HandoverRows, ReplyRows, dropping, granted-any-by, refused-any-by, given-up-by, looked-by, operated-by, DutyRows, duties-of, rested_on, takes-in-pause-by}
-use Rattle.agent_law.proofs.Sending.{IsSilent, silently, MayPut, AllMay, Fronts, before-fronts, got-none, wake-may, got-may, refused-may, granted-may, overdue-none, answered-none, answered-may, asked-may, operated-may, given-up-fronts, looked-fronts, looked-later}
-use Rattle.agent_law.proofs.Sending.Fronts.{Silent, Released}
-use Rattle.agent_law.proofs.Fitting.{before-fits}
+use Rattle.agent_lease_law.proofs.Sending.{IsSilent, silently, MayPut, AllMay, Fronts, before-fronts, got-none, wake-may, got-may, refused-may, granted-may, overdue-none, answered-none, answered-may, asked-may, operated-may, given-up-fronts, looked-fronts, looked-later}
+use Rattle.agent_lease_law.proofs.Sending.Fronts.{Silent, Released}
+use Rattle.agent_roles.proofs.Fitting.{before-fits}
 use Rattle.agent_model.specs.Pausing.{may_start_behind, resting, running_without_key}
 
 -- the create or the renewal that is waited for was waited for before, or is asked

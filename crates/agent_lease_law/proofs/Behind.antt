@@ -25,14 +25,14 @@ use Rattle.agent_model.specs.HandingOver.{checking, hands_over}
 use Rattle.agent_model.specs.Operators.{answering, learned}
 use Rattle.agent_model.specs.Table.{granted_any}
 use Rattle.agent_model.specs.Racing.{unheard}
-use Rattle.agent_law.proofs.Granting.{take-free, Told, one-last, one-before}
-use Rattle.agent_law.proofs.Knowing.{IsAlone}
-use Rattle.agent_law.proofs.Leaving.{ready-is}
-use Rattle.agent_law.proofs.Living.{no-way}
+use Rattle.agent_roles.proofs.Granting.{take-free, Told, one-last, one-before}
+use Rattle.agent_roles.proofs.Knowing.{IsAlone}
+use Rattle.agent_roles.proofs.Leaving.{ready-is}
+use Rattle.agent_roles.proofs.Living.{no-way}
 use Rattle.agent_model.proofs.Rows.{HandoverRows, ReplyRows, dropping, granted-any-by, led_on, if-cases, renewed-by, begins-or-claims-by, granted-by}
 use Rattle.agent_model.specs.Pausing.{is_paused}
-use Rattle.agent_law.proofs.Sending.{IsSilent, MayPut, AllMay, silently, silent-armed, silent-fed, IsReleaseOr, Fronts, IsMild, AllMild, handover-mild, checking-mild, before-fronts, postpones-silent, told-fronts, silent-passing, Decides, learned-fronts, granted-none}
-use Rattle.agent_law.proofs.Sending.Fronts.{Silent, Released}
+use Rattle.agent_lease_law.proofs.Sending.{IsSilent, MayPut, AllMay, silently, silent-armed, silent-fed, IsReleaseOr, Fronts, IsMild, AllMild, handover-mild, checking-mild, before-fronts, postpones-silent, told-fronts, silent-passing, Decides, learned-fronts, granted-none}
+use Rattle.agent_lease_law.proofs.Sending.Fronts.{Silent, Released}
 
 begins-one : (P Q : Type 0) → (P → Q) → (output : Output) → BeginsOnly P output → BeginsOnly Q output
 begins-one P Q more outputs.Begin e = more e

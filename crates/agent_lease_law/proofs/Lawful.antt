@@ -23,14 +23,14 @@ use Rattle.agent_model.specs.declared.who.Who.{Who}
 use Rattle.agent_model.specs.Agents.{Outcome, is_ready}
 use Rattle.agent_model.specs.Fits.{Fits}
 use Rattle.agent_lease_law.specs.Lawful.{StandsIn, query_in, IsSentBy, IsInputOf}
-use Rattle.agent_law.specs.Powers.{Acts, BringsNothing, LeavesMachine, leads, lease_of}
-use Rattle.agent_law.specs.Powers.DeadlineMay.{Kept as DeadlineKept, Removed as DeadlineRemoved, Undone as DeadlineUndone}
-use Rattle.agent_law.specs.Seen.{leader_seen_if, failsafe_seen_if, agent_seen, moment_seen, hold_seen, machine_seen}
-use Rattle.agent_law.proofs.Knowing.{Onward}
-use Rattle.agent_law.proofs.Fitting.{ready-ended}
-use Rattle.agent_law.proofs.Leaving.{acts-before}
-use Rattle.agent_law.proofs.Living.{no-way}
-use Rattle.agent_law.proofs.Sending.{MayTransact, MayAskStore, SendsNew, MayPut, AllMay}
+use Rattle.agent_roles.specs.Powers.{Acts, BringsNothing, LeavesMachine, leads, lease_of}
+use Rattle.agent_roles.specs.Powers.DeadlineMay.{Kept as DeadlineKept, Removed as DeadlineRemoved, Undone as DeadlineUndone}
+use Rattle.agent_roles.specs.Seen.{leader_seen_if, failsafe_seen_if, agent_seen, moment_seen, hold_seen, machine_seen}
+use Rattle.agent_roles.proofs.Knowing.{Onward}
+use Rattle.agent_roles.proofs.Fitting.{ready-ended}
+use Rattle.agent_roles.proofs.Leaving.{acts-before}
+use Rattle.agent_roles.proofs.Living.{no-way}
+use Rattle.agent_lease_law.proofs.Sending.{MayTransact, MayAskStore, SendsNew, MayPut, AllMay}
 
 -- what the law sees of an agent that stands in this state, and of one after an input
 abbrev pub was_of : Outcome → AgentSeen

@@ -19,13 +19,13 @@ use Rattle.agent_model.specs.Acting.{is_hold_active}
 use Rattle.agent_model.specs.Agents.{Outcome}
 use Rattle.agent_model.specs.Decisions.{asks_lease}
 use Rattle.agent_lease_law.specs.Lawful.{StandsIn, HearsAnswer, IsYoung, TellsLease, HearsGrant}
-use Rattle.agent_law.specs.Powers.{LeavesMachine, IsAwaitedLease}
-use Rattle.agent_law.specs.Powers.DeadlineMay.{Kept as DeadlineKept, Removed as DeadlineRemoved, Undone as DeadlineUndone}
-use Rattle.agent_law.specs.Seen.{lease_asked, leader_seen_if, failsafe_listed, failsafe_entry_seen, failsafe_seen_if, moment_seen, hold_seen}
+use Rattle.agent_roles.specs.Powers.{LeavesMachine, IsAwaitedLease}
+use Rattle.agent_roles.specs.Powers.DeadlineMay.{Kept as DeadlineKept, Removed as DeadlineRemoved, Undone as DeadlineUndone}
+use Rattle.agent_roles.specs.Seen.{lease_asked, leader_seen_if, failsafe_listed, failsafe_entry_seen, failsafe_seen_if, moment_seen, hold_seen}
 use Rattle.agent_model.specs.Snapshots.{known_with}
-use Rattle.agent_law.proofs.Knowing.{known-listed}
+use Rattle.agent_roles.proofs.Knowing.{known-listed}
 use Rattle.agent_lease_law.proofs.Lawful.{was_of, stands-agent}
-use Rattle.agent_law.proofs.Living.{no-way}
+use Rattle.agent_roles.proofs.Living.{no-way}
 
 -- the keys that a heard snapshot shows
 pub heard-leader : (s : State) (m sequence : ℕ) (heard : Option ℕ) (snapshot : SnapshotFacts) (knows : Knowledge) → HearsAnswer s m heard sequence snapshot knows → (seen : LeaderSeen) → leader_seen_if (Some snapshot) ≡ Some seen → HeardLeader s heard seen

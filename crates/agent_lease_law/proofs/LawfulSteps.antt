@@ -28,9 +28,9 @@ use Rattle.agent_model.specs.Agents.{RoleFacts, EndsAlone, IsSoundAgent, Outcome
 use Rattle.agent_model.specs.Before.{before}
 use Rattle.agent_model.specs.Decisions.{is_lease_of}
 use Rattle.agent_lease_law.specs.Lawful.{StandsIn, HearsAnswer, TellsLease, HearsGrant, IsInputOf, MayPromote, IsLawfulAnd, IsLawfulFrom}
-use Rattle.agent_law.specs.Powers.{BringsNothing, LeavesMachine, IsAwaitedLease, GrantMay, leads, lease_of}
-use Rattle.agent_law.specs.Powers.GrantMay.{Nothing, Leads, Rests, Begins}
-use Rattle.agent_law.specs.Seen.{leader_seen_if, failsafe_seen_if}
+use Rattle.agent_roles.specs.Powers.{BringsNothing, LeavesMachine, IsAwaitedLease, GrantMay, leads, lease_of}
+use Rattle.agent_roles.specs.Powers.GrantMay.{Nothing, Leads, Rests, Begins}
+use Rattle.agent_roles.specs.Seen.{leader_seen_if, failsafe_seen_if}
 use Rattle.agent_model.specs.Peers.{asked, answered}
 use Rattle.agent_model.specs.Snapshots.{got}
 use Rattle.lease_store.specs.declared.action.OperatorAction.{OperatorAction}
@@ -38,19 +38,19 @@ use Rattle.agent_model.specs.Fits.{Fits}
 use Rattle.agent_model.specs.Operators.{given_up, looked, operated}
 use Rattle.agent_model.specs.Table.{step, granted_any, refused_any}
 use Rattle.agent_model.specs.Wake.{overdue, turned, woken}
-use Rattle.agent_law.proofs.Bringing.{acting-brings, any-refused-brings, operated-brings, ready-leads, brings-then, before-brings, overdue-brings, turn-brings, wake-brings, got-brings, answer-brings, read-brings, refusal-brings, asked-brings, answered-brings}
-use Rattle.agent_law.proofs.Fitting.{before-fits, ready-same}
-use Rattle.agent_law.proofs.Granting.{awaited-lease, any-granted-may as grant-may}
-use Rattle.agent_law.proofs.Knowing.{any-granted-onward, any-refused-onward, looked-onward, operated-onward, IsAlone, alone-of, Onward, before-onward, wake-onward, got-onward, answered-onward, asked-onward, onward-then}
+use Rattle.agent_roles.proofs.Bringing.{acting-brings, any-refused-brings, operated-brings, ready-leads, brings-then, before-brings, overdue-brings, turn-brings, wake-brings, got-brings, answer-brings, read-brings, refusal-brings, asked-brings, answered-brings}
+use Rattle.agent_roles.proofs.Fitting.{before-fits, ready-same}
+use Rattle.agent_roles.proofs.Granting.{awaited-lease, any-granted-may as grant-may}
+use Rattle.agent_roles.proofs.Knowing.{any-granted-onward, any-refused-onward, looked-onward, operated-onward, IsAlone, alone-of, Onward, before-onward, wake-onward, got-onward, answered-onward, asked-onward, onward-then}
 use Rattle.agent_lease_law.proofs.Lawful.{was_of, acts-seen, seen-acts, watchdog-kept, watchdog-leaves, parted-by, lawful-of}
 use Rattle.agent_lease_law.proofs.LawfulGrants.{heard-leader, heard-failsafe, hears-grant, fed-of, entry-known, armable-before, new-deadline, free-of}
-use Rattle.agent_law.proofs.Leaving.{given-up-fits, told-fits, operated-leaves, leaves-then, before-leaves, wake-leaves, read-leaves, refusal-leaves, asked-leaves, answered-leaves}
-use Rattle.agent_law.proofs.Living.{no-way}
-use Rattle.agent_law.proofs.Staying.{before-waits, stays-unpaused}
+use Rattle.agent_roles.proofs.Leaving.{given-up-fits, told-fits, operated-leaves, leaves-then, before-leaves, wake-leaves, read-leaves, refusal-leaves, asked-leaves, answered-leaves}
+use Rattle.agent_roles.proofs.Living.{no-way}
+use Rattle.agent_roles.proofs.Staying.{before-waits, stays-unpaused}
 use Rattle.agent_model.proofs.Rows.{wake-by, looked-by}
 use Rattle.agent_lease_law.proofs.Behind.{BeginsOn, nobody-begins, grant-begins, begins-weaker}
 use Rattle.agent_lease_law.proofs.Behind.BeginsOn.{WasReady, OnLease}
-use Rattle.agent_law.proofs.Sending.{operated-may, IsSilent, AllMay, Decides, wake-may, got-may, refused-may, granted-may as granted-sends, asked-may, answered-may}
+use Rattle.agent_lease_law.proofs.Sending.{operated-may, IsSilent, AllMay, Decides, wake-may, got-may, refused-may, granted-may as granted-sends, asked-may, answered-may}
 
 -- no revision is granted
 abbrev Nobody : ℕ → Type 0

@@ -1,3 +1,4 @@
+pub mod Sending
 pub mod Behind
 pub mod Lawful
 pub mod LawfulGrants

@@ -22,8 +22,8 @@ use Rattle.agent_model.specs.declared.output.Target.TheVariants as targets
 use Rattle.agent_model.specs.Agents.{Outcome}
 use Rattle.agent_model.specs.Outputs.{is_arming, is_feeding, has_one, OutputsBeginBehind}
 use Rattle.agent_model.specs.Pausing.{is_paused}
-use Rattle.agent_law.specs.Powers.{IsAwaitedLease}
-use Rattle.agent_law.specs.Seen.{leader_seen, failsafe_seen, moment_seen, machine_seen}
+use Rattle.agent_roles.specs.Powers.{IsAwaitedLease}
+use Rattle.agent_roles.specs.Seen.{leader_seen, failsafe_seen, moment_seen, machine_seen}
 
 -- the state of the law in which this agent stands at this moment: its deadline was set by a grant, failsafe mode is off, and the cluster isn't
 -- paused by what it read

@@ -37,7 +37,7 @@ use Rattle.agent_model.specs.Acting.{sending, lease_span, disarming, feeding, en
 use Rattle.agent_model.specs.Agents.{RoleFacts, Follower, Holder, Ready, Leader, Ending, Stray, Outcome, is_leader}
 use Rattle.agent_model.specs.Before.{leader_finds_ended, has_ended, finds_live, stray_finds_ended, before_as, before}
 use Rattle.agent_model.specs.Pausing.{is_paused, ends_forks, is_wanted, resting, running_without_key}
-use Rattle.agent_model.specs.Decisions.{takes_over, may_take, gives_back, takes_key_in_pause, granted_in_pause, uses_lease, asks_renewal, lease_used, may_create, leader_renewed, is_start_too_long, stray_renewed, takes_key, lease_granted, belongs, accepted_grant, is_lease_of, granted_write, granted_for, granted, is_decision, is_sync_decision, awaits_decision, is_write_of, sync_granted, accepted_sync, follower_for, renewal_refused, refused_as, refused_for, refused}
+use Rattle.agent_model.specs.Decisions.{takes_over, may_take, gives_back, takes_key_in_pause, granted_in_pause, uses_lease, asks_renewal, lease_used, may_create, has_primary, leader_renewed, is_start_too_long, stray_renewed, takes_key, lease_granted, belongs, accepted_grant, is_lease_of, granted_write, granted_for, granted, is_decision, is_sync_decision, awaits_decision, is_write_of, sync_granted, accepted_sync, follower_for, renewal_refused, refused_as, refused_for, refused}
 use Rattle.agent_model.specs.Claiming.{begins, claims, begins_or_claims, passing, told_passing, postpones, claim_fails_as, claim_fails, may_begin_on_claim}
 use Rattle.agent_model.specs.Planning.{leader_view, writing_sync, switching_off, noting, planned_as, planned_on, planned, settled}
 use Rattle.agent_model.specs.Fits.{Fits}
@@ -59,9 +59,13 @@ use Rattle.cluster_config.specs.Naming.{candidate_of}
 use Rattle.agent_model.specs.Snapshots.{leader_loses_key, stray_loses_key, renewing, finds_own_key, own_key, asks_as_stray, starts_behind, starts_if, follow_row, follows, others_key, no_key, led, is_active, awaits_read, read_noted, informed, accepted, got, ends_fork}
 use Rattle.agent_model.specs.Racing.{can_start, starts_alone, bar_of, creating, barred, races_unless, free_key, finds_free, outcome_at, judged_as, judged, asking_others, unheard}
 use Rattle.agent_model.specs.Answers.{all_answered}
-use Rattle.agent_model.specs.Peers.{awaits_answer, awaits_check, judged_if_all, keeping, accepted_answer, answered_for, answered}
+use Rattle.agent_model.specs.Peers.{is_asking, awaits_others, awaits_answer, awaits_check, judged_if_all, keeping, accepted_answer, answered_for, answered}
 use Rattle.agent_model.specs.Table.{granted_any, refused_any}
 use Rattle.agent_model.specs.Wake.{roused, is_due, has_turn, leader_out_of_reach, stray_out_of_reach, out_of_reach_as, out_of_reach, unanswered, overdue_for, overdue, is_stopping, reading, turn_noted, turn_as, turn_begins, turned, woken}
+
+and-left : (a b : Bool) → a && b ≡ true → a ≡ true
+and-left true b e = refl
+and-left false b e = e
 
 pub if-cases : {A : Type 0} (P : A → Type 0) (test : Bool) (x y : A) → (test ≡ true → P x) → (test ≡ false → P y) → P (if test then x else y)
 if-cases P true x y yes-case no-case = yes-case refl
@@ -197,7 +201,44 @@ operated-by P now request (requests.Configuration config) o rows = rows.asks Con
 operated-by P now request requests.Restart o rows = rows.restarts (tolds.Text ok texts.Restarted)
 operated-by P now request requests.Reinit o rows = rows.wipes (tolds.Text ok texts.ReinitializeStarted)
 
--- a deadline that has passed
+-- a deadline that has passed, by when each row applies
+pub record OverdueWhen (P : Outcome → Type 0) (now : Ticks) (o : Outcome) : Type 0 where
+  pub kept : P o
+  pub quiet : P (waiting_no_more o)
+  pub leader : (revision : ℕ) → o.role ≡ Leader revision → is_paused o.knows ≡ false → P (leader_out_of_reach now revision (waiting_no_more o))
+  pub stray : o.role ≡ Stray → is_paused o.knows ≡ false → P (stray_out_of_reach now (waiting_no_more o))
+  pub judges : awaits_others o.knows.waited ≡ true → may_create o.role ≡ true → P (judged now o)
+  pub ready : (revision : ℕ) → o.role ≡ Ready revision → P (postpones revision (waiting_no_more o))
+  pub checks : (revision : ℕ) → o.role ≡ Leader revision → HandoverRows P now revision o
+
+out-of-reach-as : (P : Outcome → Type 0) (now : Ticks) (role : RoleFacts) (o : Outcome) → o.role ≡ role → is_paused o.knows ≡ false → OverdueWhen P now o → P (out_of_reach_as now role (waiting_no_more o))
+out-of-reach-as P now (Leader r) o is unpaused rows = rows.leader r is unpaused
+out-of-reach-as P now Stray o is unpaused rows = rows.stray is unpaused
+out-of-reach-as P now Follower o is unpaused rows = rows.quiet
+out-of-reach-as P now (Holder r) o is unpaused rows = rows.quiet
+out-of-reach-as P now (Ready r) o is unpaused rows = rows.quiet
+out-of-reach-as P now (Ending r why) o is unpaused rows = rows.quiet
+
+out-of-reach : (P : Outcome → Type 0) (now : Ticks) (o : Outcome) → OverdueWhen P now o → P (out_of_reach now o)
+out-of-reach P now o rows = if-cases P (is_paused o.knows) (waiting_no_more o) (out_of_reach_as now o.role (waiting_no_more o)) (λ _. rows.quiet) (λ unpaused. out-of-reach-as P now o.role o refl unpaused rows)
+
+unanswered-by : (P : Outcome → Type 0) (now : Ticks) (question : Question) (o : Outcome) → (is_asking question ≡ true → awaits_others o.knows.waited ≡ true) → OverdueWhen P now o → P (unanswered now question o)
+unanswered-by P now Reading o asked rows = out-of-reach P now o rows
+unanswered-by P now Renewing o asked rows = out-of-reach P now o rows
+unanswered-by P now Creating o asked rows = rows.quiet
+unanswered-by P now Claiming o asked rows = claim-fails-by P (waiting_no_more o) rows.quiet rows.ready
+unanswered-by P now (Syncing settling) o asked rows = rows.quiet
+unanswered-by P now Checking o asked rows = judged-if-leading P now o.role o refl rows.quiet rows.checks
+unanswered-by P now Asking o asked rows = if-cases P (may_create o.role) (judged now o) (waiting_no_more o) (rows.judges (asked refl)) (λ _. rows.quiet)
+
+overdue-for : (P : Outcome → Type 0) (now : Ticks) (waited : Option Waited) (o : Outcome) → o.knows.waited ≡ waited → OverdueWhen P now o → P (overdue_for now waited o)
+overdue-for P now None o is rows = rows.kept
+overdue-for P now (Some waited) o is rows = if-cases P (nat_le waited.until.0 now.0) (unanswered now waited.question o) o (λ _. unanswered-by P now waited.question o (λ asked. ap awaits_others is ∙ asked) rows) (λ _. rows.kept)
+
+pub overdue-when : (P : Outcome → Type 0) (now : Ticks) (o : Outcome) → OverdueWhen P now o → P (overdue now o)
+overdue-when P now o rows = overdue-for P now o.knows.waited o refl rows
+
+-- the same, whenever they apply
 pub record OverdueRows (P : Outcome → Type 0) (now : Ticks) (o : Outcome) : Type 0 where
   pub kept : P o
   pub quiet : P (waiting_no_more o)
@@ -207,32 +248,16 @@ pub record OverdueRows (P : Outcome → Type 0) (now : Ticks) (o : Outcome) : Ty
   pub ready : (revision : ℕ) → o.role ≡ Ready revision → P (postpones revision (waiting_no_more o))
   pub checks : (revision : ℕ) → o.role ≡ Leader revision → HandoverRows P now revision o
 
-out-of-reach-as : (P : Outcome → Type 0) (now : Ticks) (role : RoleFacts) (o : Outcome) → o.role ≡ role → OverdueRows P now o → P (out_of_reach_as now role (waiting_no_more o))
-out-of-reach-as P now (Leader r) o is rows = rows.leader r is
-out-of-reach-as P now Stray o is rows = rows.stray is
-out-of-reach-as P now Follower o is rows = rows.quiet
-out-of-reach-as P now (Holder r) o is rows = rows.quiet
-out-of-reach-as P now (Ready r) o is rows = rows.quiet
-out-of-reach-as P now (Ending r why) o is rows = rows.quiet
-
-out-of-reach : (P : Outcome → Type 0) (now : Ticks) (o : Outcome) → OverdueRows P now o → P (out_of_reach now o)
-out-of-reach P now o rows = if-cases P (is_paused o.knows) (waiting_no_more o) (out_of_reach_as now o.role (waiting_no_more o)) (λ _. rows.quiet) (λ _. out-of-reach-as P now o.role o refl rows)
-
-unanswered-by : (P : Outcome → Type 0) (now : Ticks) (question : Question) (o : Outcome) → OverdueRows P now o → P (unanswered now question o)
-unanswered-by P now Reading o rows = out-of-reach P now o rows
-unanswered-by P now Renewing o rows = out-of-reach P now o rows
-unanswered-by P now Creating o rows = rows.quiet
-unanswered-by P now Claiming o rows = claim-fails-by P (waiting_no_more o) rows.quiet rows.ready
-unanswered-by P now (Syncing settling) o rows = rows.quiet
-unanswered-by P now Checking o rows = judged-if-leading P now o.role o refl rows.quiet rows.checks
-unanswered-by P now Asking o rows = if-cases P (may_create o.role) (judged now o) (waiting_no_more o) rows.judges (λ _. rows.quiet)
-
-overdue-for : (P : Outcome → Type 0) (now : Ticks) (waited : Option Waited) (o : Outcome) → OverdueRows P now o → P (overdue_for now waited o)
-overdue-for P now None o rows = rows.kept
-overdue-for P now (Some waited) o rows = if-cases P (nat_le waited.until.0 now.0) (unanswered now waited.question o) o (λ _. unanswered-by P now waited.question o rows) (λ _. rows.kept)
-
 pub overdue-by : (P : Outcome → Type 0) (now : Ticks) (o : Outcome) → OverdueRows P now o → P (overdue now o)
-overdue-by P now o rows = overdue-for P now o.knows.waited o rows
+overdue-by P now o rows = overdue-when P now o (record {
+  kept = rows.kept;
+  quiet = rows.quiet;
+  leader = λ revision is _. rows.leader revision is;
+  stray = λ is _. rows.stray is;
+  judges = λ _ may. rows.judges may;
+  ready = rows.ready;
+  checks = rows.checks;
+})
 
 -- a turn
 pub record TurnRows (P : Outcome → Type 0) (now : Ticks) (o : Outcome) : Type 0 where
@@ -255,7 +280,70 @@ turn-by P now o rows = if-cases P (has_turn now o.knows) (turn_begins now o) o (
 pub wake-by : (P : Outcome → Type 0) (now : Ticks) (o : Outcome) → P (before now o) → P (roused now o) → P (woken now o)
 wake-by P now o idle due = if-cases P (is_due now o.role o.knows o.machine) (roused now o) (before now o) (λ _. due) (λ _. idle)
 
--- the answer to a read
+-- the answer to a read, by when each row applies
+pub record GotWhen (P : Outcome → Type 0) (now : Ticks) (points : List HistoryPoint) (snapshot : SnapshotFacts) (o : Outcome) : Type 0 where
+  pub kept : P o
+  pub quiet : P (waiting_no_more o)
+  pub other : P (record o { knows = read_noted now snapshot o.knows })
+  pub leader : (held : ℕ) → o.role ≡ Leader held → is_paused (read_noted now snapshot o.knows) ≡ false → P (leader_loses_key now held (record o { knows = read_noted now snapshot o.knows }))
+  pub stray : o.role ≡ Stray → is_paused (read_noted now snapshot o.knows) ≡ false → P (stray_loses_key now (record o { knows = read_noted now snapshot o.knows }))
+  pub renews : is_active o.role ≡ true → (leader : LeaderEntry) → leader_in snapshot ≡ Some leader → leader.holder.number == o.knows.who.me.number ≡ true → P (renewing now points leader.revision (record o { knows = read_noted now snapshot o.knows }))
+  pub touches : P (touching (record o { knows = read_noted now snapshot o.knows }))
+  pub follows : (leader : LeaderEntry) → leader_in snapshot ≡ Some leader → may_create o.role ≡ true → P (follows now leader.holder (record o { knows = read_noted now snapshot o.knows }))
+  pub free : leader_in snapshot ≡ None → may_create o.role ≡ true → P (finds_free now (record o { knows = read_noted now snapshot o.knows }))
+  -- in a pause
+  pub runs_on : is_paused (read_noted now snapshot o.knows) ≡ true → P (running_without_key (record o { knows = read_noted now snapshot o.knows }))
+  pub asks_on : leader_in snapshot ≡ None → has_primary o.role ≡ true → is_paused (read_noted now snapshot o.knows) ≡ true → P (asks_as_stray now (record o { knows = read_noted now snapshot o.knows }))
+
+-- a primary doesn't have the leader key, since another has it, or nobody
+without-key : (P : Outcome → Type 0) (now : Ticks) (points : List HistoryPoint) (snapshot : SnapshotFacts) (o lost : Outcome) → (is_paused (read_noted now snapshot o.knows) ≡ false → P lost) → GotWhen P now points snapshot o
+    → P (if is_paused (read_noted now snapshot o.knows) then running_without_key (record o { knows = read_noted now snapshot o.knows }) else lost)
+without-key P now points snapshot o lost ends rows = if-cases P (is_paused (read_noted now snapshot o.knows)) (running_without_key (record o { knows = read_noted now snapshot o.knows })) lost rows.runs_on ends
+
+without-leader : (P : Outcome → Type 0) (now : Ticks) (points : List HistoryPoint) (snapshot : SnapshotFacts) (o lost : Outcome) → leader_in snapshot ≡ None → has_primary o.role ≡ true → (is_paused (read_noted now snapshot o.knows) ≡ false → P lost) → GotWhen P now points snapshot o
+    → P (if is_paused (read_noted now snapshot o.knows) then asks_as_stray now (record o { knows = read_noted now snapshot o.knows }) else lost)
+without-leader P now points snapshot o lost none primary ends rows = if-cases P (is_paused (read_noted now snapshot o.knows)) (asks_as_stray now (record o { knows = read_noted now snapshot o.knows })) lost (rows.asks_on none primary) ends
+
+got-none : (P : Outcome → Type 0) (now : Ticks) (points : List HistoryPoint) (snapshot : SnapshotFacts) (role : RoleFacts) (o : Outcome) → o.role ≡ role → leader_in snapshot ≡ None → GotWhen P now points snapshot o → P (no_key now role (record o { knows = read_noted now snapshot o.knows }))
+got-none P now points snapshot (Leader held) o is none rows = without-leader P now points snapshot o (leader_loses_key now held (record o { knows = read_noted now snapshot o.knows })) none (rw is refl) (rows.leader held is) rows
+got-none P now points snapshot Stray o is none rows = without-leader P now points snapshot o (stray_loses_key now (record o { knows = read_noted now snapshot o.knows })) none (rw is refl) (rows.stray is) rows
+got-none P now points snapshot Follower o is none rows = rows.free none (rw is refl)
+got-none P now points snapshot (Holder held) o is none rows = rows.free none (rw is refl)
+got-none P now points snapshot (Ready held) o is none rows = rows.other
+got-none P now points snapshot (Ending held why) o is none rows = rows.other
+
+got-others : (P : Outcome → Type 0) (now : Ticks) (points : List HistoryPoint) (snapshot : SnapshotFacts) (leader : LeaderEntry) (role : RoleFacts) (o : Outcome) → o.role ≡ role → leader_in snapshot ≡ Some leader → GotWhen P now points snapshot o → P (others_key now leader.holder role (record o { knows = read_noted now snapshot o.knows }))
+got-others P now points snapshot leader (Leader held) o is some rows = without-key P now points snapshot o (leader_loses_key now held (record o { knows = read_noted now snapshot o.knows })) (rows.leader held is) rows
+got-others P now points snapshot leader Stray o is some rows = without-key P now points snapshot o (stray_loses_key now (record o { knows = read_noted now snapshot o.knows })) (rows.stray is) rows
+got-others P now points snapshot leader Follower o is some rows = rows.follows leader some (rw is refl)
+got-others P now points snapshot leader (Holder held) o is some rows = rows.follows leader some (rw is refl)
+got-others P now points snapshot leader (Ready held) o is some rows = rows.other
+got-others P now points snapshot leader (Ending held why) o is some rows = rows.other
+
+own-found : (P : Outcome → Type 0) (now : Ticks) (points : List HistoryPoint) (snapshot : SnapshotFacts) (leader : LeaderEntry) (o : Outcome) → is_active o.role ≡ true → leader_in snapshot ≡ Some leader → leader.holder.number == o.knows.who.me.number ≡ true → GotWhen P now points snapshot o → P (finds_own_key now points leader.revision (record o { knows = read_noted now snapshot o.knows }))
+own-found P now points snapshot leader o active some mine rows = if-cases P (is_hold_active now o.machine.hold && not (is_paused (read_noted now snapshot o.knows))) (touching (record o { knows = read_noted now snapshot o.knows })) (renewing now points leader.revision (record o { knows = read_noted now snapshot o.knows })) (λ _. rows.touches) (λ _. rows.renews active leader some mine)
+
+got-own : (P : Outcome → Type 0) (now : Ticks) (points : List HistoryPoint) (snapshot : SnapshotFacts) (leader : LeaderEntry) (role : RoleFacts) (o : Outcome) → is_active o.role ≡ true → leader_in snapshot ≡ Some leader → leader.holder.number == o.knows.who.me.number ≡ true → GotWhen P now points snapshot o → P (own_key now points leader.revision role (record o { knows = read_noted now snapshot o.knows }))
+got-own P now points snapshot leader (Leader held) o active some mine rows = rows.renews active leader some mine
+got-own P now points snapshot leader Stray o active some mine rows = rows.renews active leader some mine
+got-own P now points snapshot leader Follower o active some mine rows = own-found P now points snapshot leader o active some mine rows
+got-own P now points snapshot leader (Holder held) o active some mine rows = own-found P now points snapshot leader o active some mine rows
+got-own P now points snapshot leader (Ready held) o active some mine rows = rows.other
+got-own P now points snapshot leader (Ending held why) o active some mine rows = rows.other
+
+got-led : (P : Outcome → Type 0) (now : Ticks) (points : List HistoryPoint) (snapshot : SnapshotFacts) (leader : Option LeaderEntry) (o : Outcome) → is_active o.role ≡ true → leader_in snapshot ≡ leader → GotWhen P now points snapshot o → P (led now points leader (record o { knows = read_noted now snapshot o.knows }))
+got-led P now points snapshot None o active is rows = got-none P now points snapshot o.role o refl is rows
+got-led P now points snapshot (Some leader) o active is rows =
+    if-cases P (leader.holder.number == o.knows.who.me.number) (own_key now points leader.revision o.role (record o { knows = read_noted now snapshot o.knows })) (others_key now leader.holder o.role (record o { knows = read_noted now snapshot o.knows }))
+    (λ mine. got-own P now points snapshot leader o.role o active is mine rows) (λ _. got-others P now points snapshot leader o.role o refl is rows)
+
+pub got-when : (P : Outcome → Type 0) (now : Ticks) (points : List HistoryPoint) (sequence : ℕ) (snapshot : SnapshotFacts) (o : Outcome) → GotWhen P now points snapshot o → P (got now points sequence snapshot o)
+got-when P now points sequence snapshot o rows =
+    if-cases P (awaits_read o.knows.waited sequence) (accepted now points snapshot o) o
+    (λ _. if-cases P (is_active o.role) (led now points (leader_in snapshot) (record o { knows = read_noted now snapshot o.knows })) (waiting_no_more o) (λ active. got-led P now points snapshot (leader_in snapshot) o active refl rows) (λ _. rows.quiet))
+    (λ _. rows.kept)
+
+-- the same, whenever they apply
 pub record GotRows (P : Outcome → Type 0) (now : Ticks) (points : List HistoryPoint) (snapshot : SnapshotFacts) (o : Outcome) : Type 0 where
   pub kept : P o
   pub quiet : P (waiting_no_more o)
@@ -270,55 +358,65 @@ pub record GotRows (P : Outcome → Type 0) (now : Ticks) (points : List History
   pub runs_on : is_paused (read_noted now snapshot o.knows) ≡ true → P (running_without_key (record o { knows = read_noted now snapshot o.knows }))
   pub asks_on : is_paused (read_noted now snapshot o.knows) ≡ true → P (asks_as_stray now (record o { knows = read_noted now snapshot o.knows }))
 
--- a primary doesn't have the leader key, since another has it, or nobody
-without-key : (P : Outcome → Type 0) (now : Ticks) (points : List HistoryPoint) (snapshot : SnapshotFacts) (o lost : Outcome) → P lost → GotRows P now points snapshot o
-    → P (if is_paused (read_noted now snapshot o.knows) then running_without_key (record o { knows = read_noted now snapshot o.knows }) else lost)
-without-key P now points snapshot o lost ends rows = if-cases P (is_paused (read_noted now snapshot o.knows)) (running_without_key (record o { knows = read_noted now snapshot o.knows })) lost rows.runs_on (λ _. ends)
-
-without-leader : (P : Outcome → Type 0) (now : Ticks) (points : List HistoryPoint) (snapshot : SnapshotFacts) (o lost : Outcome) → P lost → GotRows P now points snapshot o
-    → P (if is_paused (read_noted now snapshot o.knows) then asks_as_stray now (record o { knows = read_noted now snapshot o.knows }) else lost)
-without-leader P now points snapshot o lost ends rows = if-cases P (is_paused (read_noted now snapshot o.knows)) (asks_as_stray now (record o { knows = read_noted now snapshot o.knows })) lost rows.asks_on (λ _. ends)
-
-got-none : (P : Outcome → Type 0) (now : Ticks) (points : List HistoryPoint) (snapshot : SnapshotFacts) (role : RoleFacts) (o : Outcome) → o.role ≡ role → leader_in snapshot ≡ None → GotRows P now points snapshot o → P (no_key now role (record o { knows = read_noted now snapshot o.knows }))
-got-none P now points snapshot (Leader held) o is none rows = without-leader P now points snapshot o (leader_loses_key now held (record o { knows = read_noted now snapshot o.knows })) (rows.leader held is) rows
-got-none P now points snapshot Stray o is none rows = without-leader P now points snapshot o (stray_loses_key now (record o { knows = read_noted now snapshot o.knows })) (rows.stray is) rows
-got-none P now points snapshot Follower o is none rows = rows.free none (rw is refl)
-got-none P now points snapshot (Holder held) o is none rows = rows.free none (rw is refl)
-got-none P now points snapshot (Ready held) o is none rows = rows.other
-got-none P now points snapshot (Ending held why) o is none rows = rows.other
-
-got-others : (P : Outcome → Type 0) (now : Ticks) (points : List HistoryPoint) (snapshot : SnapshotFacts) (leader : LeaderEntry) (role : RoleFacts) (o : Outcome) → o.role ≡ role → leader_in snapshot ≡ Some leader → GotRows P now points snapshot o → P (others_key now leader.holder role (record o { knows = read_noted now snapshot o.knows }))
-got-others P now points snapshot leader (Leader held) o is some rows = without-key P now points snapshot o (leader_loses_key now held (record o { knows = read_noted now snapshot o.knows })) (rows.leader held is) rows
-got-others P now points snapshot leader Stray o is some rows = without-key P now points snapshot o (stray_loses_key now (record o { knows = read_noted now snapshot o.knows })) (rows.stray is) rows
-got-others P now points snapshot leader Follower o is some rows = rows.follows leader some (rw is refl)
-got-others P now points snapshot leader (Holder held) o is some rows = rows.follows leader some (rw is refl)
-got-others P now points snapshot leader (Ready held) o is some rows = rows.other
-got-others P now points snapshot leader (Ending held why) o is some rows = rows.other
-
-own-found : (P : Outcome → Type 0) (now : Ticks) (points : List HistoryPoint) (snapshot : SnapshotFacts) (leader : LeaderEntry) (o : Outcome) → is_active o.role ≡ true → leader_in snapshot ≡ Some leader → leader.holder.number == o.knows.who.me.number ≡ true → GotRows P now points snapshot o → P (finds_own_key now points leader.revision (record o { knows = read_noted now snapshot o.knows }))
-own-found P now points snapshot leader o active some mine rows = if-cases P (is_hold_active now o.machine.hold && not (is_paused (read_noted now snapshot o.knows))) (touching (record o { knows = read_noted now snapshot o.knows })) (renewing now points leader.revision (record o { knows = read_noted now snapshot o.knows })) (λ _. rows.touches) (λ _. rows.renews active leader some mine)
-
-got-own : (P : Outcome → Type 0) (now : Ticks) (points : List HistoryPoint) (snapshot : SnapshotFacts) (leader : LeaderEntry) (role : RoleFacts) (o : Outcome) → is_active o.role ≡ true → leader_in snapshot ≡ Some leader → leader.holder.number == o.knows.who.me.number ≡ true → GotRows P now points snapshot o → P (own_key now points leader.revision role (record o { knows = read_noted now snapshot o.knows }))
-got-own P now points snapshot leader (Leader held) o active some mine rows = rows.renews active leader some mine
-got-own P now points snapshot leader Stray o active some mine rows = rows.renews active leader some mine
-got-own P now points snapshot leader Follower o active some mine rows = own-found P now points snapshot leader o active some mine rows
-got-own P now points snapshot leader (Holder held) o active some mine rows = own-found P now points snapshot leader o active some mine rows
-got-own P now points snapshot leader (Ready held) o active some mine rows = rows.other
-got-own P now points snapshot leader (Ending held why) o active some mine rows = rows.other
-
-got-led : (P : Outcome → Type 0) (now : Ticks) (points : List HistoryPoint) (snapshot : SnapshotFacts) (leader : Option LeaderEntry) (o : Outcome) → is_active o.role ≡ true → leader_in snapshot ≡ leader → GotRows P now points snapshot o → P (led now points leader (record o { knows = read_noted now snapshot o.knows }))
-got-led P now points snapshot None o active is rows = got-none P now points snapshot o.role o refl is rows
-got-led P now points snapshot (Some leader) o active is rows =
-    if-cases P (leader.holder.number == o.knows.who.me.number) (own_key now points leader.revision o.role (record o { knows = read_noted now snapshot o.knows })) (others_key now leader.holder o.role (record o { knows = read_noted now snapshot o.knows }))
-    (λ mine. got-own P now points snapshot leader o.role o active is mine rows) (λ _. got-others P now points snapshot leader o.role o refl is rows)
-
 pub got-by : (P : Outcome → Type 0) (now : Ticks) (points : List HistoryPoint) (sequence : ℕ) (snapshot : SnapshotFacts) (o : Outcome) → GotRows P now points snapshot o → P (got now points sequence snapshot o)
-got-by P now points sequence snapshot o rows =
-    if-cases P (awaits_read o.knows.waited sequence) (accepted now points snapshot o) o
-    (λ _. if-cases P (is_active o.role) (led now points (leader_in snapshot) (record o { knows = read_noted now snapshot o.knows })) (waiting_no_more o) (λ active. got-led P now points snapshot (leader_in snapshot) o active refl rows) (λ _. rows.quiet))
-    (λ _. rows.kept)
+got-by P now points sequence snapshot o rows = got-when P now points sequence snapshot o (record {
+  kept = rows.kept;
+  quiet = rows.quiet;
+  other = rows.other;
+  leader = λ held is _. rows.leader held is;
+  stray = λ is _. rows.stray is;
+  renews = rows.renews;
+  touches = rows.touches;
+  follows = rows.follows;
+  free = rows.free;
+  runs_on = rows.runs_on;
+  asks_on = λ _ _ paused. rows.asks_on paused;
+})
 
--- a request was refused
+-- a request was refused, by when each row applies
+pub record RefusedWhen (P : Outcome → Type 0) (now : Ticks) (o : Outcome) : Type 0 where
+  pub kept : P o
+  pub quiet : P (waiting_no_more o)
+  pub leader : (held : ℕ) → o.role ≡ Leader held → is_paused o.knows ≡ false → P (leader_loses_key now held (waiting_no_more o))
+  pub stray : o.role ≡ Stray → is_paused o.knows ≡ false → P (stray_loses_key now (waiting_no_more o))
+  pub follower : (held : ℕ) → o.role ≡ Holder held → P (record (waiting_no_more o) { role = Follower })
+  pub ready : (held : ℕ) → o.role ≡ Ready held → P (postpones held (waiting_no_more o))
+  -- in a pause
+  pub runs_on : is_paused o.knows ≡ true → P (running_without_key (waiting_no_more o))
+
+renewal-refused : (P : Outcome → Type 0) (now : Ticks) (role : RoleFacts) (o : Outcome) → o.role ≡ role → RefusedWhen P now o → P (renewal_refused now role (waiting_no_more o))
+renewal-refused P now (Leader held) o is rows = if-cases P (is_paused o.knows) (running_without_key (waiting_no_more o)) (leader_loses_key now held (waiting_no_more o)) rows.runs_on (rows.leader held is)
+renewal-refused P now Stray o is rows = if-cases P (is_paused o.knows) (running_without_key (waiting_no_more o)) (stray_loses_key now (waiting_no_more o)) rows.runs_on (rows.stray is)
+renewal-refused P now (Holder held) o is rows = rows.follower held is
+renewal-refused P now Follower o is rows = rows.quiet
+renewal-refused P now (Ready held) o is rows = rows.quiet
+renewal-refused P now (Ending held why) o is rows = rows.quiet
+
+create-refused : (P : Outcome → Type 0) (now : Ticks) (role : RoleFacts) (o : Outcome) → o.role ≡ role → RefusedWhen P now o → P (record (waiting_no_more o) { role = follower_for role })
+create-refused P now (Holder held) o is rows = rows.follower held is
+create-refused P now Follower o is rows = subst (λ (r : RoleFacts). P (record (waiting_no_more o) { role = r })) is rows.quiet
+create-refused P now (Ready held) o is rows = subst (λ (r : RoleFacts). P (record (waiting_no_more o) { role = r })) is rows.quiet
+create-refused P now (Leader held) o is rows = subst (λ (r : RoleFacts). P (record (waiting_no_more o) { role = r })) is rows.quiet
+create-refused P now (Ending held why) o is rows = subst (λ (r : RoleFacts). P (record (waiting_no_more o) { role = r })) is rows.quiet
+create-refused P now Stray o is rows = subst (λ (r : RoleFacts). P (record (waiting_no_more o) { role = r })) is rows.quiet
+
+refused-as : (P : Outcome → Type 0) (now : Ticks) (question : Question) (o : Outcome) → RefusedWhen P now o → P (refused_as now question (waiting_no_more o))
+refused-as P now Creating o rows = create-refused P now o.role o refl rows
+refused-as P now Renewing o rows = renewal-refused P now o.role o refl rows
+refused-as P now Claiming o rows = claim-fails-by P (waiting_no_more o) rows.quiet rows.ready
+refused-as P now Reading o rows = rows.quiet
+refused-as P now Asking o rows = rows.quiet
+refused-as P now (Syncing settling) o rows = rows.quiet
+refused-as P now Checking o rows = rows.quiet
+
+refused-for : (P : Outcome → Type 0) (now : Ticks) (sequence : ℕ) (waited : Option Waited) (o : Outcome) → RefusedWhen P now o → P (refused_for now sequence waited o)
+refused-for P now sequence None o rows = rows.kept
+refused-for P now sequence (Some waited) o rows = if-cases P (awaits_decision waited sequence) (refused_as now waited.question (waiting_no_more o)) o (λ _. refused-as P now waited.question o rows) (λ _. rows.kept)
+
+pub refused-when : (P : Outcome → Type 0) (now : Ticks) (sequence : ℕ) (o : Outcome) → RefusedWhen P now o → P (refused now sequence o)
+refused-when P now sequence o rows = refused-for P now sequence o.knows.waited o rows
+
+-- the same, whenever they apply
 pub record RefusedRows (P : Outcome → Type 0) (now : Ticks) (o : Outcome) : Type 0 where
   pub kept : P o
   pub quiet : P (waiting_no_more o)
@@ -329,37 +427,16 @@ pub record RefusedRows (P : Outcome → Type 0) (now : Ticks) (o : Outcome) : Ty
   -- in a pause
   pub runs_on : is_paused o.knows ≡ true → P (running_without_key (waiting_no_more o))
 
-renewal-refused : (P : Outcome → Type 0) (now : Ticks) (role : RoleFacts) (o : Outcome) → o.role ≡ role → RefusedRows P now o → P (renewal_refused now role (waiting_no_more o))
-renewal-refused P now (Leader held) o is rows = if-cases P (is_paused o.knows) (running_without_key (waiting_no_more o)) (leader_loses_key now held (waiting_no_more o)) rows.runs_on (λ _. rows.leader held is)
-renewal-refused P now Stray o is rows = if-cases P (is_paused o.knows) (running_without_key (waiting_no_more o)) (stray_loses_key now (waiting_no_more o)) rows.runs_on (λ _. rows.stray is)
-renewal-refused P now (Holder held) o is rows = rows.follower held is
-renewal-refused P now Follower o is rows = rows.quiet
-renewal-refused P now (Ready held) o is rows = rows.quiet
-renewal-refused P now (Ending held why) o is rows = rows.quiet
-
-create-refused : (P : Outcome → Type 0) (now : Ticks) (role : RoleFacts) (o : Outcome) → o.role ≡ role → RefusedRows P now o → P (record (waiting_no_more o) { role = follower_for role })
-create-refused P now (Holder held) o is rows = rows.follower held is
-create-refused P now Follower o is rows = subst (λ (r : RoleFacts). P (record (waiting_no_more o) { role = r })) is rows.quiet
-create-refused P now (Ready held) o is rows = subst (λ (r : RoleFacts). P (record (waiting_no_more o) { role = r })) is rows.quiet
-create-refused P now (Leader held) o is rows = subst (λ (r : RoleFacts). P (record (waiting_no_more o) { role = r })) is rows.quiet
-create-refused P now (Ending held why) o is rows = subst (λ (r : RoleFacts). P (record (waiting_no_more o) { role = r })) is rows.quiet
-create-refused P now Stray o is rows = subst (λ (r : RoleFacts). P (record (waiting_no_more o) { role = r })) is rows.quiet
-
-refused-as : (P : Outcome → Type 0) (now : Ticks) (question : Question) (o : Outcome) → RefusedRows P now o → P (refused_as now question (waiting_no_more o))
-refused-as P now Creating o rows = create-refused P now o.role o refl rows
-refused-as P now Renewing o rows = renewal-refused P now o.role o refl rows
-refused-as P now Claiming o rows = claim-fails-by P (waiting_no_more o) rows.quiet rows.ready
-refused-as P now Reading o rows = rows.quiet
-refused-as P now Asking o rows = rows.quiet
-refused-as P now (Syncing settling) o rows = rows.quiet
-refused-as P now Checking o rows = rows.quiet
-
-refused-for : (P : Outcome → Type 0) (now : Ticks) (sequence : ℕ) (waited : Option Waited) (o : Outcome) → RefusedRows P now o → P (refused_for now sequence waited o)
-refused-for P now sequence None o rows = rows.kept
-refused-for P now sequence (Some waited) o rows = if-cases P (awaits_decision waited sequence) (refused_as now waited.question (waiting_no_more o)) o (λ _. refused-as P now waited.question o rows) (λ _. rows.kept)
-
 pub refused-by : (P : Outcome → Type 0) (now : Ticks) (sequence : ℕ) (o : Outcome) → RefusedRows P now o → P (refused now sequence o)
-refused-by P now sequence o rows = refused-for P now sequence o.knows.waited o rows
+refused-by P now sequence o rows = refused-when P now sequence o (record {
+  kept = rows.kept;
+  quiet = rows.quiet;
+  leader = λ held is _. rows.leader held is;
+  stray = λ is _. rows.stray is;
+  follower = rows.follower;
+  ready = rows.ready;
+  runs_on = rows.runs_on;
+})
 
 -- what the server of a member does under another leader, or under none
 starts-by : (P : Outcome → Type 0) (now : Ticks) (leader : Option MemberId) (o : Outcome) → P o → P (starting_replica now leader o) → P (starts_behind now leader o)
@@ -404,19 +481,19 @@ free-by P now o rows =
     if-cases P (can_start o.machine.server) (touching (starts_alone now o)) (races_unless now (bar_of now o.knows o.machine) o)
     (λ _. if-cases (λ (x : Outcome). P (touching x)) (is_paused o.knows) o (starting_replica now None o) (λ _. rows.touches) (λ _. rows.starts)) (λ _. races-by P now (bar_of now o.knows o.machine) o rows)
 
--- the answer of another member
-pub record AnsweredRows (P : Outcome → Type 0) (now : Ticks) (answer : PeerAnswer) (o : Outcome) : Type 0 where
+-- the answer of another member, by when each row applies
+pub record AnsweredWhen (P : Outcome → Type 0) (now : Ticks) (answer : PeerAnswer) (o : Outcome) : Type 0 where
   pub kept : P o
   pub quiet : P (waiting_no_more o)
   pub keeps : P (keeping answer o)
-  pub judges : may_create o.role ≡ true → P (judged now (keeping answer o))
+  pub judges : awaits_others o.knows.waited ≡ true → may_create o.role ≡ true → P (judged now (keeping answer o))
   pub checks : (revision : ℕ) → o.role ≡ Leader revision → HandoverRows P now revision (keeping answer o)
 
-accepted-answer : (P : Outcome → Type 0) (now : Ticks) (answer : PeerAnswer) (o : Outcome) → AnsweredRows P now answer o → P (accepted_answer now answer o)
-accepted-answer P now answer o rows = if-cases P (may_create o.role) (judged_if_all now (keeping answer o)) (waiting_no_more o)
-    (λ may. if-cases P (all_answered o.knows.who (keeping answer o).knows.answers) (judged now (keeping answer o)) (keeping answer o) (λ _. rows.judges may) (λ _. rows.keeps)) (λ _. rows.quiet)
+accepted-answer : (P : Outcome → Type 0) (now : Ticks) (answer : PeerAnswer) (o : Outcome) → awaits_others o.knows.waited ≡ true → AnsweredWhen P now answer o → P (accepted_answer now answer o)
+accepted-answer P now answer o asked rows = if-cases P (may_create o.role) (judged_if_all now (keeping answer o)) (waiting_no_more o)
+    (λ may. if-cases P (all_answered o.knows.who (keeping answer o).knows.answers) (judged now (keeping answer o)) (keeping answer o) (λ _. rows.judges asked may) (λ _. rows.keeps)) (λ _. rows.quiet)
 
-check-answered : (P : Outcome → Type 0) (now : Ticks) (answer : PeerAnswer) (role : RoleFacts) (o : Outcome) → o.role ≡ role → AnsweredRows P now answer o → P (check_answered now answer role o)
+check-answered : (P : Outcome → Type 0) (now : Ticks) (answer : PeerAnswer) (role : RoleFacts) (o : Outcome) → o.role ≡ role → AnsweredWhen P now answer o → P (check_answered now answer role o)
 check-answered P now answer (Leader revision) o is rows =
     if-cases P (whom_answered o.knows.who (candidate_of o.knows.turn_failover) (keeping answer o).knows.answers) (handover_judged now revision (keeping answer o)) (keeping answer o)
     (λ _. handover-by P now revision (keeping answer o) (rows.checks revision is)) (λ _. rows.keeps)
@@ -426,20 +503,58 @@ check-answered P now answer (Ready held) o is rows = rows.quiet
 check-answered P now answer (Ending held why) o is rows = rows.quiet
 check-answered P now answer Stray o is rows = rows.quiet
 
-answered-for : (P : Outcome → Type 0) (now : Ticks) (sequence : ℕ) (answer : PeerAnswer) (waited : Option Waited) (o : Outcome) → AnsweredRows P now answer o → P (answered_for now sequence answer waited o)
-answered-for P now sequence answer None o rows = rows.kept
-answered-for P now sequence answer (Some waited) o rows =
-    if-cases P (awaits_answer waited sequence) (accepted_answer now answer o) (if awaits_check waited sequence then check_answered now answer o.role o else o) (λ _. accepted-answer P now answer o rows)
+answered-for : (P : Outcome → Type 0) (now : Ticks) (sequence : ℕ) (answer : PeerAnswer) (waited : Option Waited) (o : Outcome) → o.knows.waited ≡ waited → AnsweredWhen P now answer o → P (answered_for now sequence answer waited o)
+answered-for P now sequence answer None o is rows = rows.kept
+answered-for P now sequence answer (Some waited) o is rows =
+    if-cases P (awaits_answer waited sequence) (accepted_answer now answer o) (if awaits_check waited sequence then check_answered now answer o.role o else o) (λ awaits. accepted-answer P now answer o (ap awaits_others is ∙ and-left (is_asking waited.question) (waited.sequence == sequence) awaits) rows)
     (λ _. if-cases P (awaits_check waited sequence) (check_answered now answer o.role o) o (λ _. check-answered P now answer o.role o refl rows) (λ _. rows.kept))
 
+pub answered-when : (P : Outcome → Type 0) (now : Ticks) (sequence : ℕ) (answer : PeerAnswer) (o : Outcome) → AnsweredWhen P now answer o → P (answered now sequence answer o)
+answered-when P now sequence answer o rows = answered-for P now sequence answer o.knows.waited o refl rows
+
+-- the same, whenever they apply
+pub record AnsweredRows (P : Outcome → Type 0) (now : Ticks) (answer : PeerAnswer) (o : Outcome) : Type 0 where
+  pub kept : P o
+  pub quiet : P (waiting_no_more o)
+  pub keeps : P (keeping answer o)
+  pub judges : may_create o.role ≡ true → P (judged now (keeping answer o))
+  pub checks : (revision : ℕ) → o.role ≡ Leader revision → HandoverRows P now revision (keeping answer o)
+
 pub answered-by : (P : Outcome → Type 0) (now : Ticks) (sequence : ℕ) (answer : PeerAnswer) (o : Outcome) → AnsweredRows P now answer o → P (answered now sequence answer o)
-answered-by P now sequence answer o rows = answered-for P now sequence answer o.knows.waited o rows
+answered-by P now sequence answer o rows = answered-when P now sequence answer o (record { kept = rows.kept; quiet = rows.quiet; keeps = rows.keeps; judges = λ _ may. rows.judges may; checks = rows.checks })
 
 -- a leader whose watchdog rests on the grant of this revision
 abbrev pub rested_on : Bool → ℕ → Outcome → Outcome
 rested_on renews revision o = record (resting renews o) { role = Leader revision }
 
--- the lease of a request that was granted
+-- the lease of a request that was granted, by when each row applies
+pub record GrantWhen (P : Outcome → Type 0) (now ttl : Ticks) (revision : ℕ) (o : Outcome) : Type 0 where
+  pub other : P o
+  pub leader : (held : ℕ) → is_paused o.knows ≡ false → o.role ≡ Leader held → P (leader_renewed now ttl revision o)
+  pub stray : is_paused o.knows ≡ false → o.role ≡ Stray → P (stray_renewed now ttl revision o)
+  pub takes : is_paused o.knows ≡ false → may_create o.role ≡ true → P (takes_key now ttl revision o)
+  -- in a pause
+  pub rests : (renews : Bool) → is_paused o.knows ≡ true → (held : ℕ) → o.role ≡ Leader held → P (duties now revision (rested_on renews revision o))
+  pub stray_rests : (renews : Bool) → is_paused o.knows ≡ true → o.role ≡ Stray → P (takes_over now revision (resting renews o))
+  pub takes_resting : (renews : Bool) → is_paused o.knows ≡ true → may_create o.role ≡ true → P (takes_key_in_pause now renews revision o)
+
+granted-in-pause : (P : Outcome → Type 0) (now ttl : Ticks) (renews : Bool) (revision : ℕ) (role : RoleFacts) (o : Outcome) → o.role ≡ role → is_paused o.knows ≡ true → GrantWhen P now ttl revision o → P (granted_in_pause now renews revision role o)
+granted-in-pause P now ttl renews revision (Leader held) o is paused rows = rows.rests renews paused held is
+granted-in-pause P now ttl renews revision Stray o is paused rows = rows.stray_rests renews paused is
+granted-in-pause P now ttl renews revision Follower o is paused rows = rows.takes_resting renews paused (rw is refl)
+granted-in-pause P now ttl renews revision (Holder held) o is paused rows = rows.takes_resting renews paused (rw is refl)
+granted-in-pause P now ttl renews revision (Ready held) o is paused rows = rows.other
+granted-in-pause P now ttl renews revision (Ending held why) o is paused rows = rows.other
+
+lease-granted : (P : Outcome → Type 0) (now ttl : Ticks) (revision : ℕ) (role : RoleFacts) (o : Outcome) → o.role ≡ role → is_paused o.knows ≡ false → GrantWhen P now ttl revision o → P (lease_granted now ttl revision role o)
+lease-granted P now ttl revision (Leader held) o is unpaused rows = rows.leader held unpaused is
+lease-granted P now ttl revision Stray o is unpaused rows = rows.stray unpaused is
+lease-granted P now ttl revision Follower o is unpaused rows = rows.takes unpaused (rw is refl)
+lease-granted P now ttl revision (Holder held) o is unpaused rows = rows.takes unpaused (rw is refl)
+lease-granted P now ttl revision (Ready held) o is unpaused rows = rows.other
+lease-granted P now ttl revision (Ending held why) o is unpaused rows = rows.other
+
+-- the same, whenever they apply
 pub record GrantRows (P : Outcome → Type 0) (now ttl : Ticks) (revision : ℕ) (o : Outcome) : Type 0 where
   pub other : P o
   pub leader : (held : ℕ) → o.role ≡ Leader held → P (leader_renewed now ttl revision o)
@@ -450,21 +565,16 @@ pub record GrantRows (P : Outcome → Type 0) (now ttl : Ticks) (revision : ℕ)
   pub stray_rests : (renews : Bool) → is_paused o.knows ≡ true → o.role ≡ Stray → P (takes_over now revision (resting renews o))
   pub takes_resting : (renews : Bool) → is_paused o.knows ≡ true → may_create o.role ≡ true → P (takes_key_in_pause now renews revision o)
 
-granted-in-pause : (P : Outcome → Type 0) (now ttl : Ticks) (renews : Bool) (revision : ℕ) (role : RoleFacts) (o : Outcome) → o.role ≡ role → is_paused o.knows ≡ true → GrantRows P now ttl revision o → P (granted_in_pause now renews revision role o)
-granted-in-pause P now ttl renews revision (Leader held) o is paused rows = rows.rests renews paused held is
-granted-in-pause P now ttl renews revision Stray o is paused rows = rows.stray_rests renews paused is
-granted-in-pause P now ttl renews revision Follower o is paused rows = rows.takes_resting renews paused (rw is refl)
-granted-in-pause P now ttl renews revision (Holder held) o is paused rows = rows.takes_resting renews paused (rw is refl)
-granted-in-pause P now ttl renews revision (Ready held) o is paused rows = rows.other
-granted-in-pause P now ttl renews revision (Ending held why) o is paused rows = rows.other
-
-lease-granted : (P : Outcome → Type 0) (now ttl : Ticks) (revision : ℕ) (role : RoleFacts) (o : Outcome) → o.role ≡ role → GrantRows P now ttl revision o → P (lease_granted now ttl revision role o)
-lease-granted P now ttl revision (Leader held) o is rows = rows.leader held is
-lease-granted P now ttl revision Stray o is rows = rows.stray is
-lease-granted P now ttl revision Follower o is rows = rows.takes (rw is refl)
-lease-granted P now ttl revision (Holder held) o is rows = rows.takes (rw is refl)
-lease-granted P now ttl revision (Ready held) o is rows = rows.other
-lease-granted P now ttl revision (Ending held why) o is rows = rows.other
+grant-rows : (P : Outcome → Type 0) (now ttl : Ticks) (revision : ℕ) (o : Outcome) → GrantRows P now ttl revision o → GrantWhen P now ttl revision o
+grant-rows P now ttl revision o rows = record {
+  other = rows.other;
+  leader = λ held _ is. rows.leader held is;
+  stray = λ _ is. rows.stray is;
+  takes = λ _ may. rows.takes may;
+  rests = rows.rests;
+  stray_rests = rows.stray_rests;
+  takes_resting = rows.takes_resting;
+}
 
 -- a request for a write of the sync key that a leader's plan makes
 abbrev pub WritesSync : Txn → Type 0
@@ -558,21 +668,31 @@ takes-in-pause-by P now renews revision o gives begin claim =
     if-cases P (is_wanted o.knows.who.me o.knows.turn_failover o.machine.server.state && may_take now o.knows o.machine) (begins_or_claims now revision (resting renews o)) (gives_back revision o)
     (λ _. begins-or-claims-by P now revision (resting renews o) begin claim) (λ _. gives)
 
--- a write of the sync key that was granted
+-- a write of the sync key that was granted, by when each row applies
+pub record SyncWhen (P : Outcome → Type 0) (now : Ticks) (o : Outcome) : Type 0 where
+  pub other : P o
+  pub begins : (revision : ℕ) → o.role ≡ Ready revision → may_begin_on_claim o.knows o.machine.server ≡ true → P (begins now revision o)
+  pub postpones : (revision : ℕ) → o.role ≡ Ready revision → P (postpones revision o)
+  pub settles : (required : Required) → is_leader o.role ≡ true → P (requiring required o)
+
+-- the same, whenever they apply
 pub record SyncRows (P : Outcome → Type 0) (now : Ticks) (o : Outcome) : Type 0 where
   pub other : P o
   pub begins : (revision : ℕ) → o.role ≡ Ready revision → P (begins now revision o)
   pub postpones : (revision : ℕ) → o.role ≡ Ready revision → P (postpones revision o)
   pub settles : (required : Required) → is_leader o.role ≡ true → P (requiring required o)
 
+sync-rows : (P : Outcome → Type 0) (now : Ticks) (o : Outcome) → SyncRows P now o → SyncWhen P now o
+sync-rows P now o rows = record { other = rows.other; begins = λ revision is _. rows.begins revision is; postpones = rows.postpones; settles = rows.settles }
+
 settled-by : (P : Outcome → Type 0) (settling : Settling) (o : Outcome) → P o → ((required : Required) → P (requiring required o)) → P (settled settling o)
 settled-by P Stays o kept requires = kept
 settled-by P (Lists standbys) o kept requires = requires (waiting_for o.knows.settings standbys)
 settled-by P Empties o kept requires = requires Nobody
 
-sync-granted : (P : Outcome → Type 0) (now : Ticks) (question : Question) (role : RoleFacts) (o : Outcome) → o.role ≡ role → belongs question role ≡ true → SyncRows P now o → P (sync_granted now question role o)
+sync-granted : (P : Outcome → Type 0) (now : Ticks) (question : Question) (role : RoleFacts) (o : Outcome) → o.role ≡ role → belongs question role ≡ true → SyncWhen P now o → P (sync_granted now question role o)
 sync-granted P now Claiming (Ready revision) o is fits rows =
-    if-cases P (may_begin_on_claim o.knows o.machine.server) (begins now revision o) (postpones revision o) (λ _. rows.begins revision is) (λ _. rows.postpones revision is)
+    if-cases P (may_begin_on_claim o.knows o.machine.server) (begins now revision o) (postpones revision o) (rows.begins revision is) (λ _. rows.postpones revision is)
 sync-granted P now Claiming Follower o is fits rows = rows.other
 sync-granted P now Claiming (Holder held) o is fits rows = rows.other
 sync-granted P now Claiming (Leader held) o is fits rows = rows.other
@@ -586,24 +706,31 @@ sync-granted P now Renewing role o is fits rows = rows.other
 sync-granted P now Checking role o is fits rows = rows.other
 
 granted-for : (P : Outcome → Type 0) (now : Ticks) (sequence : ℕ) (grant : Granted) (snapshot : SnapshotFacts) (waited : Option Waited) (o : Outcome) → o.knows.waited ≡ waited → P o → P (waiting_no_more o)
-    → ((asked : Waited) → o.knows.waited ≡ Some asked → is_decision asked sequence && is_lease_of o.knows.who.me grant ≡ true → GrantRows P now asked.ttl grant.revision (record o { knows = informed snapshot o.knows }))
-    → SyncRows P now (record o { knows = informed snapshot o.knows }) → P (granted_for now sequence grant snapshot waited o)
+    → ((asked : Waited) → o.knows.waited ≡ Some asked → is_decision asked sequence && is_lease_of o.knows.who.me grant ≡ true → GrantWhen P now asked.ttl grant.revision (record o { knows = informed snapshot o.knows }))
+    → SyncWhen P now (record o { knows = informed snapshot o.knows }) → P (granted_for now sequence grant snapshot waited o)
 granted-for P now sequence grant snapshot None o is kept quiet rows syncs = kept
 granted-for P now sequence grant snapshot (Some waited) o is kept quiet rows syncs = let told : Outcome = record o { knows = informed snapshot o.knows } in
     if-cases P (is_decision waited sequence && is_lease_of o.knows.who.me grant) (accepted_grant now waited grant.revision snapshot o) (granted_write now sequence grant snapshot waited o)
     (λ decision. if-cases P (uses_lease (is_paused told.knows) waited.question o.role) (lease_used now waited grant.revision told) (waiting_no_more o)
     (λ _. if-cases P (is_paused told.knows) (granted_in_pause now (asks_renewal waited.question) grant.revision o.role told) (lease_granted now waited.ttl grant.revision o.role told)
     (λ paused. granted-in-pause P now waited.ttl (asks_renewal waited.question) grant.revision o.role told refl paused (rows waited is decision))
-    (λ _. lease-granted P now waited.ttl grant.revision o.role told refl (rows waited is decision))) (λ _. quiet))
+    (λ unpaused. lease-granted P now waited.ttl grant.revision o.role told refl unpaused (rows waited is decision))) (λ _. quiet))
     (λ _. if-cases P (is_sync_decision waited sequence && is_write_of o.knows.who.me grant) (accepted_sync now waited snapshot o) o
     (λ _. if-cases P (belongs waited.question o.role) (sync_granted now waited.question o.role told) (waiting_no_more o)
     (λ fits. sync-granted P now waited.question o.role told refl fits syncs) (λ _. quiet)) (λ _. kept))
 
--- a request was granted
+-- a request was granted, by when each row applies
+pub granted-when : (P : Outcome → Type 0) (now : Ticks) (sequence : ℕ) (grant : Granted) (snapshot : SnapshotFacts) (o : Outcome) → P o → P (waiting_no_more o)
+    → ((asked : Waited) → o.knows.waited ≡ Some asked → is_decision asked sequence && is_lease_of o.knows.who.me grant ≡ true → GrantWhen P now asked.ttl grant.revision (record o { knows = informed snapshot o.knows }))
+    → SyncWhen P now (record o { knows = informed snapshot o.knows }) → P (granted now sequence grant snapshot o)
+granted-when P now sequence grant snapshot o kept quiet rows syncs = granted-for P now sequence grant snapshot o.knows.waited o refl kept quiet rows syncs
+
+-- the same, whenever they apply
 pub granted-by : (P : Outcome → Type 0) (now : Ticks) (sequence : ℕ) (grant : Granted) (snapshot : SnapshotFacts) (o : Outcome) → P o → P (waiting_no_more o)
     → ((asked : Waited) → o.knows.waited ≡ Some asked → is_decision asked sequence && is_lease_of o.knows.who.me grant ≡ true → GrantRows P now asked.ttl grant.revision (record o { knows = informed snapshot o.knows }))
     → SyncRows P now (record o { knows = informed snapshot o.knows }) → P (granted now sequence grant snapshot o)
-granted-by P now sequence grant snapshot o kept quiet rows syncs = granted-for P now sequence grant snapshot o.knows.waited o refl kept quiet rows syncs
+granted-by P now sequence grant snapshot o kept quiet rows syncs = let told : Outcome = record o { knows = informed snapshot o.knows } in
+    granted-when P now sequence grant snapshot o kept quiet (λ asked is decision. grant-rows P now asked.ttl grant.revision told (rows asked is decision)) (sync-rows P now told syncs)
 
 -- a request was granted: what an operator wants, or the agent by itself
 pub granted-any-by : (P : Outcome → Type 0) (now : Ticks) (sequence : ℕ) (grant : Granted) (snapshot : SnapshotFacts) (o : Outcome) → P o → ReplyRows P (learned snapshot o) → P (granted now sequence grant snapshot o) → P (granted_any now sequence grant snapshot o)

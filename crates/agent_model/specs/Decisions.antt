@@ -116,6 +116,12 @@ may_create Follower = true
 may_create (Holder revision) = true
 may_create _ = false
 
+-- an agent whose server is live: it leads, or has no lease
+abbrev pub has_primary : RoleFacts → Bool
+has_primary (Leader revision) = true
+has_primary Stray = true
+has_primary _ = false
+
 -- a question belongs to the role: its answer is used
 abbrev pub belongs : Question → RoleFacts → Bool
 belongs Asking role = may_create role

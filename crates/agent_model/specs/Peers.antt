@@ -24,6 +24,11 @@ abbrev pub is_asking : Question → Bool
 is_asking Asking = true
 is_asking _ = false
 
+-- the answers of the other members are waited for, in a race
+abbrev pub awaits_others : Option Waited → Bool
+awaits_others None = false
+awaits_others (Some waited) = is_asking waited.question
+
 -- a question of a leader, who may lead in its place
 abbrev pub is_checking : Question → Bool
 is_checking Checking = true

@@ -40,8 +40,7 @@ use Rattle.cluster_model.specs.Machines.{points_of}
 use Rattle.cluster_model.specs.Messages.{output_events}
 use Rattle.cluster_model.specs.Parts.{each}
 use Rattle.cluster_model.specs.State.{Cluster}
-use Rattle.lease_law.specs.Leases.{Flying, Read, Requested}
-use Rattle.lease_law.specs.Leases.{Question as Asked}
+use Rattle.lease_law.specs.Leases.{Flying, Read, Requested, Question as Asked}
 use Rattle.lease_law.specs.Past as lease_past
 use Rattle.event_book.specs.Kinds.{AllAre}
 use Rattle.lease_law.proofs.Tools.{eq-from, ne-from, none-some, put-here, put-there, some-is}
@@ -51,9 +50,9 @@ use Rattle.lease_book.specs.Groups.{AreNumberedAbove, IsNumberedAbove}
 use Rattle.lease_book.proofs.Flights.{asked-new, asked-there, none-requested, requested-is}
 use Rattle.commit_law.specs.Flights.{SyncRequest}
 use Rattle.commit_law.specs.Past.{Past, Query, SyncQuery, claim_request, past_after, past_over, publish_request, query_sent}
-use Rattle.lease_parts.specs.Declaring.{member_count}
+use Rattle.run_promise.specs.Members.{member_count}
 use Rattle.lease_inputs.specs.InputEvents.{IsMessageOf, Asks, AsksPeer, AnswersPeer, IsOfInput}
-use Rattle.lease_inputs.specs.Questions.{AsksAnew, AsksFor, IsPutBy, IsPutByBody, SendsBetween, WaitsOn, Same, Nothing, New}
+use Rattle.agent_questions.specs.Questions.{AsksAnew, AsksFor, IsPutBy, IsPutByBody, SendsBetween, WaitsOn, Same, Nothing, New}
 use Rattle.lease_parts.specs.Waiting.{IsAgentSound}
 use Rattle.lease_inputs.proofs.InputKept.{agents-are, anew, mine, numbers, small}
 use Rattle.lease_inputs.proofs.InputKinds.{IsOpening}

@@ -9,7 +9,7 @@ use Rattle.agent_model.specs.declared.machine.Machine.{Machine}
 use Rattle.agent_model.specs.declared.output.Output.{Output}
 use Rattle.agent_model.specs.declared.output.Output.TheVariants as outputs
 use Rattle.agent_commit_law.specs.Committing.{GrowsByConnected, IsCovered, IsLawfulAs, IsSent, StandsAlone, requests_of}
-use Rattle.agent_law.specs.Orders.{IsOfTable, machine_after_outputs}
+use Rattle.agent_outputs.specs.Orders.{IsOfTable, machine_after_outputs}
 use Rattle.agent_commit_law.proofs.CommitQuiet.{IsUnasking, asks-none, covered as covered-quiet, unasking}
 use Rattle.cluster_model.specs.Cluster.{cluster_over}
 use Rattle.cluster_model.specs.Commands.{kinds_of}
@@ -24,10 +24,10 @@ use Rattle.commit_law.proofs.Fronts.{past-append}
 use Rattle.commit_servers.specs.Acting.{Fits}
 use Rattle.commit_servers.specs.Matching.{live_in}
 use Rattle.commit_servers.specs.Sound.{WaitsForMembers}
-use Rattle.lease_parts.specs.Declaring.{member_count}
+use Rattle.run_promise.specs.Members.{member_count}
 use Rattle.lease_inputs.proofs.InputMachines.{Seen as MachineSeen}
 use Rattle.lease_inputs.proofs.InputSeen.{found-of}
-use Rattle.lease_parts.proofs.Upholding.{over-append}
+use Rattle.run_promise.proofs.Upholding.{over-append}
 use Rattle.sync_order_law.proofs.Asides.{once-behind, once-none}
 use Rattle.commit_parts.specs.Bridged.{CommitsBridged}
 use Rattle.commit_parts.specs.Reading.{past_of, setup_of, state_of_run, volatile_of}

@@ -18,7 +18,7 @@ use Rattle.agent_model.specs.Answers.{peer_answer_of}
 use Rattle.agent_model.specs.Before.{before}
 use Rattle.agent_commit_law.specs.Committing.{IsCovered, IsEndOf}
 use Rattle.agent_model.specs.Info.{runs}
-use Rattle.agent_law.specs.Orders.{IsOfTable}
+use Rattle.agent_outputs.specs.Orders.{IsOfTable}
 use Rattle.agent_model.specs.Table.{step}
 use Rattle.agent_commit_law.proofs.CommitGrounds.{before-behind}
 use Rattle.agent_commit_law.proofs.CommitInputs.{before-covered}
@@ -32,7 +32,7 @@ use Rattle.lease_law.proofs.Tools.{none-some, some-is}
 use Rattle.commit_law.specs.Actions.{Input, IsNumbered, act}
 use Rattle.commit_law.specs.Past.{Past, Setup, log_found, past_over, state_of}
 use Rattle.commit_law.specs.States.{State}
-use Rattle.lease_parts.specs.Declaring.{member_count}
+use Rattle.run_promise.specs.Members.{member_count}
 use Rattle.commit_parts.specs.Bridged.{CommitsBridged}
 use Rattle.commit_parts.specs.Reading.{past_of, setup_of, state_of_run, volatile_of}
 use Rattle.commit_inputs.proofs.Bringing.{Lawful, all-front, each-last, front-page, given-none}

@@ -28,7 +28,7 @@ use Rattle.agent_model.specs.declared.output.Output.TheVariants as outputs
 use Rattle.agent_model.specs.declared.output.Target.TheVariants as targets
 use Rattle.agent_commit_law.specs.Committing.{IsSent, IsSynchronousBody, IsSynchronousOutput, IsSynchronousTxn, KnowsBelow, is_passing, request_in, request_of_body, requests_of}
 use Rattle.agent_model.specs.Agents.{AgentFacts}
-use Rattle.agent_law.specs.Orders.{IsOfTable}
+use Rattle.agent_outputs.specs.Orders.{IsOfTable}
 use Rattle.agent_commit_law.proofs.CommitQuiet.{asks-last, IsUnasking}
 use Rattle.agent_model.specs.Outputs.{has_one}
 use Rattle.cluster_model.specs.Cluster.{agent_after, cluster_after, cluster_over}
@@ -51,8 +51,8 @@ use Rattle.commit_servers.specs.Acting.{Fits}
 use Rattle.commit_servers.specs.Matching.{live_in}
 use Rattle.commit_servers.proofs.Beginning.{fits-aside}
 use Rattle.lease_parts.specs.Bridged.{KnowsItself}
-use Rattle.lease_parts.specs.Declaring.{member_count}
-use Rattle.lease_parts.proofs.Upholding.{over-append}
+use Rattle.run_promise.specs.Members.{member_count}
+use Rattle.run_promise.proofs.Upholding.{over-append}
 use Rattle.sync_order_law.specs.Changes.{AllLeaveOrder}
 use Rattle.sync_order_law.specs.Order.{Awaits}
 use Rattle.sync_order_law.specs.Requests.{PublishesInOrder}

@@ -7,7 +7,7 @@ use Rattle.pat_base.specs.declared.server_state.State.TheVariants as states
 use Rattle.pat_base.specs.declared.ticks.Ticks.{Ticks}
 use Rattle.pat_base.specs.ServerState.{live}
 use Rattle.pg_model.specs.declared.status.ServerStatus.{ServerStatus}
-use Rattle.pg_model.specs.Facts.{ServerFacts, has_data}
+use Rattle.pg_model.specs.Facts.{ServerFacts, has_data, is_down, is_replica}
 use Rattle.event_book.specs.declared.event.Event.{Event}
 use Rattle.script_model.specs.Script.{HeadText}
 use Rattle.agent_model.specs.declared.machine.Machine.{Machine}
@@ -15,10 +15,9 @@ use Rattle.agent_model.specs.declared.output.Output.{Output}
 use Rattle.agent_model.specs.declared.output.Output.TheVariants as outputs
 use Rattle.agent_model.specs.Acting.{status_begun}
 use Rattle.pg_model.specs.Status.{status_primary_started, status_started, status_starting}
-use Rattle.pg_model.specs.Facts.{is_down, is_replica}
 use Rattle.agent_model.specs.Claiming.{can_begin_on_claim}
 use Rattle.agent_commit_law.specs.Committing.{IsCovered, IsSent, is_begin, live_shown, requests_of}
-use Rattle.agent_law.specs.Orders.{IsOfTable, machine_after_output, machine_after_outputs}
+use Rattle.agent_outputs.specs.Orders.{IsOfTable, machine_after_output, machine_after_outputs}
 use Rattle.agent_model.specs.Outputs.{has_one}
 use Rattle.agent_commit_law.proofs.CommitRows.{begins-data}
 use Rattle.agent_commit_law.proofs.CommitQuiet.{IsUnasking, asks-last, covered as covered-quiet, unasking}
@@ -32,11 +31,11 @@ use Rattle.commit_law.specs.Past.{Past, Setup, VolatileState, past_over}
 use Rattle.commit_law.proofs.Fronts.{past-append}
 use Rattle.commit_servers.specs.Acting.{Fits}
 use Rattle.commit_servers.specs.Matching.{IsLiveAhead, live_in, live_now}
-use Rattle.lease_parts.specs.Declaring.{member_count}
+use Rattle.run_promise.specs.Members.{member_count}
 use Rattle.lease_parts.specs.Machines.{live_now as live_told}
 use Rattle.lease_inputs.proofs.InputKept.{resembles-later}
 use Rattle.lease_inputs.proofs.InputSeen.{found-of}
-use Rattle.lease_parts.proofs.Upholding.{over-append}
+use Rattle.run_promise.proofs.Upholding.{over-append}
 use Rattle.commit_parts.specs.Bridged.{CommitsBridged}
 use Rattle.commit_parts.specs.Reading.{past_of, setup_of, volatile_of}
 use Rattle.commit_outputs.proofs.Beginning.{begin-moves}

@@ -22,8 +22,8 @@ use Rattle.lease_law.proofs.Tools.{none-some}
 use Rattle.commit_law.specs.Past.{need_in, need_of}
 use Rattle.commit_servers.specs.Sound.{WaitsForMembers}
 use Rattle.commit_servers.proofs.Acting.{required-at}
-use Rattle.lease_parts.specs.Declaring.{member_count}
-use Rattle.lease_parts.proofs.Members.{counted}
+use Rattle.run_promise.specs.Members.{member_count}
+use Rattle.run_promise.proofs.Members.{counted}
 use Rattle.commit_parts.specs.Bridged.{CommitsBridged}
 use Rattle.commit_parts.specs.Reading.{past_of, state_of_run}
 use Rattle.commit_parts.proofs.Standing.{at-number, made-of, none-confirmed}

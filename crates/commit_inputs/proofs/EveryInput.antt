@@ -39,17 +39,18 @@ use Rattle.commit_law.specs.Inputs.{AgentInput}
 use Rattle.commit_law.specs.Past.{VolatileState}
 use Rattle.commit_law.specs.Showing.{IsIdle}
 use Rattle.commit_law.proofs.Showing.{idle-shown}
-use Rattle.lease_parts.specs.Declaring.{declared_of, member_count, works_of}
+use Rattle.lease_parts.specs.Declaring.{declared_of, works_of}
+use Rattle.run_promise.specs.Members.{member_count, IsDeclared}
 use Rattle.lease_parts.specs.Kept.{IsKept}
-use Rattle.lease_parts.specs.Parts.{InputsUphold}
-use Rattle.lease_parts.specs.Promise.{Upholds}
+use Rattle.run_promise.specs.Parts.{InputsUphold}
+use Rattle.run_promise.specs.Promise.{Upholds}
 use Rattle.lease_parts.specs.Volatile as run_volatile
 use Rattle.lease_parts.specs.Waiting.{IsAnswer}
 use Rattle.lease_inputs.proofs.EveryInput.{acted, agent-here, kept-hearing, kept-operated, kept-wake, sender, same-run, the-outcome, unchanged}
 use Rattle.lease_inputs.proofs.InputHears.{hears-by, peers-hear}
 use Rattle.lease_inputs.proofs.InputKinds.{IsOpening}
 use Rattle.lease_inputs.proofs.InputSeen.{IsFound, found-of}
-use Rattle.lease_parts.proofs.Members.{numbered}
+use Rattle.run_promise.proofs.Members.{numbered}
 use Rattle.commit_servers.specs.Matching.{live_in}
 use Rattle.commit_parts.specs.Agents.{AreAgentsSynchronous, IsAskNumbered}
 use Rattle.commit_parts.specs.Bridged.{CommitsBridged, kept_commits}
@@ -253,7 +254,7 @@ module _ (head : HeadText) (few : member_count head ≤ MOST_MEMBERS) (book : Li
   upheld-hearing = heard-by (heard_from cluster message) refl (kept-hearing head book cluster number message member good.lease found to open_is)
 
 -- all of them do
-pub inputs-uphold : (head : HeadText) → member_count head ≤ MOST_MEMBERS → InputsUphold head (kept_commits head)
+pub inputs-uphold : (head : HeadText) → member_count head ≤ MOST_MEMBERS → InputsUphold (IsDeclared head) (kept_commits head)
 inputs-uphold head few = record {
   wakes = λ book cluster member process good declared found acts. upheld-wake head few book cluster member good;
   operates = λ book cluster member process action good declared found acts. upheld-operated head few book cluster member good action;

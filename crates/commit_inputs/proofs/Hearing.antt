@@ -34,7 +34,7 @@ use Rattle.agent_commit_law.specs.Committing.{HearsBelow, HearsGranted, HearsLea
 use Rattle.agent_model.specs.Decisions.{asks_sync, is_sync_decision}
 use Rattle.agent_model.specs.Synchronous.{sync_read_by, sync_read_in, sync_read_of_entry}
 use Rattle.agent_commit_law.proofs.CommitTools.{no-members}
-use Rattle.agent_law.proofs.Granting.{both-true}
+use Rattle.agent_roles.proofs.Granting.{both-true}
 use Rattle.cluster_model.specs.Hearing.{heard_from, heard_in, member_at_end, snapshot_in}
 use Rattle.cluster_model.specs.State.{Cluster}
 use Rattle.lease_law.specs.Leases.{FailsafeKey, LeaderKey}
@@ -51,7 +51,7 @@ use Rattle.commit_law.specs.States.{State}
 use Rattle.commit_book.specs.Flights.{Answers, IsNamed, past_at_sending}
 use Rattle.commit_book.specs.Keys.{sync_key_of, sync_value}
 use Rattle.commit_book.proofs.Hearing.{heard-lease, heard-snapshot, heard-write}
-use Rattle.lease_parts.specs.Declaring.{member_count}
+use Rattle.run_promise.specs.Members.{member_count}
 use Rattle.lease_parts.specs.Waiting.{IsAddressed, IsAnswer, IsPeerBody}
 use Rattle.lease_inputs.proofs.InputHears.{message-is, unpaused-told}
 use Rattle.sync_order_law.specs.Order.{NamesMembers}

@@ -19,12 +19,12 @@ use Rattle.agent_model.specs.Agents.{AgentFacts, Outcome, made}
 use Rattle.agent_commit_law.specs.Committing.{AsksOn, CommitsFrom, DoesAs, GrowsByConnected, HearsBelow, HearsOn, HearsToCommit, IsLawfulAs, IsSent, NeedsOne, StandsToCommit, StaysOn, committer_seen, is_begin, is_passing, live_shown, requests_of}
 use Rattle.agent_lease_law.specs.Lawful.{Hears}
 use Rattle.agent_model.specs.Pausing.{is_paused}
-use Rattle.agent_law.proofs.Knowing.{tells_pause, told_by}
-use Rattle.agent_law.specs.Orders.{IsCarriedOut, IsOfTable}
+use Rattle.agent_roles.proofs.Knowing.{tells_pause, told_by}
+use Rattle.agent_outputs.specs.Orders.{IsCarriedOut, IsOfTable}
 use Rattle.agent_model.specs.Outputs.{has_one}
 use Rattle.agent_model.specs.Table.{step}
 use Rattle.agent_commit_law.proofs.CommitInputs.{input-commits-as}
-use Rattle.agent_law.proofs.Orders.{step-carried-out}
+use Rattle.agent_outputs.proofs.Orders.{step-carried-out}
 use Rattle.cluster_model.specs.declared.heard_message.HeardMessage.{HeardMessage}
 use Rattle.cluster_model.specs.Cluster.{agent_after, agent_facts_after, cluster_after, cluster_over}
 use Rattle.cluster_model.specs.Inputs.{moment_of}
@@ -45,7 +45,8 @@ use Rattle.commit_law.specs.States.{Agent, State}
 use Rattle.commit_law.proofs.Showing.{input-shown}
 use Rattle.commit_servers.specs.Acting.{Fits}
 use Rattle.commit_servers.specs.Matching.{live_in}
-use Rattle.lease_parts.specs.Declaring.{declared_of, member_count, works_of}
+use Rattle.lease_parts.specs.Declaring.{declared_of, works_of}
+use Rattle.run_promise.specs.Members.{member_count}
 use Rattle.lease_parts.specs.Volatile as run_volatile
 use Rattle.lease_inputs.proofs.InputKinds.{IsOpening}
 use Rattle.cluster_model.proofs.Places.{get-elsewhere, get-here}

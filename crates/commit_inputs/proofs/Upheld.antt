@@ -28,10 +28,10 @@ use Rattle.agent_model.specs.declared.output.Output.TheVariants as outputs
 use Rattle.agent_model.specs.declared.output.Target.TheVariants as targets
 use Rattle.agent_model.specs.Agents.{AgentFacts}
 use Rattle.agent_commit_law.specs.Committing.{Apart, Asks as AsksLast, Begins, HasForm, IsCovered, Passes, StandsAlone, IsSynchronousBody, IsSynchronousOutput, KnowsBelow, Requires, committer_seen, is_passing}
-use Rattle.agent_law.specs.Replies.{RepliesTo}
+use Rattle.agent_answers.specs.Replies.{RepliesTo}
 use Rattle.agent_commit_law.proofs.CommitInputs.{given-by-lease}
 use Rattle.agent_commit_law.proofs.CommitQuiet.{IsUnasking}
-use Rattle.agent_law.proofs.Replying.{step-replies}
+use Rattle.agent_answers.proofs.Replying.{step-replies}
 use Rattle.agent_model.specs.Outputs.{has_one}
 use Rattle.cluster_model.specs.Cluster.{agent_after, cluster_over}
 use Rattle.cluster_model.specs.Inputs.{moment_of}
@@ -52,13 +52,13 @@ use Rattle.commit_book.specs.Flights.{AreCausal}
 use Rattle.commit_book.proofs.Groups.{own-causal}
 use Rattle.commit_servers.proofs.Kept.{keeps-now}
 use Rattle.lease_parts.specs.Bridged.{KnowsItself}
-use Rattle.lease_parts.specs.Declaring.{member_count}
+use Rattle.run_promise.specs.Members.{member_count}
 use Rattle.lease_inputs.specs.InputEvents.{AnswersPeer, Asks, AsksPeer, IsMessageOf, IsOfInput}
 use Rattle.lease_parts.specs.Kept.{IsKept}
 use Rattle.lease_parts.specs.Machines.{run_now}
-use Rattle.lease_parts.specs.Promise.{Upholds}
-use Rattle.lease_inputs.specs.Questions.{SendsBetween}
-use Rattle.lease_parts.specs.Waiting.{IsQuestion}
+use Rattle.run_promise.specs.Promise.{Upholds}
+use Rattle.agent_questions.specs.Questions.{SendsBetween}
+use Rattle.agent_roles.specs.Asks.{IsQuestion}
 use Rattle.lease_inputs.proofs.InputKept.{agents-are, mine, numbers}
 use Rattle.lease_inputs.proofs.InputKinds.{IsOpening, mine-from, opening-from}
 use Rattle.lease_inputs.proofs.InputSeen.{found-of}

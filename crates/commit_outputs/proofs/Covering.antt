@@ -31,7 +31,8 @@ use Rattle.agent_model.specs.declared.output.Target.TheVariants as targets
 use Rattle.agent_model.specs.Agents.{AgentFacts}
 use Rattle.agent_commit_law.specs.Committing.{IsCovered, IsQuietBody, IsQuietTxn}
 use Rattle.operator_keys.specs.Statuses.{ok}
-use Rattle.agent_law.specs.Orders.{IsAsk, IsOfTable}
+use Rattle.agent_outputs.specs.Orders.{IsOfTable}
+use Rattle.agent_roles.specs.Asks.{IsAsk}
 use Rattle.cluster_model.specs.declared.heard_message.HeardMessage.{HeardMessage}
 use Rattle.cluster_model.specs.Cluster.{cluster_after, cluster_over}
 use Rattle.cluster_model.specs.Commands.{kinds_of}
@@ -48,7 +49,7 @@ use Rattle.commit_law.specs.Flights.{Flying}
 use Rattle.commit_law.specs.Past.{Past, create_query, flying_of, past_after, past_over, query_in_flight_of, query_of, renew_query, request_in_flight_of, was_live_by_message, was_live_by_txn}
 use Rattle.commit_law.specs.Showing.{AreOwn}
 use Rattle.commit_law.proofs.Fronts.{past-append}
-use Rattle.lease_parts.proofs.Upholding.{over-append}
+use Rattle.run_promise.proofs.Upholding.{over-append}
 use Rattle.sync_order_law.specs.Changes.{AllLeaveOrder}
 use Rattle.sync_order_law.proofs.Asides.{leave-then}
 use Rattle.commit_parts.specs.Ordered.{AllInOrder, AsksInOrder}

@@ -19,7 +19,7 @@ use Rattle.agent_model.specs.declared.machine.Machine.{Machine}
 use Rattle.agent_model.specs.declared.output.Output.{Output}
 use Rattle.agent_model.specs.declared.output.Output.TheVariants as outputs
 use Rattle.agent_commit_law.specs.Committing.{IsCovered, StandsAlone, is_begin, is_passing}
-use Rattle.agent_law.specs.Orders.{machine_after_output, machine_after_outputs}
+use Rattle.agent_outputs.specs.Orders.{machine_after_output, machine_after_outputs}
 use Rattle.agent_model.specs.Outputs.{has_one}
 use Rattle.cluster_model.specs.Cluster.{cluster_after, cluster_over}
 use Rattle.cluster_model.specs.Commands.{kinds_of}

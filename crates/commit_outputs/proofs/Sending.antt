@@ -19,7 +19,7 @@ use Rattle.event_book.specs.declared.message.Message.{Message}
 use Rattle.event_book.specs.Functions.{put_at}
 use Rattle.agent_model.specs.declared.output.Target.TheVariants as targets
 use Rattle.agent_commit_law.specs.Committing.{IsQuietBody}
-use Rattle.agent_law.specs.Orders.{IsAsk}
+use Rattle.agent_roles.specs.Asks.{IsAsk}
 use Rattle.cluster_model.specs.Cluster.{cluster_after}
 use Rattle.cluster_model.specs.Limits.{most_in_flight}
 use Rattle.cluster_model.specs.Messages.{agent_message, lost_at_once, receiver_of, replying_events, send_events, sending_events}

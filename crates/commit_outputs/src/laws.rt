@@ -9,7 +9,7 @@ ghost use Rattle.event_book.specs.declared.message.Body.TheVariants.{Answer};
 ghost use Rattle.agent_model.specs.declared.output.Output.{Output};
 ghost use Rattle.agent_model.specs.declared.output.Target.TheVariants.{Member as ToMember};
 ghost use Rattle.agent_commit_law.specs.Committing.{IsCovered, StandsAlone};
-ghost use Rattle.agent_law.specs.Orders.{IsOfTable};
+ghost use Rattle.agent_outputs.specs.Orders.{IsOfTable};
 ghost use Rattle.cluster_model.specs.declared.heard_message.HeardMessage.{HeardMessage};
 ghost use Rattle.cluster_model.specs.Cluster.{cluster_over};
 ghost use Rattle.cluster_model.specs.Messages.{begin_events, output_events, receiver_of, replying_events};

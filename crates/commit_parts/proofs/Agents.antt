@@ -21,8 +21,8 @@ use Rattle.commit_law.proofs.Showing.{killed-shown}
 use Rattle.commit_servers.specs.Acting.{Fits}
 use Rattle.commit_servers.proofs.Beginning.{fits-agents, fits-aside}
 use Rattle.commit_servers.proofs.Kept.{change-once}
-use Rattle.lease_parts.specs.Declaring.{member_count}
-use Rattle.lease_parts.specs.Promise.{Upholds}
+use Rattle.run_promise.specs.Members.{member_count}
+use Rattle.run_promise.specs.Promise.{Upholds}
 use Rattle.lease_parts.proofs.Ending.{kept-kill}
 use Rattle.cluster_model.proofs.Places.{get-changed, get-elsewhere, get-here, there}
 use Rattle.commit_parts.specs.Bridged.{CommitsBridged, kept_commits}

@@ -43,9 +43,9 @@ use Rattle.commit_book.proofs.Groups.{granted-causal, read-causal, refused-causa
 use Rattle.commit_servers.specs.Acting.{Fits, IsAside}
 use Rattle.commit_servers.specs.Matching.{live_in}
 use Rattle.commit_servers.proofs.Beginning.{fits-aside}
-use Rattle.lease_parts.specs.Declaring.{member_count}
+use Rattle.run_promise.specs.Members.{member_count}
 use Rattle.lease_parts.specs.Kept.{IsKept}
-use Rattle.lease_parts.specs.Promise.{Upholds}
+use Rattle.run_promise.specs.Promise.{Upholds}
 use Rattle.lease_parts.specs.Waiting.{IsAddressed}
 use Rattle.lease_parts.proofs.StoreArrivals.{kept-store-arrival}
 use Rattle.commit_parts.specs.Bridged.{CommitsBridged, kept_commits}

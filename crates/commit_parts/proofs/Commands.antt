@@ -30,14 +30,14 @@ use Rattle.commit_servers.specs.Happening.{MayHappen}
 use Rattle.commit_servers.proofs.Beginning.{fits-aside}
 use Rattle.commit_servers.proofs.Commits.{commit-may}
 use Rattle.commit_servers.proofs.Kept.{change-once}
-use Rattle.lease_parts.specs.Declaring.{member_count}
-use Rattle.lease_parts.specs.Promise.{Upholds, UpholdsAlways}
+use Rattle.run_promise.specs.Members.{member_count}
+use Rattle.run_promise.specs.Promise.{Upholds, UpholdsAlways}
 use Rattle.lease_parts.proofs.Commands.{command-quiet}
 use Rattle.lease_parts.proofs.Ending.{kept-loss}
 use Rattle.cluster_model.proofs.Lists.{HoldsIf}
-use Rattle.lease_parts.proofs.Members.{declared-now, declared-within}
+use Rattle.run_promise.proofs.Members.{declared-now, declared-within}
 use Rattle.lease_parts.proofs.Promoting.{hands-off-back}
-use Rattle.lease_parts.proofs.Upholding.{upheld-for_some, upheld-none}
+use Rattle.run_promise.proofs.Upholding.{upheld-for_some, upheld-none}
 use Rattle.commit_parts.specs.Bridged.{CommitsBridged, KeepsInOrder, MeetsMode, kept_commits}
 use Rattle.commit_parts.specs.Reading.{setup_of, volatile_of}
 use Rattle.commit_parts.proofs.Agents.{upheld-kill}

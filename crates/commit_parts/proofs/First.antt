@@ -23,9 +23,9 @@ use Rattle.commit_law.proofs.Fronts.{inv-first}
 use Rattle.commit_book.proofs.Groups.{book-first}
 use Rattle.commit_servers.specs.Acting.{Fits}
 use Rattle.commit_servers.proofs.First.{bytes-first, fits-first}
-use Rattle.lease_parts.specs.Declaring.{declared_members}
+use Rattle.run_promise.specs.Members.{declared_members}
 use Rattle.lease_parts.proofs.First.{bridged-first}
-use Rattle.lease_parts.proofs.Members.{few-names}
+use Rattle.run_promise.proofs.Members.{few-names}
 use Rattle.commit_parts.specs.Agents.{IsAgentSynchronous}
 use Rattle.commit_parts.specs.Bridged.{CommitsBridged}
 use Rattle.commit_parts.specs.Reading.{agent_now, past_of, setup_of, volatile_of}

@@ -19,7 +19,8 @@ use Rattle.commit_law.specs.Actions.{IsAllowed, IsNumbered, SendSnapshot}
 use Rattle.commit_law.specs.Past.{is_keyless, is_leaderless, leader_revision}
 use Rattle.commit_law.specs.States.{Agent, is_ready}
 use Rattle.commit_law.proofs.FromLease.{grant-absent, grant-free, same-failsafe, same-leader}
-use Rattle.lease_parts.specs.Declaring.{declared_of, member_count}
+use Rattle.lease_parts.specs.Declaring.{declared_of}
+use Rattle.run_promise.specs.Members.{member_count}
 use Rattle.lease_parts.specs.Volatile as run_volatile
 use Rattle.cluster_model.proofs.Places.{there}
 use Rattle.commit_parts.specs.Bridged.{CommitsBridged}

@@ -13,10 +13,10 @@ use Rattle.commit_law.specs.States.{State}
 use Rattle.commit_book.specs.Flights.{AreCausal}
 use Rattle.commit_servers.specs.Acting.{Fits}
 use Rattle.commit_servers.specs.Happening.{MayFollow}
-use Rattle.lease_parts.specs.Declaring.{member_count}
+use Rattle.run_promise.specs.Members.{member_count}
 use Rattle.lease_parts.specs.Kept.{IsKept}
-use Rattle.lease_parts.specs.Promise.{Upholds}
-use Rattle.lease_parts.proofs.Upholding.{over-append}
+use Rattle.run_promise.specs.Promise.{Upholds}
+use Rattle.run_promise.proofs.Upholding.{over-append}
 use Rattle.commit_parts.specs.Bridged.{CommitsBridged, kept_commits}
 use Rattle.commit_parts.specs.Reading.{past_of, setup_of, volatile_of}
 use Rattle.commit_parts.proofs.Moving.{OnlyLeave, agents-leave, leave-then, moves-none, moves-then, upheld-moves}

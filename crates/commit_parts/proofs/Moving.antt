@@ -25,10 +25,10 @@ use Rattle.commit_servers.specs.Sound.{AreServersSound}
 use Rattle.commit_servers.proofs.Keeping.{sound-by}
 use Rattle.commit_servers.proofs.Kept.{change-once}
 use Rattle.commit_servers.proofs.Matching.{same-by}
-use Rattle.lease_parts.specs.Declaring.{member_count}
+use Rattle.run_promise.specs.Members.{member_count}
 use Rattle.lease_parts.specs.Kept.{IsKept}
-use Rattle.lease_parts.specs.Promise.{Upholds}
-use Rattle.lease_parts.proofs.Upholding.{over-append}
+use Rattle.run_promise.specs.Promise.{Upholds}
+use Rattle.run_promise.proofs.Upholding.{over-append}
 use Rattle.commit_parts.specs.Agents.{AreAgentsSynchronous}
 use Rattle.commit_parts.specs.Bridged.{CommitsBridged, FitsBy, kept_commits}
 use Rattle.commit_parts.specs.Reading.{past_of, setup_of, state_of_run, volatile_of}

@@ -32,14 +32,14 @@ use Rattle.commit_servers.proofs.Acknowledging.{acknowledge-follow}
 use Rattle.commit_servers.proofs.First.{in-place}
 use Rattle.commit_servers.proofs.Streaming.{receive-at-most}
 use Rattle.lease_parts.specs.Asides.{IsQuiet}
-use Rattle.lease_parts.specs.Declaring.{member_count}
+use Rattle.run_promise.specs.Members.{member_count}
 use Rattle.lease_parts.specs.Kept.{IsKept}
-use Rattle.lease_parts.specs.Promise.{Upholds, UpholdsAlways}
+use Rattle.run_promise.specs.Promise.{Upholds, UpholdsAlways}
 use Rattle.cluster_model.proofs.Lists.{AllKinds, HoldsIf, all-kinds, all-more}
 use Rattle.lease_parts.proofs.Ending.{kept-crash}
 use Rattle.lease_parts.proofs.Quiet.{kept-quiet}
 use Rattle.lease_parts.proofs.Streams.{IsQuietIf, acknowledge-quiet, confirm-quiet, keeps-acknowledge, keeps-receive-at-most}
-use Rattle.lease_parts.proofs.Upholding.{upheld-none}
+use Rattle.run_promise.proofs.Upholding.{upheld-none}
 use Rattle.commit_parts.specs.Bridged.{CommitsBridged, kept_commits}
 use Rattle.commit_parts.specs.Ordered.{AllInOrder}
 use Rattle.commit_parts.specs.Reading.{past_of, setup_of, volatile_of}

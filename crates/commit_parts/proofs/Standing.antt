@@ -28,7 +28,7 @@ use Rattle.commit_law.specs.States.{HasLog}
 use Rattle.commit_servers.specs.Matching.{live_now}
 use Rattle.commit_servers.specs.Sound.{IsServerSound}
 use Rattle.commit_servers.proofs.Acting.{confirmed-at, log-at, required-at, writes-at}
-use Rattle.lease_parts.specs.Declaring.{member_count}
+use Rattle.run_promise.specs.Members.{member_count}
 use Rattle.commit_parts.specs.Bridged.{CommitsBridged}
 use Rattle.commit_parts.specs.Reading.{agent_now, past_of, state_of_run}
 use Rattle.pat_base.specs.declared.member_id.TheConstants.{MOST_MEMBERS}

@@ -33,14 +33,14 @@ use Rattle.commit_servers.specs.Acting.{Fits}
 use Rattle.commit_servers.specs.Happening.{MayFollow, MayHappen}
 use Rattle.commit_servers.proofs.Beginning.{fits-agents, fits-aside}
 use Rattle.commit_servers.proofs.Kept.{change-once}
-use Rattle.lease_parts.specs.Declaring.{member_count}
+use Rattle.run_promise.specs.Members.{member_count}
 use Rattle.lease_parts.specs.Kept.{IsKept}
 use Rattle.lease_parts.specs.Machines.{run_in, run_now}
-use Rattle.lease_parts.specs.Promise.{Upholds}
+use Rattle.run_promise.specs.Promise.{Upholds}
 use Rattle.cluster_model.proofs.Lists.{HoldsIf}
 use Rattle.cluster_model.proofs.Places.{get-changed, get-elsewhere, get-here, there}
 use Rattle.lease_parts.proofs.Starting.{kept-restart}
-use Rattle.lease_parts.proofs.Upholding.{upheld-none}
+use Rattle.run_promise.proofs.Upholding.{upheld-none}
 use Rattle.commit_parts.specs.Agents.{AreAgentsSynchronous, IsAgentSynchronous}
 use Rattle.commit_parts.specs.Bridged.{CommitsBridged, kept_commits}
 use Rattle.commit_parts.specs.Reading.{agent_now, past_of, setup_of, volatile_of}

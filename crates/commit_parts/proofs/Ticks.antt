@@ -33,9 +33,9 @@ use Rattle.commit_servers.specs.Matching.{volatile_after}
 use Rattle.commit_servers.proofs.Acting.{leads-to}
 use Rattle.commit_servers.proofs.Beginning.{fits-agents, fits-aside, killed-shown}
 use Rattle.commit_servers.proofs.Kept.{change-once}
-use Rattle.lease_parts.specs.Promise.{UpholdsAlways}
+use Rattle.run_promise.specs.Promise.{UpholdsAlways}
 use Rattle.cluster_model.proofs.Places.{length-changed}
-use Rattle.lease_parts.proofs.Upholding.{Each}
+use Rattle.run_promise.proofs.Upholding.{Each}
 use Rattle.wal_model.specs.declared.entry.Entry.{Entry}
 use Rattle.lease_store.specs.Answers.{expired_holder, expired_keys}
 use Rattle.event_book.specs.declared.event.StoreEvent.TheVariants as stores
@@ -46,7 +46,7 @@ use Rattle.cluster_model.specs.Losing.{loss_if}
 use Rattle.cluster_model.specs.Orders.{declared_member}
 use Rattle.commit_servers.proofs.Completions.{complete-follow}
 use Rattle.cluster_model.proofs.Lists.{AllKinds, all-kinds, all-more, kinds-both}
-use Rattle.lease_parts.proofs.Members.{declared-within, each-declared}
+use Rattle.run_promise.proofs.Members.{declared-within, each-declared}
 use Rattle.lease_parts.proofs.Ticks.{keeps-tick}
 use Rattle.commit_parts.specs.Bridged.{kept_commits}
 use Rattle.commit_parts.specs.Reading.{setup_of, volatile_of}

@@ -13,7 +13,7 @@ use Rattle.commit_law.proofs.Fronts.{kept-after, kept-inside, past-append}
 use Rattle.lease_law.proofs.Runs.{cuts, no-cons}
 use Rattle.lease_parts.specs.Bridged.{Bridged}
 use Rattle.lease_parts.specs.Kept.{IsKept}
-use Rattle.lease_parts.specs.Promise.{IsComposable, Upholds}
+use Rattle.run_promise.specs.Promise.{IsComposable, Upholds}
 use Rattle.lease_parts.proofs.Composing.{premises-front}
 use Rattle.summary_model.specs.Claims.{KeepMode}
 use Rattle.commit_parts.specs.Agents.{AsksAreNumbered}
@@ -25,8 +25,8 @@ use Rattle.sync_order_law.specs.Changes.{EachChangesOnce}
 use Rattle.sync_order_law.specs.Order.{IsInOrder, NamesMembers}
 use Rattle.sync_order_law.proofs.Inside.{order-inside, order-now}
 use Rattle.cluster_model.specs.Starting.{cluster_of}
-use Rattle.lease_parts.specs.Declaring.{member_count}
-use Rattle.lease_parts.proofs.Upholding.{over-append}
+use Rattle.run_promise.specs.Members.{member_count}
+use Rattle.run_promise.proofs.Upholding.{over-append}
 use Rattle.commit_parts.specs.Moving.{volatile_last}
 
 sound-last : (setup : Setup) (past : Past) (volatile_states : ℕ → VolatileState) (transitions : List Transition) → AreAllowed setup past volatile_states transitions → IsSound (state_of setup past volatile_states)

@@ -12,9 +12,9 @@ use Rattle.commit_law.specs.Past.{Past}
 use Rattle.commit_book.specs.Flights.{IsSameBook}
 use Rattle.commit_servers.specs.Acting.{Fits}
 use Rattle.lease_parts.specs.Bridged.{Bridged}
-use Rattle.lease_parts.specs.Declaring.{member_count}
+use Rattle.run_promise.specs.Members.{member_count}
 use Rattle.lease_parts.specs.Kept.{MeetsPremises}
-use Rattle.lease_parts.specs.Promise.{Promise}
+use Rattle.run_promise.specs.Promise.{Promise}
 use Rattle.summary_model.specs.Claims.{KeepMode}
 use Rattle.commit_parts.specs.Agents.{AreAgentsSynchronous, AreSynchronous, AsksAreNumbered, TellsMembers}
 use Rattle.sync_order_law.specs.Order.{NamesMembers}

@@ -12,7 +12,7 @@ use Rattle.commit_law.specs.Actions.{fresh_agent}
 use Rattle.commit_law.specs.Past.{Past, Setup, VolatileState, first_past, past_over, state_of}
 use Rattle.commit_law.specs.States.{Agent, State}
 use Rattle.commit_servers.specs.Matching.{live_in}
-use Rattle.lease_parts.specs.Declaring.{member_count}
+use Rattle.run_promise.specs.Members.{member_count}
 
 -- how many members a head declares. In synchronous mode no create of the leader key compares the sync key
 abbrev pub setup_of : HeadText → Setup

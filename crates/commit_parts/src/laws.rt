@@ -17,7 +17,7 @@ ghost use Rattle.cluster_model.specs.Parts.{event_of, events_of, for_some};
 ghost use Rattle.cluster_model.specs.Starting.{cluster_of};
 ghost use Rattle.cluster_model.specs.State.{Cluster};
 ghost use Rattle.cluster_model.specs.Ticking.{tick_events};
-ghost use Rattle.lease_parts.specs.Promise.{IsComposable, Upholds, UpholdsAlways};
+ghost use Rattle.run_promise.specs.Promise.{IsComposable, Upholds, UpholdsAlways};
 ghost use Rattle.commit_parts.specs.Bridged.{CommitsBridged, KeepsInOrder, kept_commits};
 
 /// Before the first event, what both laws carry holds of a cluster whose head has synchronous mode on, and no pause. Where it holds,

@@ -4,24 +4,25 @@ use Rattle.cluster_model.specs.declared.step.Step.{Step}
 use Rattle.script_model.specs.Script.{HeadText, IsHead}
 use Rattle.cluster_model.specs.Next.{run_events}
 use Rattle.cluster_model.specs.Starting.{cluster_of}
-use Rattle.lease_parts.specs.Parts.{PartsUphold}
-use Rattle.lease_parts.proofs.Walking.{upholds-run}
+use Rattle.run_promise.specs.Members.{IsDeclared}
+use Rattle.run_promise.specs.Parts.{PartsUphold}
+use Rattle.run_promise.proofs.Walking.{upholds-run}
 use Rattle.commit_parts.specs.Bridged.{KeepsInOrder, kept_commits}
 use Rattle.commit_runs.specs.Runs.{InSynchronousMode, KeepsCommitsIn, KeepsOrderIn}
 use Rattle.commit_parts.proofs.Arrivals.{upheld-arrival}
 use Rattle.commit_parts.proofs.Commands.{upheld-command, upheld-restarts, upholds-loss, upholds-promote}
 use Rattle.commit_inputs.proofs.EveryInput.{inputs-uphold}
 use Rattle.commit_parts.proofs.First.{commits-first}
-use Rattle.lease_parts.proofs.Members.{few-names}
+use Rattle.run_promise.proofs.Members.{few-names, declared-in}
 use Rattle.commit_runs.proofs.Holding.{held-by-book}
 use Rattle.commit_parts.proofs.Servers.{upholds-acknowledge, upholds-note, upholds-receive}
 use Rattle.commit_parts.proofs.Ticks.{upholds-tick}
 use Rattle.commit_parts.proofs.Transitions.{composable}
 
 -- ---- every run
-pub parts : (head : HeadText) → IsHead head → PartsUphold head (kept_commits head)
+pub parts : (head : HeadText) → IsHead head → PartsUphold (IsDeclared head) (kept_commits head)
 parts head is = record {
-  members = λ book cluster good. good.lease.matched.members;
+  members = λ book cluster good. declared-in head (few-names head is) cluster good.lease.matched.members;
   inputs = inputs-uphold head (few-names head is);
   arrivals = upheld-arrival head;
   losses = upholds-loss head;
@@ -36,7 +37,7 @@ parts head is = record {
 
 promised : (head : HeadText) → IsHead head → (steps : List Step) → InSynchronousMode head (run_events (cluster_of head) steps) (KeepsInOrder head)
 promised head is steps on front rest whole met mode =
-    (upholds-run head (few-names head is) (kept_commits head) (composable head) (parts head is) steps [] (cluster_of head) (commits-first head is on met.hands_off.unpaused)).inside front rest whole
+    (upholds-run (IsDeclared head) (kept_commits head) (composable head) (parts head is) steps [] (cluster_of head) (commits-first head is on met.hands_off.unpaused)).inside front rest whole
     (record { timely = met; mode = mode })
 
 pub runs-keep : (head : HeadText) → IsHead head → (steps : List Step) → KeepsCommitsIn head (run_events (cluster_of head) steps)

@@ -37,10 +37,10 @@ use Rattle.commit_servers.specs.Matching.{IsSameServers}
 use Rattle.commit_servers.proofs.Keeping.{not-live-quiet}
 use Rattle.commit_servers.proofs.Places.{changed-there}
 use Rattle.lease_parts.specs.Asides.{IsQuiet}
-use Rattle.lease_parts.specs.Declaring.{declared_members, member_count}
-use Rattle.lease_parts.specs.Promise.{Upholds, UpholdsAlways}
+use Rattle.run_promise.specs.Members.{declared_members, member_count}
+use Rattle.run_promise.specs.Promise.{Upholds, UpholdsAlways}
 use Rattle.cluster_model.proofs.Lists.{all-kinds}
-use Rattle.lease_parts.proofs.Members.{counted, numbered}
+use Rattle.run_promise.proofs.Members.{counted, numbered}
 use Rattle.cluster_model.proofs.Places.{there}
 use Rattle.lease_parts.proofs.Streams.{acknowledge-quiet}
 use Rattle.wal_model.specs.Lacking.{has_serial, lacks_in}

@@ -45,11 +45,11 @@ use Rattle.cluster_model.specs.State.{Cluster}
 use Rattle.cluster_model.specs.Streaming.{confirm_of, source_of, unconfirmed_end}
 use Rattle.cluster_model.specs.Ticking.{completion_events, next_expiries, reset_events, reset_of, tick_events}
 use Rattle.event_book.specs.Kinds.{AllAre}
-use Rattle.lease_parts.specs.Promise.{Upholds, UpholdsAlways}
+use Rattle.run_promise.specs.Promise.{Upholds, UpholdsAlways}
 use Rattle.cluster_model.proofs.Commanding.{HoldsOfCommands, command-holds, each-command-holds}
 use Rattle.cluster_model.proofs.Founds.{holds-if, holds-then}
 use Rattle.cluster_model.proofs.Lists.{HoldsIf, all-kinds, all-more, one-kind}
-use Rattle.lease_parts.proofs.Upholding.{upheld-for_some, upheld-none, upheld-then, upholds-all}
+use Rattle.run_promise.proofs.Upholding.{upheld-for_some, upheld-none, upheld-then, upholds-all}
 use Rattle.commit_runs.proofs.Losses.{LosesNone, TellsSoFar, composable, losses_told, upheld-loseless}
 use Rattle.commit_runs.proofs.LossGroups.{upheld-begun}
 use Rattle.commit_parts.proofs.Ticks.{IsExpiry, next-expiries}

@@ -45,17 +45,18 @@ use Rattle.event_book.specs.Kinds.{AllAre}
 use Rattle.commit_servers.specs.Happening.{MayFollow}
 use Rattle.commit_servers.proofs.Matching.{same-first}
 use Rattle.commit_servers.proofs.Repairing.{repair-follow}
-use Rattle.lease_parts.specs.Parts.{PartsUphold}
-use Rattle.lease_parts.specs.Promise.{Upholds, UpholdsAlways}
+use Rattle.run_promise.specs.Members.{IsDeclared}
+use Rattle.run_promise.specs.Parts.{PartsUphold}
+use Rattle.run_promise.specs.Promise.{Upholds, UpholdsAlways}
 use Rattle.lease_law.proofs.Tools.{both}
 use Rattle.cluster_model.proofs.Founds.{holds-if, holds-then, repaired-holds, told-holds}
 use Rattle.lease_inputs.proofs.InputStays.{item-here}
 use Rattle.cluster_model.proofs.Lists.{HoldsIf}
-use Rattle.lease_parts.proofs.Upholding.{upheld-for_some, upheld-none, upheld-then, upholds-all}
-use Rattle.lease_parts.proofs.Walking.{upholds-run}
+use Rattle.run_promise.proofs.Upholding.{upheld-for_some, upheld-none, upheld-then, upholds-all}
+use Rattle.run_promise.proofs.Walking.{upholds-run}
 use Rattle.summary_model.specs.Telling.{TellLosses}
 use Rattle.commit_runs.specs.Runs.{first_logs}
-use Rattle.lease_parts.proofs.Members.{few-names}
+use Rattle.run_promise.proofs.Members.{few-names, declared-in}
 use Rattle.commit_runs.proofs.Losses.{LosesNone, TellsSoFar, composable, losses_told, upheld-loseless}
 use Rattle.commit_runs.proofs.LossGroups.{IsRepair, upheld-acknowledge, upheld-begun, upheld-repair}
 use Rattle.commit_runs.proofs.LossParts.{holds-cond, holds-mapped, kind-cond, none-if, sends-none, upheld-arrival, upholds-command, upholds-promote, upholds-receive, upholds-restart, upholds-tick}
@@ -183,9 +184,9 @@ module _ (head : HeadText) where
       upheld-then (losses_told head) (composable head) book cluster (event_of cluster kind) (input_events (cluster_after cluster kind) member heard outcome) (upheld-loseless head book cluster _ good (none, tt))
       (upholds-all (losses_told head) (composable head) (output_events member heard) (upholds-output member heard) (outputs_of outcome) (book ++ event_of cluster kind) (cluster_after cluster kind))
 
-  parts : length (names_of head) ≤ MOST_MEMBERS → PartsUphold head (losses_told head)
+  parts : length (names_of head) ≤ MOST_MEMBERS → PartsUphold (IsDeclared head) (losses_told head)
   parts few = record {
-    members = λ book cluster good. good.members;
+    members = λ book cluster good. declared-in head few cluster good.members;
     inputs = record {
       wakes = λ book cluster member process good is found acts. input-upheld book cluster (kinds.Agent (Woken member)) member no_message (outcome_of cluster member Wake) good tt;
       hears = λ book cluster number message member good found to through. input-upheld book cluster (kinds.Message (Delivered number)) member (heard_message number message) (outcome_of_heard cluster member (heard_from cluster message)) good tt;
@@ -206,4 +207,4 @@ module _ (head : HeadText) where
   tells-first = record { told = tt; same = same-first head.config (names_of head) head.base; members = refl; sized = length-replicate (length (names_of head)) (fresh head.base) }
 
   pub runs-tell : IsHead head → (steps : List Step) → TellLosses (first_logs head) [] (run_events (cluster_of head) steps)
-  runs-tell is steps = ((upholds-run head (few-names head is) (losses_told head) (composable head) (parts (few-names head is)) steps [] (cluster_of head) tells-first).behind tt).told
+  runs-tell is steps = ((upholds-run (IsDeclared head) (losses_told head) (composable head) (parts (few-names head is)) steps [] (cluster_of head) tells-first).behind tt).told

@@ -20,9 +20,9 @@ use Rattle.lease_law.proofs.Tools.{both}
 use Rattle.commit_law.specs.Past.{Past, past_after, past_over}
 use Rattle.commit_servers.specs.Matching.{IsSameServers}
 use Rattle.commit_servers.proofs.Matching.{same-by}
-use Rattle.lease_parts.specs.Declaring.{declared_members, member_count}
-use Rattle.lease_parts.specs.Promise.{IsComposable, Promise, Upholds}
-use Rattle.lease_parts.proofs.Members.{members-over}
+use Rattle.run_promise.specs.Members.{declared_members, member_count}
+use Rattle.run_promise.specs.Promise.{IsComposable, Promise, Upholds}
+use Rattle.run_promise.proofs.Members.{members-over}
 use Rattle.summary_model.specs.Losses.{may_lose}
 use Rattle.summary_model.specs.Moments.{AreAllFronts}
 use Rattle.summary_model.specs.Seeing.{WriterLacks}

@@ -9,11 +9,13 @@ ghost use Rattle.pat_base.specs.Moments.{latest};
 ghost use Rattle.ha_loop.specs.Roles.{role_of};
 ghost use Rattle.agent_commit_law.specs.Committing.{CommitsFrom};
 ghost use Rattle.agent_model.specs.Bounds.{IsSmall};
-ghost use Rattle.agent_law.specs.FreeKey.{AsksWhereFree, AsksWhereWon, BeginsWhereGranted};
-ghost use Rattle.agent_law.specs.OperatorAnswers.{told_in, AnswersOneAtMost, HaveCauses, TellsDecision, WaitsAsAsked};
+ghost use Rattle.agent_succession.specs.FreeKey.{AsksWhereFree, AsksWhereWon, BeginsWhereGranted};
+ghost use Rattle.agent_answers.specs.OperatorAnswers.{told_in, AnswersOneAtMost, HaveCauses, TellsDecision, WaitsAsAsked};
+ghost use Rattle.agent_model.specs.Before.{before};
+ghost use Rattle.agent_rules.specs.Grounds.{HasGrounds};
 ghost use Rattle.agent_lease_law.specs.Lawful.{IsLawfulFrom};
 ghost use Rattle.agent_model.specs.Outputs.{most_outputs};
-ghost use Rattle.agent_law.specs.Seen.{machine_with, machine_seen};
+ghost use Rattle.agent_roles.specs.Seen.{machine_with, machine_seen};
 ghost use Rattle.agent_model.specs.Start.{started_machine};
 ghost use Rattle.agent_model.specs.Table.{prepared, step};
 ghost use Rattle.agent_model.specs.Views.{view_of};
@@ -116,6 +118,8 @@ impl Agent {
         requires room { most_outputs ≤ out.old.spare }
         ensures outcome { made result.role result.knows machine.new out.new.outputs ≡ step now history.now.points heard (made self.role self.knows machine.old out.old.outputs) }
         ensures lawful { out.old.outputs ≡ [] → IsLawfulFrom now heard (made self.role self.knows machine.old []) (made result.role result.knows machine.new out.new.outputs) }
+        // What it asks for, begins, repairs and gives back has its grounds.
+        ensures grounds { out.old.outputs ≡ [] → HasGrounds now heard (before now (made self.role self.knows machine.old [])) (made result.role result.knows machine.new out.new.outputs) }
         ensures commits { out.old.outputs ≡ [] → CommitsFrom now heard (made self.role self.knows machine.old []) (made result.role result.knows machine.new out.new.outputs) }
         // A free leader key is asked for, by whom nothing bars and who wins; and whom it is granted to begins.
         ensures free_key { AsksWhereFree now heard (prepared now heard (made self.role self.knows machine.old out.old.outputs)) (made result.role result.knows machine.new out.new.outputs) }
@@ -152,6 +156,7 @@ impl Agent {
         requires room { most_outputs ≤ out.old.spare }
         ensures outcome { made result.role result.knows machine.new out.new.outputs ≡ step now history.now.points (heards.Operated action) (made self.role self.knows machine.old out.old.outputs) }
         ensures lawful { out.old.outputs ≡ [] → IsLawfulFrom now (heards.Operated action) (made self.role self.knows machine.old []) (made result.role result.knows machine.new out.new.outputs) }
+        ensures grounds { out.old.outputs ≡ [] → HasGrounds now (heards.Operated action) (before now (made self.role self.knows machine.old [])) (made result.role result.knows machine.new out.new.outputs) }
         ensures commits { out.old.outputs ≡ [] → CommitsFrom now (heards.Operated action) (made self.role self.knows machine.old []) (made result.role result.knows machine.new out.new.outputs) }
         // It answers no other request than this one, and no other comes to wait.
         ensures answers { out.old.outputs ≡ [] → AnswersOneAtMost now (heards.Operated action) (made self.role self.knows machine.old []) (made result.role result.knows machine.new out.new.outputs) (told_in out.new.outputs) }

@@ -43,14 +43,15 @@ use Rattle.lease_law.specs.States.{State}
 use Rattle.lease_law.proofs.Showing.{past-append}
 use Rattle.lease_law.proofs.Tools.{both, eq-from, none-some, some-is}
 use Rattle.lease_parts.specs.Bridged.{Bridged, IsMatched}
-use Rattle.lease_parts.specs.Declaring.{declared_of, member_count}
+use Rattle.lease_parts.specs.Declaring.{declared_of}
+use Rattle.run_promise.specs.Members.{member_count, IsDeclared}
 use Rattle.lease_parts.specs.Machines.{deadline_in, hold_in, live_in, run_in}
-use Rattle.lease_parts.specs.Parts.{InputsUphold}
+use Rattle.run_promise.specs.Parts.{InputsUphold}
 use Rattle.lease_parts.specs.Kept.{IsKept, one_writer}
 use Rattle.lease_parts.specs.Volatile.{agent_now, volatile_of}
 use Rattle.lease_parts.specs.Waiting.{IsAddressed, IsAnswer, IsPeerBody}
 use Rattle.lease_parts.proofs.Actions.{action-kept, machines-kept}
-use Rattle.agent_law.proofs.Knowing.{tells_pause, told_by}
+use Rattle.agent_roles.proofs.Knowing.{tells_pause, told_by}
 use Rattle.lease_inputs.proofs.InputHears.{calm-from, unpaused-told, hears-by, peers-hear}
 use Rattle.lease_inputs.proofs.InputKept.{IsBegun, begun-by, input-kept, opening-addressed}
 use Rattle.lease_inputs.proofs.InputKinds.{IsOpening, opening-hands_off, opening-members}
@@ -247,7 +248,7 @@ module _ (head : HeadText) (book : List Event) (cluster : Cluster) (number : ℕ
   kept-hearing = heard-by (heard_from cluster message) refl
 
 -- all of them do
-pub inputs-keep : (head : HeadText) → InputsUphold head (one_writer head)
+pub inputs-keep : (head : HeadText) → InputsUphold (IsDeclared head) (one_writer head)
 inputs-keep head = record {
   wakes = λ book cluster member process good declared found acts. kept-wake head book cluster member good;
   hears = λ book cluster number message member good found to opened. kept-hearing head book cluster number message member good found to opened;

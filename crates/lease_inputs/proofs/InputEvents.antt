@@ -24,7 +24,8 @@ use Rattle.event_book.specs.Members.{server_of}
 use Rattle.agent_model.specs.declared.output.Output.{Output}
 use Rattle.agent_model.specs.declared.output.Output.TheVariants as outputs
 use Rattle.agent_model.specs.declared.output.Target.TheVariants as targets
-use Rattle.agent_law.specs.Orders.{IsAsk, IsOfTable}
+use Rattle.agent_outputs.specs.Orders.{IsOfTable}
+use Rattle.agent_roles.specs.Asks.{IsAsk}
 use Rattle.cluster_model.specs.declared.beginning.Beginning.{Beginning}
 use Rattle.cluster_model.specs.declared.beginning.Beginning.TheVariants as beginnings
 use Rattle.cluster_model.specs.declared.heard_message.HeardMessage.{HeardMessage}

@@ -29,8 +29,8 @@ use Rattle.agent_model.specs.declared.machine.Machine.{Machine}
 use Rattle.agent_model.specs.Agents.{AgentFacts, Outcome, made}
 use Rattle.agent_model.specs.Decisions.{asks_lease, is_decision, is_lease_of}
 use Rattle.agent_lease_law.specs.Lawful.{HearsAnswer, HearsGrant, Hears}
-use Rattle.agent_law.specs.Seen.{leader_entry_seen, failsafe_entry_seen}
-use Rattle.agent_law.proofs.Knowing.{tells_pause, told_by}
+use Rattle.agent_roles.specs.Seen.{leader_entry_seen, failsafe_entry_seen}
+use Rattle.agent_roles.proofs.Knowing.{tells_pause, told_by}
 use Rattle.pat_base.specs.declared.member_id.MemberId.{MemberId}
 use Rattle.cluster_model.specs.Hearing.{member_at_end, heard_from, heard_in, snapshot_in}
 use Rattle.cluster_model.specs.State.{Cluster}

@@ -28,15 +28,15 @@ use Rattle.agent_model.specs.declared.output.Output.TheVariants as outputs
 use Rattle.agent_model.specs.declared.output.Target.TheVariants as targets
 use Rattle.agent_model.specs.Agents.{AgentFacts, Outcome, made, EndsAlone}
 use Rattle.agent_lease_law.specs.Lawful.{StandsIn, Hears, IsSentBy, IsInputOf, MayPromote, IsLawfulAnd}
-use Rattle.agent_law.specs.Orders.{IsOfTable}
+use Rattle.agent_outputs.specs.Orders.{IsOfTable}
 use Rattle.agent_model.specs.Pausing.{is_paused}
 use Rattle.agent_model.specs.Outputs.{is_arming, is_feeding, has_one}
-use Rattle.agent_law.specs.Seen.{machine_seen}
+use Rattle.agent_roles.specs.Seen.{machine_seen}
 use Rattle.agent_model.specs.Table.{step}
-use Rattle.agent_law.proofs.Knowing.{step-onward, tells_pause, told_by}
+use Rattle.agent_roles.proofs.Knowing.{step-onward, tells_pause, told_by}
 use Rattle.agent_lease_law.proofs.LawfulSteps.{input-lawful-from}
-use Rattle.agent_law.proofs.Staying.{input-ends}
-use Rattle.agent_law.proofs.Orders.{step-carried-out}
+use Rattle.agent_roles.proofs.Staying.{input-ends}
+use Rattle.agent_outputs.proofs.Orders.{step-carried-out}
 use Rattle.cluster_model.specs.declared.heard_message.HeardMessage.{HeardMessage}
 use Rattle.cluster_model.specs.Cluster.{agent_after, agent_facts_after, cluster_after, cluster_over}
 use Rattle.cluster_model.specs.Inputs.{moment_of}
@@ -64,12 +64,14 @@ use Rattle.lease_book.proofs.Groups.{own-causal}
 use Rattle.lease_book.proofs.Sends.{old-or-sent, heard-gone}
 use Rattle.cluster_model.proofs.Lists.{all-more}
 use Rattle.lease_parts.specs.Bridged.{Bridged, IsMatched, KnowThemselves, KnowsItself}
-use Rattle.lease_parts.specs.Declaring.{declared_of, member_count, works_of}
+use Rattle.lease_parts.specs.Declaring.{declared_of, works_of}
+use Rattle.run_promise.specs.Members.{member_count}
 use Rattle.lease_inputs.specs.InputEvents.{IsMessageOf, Asks, AsksPeer, AnswersPeer, IsOfInput}
 use Rattle.lease_parts.specs.Kept.{IsKept, MeetsPremises}
 use Rattle.lease_parts.specs.Machines.{live_now, run_in, run_now}
-use Rattle.lease_inputs.specs.Questions.{SendsBetween, AsksAnew}
-use Rattle.lease_parts.specs.Waiting.{IsQuestion, IsAddressed, AreAgentsSound}
+use Rattle.agent_questions.specs.Questions.{SendsBetween, AsksAnew}
+use Rattle.agent_roles.specs.Asks.{IsQuestion}
+use Rattle.lease_parts.specs.Waiting.{IsAddressed, AreAgentsSound}
 use Rattle.lease_parts.specs.Volatile.{agent_now, volatile_of}
 use Rattle.lease_parts.proofs.Actions.{action-kept, machine-is}
 use Rattle.lease_parts.proofs.Fitting.{Fits, IsFitting, SendsAddressed, fits-of, fits-over, matched-from}
@@ -80,7 +82,7 @@ use Rattle.lease_inputs.proofs.InputSeen.{IsFound, margin-of, seen-of}
 use Rattle.lease_inputs.proofs.InputStays.{Stays, each-mine, item-here, stays-over}
 use Rattle.lease_inputs.proofs.InputWaiting.{agents-after, knows-after, runs-after}
 use Rattle.cluster_model.proofs.Places.{get-elsewhere, length-changed}
-use Rattle.lease_inputs.proofs.Questions.{step-asks-anew}
+use Rattle.agent_questions.proofs.Questions.{step-asks-anew}
 
 -- ---- the event with which it begins
 pub record IsBegun (m : ℕ) (cluster later : Cluster) : Type 0 where

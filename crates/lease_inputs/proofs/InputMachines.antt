@@ -40,7 +40,7 @@ use Rattle.agent_model.specs.declared.output.Output.TheVariants as outputs
 use Rattle.agent_model.specs.declared.output.Repair.{Repair}
 use Rattle.agent_model.specs.declared.output.Target.TheVariants as targets
 use Rattle.agent_model.specs.Acting.{status_begun, upstream_of as upstream_id}
-use Rattle.agent_law.specs.Orders.{IsOfTable, machine_after_output, with_server}
+use Rattle.agent_outputs.specs.Orders.{IsOfTable, machine_after_output, with_server}
 use Rattle.cluster_model.specs.declared.beginning.Beginning.TheVariants as beginnings
 use Rattle.cluster_model.specs.declared.heard_message.HeardMessage.{HeardMessage}
 use Rattle.cluster_model.specs.Cluster.{cluster_after, cluster_over}

@@ -1,6 +1,6 @@
 -- All outputs of an input, one after another: the numbers of its messages, the machine that they leave, who begins in them, and what they
 -- feed.
-use Rattle.lease_parts.proofs.Upholding.{over-append}
+use Rattle.run_promise.proofs.Upholding.{over-append}
 use Rattle.std.proofs.Common.{◌≡◌, ◌⊎◌, ◌+◌, ◌++◌, ◌||◌, ◌≤◌, ◌<◌, nat_le, ℕ, Bool, true, false, List, [], ◌∷◌, Option, Some, None, All, length, slice_get, refl, sym, subst, ap, ◌∙◌, arith, inl, inr}
 use Rattle.std.proofs.lemmas.List.Elements.{All-head, All-tail}
 use Rattle.pat_base.specs.declared.member_id.MemberId.{MemberId}
@@ -33,10 +33,10 @@ use Rattle.agent_model.specs.declared.output.Output.TheVariants as outputs
 use Rattle.agent_model.specs.declared.output.Repair.{Repair}
 use Rattle.agent_model.specs.declared.output.Target.TheVariants as targets
 use Rattle.agent_model.specs.Acting.{upstream_of}
-use Rattle.agent_law.specs.Orders.{EndsRepairing, IsOfTable, RepairsLast, machine_after_output, machine_after_outputs}
+use Rattle.agent_outputs.specs.Orders.{EndsRepairing, IsOfTable, RepairsLast, machine_after_output, machine_after_outputs}
 use Rattle.agent_model.specs.Outputs.{is_arming, is_feeding, has_one, listed, BeginsOnly, OutputsBeginBehind}
 use Rattle.cluster_model.specs.declared.heard_message.HeardMessage.{HeardMessage}
-use Rattle.agent_law.proofs.Living.{follow-live, restart-live, start-live, stop-live, wipe-live}
+use Rattle.agent_roles.proofs.Living.{follow-live, restart-live, start-live, stop-live, wipe-live}
 use Rattle.cluster_model.specs.Beginnings.{server_restart_in, server_restart_kinds}
 use Rattle.cluster_model.specs.Cluster.{cluster_after, cluster_over}
 use Rattle.cluster_model.specs.Limits.{most_in_flight}

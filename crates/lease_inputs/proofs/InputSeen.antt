@@ -10,7 +10,7 @@ use Rattle.event_book.specs.declared.member.Member.{Member}
 use Rattle.agent_model.specs.declared.machine.Machine.{Machine}
 use Rattle.agent_model.specs.Agents.{AgentFacts}
 use Rattle.agent_lease_law.specs.Lawful.{IsYoung}
-use Rattle.agent_law.specs.Seen.{moment_seen, hold_seen, machine_seen}
+use Rattle.agent_roles.specs.Seen.{moment_seen, hold_seen, machine_seen}
 use Rattle.agent_model.specs.declared.knowledge.Waited.{Waited}
 use Rattle.cluster_model.specs.Machines.{machine_from, machine_of, replication_of}
 use Rattle.pat_base.specs.declared.ticks.TheConstants.{TICKS_OF_SECOND}

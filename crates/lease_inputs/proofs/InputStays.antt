@@ -22,7 +22,7 @@ use Rattle.event_book.specs.Clock.{now_after}
 use Rattle.event_book.specs.Members.{server_of}
 use Rattle.event_book.specs.Servers.{servers_after, becomes_copy, copied_by, servers_by_log}
 use Rattle.agent_model.specs.declared.output.Output.{Output}
-use Rattle.agent_law.specs.Orders.{IsOfTable}
+use Rattle.agent_outputs.specs.Orders.{IsOfTable}
 use Rattle.cluster_model.specs.declared.heard_message.HeardMessage.{HeardMessage}
 use Rattle.cluster_model.specs.Cluster.{agent_facts_after, cluster_after, cluster_over}
 use Rattle.cluster_model.specs.Messages.{output_events}

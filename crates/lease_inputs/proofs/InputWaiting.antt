@@ -22,7 +22,7 @@ use Rattle.lease_law.proofs.Tools.{eq-from, ne-from, none-some, some-is}
 use Rattle.lease_book.specs.Waiting.{IsLastAsked, IsLastRun}
 use Rattle.lease_parts.specs.Bridged.{KnowsItself, KnowThemselves}
 use Rattle.lease_parts.specs.Machines.{run_in}
-use Rattle.lease_inputs.specs.Questions.{span_asked, SendsBetween, AsksFor, WaitsOn, Same, Nothing, New, AsksAnew}
+use Rattle.agent_questions.specs.Questions.{span_asked, SendsBetween, AsksFor, WaitsOn, Same, Nothing, New, AsksAnew}
 use Rattle.lease_parts.specs.Waiting.{IsAwaited, IsAgentSound, AreAgentsSound}
 use Rattle.cluster_model.proofs.Places.{get-changed}
 use Rattle.agent_model.specs.Pausing.{is_paused}

@@ -4,7 +4,6 @@ pub mod InputMachines
 pub mod InputOutputs
 pub mod InputStays
 pub mod InputWaiting
-pub mod Questions
 pub mod InputSeen
 pub mod InputHears
 pub mod InputKept

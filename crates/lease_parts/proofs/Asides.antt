@@ -31,7 +31,7 @@ use Rattle.lease_book.specs.Flights.{IsCausal}
 use Rattle.lease_book.proofs.Flights.{flight-by}
 use Rattle.lease_parts.specs.Asides.{IsAside, IsAsideIn}
 use Rattle.lease_parts.specs.Bridged.{KnowsItself, KnowThemselves, IsMatched}
-use Rattle.lease_parts.specs.Declaring.{member_count}
+use Rattle.run_promise.specs.Members.{member_count}
 use Rattle.lease_parts.specs.Machines.{run_in}
 use Rattle.lease_parts.proofs.Machines.{machines-by, sized-by}
 use Rattle.cluster_model.proofs.Places.{get-changed, length-changed, there}

@@ -23,11 +23,11 @@ use Rattle.cluster_model.specs.State.{Cluster}
 use Rattle.cluster_model.proofs.Commanding.{EndsNothing, HoldsOfCommands, command-holds}
 use Rattle.lease_parts.specs.Asides.{IsQuiet}
 use Rattle.lease_parts.specs.Bridged.{Bridged}
-use Rattle.lease_parts.specs.Declaring.{member_count}
+use Rattle.run_promise.specs.Members.{member_count}
 use Rattle.lease_parts.specs.Kept.{IsKept}
 use Rattle.lease_parts.proofs.Composing.{kept-for_some, kept-none, kept-then}
 use Rattle.lease_parts.proofs.Ending.{kept-crash, kept-kill}
-use Rattle.lease_parts.proofs.Members.{declared-now, declared-within}
+use Rattle.run_promise.proofs.Members.{declared-now, declared-within}
 use Rattle.lease_parts.proofs.Promoting.{kept-breach}
 use Rattle.lease_parts.proofs.Starting.{kept-restart}
 use Rattle.lease_parts.proofs.Streams.{IsQuietIf, kept-quiet-if}

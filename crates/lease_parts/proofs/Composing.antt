@@ -12,9 +12,9 @@ use Rattle.lease_law.proofs.Runs.{none-more, one-front-of}
 use Rattle.lease_parts.specs.Bridged.{Bridged}
 use Rattle.lease_parts.specs.Declaring.{declared_of, works_of}
 use Rattle.lease_parts.specs.Kept.{MeetsPremises, IsKept, Keeps, one_writer}
-use Rattle.lease_parts.specs.Promise.{IsComposable}
+use Rattle.run_promise.specs.Promise.{IsComposable}
 use Rattle.lease_parts.specs.Volatile.{volatile_of}
-use Rattle.lease_parts.proofs.Upholding.{upheld-for_some, upheld-none, upheld-then, upholds-then}
+use Rattle.run_promise.proofs.Upholding.{upheld-for_some, upheld-none, upheld-then, upholds-then}
 
 pub premises-front : (head : HeadText) (front rest : List Event) → MeetsPremises head (front ++ rest) → MeetsPremises head front
 premises-front head front rest meets = record {

@@ -24,7 +24,8 @@ use Rattle.lease_law.specs.Past.{past_of, state_of}
 use Rattle.lease_law.specs.States.{crash_machine, kill_machine}
 use Rattle.lease_law.proofs.LocalActions.{loss-shown}
 use Rattle.lease_parts.specs.Bridged.{Bridged}
-use Rattle.lease_parts.specs.Declaring.{declared_of, member_count}
+use Rattle.lease_parts.specs.Declaring.{declared_of}
+use Rattle.run_promise.specs.Members.{member_count}
 use Rattle.lease_parts.specs.Kept.{IsKept}
 use Rattle.lease_parts.specs.Machines.{live_now, run_in, run_now}
 use Rattle.lease_parts.specs.Volatile.{agent_now, machine_in, volatile_of}

@@ -25,11 +25,12 @@ use Rattle.lease_law.proofs.Tools.{none-some, some-is}
 use Rattle.lease_law.proofs.Unpaused.{pauses-first}
 use Rattle.lease_book.proofs.Flights.{flight-first}
 use Rattle.lease_parts.specs.Bridged.{Bridged, KnowsItself, KnowThemselves}
-use Rattle.lease_parts.specs.Declaring.{declared_members, declared_of, member_count}
+use Rattle.lease_parts.specs.Declaring.{declared_of}
+use Rattle.run_promise.specs.Members.{declared_members, member_count}
 use Rattle.lease_parts.specs.Machines.{IsSameEverywhere, deadline_now, hold_now, live_now, run_in}
 use Rattle.lease_parts.specs.Volatile.{agent_now, volatile_of}
 use Rattle.lease_parts.proofs.Fresh.{fresh-seen}
-use Rattle.lease_parts.proofs.Members.{counted, numbered}
+use Rattle.run_promise.proofs.Members.{counted, numbered}
 use Rattle.lease_parts.proofs.Waiting.{waiting-first}
 use Rattle.agent_model.specs.Pausing.{is_paused}
 use Rattle.pat_base.specs.declared.member_id.TheConstants.{MOST_MEMBERS}

@@ -30,7 +30,7 @@ use Rattle.lease_book.specs.Flights.{IsSameBook, AreCausal}
 use Rattle.lease_book.proofs.Entries.{in-with, in-without}
 use Rattle.lease_book.proofs.Groups.{book-by}
 use Rattle.lease_parts.specs.Bridged.{IsMatched, KnowThemselves}
-use Rattle.lease_parts.specs.Declaring.{declared_members, member_count}
+use Rattle.run_promise.specs.Members.{declared_members, member_count}
 use Rattle.lease_parts.specs.Machines.{IsWithinMembers, IsSameEverywhere, IsSized, run_in}
 use Rattle.lease_parts.specs.Waiting.{IsAddressed, IsCarriedWell, AreCarriedWell, AreAgentsSound}
 use Rattle.lease_parts.proofs.Machines.{machines-by, sized-by}

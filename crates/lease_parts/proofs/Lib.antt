@@ -1,6 +1,5 @@
 pub mod Machines
 pub mod SameMachine
-pub mod Upholding
 pub mod Composing
 pub mod Fresh
 pub mod Waiting
@@ -11,11 +10,9 @@ pub mod Ending
 pub mod Promoting
 pub mod Starting
 pub mod Streams
-pub mod Members
 pub mod Commands
 pub mod TickMachines
 pub mod Ticks
-pub mod Walking
 pub mod First
 pub mod Fitting
 pub mod StoreArrivals

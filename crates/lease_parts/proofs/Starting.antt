@@ -33,7 +33,8 @@ use Rattle.lease_law.specs.Showing.{IsLocal}
 use Rattle.lease_law.specs.States.{State, deadline_if, fresh_agent, start_machine}
 use Rattle.lease_parts.specs.Asides.{IsAside}
 use Rattle.lease_parts.specs.Bridged.{Bridged, IsMatched}
-use Rattle.lease_parts.specs.Declaring.{declared_of, member_count}
+use Rattle.lease_parts.specs.Declaring.{declared_of}
+use Rattle.run_promise.specs.Members.{member_count}
 use Rattle.lease_parts.specs.Kept.{IsKept}
 use Rattle.lease_parts.specs.Machines.{deadline_in, deadline_now, live_in, live_now, run_in, run_now}
 use Rattle.lease_law.proofs.Showing.{past-append}

@@ -37,7 +37,8 @@ use Rattle.lease_book.specs.Waiting.{IsLastRun}
 use Rattle.lease_book.proofs.Delivering.{granted-delivery, read-delivery, refused-delivery}
 use Rattle.lease_book.proofs.Groups.{granted-causal, read-causal, refused-causal}
 use Rattle.lease_parts.specs.Bridged.{Bridged, IsMatched, KnowThemselves}
-use Rattle.lease_parts.specs.Declaring.{declared_of, member_count}
+use Rattle.lease_parts.specs.Declaring.{declared_of}
+use Rattle.run_promise.specs.Members.{member_count}
 use Rattle.lease_parts.specs.Kept.{IsKept}
 use Rattle.lease_parts.specs.Machines.{live_in, run_in}
 use Rattle.lease_parts.specs.Volatile.{agent_now, volatile_of}

@@ -30,9 +30,9 @@ use Rattle.lease_law.proofs.Tools.{eq-from, ne-from}
 use Rattle.cluster_model.proofs.Lists.{AllKinds}
 use Rattle.lease_parts.specs.Asides.{IsQuiet}
 use Rattle.lease_parts.specs.Machines.{deadline_in, deadline_now, live_now, run_now}
-use Rattle.lease_parts.specs.Members.{is_listed}
+use Rattle.run_promise.specs.Members.{is_listed}
 use Rattle.lease_parts.specs.Volatile.{agent_now, machine_in}
-use Rattle.lease_parts.proofs.Upholding.{Each, over-append}
+use Rattle.run_promise.proofs.Upholding.{Each, over-append}
 use Rattle.lease_parts.proofs.Ending.{agent-without, crashed-now}
 use Rattle.lease_parts.proofs.Machines.{ended-run, no-deadline, seen-kept}
 use Rattle.lease_parts.proofs.SameMachine.{machine-same}

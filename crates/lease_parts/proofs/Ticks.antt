@@ -39,15 +39,15 @@ use Rattle.lease_law.specs.States.{Machine, is_due, tick_machine}
 use Rattle.lease_law.proofs.LocalActions.{tick-shown}
 use Rattle.cluster_model.proofs.Lists.{AllKinds, all-both, kinds-both}
 use Rattle.lease_parts.specs.Asides.{IsAside, IsAsideIn, IsQuiet}
-use Rattle.lease_parts.specs.Declaring.{declared_members, declared_of, member_count}
+use Rattle.lease_parts.specs.Declaring.{declared_of}
+use Rattle.run_promise.specs.Members.{declared_members, member_count, is_listed}
 use Rattle.lease_parts.specs.Kept.{Keeps}
 use Rattle.lease_parts.specs.Machines.{deadline_in, deadline_now, live_in, live_now}
-use Rattle.lease_parts.specs.Members.{is_listed}
 use Rattle.lease_parts.specs.Volatile.{machine_in, volatile_of}
 use Rattle.lease_parts.proofs.Actions.{action-kept, machine-is}
 use Rattle.lease_parts.proofs.Asides.{asides-begin-as, matched-behind-as}
-use Rattle.lease_parts.proofs.Upholding.{Each, over-append}
-use Rattle.lease_parts.proofs.Members.{declared-within, each-declared, listed}
+use Rattle.run_promise.proofs.Upholding.{Each, over-append}
+use Rattle.run_promise.proofs.Members.{declared-within, each-declared, listed}
 use Rattle.lease_parts.proofs.Quiet.{quiet-aside, quiet-local}
 use Rattle.lease_parts.proofs.TickMachines.{end-one, ends, quiet-machines, resets, stops_seen, ticked-machine}
 use Rattle.pat_base.specs.declared.member_id.TheConstants.{MOST_MEMBERS}

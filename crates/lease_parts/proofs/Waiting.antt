@@ -29,7 +29,7 @@ use Rattle.lease_book.proofs.Waits.{run-new}
 use Rattle.lease_parts.specs.Asides.{IsAsideIn}
 use Rattle.event_book.specs.Writers.{BeginsKind}
 use Rattle.lease_parts.specs.Bridged.{IsMatched}
-use Rattle.lease_parts.specs.Declaring.{declared_members, member_count}
+use Rattle.run_promise.specs.Members.{declared_members, member_count}
 use Rattle.lease_parts.specs.Machines.{IsWithinMembers, run_in}
 use Rattle.lease_parts.specs.Waiting.{AgentsAreSound, IsAgentSound}
 use Rattle.lease_parts.proofs.Fitting.{SendsAddressed, carried-by}

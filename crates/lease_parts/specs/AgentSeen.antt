@@ -1,6 +1,6 @@
 -- What the law of one writer sees of an agent.
 use Rattle.agent_model.specs.Agents.{AgentFacts}
-use Rattle.agent_law.specs.Seen.{agent_seen as role_seen}
+use Rattle.agent_roles.specs.Seen.{agent_seen as role_seen}
 use Rattle.lease_law.specs.States.{Agent}
 
 -- what the law of one writer sees of where an agent stands

@@ -12,7 +12,8 @@ use Rattle.lease_law.specs.Carried.{IsCarried}
 use Rattle.lease_law.specs.Past.{Past, past_of, state_of}
 use Rattle.lease_law.specs.Pauses.{NobodyPauses}
 use Rattle.lease_law.specs.Stores.{IsSameStore}
-use Rattle.lease_parts.specs.Declaring.{declared_of, declared_members, member_count}
+use Rattle.lease_parts.specs.Declaring.{declared_of}
+use Rattle.run_promise.specs.Members.{declared_members, member_count}
 use Rattle.lease_parts.specs.Machines.{IsSameEverywhere, IsSized}
 use Rattle.lease_parts.specs.Volatile.{volatile_of}
 use Rattle.lease_parts.specs.Waiting.{AgentsAreSound}

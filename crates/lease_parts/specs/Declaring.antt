@@ -1,8 +1,6 @@
 -- What a head declares, as the law of one writer reads it.
-use Rattle.std.specs.Prelude.{ℕ, ◌*◌, Bool, true, false, List, Option, Some, None, length, slice_get}
-use Rattle.script_model.specs.Script.{HeadText, MemberText, names_of}
-use Rattle.event_book.specs.declared.member.Member.{Member}
-use Rattle.event_book.specs.Members.{members_from}
+use Rattle.std.specs.Prelude.{ℕ, ◌*◌, Bool, true, false, Option, Some, None, slice_get}
+use Rattle.script_model.specs.Script.{HeadText, MemberText}
 use Rattle.leader_key.specs.Watchdog.{is_armable}
 use Rattle.lease_law.specs.States.{Declared}
 use Rattle.pat_base.specs.declared.ticks.TheConstants.{TICKS_OF_SECOND}
@@ -24,11 +22,3 @@ declared_of head = record { margin = λ m. margin_said (slice_get head.members m
 -- whose watchdog is on and works
 abbrev pub works_of : HeadText → ℕ → Bool
 works_of head m = works_said (slice_get head.members m)
-
--- how many members a head declares
-abbrev pub member_count : HeadText → ℕ
-member_count head = length (names_of head)
-
--- the members that a head declares, with their numbers
-abbrev pub declared_members : HeadText → List Member
-declared_members head = members_from 0 (names_of head)

@@ -11,7 +11,7 @@ use Rattle.lease_law.specs.Books.{IsShown}
 use Rattle.lease_law.specs.Claims.{ShowsIt}
 use Rattle.lease_law.specs.Past.{past_of, state_of}
 use Rattle.lease_parts.specs.Bridged.{Bridged, IsMatched}
-use Rattle.lease_parts.specs.Promise.{Promise, Upholds, UpholdsAlways}
+use Rattle.run_promise.specs.Promise.{Promise, Upholds, UpholdsAlways}
 use Rattle.lease_parts.specs.Volatile.{volatile_of}
 use Rattle.lease_parts.specs.Declaring.{declared_of, works_of}
 

@@ -1,12 +1,9 @@
 pub mod AgentSeen
 pub mod Declaring
-pub mod Members
 pub mod Machines
 pub mod Volatile
 pub mod Waiting
 pub mod Bridged
-pub mod Promise
 pub mod Kept
 pub mod Asides
 pub mod LocalActions
-pub mod Parts

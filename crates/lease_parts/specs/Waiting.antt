@@ -16,7 +16,8 @@ use Rattle.agent_model.specs.Decisions.{asks_lease}
 use Rattle.cluster_model.specs.State.{Cluster}
 use Rattle.lease_law.specs.Leases.{Question}
 use Rattle.lease_law.specs.Past.{Past, lease_span}
-use Rattle.lease_law.specs.Stores.{IsLeased, IsSpannedTxn}
+use Rattle.lease_law.specs.Stores.{IsLeased}
+use Rattle.agent_roles.specs.Asks.{IsQuestion}
 use Rattle.lease_book.specs.Waiting.{IsLastAsked, IsLastRun}
 use Rattle.lease_parts.specs.Machines.{run_in}
 
@@ -40,12 +41,6 @@ pub record IsAgentSound (asked : ℕ → Option Question) (m : ℕ) (agent : Age
 -- each agent that is there is such
 abbrev pub AreAgentsSound : (ℕ → Option Question) → List (Option AgentFacts) → Type 0
 AreAgentsSound asked agents = (m : ℕ) (agent : AgentFacts) → slice_get agents m ≡ Some (Some agent) → IsAgentSound asked m agent
-
--- a question to the key store: a read, or a request, of which a create asks for a lease of at least one tick
-abbrev pub IsQuestion : Body → Type 0
-IsQuestion bodies.Read = Unit {0}
-IsQuestion (bodies.Request txn) = IsSpannedTxn txn
-IsQuestion _ = ⊥
 
 -- an answer of the key store
 abbrev pub IsAnswer : Body → Type 0

@@ -20,7 +20,7 @@ ghost use Rattle.cluster_model.specs.State.{Cluster};
 ghost use Rattle.cluster_model.specs.Ticking.{tick_events};
 ghost use Rattle.lease_parts.specs.Bridged.{Bridged};
 ghost use Rattle.lease_parts.specs.Kept.{one_writer};
-ghost use Rattle.lease_parts.specs.Promise.{IsComposable, Upholds, UpholdsAlways};
+ghost use Rattle.run_promise.specs.Promise.{IsComposable, Upholds, UpholdsAlways};
 
 /// Before the first event, what the law of one writer carries holds of a cluster whose head has no pause. Where it holds, at most one server
 /// accepts writes.

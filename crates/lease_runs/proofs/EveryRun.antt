@@ -10,7 +10,7 @@ use Rattle.cluster_model.specs.Starting.{cluster_of}
 use Rattle.event_book.specs.Premises.{IsTimely, IsHandsOff}
 use Rattle.lease_parts.specs.Declaring.{declared_of, works_of}
 use Rattle.lease_parts.proofs.First.{bridged-first}
-use Rattle.lease_parts.proofs.Members.{few-names}
+use Rattle.run_promise.proofs.Members.{few-names}
 use Rattle.lease_runs.proofs.Steps.{keeps-run}
 
 pub runs-one : (head : HeadText) → IsHead head → (steps : List Step) (front rest : List Event) → front ++ rest ≡ run_events (cluster_of head) steps

@@ -1,7 +1,6 @@
 pub mod Steps
 pub mod EveryRun
 pub mod Moments
-pub mod Unfed
 pub mod Fencing
 pub mod Measuring
 pub mod MeasuredParts

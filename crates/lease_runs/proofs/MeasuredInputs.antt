@@ -22,9 +22,9 @@ use Rattle.agent_model.specs.declared.machine.Machine.{Machine}
 use Rattle.agent_model.specs.declared.output.Output.{Output}
 use Rattle.agent_model.specs.declared.output.Output.TheVariants as outputs
 use Rattle.agent_model.specs.Agents.{AgentFacts, RoleFacts, made}
-use Rattle.agent_law.specs.Orders.{IsOfTable}
+use Rattle.agent_outputs.specs.Orders.{IsOfTable}
 use Rattle.agent_model.specs.Table.{step}
-use Rattle.agent_law.proofs.Orders.{step-carried-out}
+use Rattle.agent_outputs.proofs.Orders.{step-carried-out}
 use Rattle.cluster_model.specs.declared.heard_message.HeardMessage.{HeardMessage}
 use Rattle.cluster_model.specs.Cluster.{cluster_after, cluster_over}
 use Rattle.cluster_model.specs.Hearing.{heard_from}
@@ -46,7 +46,7 @@ use Rattle.cluster_model.proofs.Lists.{all-more}
 use Rattle.lease_runs.proofs.Fencing.{AreDecided, IsUngranted, ungranted-decided}
 use Rattle.lease_runs.proofs.Measuring.{IsUnfed, Measures, measured-both, unfed-measured}
 use Rattle.lease_runs.proofs.Moments.{KnowsSending, moments_over}
-use Rattle.lease_runs.proofs.Unfed.{FeedsNone, actions-feed-none, wakes-feed-none}
+use Rattle.agent_roles.proofs.Unfed.{FeedsNone, actions-feed-none, wakes-feed-none}
 
 -- an input's events that come of no feed
 mine-unfed : (member : Member) (run heard : ℕ) (kind : EventKind) → IsOfInput member run heard FeedsNone kind → IsUnfed kind

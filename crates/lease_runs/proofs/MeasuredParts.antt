@@ -47,7 +47,7 @@ use Rattle.lease_parts.proofs.Commands.{command-quiet}
 use Rattle.cluster_model.proofs.Commanding.{each-command-holds}
 use Rattle.cluster_model.proofs.Founds.{holds-unless}
 use Rattle.cluster_model.proofs.Lists.{AllKinds, HoldsIf, all-kinds, all-more, one-kind}
-use Rattle.lease_runs.proofs.Measuring.{IsPlain, Measures, Tells, tells-none, tells-send, told-for_some, told-if, told-plain, told-then}
+use Rattle.lease_runs.proofs.Measuring.{IsPlain, Measures, Tells, tells-none, tells-send, told-for_some, told-plain, told-then}
 use Rattle.lease_runs.proofs.Moments.{KnowsSending}
 use Rattle.lease_parts.proofs.Streams.{acknowledge-quiet, confirm-quiet}
 use Rattle.lease_parts.proofs.Ticks.{IsBeside, Rest, rest-beside}
@@ -107,11 +107,6 @@ told-quiet moments cluster events all = told-plain moments cluster events (all-m
 pub tells-receive-at-most : (most : ℕ) (member : Member) → Tells (λ cluster. receive_events_at_most cluster most member)
 tells-receive-at-most most member moments cluster knows = told-quiet moments cluster (receive_events_at_most cluster most member) (most-quiet cluster most member)
 
-pub tells-receive : (member : Member) → Tells (λ cluster. receive_events_of cluster member)
-tells-receive member moments cluster knows =
-    told-for_some moments cluster (slice_get cluster.facts.frozen member.id.number) _ (λ frozen is.
-    told-if moments cluster frozen [] (receive_events_at_most cluster all_entries member) (tells-none moments cluster) (tells-receive-at-most all_entries member moments cluster knows))
-
 pub acknowledges-quiet : (cluster : Cluster) (member : Member) → AllAre IsQuiet (acknowledge_events cluster member)
 acknowledges-quiet cluster member =
     let found = slice_get cluster.facts.servers member.id.number in
@@ -168,10 +163,6 @@ tells-restart member moments cluster knows =
     told-for_some moments cluster (slice_get cluster.facts.processes member.id.number) _ (λ process is.
     let machine = machine_of cluster member in
     told-plain moments cluster _ (all-kinds IsPlain cluster (agent_started member process ∷ kinds_of (disarm_at_start member process machine)) (starts-hold IsPlain member process machine tt tt tt)))
-
-pub told-lose : (moments : Moments) (cluster : Cluster) (number : ℕ) (message : Option InFlightFacts) → Measures moments cluster (lose_events cluster number message)
-told-lose moments cluster number None = told-plain moments cluster _ (tt, tt)
-told-lose moments cluster number (Some message) = told-plain moments cluster _ (tt, tt)
 
 -- ---- the key store
 told-event : (moments : Moments) (cluster : Cluster) (kind : EventKind) (more : Cluster → List Event) → IsPlain kind → KnowsSending moments cluster.facts → Tells more → Measures moments cluster (event_of cluster kind ++ more (cluster_after cluster kind))

@@ -53,21 +53,9 @@ told-then moments cluster xs ys knows first second =
       decided = decided-both cluster xs ys first.decided rest.decided;
     }
 
-pub tells-then : (first second : Cluster → List Event) → Tells first → Tells second → Tells (λ cluster. events_then cluster (first cluster) second)
-tells-then first second one other moments cluster knows =
-    told-then moments cluster (first cluster) (second (cluster_over cluster (first cluster))) knows (one moments cluster knows) (λ later. other (moments_over moments (first cluster)) (cluster_over cluster (first cluster)) later)
-
-pub tells-each : {X : Type 0} (part : Cluster → X → List Event) → ((x : X) → Tells (λ cluster. part cluster x)) → (xs : List X) → Tells (λ cluster. each part cluster xs)
-tells-each part all [] moments cluster knows = tells-none moments cluster
-tells-each part all (x ∷ xs) moments cluster knows = tells-then (λ cluster. part cluster x) (λ later. each part later xs) (all x) (tells-each part all xs) moments cluster knows
-
 pub told-for_some : {X : Type 0} (moments : Moments) (cluster : Cluster) (found : Option X) (part : X → List Event) → ((x : X) → found ≡ Some x → Measures moments cluster (part x)) → Measures moments cluster (for_some found part)
 told-for_some moments cluster None part all = tells-none moments cluster
 told-for_some moments cluster (Some x) part all = all x refl
-
-pub told-if : (moments : Moments) (cluster : Cluster) (test : Bool) (xs ys : List Event) → Measures moments cluster xs → Measures moments cluster ys → Measures moments cluster (cond test xs ys)
-told-if moments cluster true xs ys first second = first
-told-if moments cluster false xs ys first second = second
 
 -- ---- events that feed nothing
 abbrev pub IsUnfed : EventKind → Type 0

@@ -41,13 +41,12 @@ use Rattle.cluster_model.proofs.Commanding.{each-command-holds}
 use Rattle.cluster_model.proofs.Founds.{holds-if, holds-then}
 use Rattle.cluster_model.proofs.Lists.{AllKinds, HoldsIf, all-kinds, all-more, one-kind}
 use Rattle.lease_parts.specs.Asides.{IsQuiet}
-use Rattle.lease_parts.specs.Declaring.{declared_members}
-use Rattle.lease_parts.specs.Members.{IsDeclared}
-use Rattle.lease_parts.specs.Promise.{Upholds, UpholdsAlways}
+use Rattle.run_promise.specs.Members.{declared_members, IsDeclared}
+use Rattle.run_promise.specs.Promise.{Upholds, UpholdsAlways}
 use Rattle.lease_parts.proofs.Commands.{command-quiet}
-use Rattle.lease_parts.proofs.Members.{declared-named, each-declared}
+use Rattle.run_promise.proofs.Members.{declared-named, each-declared}
 use Rattle.lease_parts.proofs.Ticks.{next-quiet}
-use Rattle.lease_parts.proofs.Upholding.{upheld-for_some, upheld-then, upholds-all, upholds-each}
+use Rattle.run_promise.proofs.Upholding.{upheld-for_some, upheld-then, upholds-all, upholds-each}
 use Rattle.lease_runs.proofs.MeasuredParts.{acknowledges-quiet, holds-more, most-quiet, starts-hold}
 use Rattle.lease_runs.proofs.Naming.{HasDeclaredEnds, IsDeclaredEnd, IsOwn, NamesSoFar, composable, names_told, upheld-own}
 

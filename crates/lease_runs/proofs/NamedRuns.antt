@@ -36,14 +36,13 @@ use Rattle.cluster_model.specs.State.{Cluster}
 use Rattle.cluster_model.proofs.Founds.{holds-mapped}
 use Rattle.cluster_model.proofs.Lists.{all-more}
 use Rattle.lease_law.proofs.Tools.{none-some}
-use Rattle.lease_parts.specs.Declaring.{declared_members}
+use Rattle.run_promise.specs.Members.{declared_members, IsDeclared}
 use Rattle.lease_parts.specs.Machines.{run_in, run_now}
-use Rattle.lease_parts.specs.Members.{IsDeclared}
-use Rattle.lease_parts.specs.Parts.{PartsUphold}
-use Rattle.lease_parts.specs.Promise.{Upholds, UpholdsAlways}
-use Rattle.lease_parts.proofs.Members.{declared-at, declared-named, few-names}
-use Rattle.lease_parts.proofs.Upholding.{upheld-then, upholds-all}
-use Rattle.lease_parts.proofs.Walking.{upholds-run}
+use Rattle.run_promise.specs.Parts.{PartsUphold}
+use Rattle.run_promise.specs.Promise.{Upholds, UpholdsAlways}
+use Rattle.run_promise.proofs.Members.{declared-at, declared-named, few-names, declared-in}
+use Rattle.run_promise.proofs.Upholding.{upheld-then, upholds-all}
+use Rattle.run_promise.proofs.Walking.{upholds-run}
 use Rattle.lease_inputs.specs.InputEvents.{IsOfInput}
 use Rattle.lease_inputs.proofs.InputEvents.{output-mine}
 use Rattle.lease_inputs.proofs.InputOutputs.{no-sent, no_message as sends_none}
@@ -120,9 +119,9 @@ module _ (head : HeadText) (few : length (names_of head) ≤ MOST_MEMBERS) where
         (book ++ event_of cluster kind) (cluster_after cluster kind))
 
   -- ---- every run
-  parts : PartsUphold head (names_told head)
+  parts : PartsUphold (IsDeclared head) (names_told head)
   parts = record {
-    members = λ book cluster good. good.members;
+    members = λ book cluster good. declared-in head few cluster good.members;
     inputs = record {
       wakes = λ book cluster member process good is found acts.
           upheld-input member is book cluster (kinds.Agent (Woken member)) no_message (outcome_of cluster member Wake) good tt;
@@ -150,4 +149,4 @@ module _ (head : HeadText) (few : length (names_of head) ≤ MOST_MEMBERS) where
 pub runs-name : (head : HeadText) (steps : List Step) → IsHead head → AllAre (NamesServer (slice_get (names_of head))) (run_events (cluster_of head) steps)
 runs-name head steps is =
     let few = few-names head is in
-    ((upholds-run head few (names_told head) (composable head) (parts head few) steps [] (cluster_of head) (names-first head few)).behind tt).named
+    ((upholds-run (IsDeclared head) (names_told head) (composable head) (parts head few) steps [] (cluster_of head) (names-first head few)).behind tt).named

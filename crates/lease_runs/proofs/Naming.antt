@@ -18,10 +18,9 @@ use Rattle.cluster_model.proofs.Lists.{all-both, all-more}
 use Rattle.lease_law.proofs.Tools.{dropped, put-all, some-is}
 use Rattle.lease_book.specs.Flights.{Rises}
 use Rattle.lease_book.proofs.Entries.{in-with, in-without, rises-with, rises-without}
-use Rattle.lease_parts.specs.Declaring.{declared_members}
-use Rattle.lease_parts.specs.Members.{IsDeclared}
-use Rattle.lease_parts.specs.Promise.{IsComposable, Promise, Upholds}
-use Rattle.lease_parts.proofs.Members.{members-over}
+use Rattle.run_promise.specs.Members.{declared_members, IsDeclared}
+use Rattle.run_promise.specs.Promise.{IsComposable, Promise, Upholds}
+use Rattle.run_promise.proofs.Members.{members-over}
 use Rattle.summary_model.specs.Listed.{NamesServer}
 
 -- this end of a link is the key store, or a declared member

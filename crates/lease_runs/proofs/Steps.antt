@@ -5,7 +5,9 @@ use Rattle.script_model.specs.Script.{HeadText, names_of}
 use Rattle.cluster_model.specs.Next.{run_events}
 use Rattle.event_book.specs.declared.event.EventKind.TheVariants as kinds
 use Rattle.lease_parts.specs.Kept.{Keeps, one_writer}
-use Rattle.lease_parts.specs.Parts.{PartsUphold}
+use Rattle.run_promise.specs.Members.{IsDeclared}
+use Rattle.run_promise.proofs.Members.{declared-in}
+use Rattle.run_promise.specs.Parts.{PartsUphold}
 use Rattle.lease_parts.proofs.Commands.{kept-command-kind, kept-promote, kept-restarts}
 use Rattle.lease_parts.proofs.Composing.{composable}
 use Rattle.lease_parts.proofs.Ending.{kept-loss}
@@ -14,12 +16,12 @@ use Rattle.lease_parts.proofs.Quiet.{kept-quiet}
 use Rattle.lease_parts.proofs.StoreArrivals.{kept-store-arrival}
 use Rattle.lease_parts.proofs.Streams.{keeps-acknowledge, keeps-receive-at-most}
 use Rattle.lease_parts.proofs.Ticks.{keeps-tick}
-use Rattle.lease_parts.proofs.Walking.{upholds-run}
+use Rattle.run_promise.proofs.Walking.{upholds-run}
 use Rattle.pat_base.specs.declared.member_id.TheConstants.{MOST_MEMBERS}
 
-parts : (head : HeadText) → length (names_of head) ≤ MOST_MEMBERS → PartsUphold head (one_writer head)
+parts : (head : HeadText) → length (names_of head) ≤ MOST_MEMBERS → PartsUphold (IsDeclared head) (one_writer head)
 parts head few = record {
-  members = λ book cluster good. good.matched.members;
+  members = λ book cluster good. declared-in head few cluster good.matched.members;
   inputs = inputs-keep head;
   arrivals = kept-store-arrival head;
   losses = λ number book cluster good. kept-loss head book cluster number good;
@@ -33,4 +35,4 @@ parts head few = record {
 }
 
 pub keeps-run : (head : HeadText) → length (names_of head) ≤ MOST_MEMBERS → (steps : List Step) → Keeps head (λ cluster. run_events cluster steps)
-keeps-run head few steps = upholds-run head few (one_writer head) (composable head) (parts head few) steps
+keeps-run head few steps = upholds-run (IsDeclared head) (one_writer head) (composable head) (parts head few) steps

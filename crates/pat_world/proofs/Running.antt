@@ -16,10 +16,10 @@ use Rattle.cluster_model.specs.Inputs.{standing_of}
 use Rattle.cluster_model.specs.Next.{declared}
 use Rattle.cluster_model.specs.Starting.{cluster_of, options_of}
 use Rattle.cluster_model.specs.State.{Cluster}
-use Rattle.lease_parts.specs.Declaring.{declared_members, member_count}
+use Rattle.run_promise.specs.Members.{declared_members, member_count}
 use Rattle.lease_parts.specs.Machines.{IsSized}
 use Rattle.lease_parts.proofs.Machines.{sized-by}
-use Rattle.lease_parts.proofs.Members.{counted, few-names, numbered}
+use Rattle.run_promise.proofs.Members.{counted, few-names, numbered}
 use Rattle.world_model.specs.Running.{agent_runs, runs_now}
 use Rattle.world_model.proofs.Running.{Alike, alike-after, alike-start, member-runs}
 use Rattle.world_stage.specs.AgentViews.{IsViewOf, agent_of}

@@ -29,7 +29,7 @@ use Rattle.agent_model.specs.Agents.{AgentFacts, Outcome, made}
 use Rattle.agent_model.specs.Before.{before}
 use Rattle.agent_model.specs.Table.{step}
 use Rattle.agent_model.specs.Views.{shown}
-use Rattle.agent_law.proofs.OperatorAnswers.{step-right}
+use Rattle.agent_answers.proofs.OperatorAnswers.{step-right}
 use Rattle.cluster_model.specs.declared.asker.Asker.TheVariants as askers
 use Rattle.cluster_model.specs.declared.step.Step.TheVariants as steps
 use Rattle.cluster_model.specs.declared.step.Visit.{Visit}
@@ -43,7 +43,7 @@ use Rattle.cluster_model.specs.Parts.{event_of, events_then, for_some}
 use Rattle.cluster_model.specs.Requests.{action_of, answer_at, silence}
 use Rattle.cluster_model.specs.State.{Cluster}
 use Rattle.cluster_model.proofs.Places.{get-here}
-use Rattle.lease_parts.proofs.Upholding.{over-append}
+use Rattle.run_promise.proofs.Upholding.{over-append}
 use Rattle.serve_model.specs.Connections.{Connection, first_visit, most_waiting, read_steps, replied_steps, reply_in, reply_to, waiting_steps}
 use Rattle.serve_model.proofs.Replies.{reply_in-append}
 use Rattle.serve_law.specs.Owing.{IsOwed, IsTold}

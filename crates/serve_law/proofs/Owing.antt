@@ -23,8 +23,8 @@ use Rattle.agent_model.specs.declared.output.Output.{Output}
 use Rattle.agent_model.specs.declared.output.Output.TheVariants as outputs
 use Rattle.agent_model.specs.Agents.{AgentFacts, Outcome, made}
 use Rattle.agent_model.specs.Table.{step}
-use Rattle.agent_law.specs.OperatorAnswers.{AnswersAtOnce, AnswersOneAtMost, AnswersWaiting, WaitsForHeard, told_in}
-use Rattle.agent_law.proofs.OperatorAnswers.{step-right}
+use Rattle.agent_answers.specs.OperatorAnswers.{AnswersAtOnce, AnswersOneAtMost, AnswersWaiting, WaitsForHeard, told_in}
+use Rattle.agent_answers.proofs.OperatorAnswers.{step-right}
 use Rattle.cluster_model.specs.declared.heard_message.HeardMessage.{HeardMessage}
 use Rattle.cluster_model.specs.Cluster.{agent_after, agent_facts_with, cluster_after, cluster_over}
 use Rattle.cluster_model.specs.Commands.{kinds_of}
@@ -38,7 +38,7 @@ use Rattle.cluster_model.proofs.Founds.{told-holds}
 use Rattle.cluster_model.proofs.Lists.{all-both, all-kinds, all-more, one-kind}
 use Rattle.cluster_model.proofs.Places.{get-changed}
 use Rattle.std.proofs.lemmas.Bool.{eq-eqb, eqb-true}
-use Rattle.lease_parts.proofs.Upholding.{over-append}
+use Rattle.run_promise.proofs.Upholding.{over-append}
 use Rattle.serve_model.specs.Connections.{reply_by, reply_in}
 use Rattle.serve_model.proofs.Replies.{reply_in-append}
 use Rattle.serve_law.specs.Owing.{HearsBy, IsTold, Tells}

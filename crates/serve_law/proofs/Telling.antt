@@ -16,7 +16,7 @@ use Rattle.agent_model.specs.declared.operating.Told.TheVariants as tolds
 use Rattle.agent_model.specs.declared.output.Output.{Output}
 use Rattle.agent_model.specs.declared.output.Output.TheVariants as outputs
 use Rattle.agent_model.specs.Agents.{AgentFacts}
-use Rattle.agent_law.specs.OperatorAnswers.{told_in}
+use Rattle.agent_answers.specs.OperatorAnswers.{told_in}
 use Rattle.cluster_model.specs.declared.heard_message.HeardMessage.{HeardMessage}
 use Rattle.cluster_model.specs.Cluster.{cluster_after, cluster_over}
 use Rattle.cluster_model.specs.Commands.{kinds_of}
@@ -27,7 +27,7 @@ use Rattle.cluster_model.specs.Requests.{replying, told_kind}
 use Rattle.cluster_model.specs.State.{Cluster}
 use Rattle.cluster_model.proofs.Founds.{told-holds}
 use Rattle.cluster_model.proofs.Lists.{HoldsIf}
-use Rattle.lease_parts.proofs.Upholding.{over-append}
+use Rattle.run_promise.proofs.Upholding.{over-append}
 use Rattle.serve_model.specs.Connections.{reply_by, reply_in}
 use Rattle.serve_model.proofs.Replies.{reply_in-append}
 use Rattle.serve_law.proofs.Apart.{apart-silent, output-apart}

@@ -25,7 +25,7 @@ use Rattle.agent_model.specs.declared.operating.Operating.{Operating}
 use Rattle.agent_model.specs.declared.operating.Told.{Told}
 use Rattle.agent_model.specs.Agents.{AgentFacts, Outcome}
 use Rattle.agent_model.specs.Table.{step}
-use Rattle.agent_law.specs.OperatorAnswers.{AnswersAtOnce, WaitsForHeard}
+use Rattle.agent_answers.specs.OperatorAnswers.{AnswersAtOnce, WaitsForHeard}
 use Rattle.cluster_model.specs.declared.delivery.Delivery.{Delivery}
 use Rattle.cluster_model.specs.declared.delivery.Delivery.TheVariants as deliveries
 use Rattle.cluster_model.specs.declared.step.Step.{Step}

@@ -16,7 +16,7 @@ use Rattle.agent_model.specs.declared.heard.Heard.{Heard}
 use Rattle.agent_model.specs.declared.heard.Heard.TheVariants.{Operated, Wake}
 use Rattle.agent_model.specs.declared.operating.Told.{Told}
 use Rattle.agent_model.specs.Agents.{Outcome}
-use Rattle.agent_law.specs.OperatorAnswers.{told_in}
+use Rattle.agent_answers.specs.OperatorAnswers.{told_in}
 use Rattle.cluster_model.specs.Cluster.{cluster_over}
 use Rattle.cluster_model.specs.Hearing.{heard_from}
 use Rattle.cluster_model.specs.Inputs.{agent_at, outcome_of}

@@ -1,4 +1,4 @@
-use Rattle.lease_parts.proofs.Members.{few-names}
+use Rattle.run_promise.proofs.Members.{few-names}
 use Rattle.commit_inputs.proofs.EveryInput.{inputs-uphold}
 use Rattle.commit_inputs.proofs.laws.inputs_uphold_commits.Goals as goal
 

@@ -1,6 +1,6 @@
 use Rattle.commit_parts.proofs.Arrivals.{upheld-arrival}
 use Rattle.commit_parts.proofs.Commands.{upheld-command, upheld-restarts, upholds-loss, upholds-promote}
-use Rattle.lease_parts.proofs.Members.{few-names}
+use Rattle.run_promise.proofs.Members.{few-names}
 use Rattle.commit_parts.proofs.Servers.{upholds-acknowledge, upholds-note, upholds-receive}
 use Rattle.commit_parts.proofs.Ticks.{upholds-tick}
 use Rattle.commit_parts.proofs.laws.parts_uphold_commits.Goals as goal

@@ -1,7 +1,7 @@
 use Rattle.event_book.specs.declared.event.EventKind.TheVariants as kinds
 use Rattle.lease_parts.proofs.Commands.{kept-command-kind, kept-promote, kept-restarts}
 use Rattle.lease_parts.proofs.Ending.{kept-loss}
-use Rattle.lease_parts.proofs.Members.{few-names}
+use Rattle.run_promise.proofs.Members.{few-names}
 use Rattle.lease_parts.proofs.Quiet.{kept-quiet}
 use Rattle.lease_parts.proofs.StoreArrivals.{kept-store-arrival}
 use Rattle.lease_parts.proofs.Streams.{keeps-acknowledge, keeps-receive-at-most}

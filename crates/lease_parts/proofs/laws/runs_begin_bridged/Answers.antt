@@ -1,6 +1,6 @@
 use Rattle.lease_parts.proofs.Composing.{composable, one-now}
 use Rattle.lease_parts.proofs.First.{bridged-first}
-use Rattle.lease_parts.proofs.Members.{few-names}
+use Rattle.run_promise.proofs.Members.{few-names}
 use Rattle.lease_parts.proofs.laws.runs_begin_bridged.Goals as goal
 
 pub returns : goal.returns

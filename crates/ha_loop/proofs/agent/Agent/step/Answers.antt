@@ -1,15 +1,16 @@
 use Rattle.std.proofs.Common.{◌≡◌, [], rules, subst, sym}
 use Rattle.agent_model.specs.Agents.{made}
 use Rattle.ha_loop.specs.Roles.{role_of}
-use Rattle.agent_law.specs.FreeKey.{AsksWhereFree, AsksWhereWon, BeginsWhereGranted}
+use Rattle.agent_succession.specs.FreeKey.{AsksWhereFree, AsksWhereWon, BeginsWhereGranted}
 use Rattle.agent_model.specs.Table.{prepared, step}
 use Rattle.agent_model.specs.Bounds.{IsSmall}
 use Rattle.agent_model.proofs.Bounds.{step-small}
-use Rattle.agent_law.proofs.Beginning.{step-asks, step-begins, step-wins}
+use Rattle.agent_succession.proofs.Beginning.{step-asks, step-begins, step-wins}
 use Rattle.agent_commit_law.proofs.CommitInputs.{input-commits-as}
+use Rattle.agent_rules.proofs.Grounds.{input-has-grounds-as}
 use Rattle.agent_lease_law.proofs.LawfulSteps.{input-lawful-as}
-use Rattle.agent_law.proofs.OperatorAnswers.{input-decides-as, input-right-as, right-causes}
-use Rattle.agent_law.proofs.Staying.{input-ends-as, input-counts}
+use Rattle.agent_answers.proofs.OperatorAnswers.{input-decides-as, input-right-as, right-causes}
+use Rattle.agent_roles.proofs.Staying.{input-ends-as, input-counts}
 use Rattle.ha_loop.proofs.agent.Agent.step.Goals as goal
 
 pub invariant_of-result : goal.invariant_of-result
@@ -23,6 +24,10 @@ invariant_of-result c = record {
 
 pub returns-clause-lawful : goal.returns-clause-lawful
 returns-clause-lawful c = input-lawful-as c.args.now c.args.history.now.points c.args.heard c.args.self.role c.args.self.knows c.args.machine.now c.args.out.now.outputs
+    (made (role_of c.hear-role.result) c.hear-role.new.knows c.hear-role.new.machine c.hear-role.new.out.outputs) (search rules) (search rules)
+
+pub returns-clause-grounds : goal.returns-clause-grounds
+returns-clause-grounds c = input-has-grounds-as c.args.now c.args.history.now.points c.args.heard c.args.self.role c.args.self.knows c.args.machine.now c.args.out.now.outputs
     (made (role_of c.hear-role.result) c.hear-role.new.knows c.hear-role.new.machine c.hear-role.new.out.outputs) (search rules) (search rules)
 
 pub returns-clause-commits : goal.returns-clause-commits

@@ -1,0 +1,2 @@
+pub mod OperatorAnswers
+pub mod Replies

@@ -1,7 +1,0 @@
-use Rattle.agent_model.specs.Before.{before}
-use Rattle.agent_law.proofs.Fitting.{before-fits}
-use Rattle.agent_law.proofs.Granting.{any-granted-may}
-use Rattle.agent_law.proofs.laws.a_grant_feeds_the_watchdog.Goals as goal
-
-pub returns : goal.returns
-returns c now points sequence grant snapshot o = any-granted-may now sequence grant snapshot (before now o) (before-fits now o)

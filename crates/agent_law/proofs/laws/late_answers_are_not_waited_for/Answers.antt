@@ -1,8 +1,0 @@
-use Rattle.agent_law.proofs.FreeKey.{late-won, late-lost}
-use Rattle.agent_law.proofs.laws.late_answers_are_not_waited_for.Goals as goal
-
-pub returns-clause-won : goal.returns-clause-won
-returns-clause-won c now points waited snapshot o runs is = late-won now waited snapshot o runs is
-
-pub returns-clause-lost : goal.returns-clause-lost
-returns-clause-lost c now points waited snapshot bar o runs is = late-lost now waited snapshot bar o runs is

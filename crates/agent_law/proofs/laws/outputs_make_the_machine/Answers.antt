@@ -1,5 +1,0 @@
-use Rattle.agent_law.proofs.Orders.{step-carried-out}
-use Rattle.agent_law.proofs.laws.outputs_make_the_machine.Goals as goal
-
-pub returns : goal.returns
-returns c now points heard role knows machine = step-carried-out now points heard role knows machine

@@ -1,5 +1,0 @@
-use Rattle.agent_law.proofs.Fitting.{before-fits}
-use Rattle.agent_law.proofs.laws.role_fits_server.Goals as goal
-
-pub returns : goal.returns
-returns c now o = before-fits now o

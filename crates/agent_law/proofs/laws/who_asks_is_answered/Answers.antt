@@ -1,5 +1,0 @@
-use Rattle.agent_law.proofs.Replying.{step-replies}
-use Rattle.agent_law.proofs.laws.who_asks_is_answered.Goals as goal
-
-pub returns : goal.returns
-returns c now points heard role knows machine = step-replies now points heard role knows machine

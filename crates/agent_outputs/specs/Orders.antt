@@ -1,0 +1,70 @@
+-- What the outputs of an input, carried out in their order, make of a machine.
+use Rattle.std.specs.Prelude.{◌≡◌, nat_le, if◌then◌else◌, List, [], ◌∷◌, Option, Some, None, All}
+use Rattle.pat_base.specs.declared.ticks.Ticks.{Ticks}
+use Rattle.pg_model.specs.Status.{status_replica_started, status_stopping, status_following, status_restarted, status_wiped}
+use Rattle.event_book.specs.Members.{server_id_of}
+use Rattle.pg_model.specs.declared.status.ServerStatus.{ServerStatus}
+use Rattle.agent_model.specs.declared.machine.Machine.{Machine}
+use Rattle.agent_model.specs.declared.output.Output.{Output}
+use Rattle.agent_model.specs.declared.output.Output.TheVariants as outputs
+use Rattle.agent_model.specs.declared.output.Target.TheVariants as targets
+use Rattle.agent_model.specs.Acting.{status_begun, upstream_of, without_deadline, with_required}
+use Rattle.agent_model.specs.Agents.{Outcome}
+use Rattle.agent_roles.specs.Asks.{IsAsk}
+
+-- the machine with this server
+abbrev pub with_server : ServerStatus → Machine → Machine
+with_server server machine = record machine { server = server }
+
+-- the machine with this deadline of its watchdog
+abbrev pub with_deadline : Ticks → Machine → Machine
+with_deadline deadline machine = record machine { watchdog = record machine.watchdog { deadline = Some deadline } }
+
+-- until when a member holds that promises it until this moment: a hold never ends earlier
+abbrev pub later_hold : Ticks → Option Ticks → Ticks
+later_hold until None = until
+later_hold until (Some hold) = if nat_le hold.0 until.0 then until else hold
+
+-- the machine once this output is carried out at this moment
+abbrev pub machine_after_output : Ticks → Machine → Output → Machine
+machine_after_output now machine outputs.Begin = with_server (status_begun now machine.server) machine
+machine_after_output now machine (outputs.StartReplica leader) = with_server (status_replica_started now (upstream_of leader) machine.server) machine
+machine_after_output now machine (outputs.Stop reason) = with_server (status_stopping now machine.server) machine
+machine_after_output now machine outputs.ShutDown = with_server (status_stopping now machine.server) machine
+machine_after_output now machine (outputs.Restart as_primary) = with_server (status_restarted now machine.server) machine
+machine_after_output now machine outputs.Wipe = with_server (status_wiped machine.server) machine
+machine_after_output now machine (outputs.Follow leader) = with_server (status_following (server_id_of leader) machine.server) machine
+machine_after_output now machine (outputs.Armed until) = with_deadline until machine
+machine_after_output now machine (outputs.Fed until) = with_deadline until machine
+machine_after_output now machine outputs.Disarmed = without_deadline machine
+machine_after_output now machine (outputs.Require required) = with_required required machine
+machine_after_output now machine (outputs.HoldTaken until from sequence) = record machine { hold = Some (later_hold until machine.hold) }
+machine_after_output now machine _ = machine
+
+-- the machine once these outputs are carried out at this moment, in their order
+abbrev pub machine_after_outputs : Ticks → Machine → List Output → Machine
+machine_after_outputs now machine [] = machine
+machine_after_outputs now machine (output ∷ later) = machine_after_outputs now (machine_after_output now machine output) later
+
+-- an output that the table makes so far: it takes no hold, and of another member it only asks how far its server is
+abbrev pub IsOfTable : Output → Type 0
+IsOfTable (outputs.HoldTaken until from sequence) = ⊥
+IsOfTable (outputs.Send (targets.Member member) sequence body) = IsAsk body
+IsOfTable _ = Unit {0}
+
+-- nothing comes behind this output, where a log is repaired by it
+abbrev pub EndsRepairing : Output → List Output → Type 0
+EndsRepairing (outputs.Repair leader repair) later = later ≡ []
+EndsRepairing _ later = Unit {0}
+
+-- where a log is repaired by one of these outputs, that is the last one
+abbrev pub RepairsLast : List Output → Type 0
+RepairsLast [] = Unit {0}
+RepairsLast (output ∷ later) = EndsRepairing output later × RepairsLast later
+
+-- the machine that an input leaves is what its outputs, carried out in their order, make of the machine before, but for a repair of
+-- its server's log, which comes last; and the table makes each of them
+pub record IsCarriedOut (now : Ticks) (machine : Machine) (after : Outcome) : Type 0 where
+  pub machine_is : after.machine ≡ machine_after_outputs now machine after.outputs
+  pub kinds : All IsOfTable after.outputs
+  pub last : RepairsLast after.outputs

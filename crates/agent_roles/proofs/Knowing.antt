@@ -1,0 +1,520 @@
+-- What an input makes of what an agent knows: of its questions, and of the keys that a snapshot tells.
+use Rattle.std.proofs.Common.{◌≡◌, ◌⊎◌, ℕ, ◌+◌, ◌≤◌, ◌<◌, ◌==◌, ◌||◌, Bool, true, false, is_some, max, List, Option, Some, None, refl, sym, subst, ap, ◌∙◌, arith, inl, inr}
+use Rattle.std.specs.Int.{bit_at}
+use Rattle.std.specs.Int.Bits.{bit_or}
+use Rattle.std.proofs.lemmas.Nat.Bits.{bit_at_or}
+use Rattle.std.proofs.lemmas.Bool.Decides.{nat_tests}
+use Rattle.pat_base.specs.declared.member_id.MemberId.{MemberId}
+use Rattle.pat_base.specs.declared.member_set.MemberSet.{MemberSet}
+use Rattle.pat_base.specs.declared.peer_answer.PeerAnswer.{PeerAnswer}
+use Rattle.pat_base.specs.declared.ticks.Ticks.{Ticks}
+use Rattle.lease_store.specs.declared.action.OperatorAction.{OperatorAction}
+use Rattle.lease_store.specs.declared.granted.Granted.{Granted}
+use Rattle.lease_store.specs.declared.key.Key.TheVariants as keys
+use Rattle.lease_store.specs.declared.value.KeyEntry.{KeyEntry}
+use Rattle.wal_model.specs.declared.entry.HistoryPoint.{HistoryPoint}
+use Rattle.cluster_config.specs.Snapshots.{SnapshotFacts, entry_in, failsafe_by, failsafe_of_entry, failsafe_in, settings_by, settings_of_entry}
+use Rattle.event_book.specs.declared.reason.Reason.TheVariants.{StartTooLong, WatchdogNotArmed}
+use Rattle.lease_law.specs.Leases.{LeaderSeen, FailsafeKey}
+use Rattle.event_book.specs.Functions.{set_members}
+use Rattle.lease_law.proofs.Tools.{some-is, none-some}
+use Rattle.agent_model.specs.declared.heard.Heard.{Heard}
+use Rattle.agent_model.specs.declared.heard.Heard.TheVariants.{Wake, Got, Granted as HeardGranted, Mismatch, Asked, Answered, Operated as HearsOperator}
+use Rattle.agent_model.specs.declared.knowledge.Waited.{Waited}
+use Rattle.agent_model.specs.declared.output.Output.{Output}
+use Rattle.agent_model.specs.declared.output.Output.TheVariants as outputs
+use Rattle.agent_model.specs.declared.why.Why.{Why}
+use Rattle.agent_model.specs.declared.why.Why.TheVariants.{HandOver, Lost}
+use Rattle.agent_model.specs.Acting.{disarming, arming, ending_server, requiring, shutting_down, touching, starting_replica, following_server, is_refusing, waiting_no_more}
+use Rattle.agent_model.specs.Agents.{EndsAlone, HasCounted, RoleFacts, Follower, Holder, Ready, Leader, Ending, Stray, Outcome}
+use Rattle.agent_model.specs.Before.{leader_finds_ended, has_ended, finds_live, stray_finds_ended, before}
+use Rattle.agent_model.specs.Decisions.{may_create, leader_renewed, takes_over, stray_renewed, may_take, gives_back, arms, takes_key, granted, refused, takes_key_in_pause}
+use Rattle.agent_model.specs.Claiming.{begins, claims, begins_or_claims, passing, postpones}
+use Rattle.agent_model.specs.Planning.{writing_sync, noting}
+use Rattle.agent_model.specs.Outputs.{listed}
+use Rattle.agent_roles.specs.Seen.{lease_asked, leader_seen_if, failsafe_listed, failsafe_entry_seen, failsafe_seen_if}
+use Rattle.agent_model.specs.Repairs.{repair_of, repairing}
+use Rattle.agent_model.specs.Snapshots.{known_with, informed, is_active, renewing, follow_row, follows, leader_loses_key, stray_loses_key, read_noted, got, asks_as_stray, led_by_another}
+use Rattle.agent_model.specs.Racing.{creating, barred, finds_free, judged, asking_others, unheard}
+use Rattle.agent_model.specs.Peers.{asked, keeping, answered}
+use Rattle.agent_model.specs.HandingOver.{checking, hands_over}
+use Rattle.agent_model.specs.Operators.{answering, given_up, learned, looked, operated, operating, restarting, telling, wiping}
+use Rattle.agent_model.specs.Table.{step, granted_any, refused_any}
+use Rattle.event_book.specs.declared.message.Body.TheVariants as bodies
+use Rattle.agent_model.specs.Wake.{reading, turn_noted, leader_out_of_reach, stray_out_of_reach, overdue, turned, woken}
+use Rattle.agent_roles.proofs.Granting.{Told}
+use Rattle.agent_roles.proofs.Living.{no-way}
+use Rattle.agent_model.proofs.Rows.{HandoverRows, ReplyRows, ActRows, dropping, looked-by, given-up-by, granted-any-by, refused-any-by, operated-by, led_on, if-cases, renewed-by, begins-or-claims-by, before-by, overdue-by, turn-by, wake-by, got-by, refused-by, follow-by, repaired-by, free-by, granted-by, judged-by, answered-by, DutyRows, duties-of, rested_on, takes-in-pause-by}
+use Rattle.agent_model.specs.Pausing.{is_paused, may_start_behind, resting, running_without_key}
+use Rattle.lease_store.specs.Defaults.{default_config}
+use Rattle.lease_store.specs.declared.value.Value.{Value}
+use Rattle.lease_store.specs.declared.value.Value.TheVariants as values
+use Rattle.cluster_config.specs.KeyValues.{config_in}
+use Rattle.agent_model.specs.declared.machine.Machine.{Machine}
+use Rattle.lease_store.specs.declared.config.Config.{Config}
+
+-- who ends its server waits for nothing
+abbrev pub IsAlone : Outcome → Type 0
+IsAlone o = is_active o.role ≡ false → o.knows.waited ≡ None
+
+alone-as : (role : RoleFacts) (waited : Option Waited) → EndsAlone role waited → is_active role ≡ false → waited ≡ None
+alone-as (Ending held why) waited ends ending = ends
+alone-as Follower waited ends ending = absurd (no-way (sym ending))
+alone-as (Holder held) waited ends ending = absurd (no-way (sym ending))
+alone-as (Ready held) waited ends ending = absurd (no-way (sym ending))
+alone-as (Leader held) waited ends ending = absurd (no-way (sym ending))
+alone-as Stray waited ends ending = absurd (no-way (sym ending))
+
+ends-as : (role : RoleFacts) (waited : Option Waited) → (is_active role ≡ false → waited ≡ None) → EndsAlone role waited
+ends-as (Ending held why) waited alone = alone refl
+ends-as _ waited alone = tt
+
+-- the same by the role
+pub alone-of : (o : Outcome) → EndsAlone o.role o.knows.waited → IsAlone o
+alone-of o ends ending = alone-as o.role o.knows.waited ends ending
+
+pub ends-of : (o : Outcome) → IsAlone o → EndsAlone o.role o.knows.waited
+ends-of o alone = ends-as o.role o.knows.waited alone
+
+-- a snapshot tells of a pause
+abbrev pub tells_pause : Option SnapshotFacts → Bool
+tells_pause None = false
+tells_pause (Some snapshot) = (config_in snapshot).pause
+
+-- an agent goes on: what it knows after is of the same run, its questions are the same ones or new ones, and what it knows of keys it
+-- knew, or was told by this snapshot
+pub record Onward (told : Option SnapshotFacts) (o after : Outcome) : Type 0 where
+  pub who : after.knows.who ≡ o.knows.who
+  pub run : after.knows.run ≡ o.knows.run
+  pub last : o.knows.sequence ≤ after.knows.sequence
+  pub waits : (n : ℕ) → lease_asked after.knows.waited ≡ Some n → (lease_asked o.knows.waited ≡ Some n) ⊎ (o.knows.sequence < n)
+  pub known : (p : ℕ) → set_members o.knows.known p ≡ true → set_members after.knows.known p ≡ true
+  pub informed : after.knows.informed ≡ true → (o.knows.informed ≡ true) ⊎ ((key : FailsafeKey) × (failsafe_seen_if told ≡ Some key))
+  pub failsafe : (key : FailsafeKey) → failsafe_seen_if after.knows.seen ≡ Some key → (failsafe_seen_if o.knows.seen ≡ Some key) ⊎ (failsafe_seen_if told ≡ Some key)
+  pub leader : (seen : LeaderSeen) → leader_seen_if after.knows.seen ≡ Some seen → (leader_seen_if o.knows.seen ≡ Some seen) ⊎ (leader_seen_if told ≡ Some seen)
+  pub pauses : is_paused after.knows ≡ true → (is_paused o.knows ≡ true) ⊎ (tells_pause told ≡ true)
+  pub hold : after.machine.hold ≡ o.machine.hold
+  pub ends : IsAlone o → IsAlone after
+  pub counts : HasCounted o.knows → HasCounted after.knows
+
+at-most : {a b c : ℕ} → a ≤ b → b ≤ c → a ≤ c
+at-most first second = omega (arith, first, second)
+
+later : {a b c : ℕ} → a ≤ b → b < c → a < c
+later first second = omega (arith, first, second)
+
+pub onward-then : (told : Option SnapshotFacts) (a b c : Outcome) → Onward told a b → Onward told b c → Onward told a c
+onward-then told a b c first second = record {
+  who = second.who ∙ first.who;
+  run = second.run ∙ first.run;
+  last = omega (arith, first.last, second.last);
+  waits = λ n e. elim (second.waits n e) [ inl before-it ↦ first.waits n before-it | inr new ↦ inr (later first.last new) ];
+  known = λ p e. second.known p (first.known p e);
+  informed = λ e. elim (second.informed e) [ inl before-it ↦ first.informed before-it | inr new ↦ inr new ];
+  failsafe = λ key e. elim (second.failsafe key e) [ inl before-it ↦ first.failsafe key before-it | inr new ↦ inr new ];
+  leader = λ seen e. elim (second.leader seen e) [ inl before-it ↦ first.leader seen before-it | inr new ↦ inr new ];
+  pauses = λ e. elim (second.pauses e) [ inl before-it ↦ first.pauses before-it | inr new ↦ inr new ];
+  hold = second.hold ∙ first.hold;
+  ends = λ alone. second.ends (first.ends alone);
+  counts = λ counted. second.counts (first.counts counted);
+}
+
+-- what it knows of keys stays
+abbrev Keeps : (told : Option SnapshotFacts) (o after : Outcome) → Type 0
+Keeps told o after = after.knows.who ≡ o.knows.who → after.knows.run ≡ o.knows.run → after.knows.seen ≡ o.knows.seen → after.knows.known ≡ o.knows.known → after.knows.informed ≡ o.knows.informed → after.knows.settings ≡ o.knows.settings → o.knows.sequence ≤ after.knows.sequence
+    → ((n : ℕ) → lease_asked after.knows.waited ≡ Some n → (lease_asked o.knows.waited ≡ Some n) ⊎ (o.knows.sequence < n)) → after.machine.hold ≡ o.machine.hold → (IsAlone o → IsAlone after) → (HasCounted o.knows → HasCounted after.knows) → Onward told o after
+
+keeps : (told : Option SnapshotFacts) (o after : Outcome) → Keeps told o after
+keeps told o after who run seen known informed settings last waits hold ends counts = record {
+  who = who;
+  run = run;
+  last = last;
+  waits = waits;
+  known = λ p e. subst (λ (x : MemberSet). set_members x p ≡ true) (sym known) e;
+  informed = λ e. inl (sym informed ∙ e);
+  failsafe = λ key e. inl (subst (λ (x : Option SnapshotFacts). failsafe_seen_if x ≡ Some key) seen e);
+  leader = λ seen-now e. inl (subst (λ (x : Option SnapshotFacts). leader_seen_if x ≡ Some seen-now) seen e);
+  pauses = λ e. inl (subst (λ (x : Config). x.pause ≡ true) settings e);
+  hold = hold;
+  ends = ends;
+  counts = counts;
+}
+
+-- nothing of its questions changes
+same : (told : Option SnapshotFacts) (o : Outcome) → Onward told o o
+same told o = keeps told o o refl refl refl refl refl refl (omega arith) (λ n e. inl e) refl (λ alone. alone) (λ counted. counted)
+
+-- a step of a row that neither asks nor waits on: nothing is waited for after it
+rests : (told : Option SnapshotFacts) (o after : Outcome) → after.knows.who ≡ o.knows.who → after.knows.run ≡ o.knows.run → after.knows.seen ≡ o.knows.seen → after.knows.known ≡ o.knows.known → after.knows.informed ≡ o.knows.informed → after.knows.settings ≡ o.knows.settings
+    → o.knows.sequence ≤ after.knows.sequence → after.knows.waited ≡ None → after.machine.hold ≡ o.machine.hold → Onward told o after
+rests told o after who run seen known informed settings last waited hold =
+    keeps told o after who run seen known informed settings last (λ n e. absurd (none-some _ (sym (ap (λ (w : Option Waited). lease_asked w) waited) ∙ e))) hold (λ _ _. waited) (λ _ one is. absurd (none-some one (sym waited ∙ is)))
+
+-- a step that leaves alone what is waited for, in a role that doesn't end its server
+waits-on : (told : Option SnapshotFacts) (o after : Outcome) → after.knows.who ≡ o.knows.who → after.knows.run ≡ o.knows.run → after.knows.seen ≡ o.knows.seen → after.knows.known ≡ o.knows.known → after.knows.informed ≡ o.knows.informed → after.knows.settings ≡ o.knows.settings
+    → o.knows.sequence ≤ after.knows.sequence → after.knows.waited ≡ o.knows.waited → after.machine.hold ≡ o.machine.hold → is_active after.role ≡ true → Onward told o after
+waits-on told o after who run seen known informed settings last waited hold active =
+    keeps told o after who run seen known informed settings last (λ n e. inl (subst (λ (w : Option Waited). lease_asked w ≡ Some n) waited e)) hold (λ _ ending. absurd (no-way (sym ending ∙ active))) (λ counted one is. at-most (counted one (sym waited ∙ is)) last)
+
+-- a bit is 0 or 1
+bit-small : (n i : ℕ) → bit_at n i ≤ 1
+bit-small n i = omega arith
+
+in-either : (a b p : ℕ) → bit_at a p ≡ 1 → bit_at (bit_or a b) p ≡ 1
+in-either a b p is = let e : bit_at (bit_or a b) p ≡ max (bit_at a p) (bit_at b p) = bit_at_or a b p in omega (arith, e, is, bit-small b p)
+
+in-right : (a b p : ℕ) → bit_at b p ≡ 1 → bit_at (bit_or a b) p ≡ 1
+in-right a b p is = let e : bit_at (bit_or a b) p ≡ max (bit_at a p) (bit_at b p) = bit_at_or a b p in omega (arith, e, is, bit-small a p)
+
+is-one : (n : ℕ) → n == 1 ≡ true → n ≡ 1
+is-one n e = grind (arith, nat_tests)
+
+-- known members aren't forgotten, and those that a failsafe key lists are known
+known-more : (known : MemberSet) (listed : Option MemberSet) (p : ℕ) → set_members known p ≡ true → set_members (known_with known listed) p ≡ true
+known-more known None p e = e
+known-more known (Some members) p e = rw (in-either known.bits members.bits p (is-one (bit_at known.bits p) e)) refl
+
+pub known-listed : (known members : MemberSet) (p : ℕ) → set_members members p ≡ true → set_members (known_with known (Some members)) p ≡ true
+known-listed known members p e = rw (in-right known.bits members.bits p (is-one (bit_at members.bits p) e)) refl
+
+-- who is told of a failsafe key was told before, or is by this one
+told-listed : (was : Bool) (revision : ℕ) (members : Option MemberSet) → was || is_some members ≡ true → (was ≡ true) ⊎ ((key : FailsafeKey) × (failsafe_listed revision members ≡ Some key))
+told-listed true revision members e = inl refl
+told-listed false revision (Some members) e = inr (record { revision = revision; members = set_members members }, refl)
+told-listed false revision None e = absurd (no-way e)
+
+told-entry : (was : Bool) (found : Option KeyEntry) → was || is_some (failsafe_of_entry found) ≡ true → (was ≡ true) ⊎ ((key : FailsafeKey) × (failsafe_entry_seen found ≡ Some key))
+told-entry was (Some found) e = told-listed was found.revision (failsafe_by found.value) e
+told-entry true None e = inl refl
+told-entry false None e = absurd (no-way e)
+
+-- settings pause that paused before, or of which an entry tells that
+value-pause : (settings : Config) (value : Value) → (settings_by settings value).pause ≡ true → (settings.pause ≡ true) ⊎ ((settings_by default_config value).pause ≡ true)
+value-pause settings (values.Config config) e = inr e
+value-pause settings _ e = inl e
+
+pub told-pause : (settings : Config) (found : Option KeyEntry) → (settings_of_entry settings found).pause ≡ true → (settings.pause ≡ true) ⊎ ((settings_of_entry default_config found).pause ≡ true)
+told-pause settings None e = inl e
+told-pause settings (Some found) e = value-pause settings found.value e
+
+-- a snapshot is the newest
+pub tells : (snapshot : SnapshotFacts) (o : Outcome) → Onward (Some snapshot) o (record o { knows = informed snapshot o.knows })
+tells snapshot o = record {
+  who = refl;
+  run = refl;
+  last = omega arith;
+  waits = λ n e. absurd (none-some _ e);
+  known = λ p e. known-more o.knows.known (failsafe_in snapshot) p e;
+  informed = λ e. told-entry o.knows.informed (entry_in keys.Failsafe snapshot) e;
+  failsafe = λ key e. inr e;
+  leader = λ seen e. inr e;
+  pauses = λ e. told-pause o.knows.settings (entry_in keys.Config snapshot) e;
+  hold = refl;
+  ends = λ _ _. refl;
+  counts = λ _ one is. absurd (none-some one is);
+}
+
+-- the same, and what is waited for stays
+pub learns : (snapshot : SnapshotFacts) (o : Outcome) → Onward (Some snapshot) o (learned snapshot o)
+learns snapshot o = let told : Onward (Some snapshot) o (record o { knows = informed snapshot o.knows }) = tells snapshot o in record {
+  who = refl;
+  run = refl;
+  last = omega arith;
+  waits = λ n e. inl e;
+  known = told.known;
+  informed = told.informed;
+  failsafe = told.failsafe;
+  leader = told.leader;
+  pauses = told.pauses;
+  hold = refl;
+  ends = λ alone. alone;
+  counts = λ counted. counted;
+}
+
+-- a question that is waited for has a new number
+asked-new : (was n : ℕ) → ◌≡◌ {A = Option ℕ} (Some (was + 1)) (Some n) → was < n
+asked-new was n e = let is : was + 1 ≡ n = cc in omega (arith, is)
+
+counts-asked : (asked one : Waited) (sequence : ℕ) → asked ≡ one → asked.sequence ≡ sequence → one.sequence ≤ sequence
+counts-asked asked one sequence same number = let e : asked.sequence ≡ one.sequence = ap (λ (w : Waited). w.sequence) same in omega (arith, e, number)
+
+-- a step that asks for a lease, or reads
+pub asks-on : (told : Option SnapshotFacts) (o after : Outcome) → after.knows.who ≡ o.knows.who → after.knows.run ≡ o.knows.run → after.knows.seen ≡ o.knows.seen → after.knows.known ≡ o.knows.known → after.knows.informed ≡ o.knows.informed → after.knows.settings ≡ o.knows.settings
+    → o.knows.sequence ≤ after.knows.sequence → ((n : ℕ) → lease_asked after.knows.waited ≡ Some n → o.knows.sequence < n) → after.machine.hold ≡ o.machine.hold → is_active after.role ≡ true → (asked : Waited) → after.knows.waited ≡ Some asked → asked.sequence ≡ after.knows.sequence → Onward told o after
+asks-on told o after who run seen known informed settings last new hold active asked is number =
+    keeps told o after who run seen known informed settings last (λ n e. inr (new n e)) hold (λ _ ending. absurd (no-way (sym ending ∙ active))) (λ _ one one-is. counts-asked asked one after.knows.sequence (some-is asked one (sym is ∙ one-is)) number)
+
+ended-onward : (told : Option SnapshotFacts) (why : Why) (held : ℕ) (o : Outcome) → Onward told o (has_ended why held o)
+ended-onward told HandOver held o = waits-on told o (has_ended HandOver held o) refl refl refl refl refl refl (omega arith) refl refl refl
+ended-onward told Lost held o = waits-on told o (has_ended Lost held o) refl refl refl refl refl refl (omega arith) refl refl refl
+
+pub before-onward : (told : Option SnapshotFacts) (now : Ticks) (o : Outcome) → Onward told o (before now o)
+before-onward told now o = before-by (Onward told o) now o (record {
+  kept = λ _. same told o;
+  leader = λ held _ _. waits-on told o (leader_finds_ended now held o) refl refl refl refl refl refl (omega arith) refl refl refl;
+  ending = λ held why _ _. ended-onward told why held o;
+  follower = λ _ _. waits-on told o (finds_live o) refl refl refl refl refl refl (omega arith) refl refl refl;
+  holder = λ held _ _. waits-on told o (finds_live o) refl refl refl refl refl refl (omega arith) refl refl refl;
+  ready = λ held _ _. waits-on told o (finds_live (disarming o)) refl refl refl refl refl refl (omega arith) refl refl refl;
+  stray = λ _ _. waits-on told o (stray_finds_ended o) refl refl refl refl refl refl (omega arith) refl refl refl;
+})
+
+-- what was read last stays through what comes before an input
+abbrev pub IsAsRead : Outcome → Outcome → Type 0
+IsAsRead o x = (x.knows.settings ≡ o.knows.settings) × (x.knows.seen ≡ o.knows.seen)
+
+ended-read : (why : Why) (held : ℕ) (o : Outcome) → IsAsRead o (has_ended why held o)
+ended-read HandOver held o = (refl, refl)
+ended-read Lost held o = (refl, refl)
+
+pub before-read : (now : Ticks) (o : Outcome) → IsAsRead o (before now o)
+before-read now o = before-by (IsAsRead o) now o
+    (record { kept = λ _. (refl, refl); leader = λ _ _ _. (refl, refl); ending = λ held why _ _. ended-read why held o; follower = λ _ _. (refl, refl); holder = λ _ _ _. (refl, refl); ready = λ _ _ _. (refl, refl); stray = λ _ _. (refl, refl) })
+
+pub creates-active : (role : RoleFacts) → may_create role ≡ true → is_active role ≡ true
+creates-active Follower may = refl
+creates-active (Holder held) may = refl
+creates-active (Ready held) may = refl
+creates-active (Leader held) may = refl
+creates-active (Ending held why) may = absurd (no-way may)
+creates-active Stray may = refl
+
+judged-onward : (told : Option SnapshotFacts) (now : Ticks) (o : Outcome) → may_create o.role ≡ true → Onward told o (judged now o)
+judged-onward told now o may = judged-by (Onward told o) now o
+    (asks-on told o (creating now (waiting_no_more o)) refl refl refl refl refl refl (omega arith) (λ n e. asked-new o.knows.sequence n e) refl (creates-active o.role may) _ refl refl)
+    (λ bar. rests told o (barred bar (waiting_no_more o)) refl refl refl refl refl refl (omega arith) refl refl)
+
+-- a handover is judged
+handover-onward : (told : Option SnapshotFacts) (now : Ticks) (held : ℕ) (o b : Outcome) → Onward told o b → HandoverRows (Onward told o) now held b
+handover-onward told now held o b first = record {
+  kept = onward-then told o b (waiting_no_more b) first (rests told b (waiting_no_more b) refl refl refl refl refl refl (omega arith) refl refl);
+  clears = λ compared. onward-then told o b (dropping compared (waiting_no_more b)) first (rests told b (dropping compared (waiting_no_more b)) refl refl refl refl refl refl (omega arith) refl refl);
+  hands = λ candidate. onward-then told o b (hands_over now held candidate (waiting_no_more b)) first (rests told b (hands_over now held candidate (waiting_no_more b)) refl refl refl refl refl refl (omega arith) refl refl);
+}
+
+-- an operator is answered
+pub told-onward : (told : Option SnapshotFacts) (o b : Outcome) → Onward told o b → ReplyRows (Onward told o) b
+told-onward told o b first = record {
+  kept = first;
+  answers = λ request said. onward-then told o b (answering request said b) first (keeps told b (answering request said b) refl refl refl refl refl refl (omega arith) (λ n e. inl e) refl (λ alone. alone) (λ counted. counted));
+}
+
+-- what one asks is done
+acts-onward : (told : Option SnapshotFacts) (now : Ticks) (request : ℕ) (o : Outcome) → ActRows (Onward told o) now request o
+acts-onward told now request o = record {
+  asks = λ operation txn _. keeps told o (operating now request operation (bodies.Request txn) o) refl refl refl refl refl refl (omega arith) (λ n e. inl e) refl (λ alone. alone) (λ counted one is. at-most (counted one is) (omega arith));
+  restarts = λ said. keeps told o (telling request said (restarting now o)) refl refl refl refl refl refl (omega arith) (λ n e. inl e) refl (λ alone. alone) (λ counted. counted);
+  wipes = λ said. keeps told o (telling request said (wiping o)) refl refl refl refl refl refl (omega arith) (λ n e. inl e) refl (λ alone. alone) (λ counted. counted);
+}
+
+pub overdue-onward : (told : Option SnapshotFacts) (now : Ticks) (o : Outcome) → Onward told o (overdue now o)
+overdue-onward told now o = overdue-by (Onward told o) now o (record {
+  kept = same told o;
+  quiet = rests told o (waiting_no_more o) refl refl refl refl refl refl (omega arith) refl refl;
+  leader = λ held _. rests told o (leader_out_of_reach now held (waiting_no_more o)) refl refl refl refl refl refl (omega arith) refl refl;
+  stray = λ _. rests told o (stray_out_of_reach now (waiting_no_more o)) refl refl refl refl refl refl (omega arith) refl refl;
+  judges = λ may. judged-onward told now o may;
+  ready = λ held _. rests told o (postpones held (waiting_no_more o)) refl refl refl refl refl refl (omega arith) refl refl;
+  checks = λ held _. handover-onward told now held o o (same told o);
+})
+
+pub turn-onward : (told : Option SnapshotFacts) (now : Ticks) (o : Outcome) → Onward told o (turned now o)
+turn-onward told now o = turn-by (Onward told o) now o (record {
+  kept = same told o;
+  quiet = keeps told o (record o { knows = turn_noted now o.knows }) refl refl refl refl refl refl (omega arith) (λ n e. inl e) refl (λ alone. alone) (λ counted. counted);
+  reads = λ active. asks-on told o (reading now (record o { knows = turn_noted now o.knows })) refl refl refl refl refl refl (omega arith) (λ n e. absurd (none-some _ e)) refl active _ refl refl;
+})
+
+pub given-up-onward : (told : Option SnapshotFacts) (now : Ticks) (o : Outcome) → Onward told o (given_up now (before now o))
+given-up-onward told now o = given-up-by (Onward told o) now (before now o) (told-onward told o (before now o) (before-onward told now o))
+
+pub wake-onward : (told : Option SnapshotFacts) (now : Ticks) (o : Outcome) → Onward told o (woken now o)
+wake-onward told now o = let b : Outcome = given_up now (before now o) in
+    wake-by (Onward told o) now o (before-onward told now o)
+    (onward-then told o (overdue now b) (turned now (overdue now b)) (onward-then told o b (overdue now b) (given-up-onward told now o) (overdue-onward told now b)) (turn-onward told now (overdue now b)))
+
+-- a row behind a snapshot that is the newest, which waits for nothing after it
+quiet-told : (snapshot : SnapshotFacts) (o after : Outcome) → after.knows.who ≡ o.knows.who → after.knows.run ≡ o.knows.run → after.knows.seen ≡ Some snapshot → after.knows.known ≡ (Told snapshot o).knows.known → after.knows.informed ≡ (Told snapshot o).knows.informed → after.knows.settings ≡ (Told snapshot o).knows.settings
+    → o.knows.sequence ≤ after.knows.sequence → after.knows.waited ≡ None → after.machine.hold ≡ o.machine.hold → Onward (Some snapshot) o after
+quiet-told snapshot o after who run seen known inform settings last waited hold =
+    onward-then (Some snapshot) o (Told snapshot o) after (tells snapshot o) (rests (Some snapshot) (Told snapshot o) after who run seen known inform settings last waited hold)
+
+-- a row behind it that asks for a lease
+asks-told : (snapshot : SnapshotFacts) (o after : Outcome) → after.knows.who ≡ o.knows.who → after.knows.run ≡ o.knows.run → after.knows.seen ≡ Some snapshot → after.knows.known ≡ (Told snapshot o).knows.known → after.knows.informed ≡ (Told snapshot o).knows.informed → after.knows.settings ≡ (Told snapshot o).knows.settings
+    → o.knows.sequence ≤ after.knows.sequence → lease_asked after.knows.waited ≡ Some (o.knows.sequence + 1) → after.machine.hold ≡ o.machine.hold → is_active after.role ≡ true → (asked : Waited) → after.knows.waited ≡ Some asked → asked.sequence ≡ after.knows.sequence → Onward (Some snapshot) o after
+asks-told snapshot o after who run seen known inform settings last waited hold active asked is number =
+    onward-then (Some snapshot) o (Told snapshot o) after (tells snapshot o) (asks-on (Some snapshot) (Told snapshot o) after who run seen known inform settings last (λ n e. asked-new o.knows.sequence n (sym waited ∙ e)) hold active asked is number)
+
+follow-onward : (now : Ticks) (snapshot : SnapshotFacts) (leader : MemberId) (o : Outcome) → Onward (Some snapshot) o (follows now leader (record o { knows = read_noted now snapshot o.knows }))
+follow-onward now snapshot leader o = let read : Outcome = record o { knows = read_noted now snapshot o.knows } in
+    let x : Outcome = led_by_another read in
+    let may : Bool = may_start_behind read.knows in
+    let row : Outcome = touching (follow_row may now leader o.machine.server.state x) in
+    repaired-by (Onward (Some snapshot) o) leader (repair_of x.knows.settings leader o.machine.server) row
+    (follow-by (λ (y : Outcome). Onward (Some snapshot) o (touching y)) may now leader o.machine.server.state x
+    (quiet-told snapshot o (touching x) refl refl refl refl refl refl (omega arith) refl refl)
+    (quiet-told snapshot o (touching (starting_replica now (Some leader) x)) refl refl refl refl refl refl (omega arith) refl refl)
+    (quiet-told snapshot o (touching (following_server leader x)) refl refl refl refl refl refl (omega arith) refl refl)
+    (quiet-told snapshot o (touching (shutting_down now x)) refl refl refl refl refl refl (omega arith) refl refl))
+    (λ r. follow-by (λ (y : Outcome). Onward (Some snapshot) o (repairing leader r (touching y))) may now leader o.machine.server.state x
+    (quiet-told snapshot o (repairing leader r (touching x)) refl refl refl refl refl refl (omega arith) refl refl)
+    (quiet-told snapshot o (repairing leader r (touching (starting_replica now (Some leader) x))) refl refl refl refl refl refl (omega arith) refl refl)
+    (quiet-told snapshot o (repairing leader r (touching (following_server leader x))) refl refl refl refl refl refl (omega arith) refl refl)
+    (quiet-told snapshot o (repairing leader r (touching (shutting_down now x))) refl refl refl refl refl refl (omega arith) refl refl))
+
+free-onward : (now : Ticks) (snapshot : SnapshotFacts) (o : Outcome) → Onward (Some snapshot) o (finds_free now (record o { knows = read_noted now snapshot o.knows }))
+free-onward now snapshot o = let x : Outcome = record o { role = Follower; knows = read_noted now snapshot o.knows } in
+    free-by (Onward (Some snapshot) o) now x (record {
+      starts = quiet-told snapshot o (touching (starting_replica now None x)) refl refl refl refl refl refl (omega arith) refl refl;
+      touches = quiet-told snapshot o (touching x) refl refl refl refl refl refl (omega arith) refl refl;
+      bars = λ bar. quiet-told snapshot o (barred bar x) refl refl refl refl refl refl (omega arith) refl refl;
+      judges = onward-then (Some snapshot) o (unheard x) (judged now (unheard x)) (quiet-told snapshot o (unheard x) refl refl refl refl refl refl (omega arith) refl refl) (judged-onward (Some snapshot) now (unheard x) refl);
+      asks = onward-then (Some snapshot) o (Told snapshot o) (asking_others now (unheard x)) (tells snapshot o)
+          (asks-on (Some snapshot) (Told snapshot o) (asking_others now (unheard x)) refl refl refl refl refl refl (omega arith) (λ n e. absurd (none-some _ e)) refl refl _ refl refl);
+    })
+
+pub got-onward : (now : Ticks) (points : List HistoryPoint) (sequence : ℕ) (snapshot : SnapshotFacts) (o : Outcome) → Onward (Some snapshot) o (got now points sequence snapshot o)
+got-onward now points sequence snapshot o = let read : Outcome = record o { knows = read_noted now snapshot o.knows } in
+    got-by (Onward (Some snapshot) o) now points sequence snapshot o (record {
+      kept = same (Some snapshot) o;
+      quiet = rests (Some snapshot) o (waiting_no_more o) refl refl refl refl refl refl (omega arith) refl refl;
+      other = quiet-told snapshot o read refl refl refl refl refl refl (omega arith) refl refl;
+      leader = λ held _. quiet-told snapshot o (leader_loses_key now held read) refl refl refl refl refl refl (omega arith) refl refl;
+      stray = λ _. quiet-told snapshot o (stray_loses_key now read) refl refl refl refl refl refl (omega arith) refl refl;
+      renews = λ active leader _ _. asks-told snapshot o (renewing now points leader.revision read) refl refl refl refl refl refl (omega arith) refl refl active _ refl refl;
+      touches = quiet-told snapshot o (touching read) refl refl refl refl refl refl (omega arith) refl refl;
+      follows = λ leader _ _. follow-onward now snapshot leader.holder o;
+      free = λ _ _. free-onward now snapshot o;
+      runs_on = λ _. quiet-told snapshot o (running_without_key read) refl refl refl refl refl refl (omega arith) refl refl;
+      asks_on = λ _. asks-told snapshot o (asks_as_stray now read) refl refl refl refl refl refl (omega arith) refl refl refl _ refl refl;
+    })
+
+pub refused-onward : (told : Option SnapshotFacts) (now : Ticks) (sequence : ℕ) (o : Outcome) → Onward told o (refused now sequence o)
+refused-onward told now sequence o = refused-by (Onward told o) now sequence o (record {
+  kept = same told o;
+  quiet = rests told o (waiting_no_more o) refl refl refl refl refl refl (omega arith) refl refl;
+  leader = λ held _. rests told o (leader_loses_key now held (waiting_no_more o)) refl refl refl refl refl refl (omega arith) refl refl;
+  stray = λ _. rests told o (stray_loses_key now (waiting_no_more o)) refl refl refl refl refl refl (omega arith) refl refl;
+  follower = λ held _. rests told o (record (waiting_no_more o) { role = Follower }) refl refl refl refl refl refl (omega arith) refl refl;
+  ready = λ held _. rests told o (postpones held (waiting_no_more o)) refl refl refl refl refl refl (omega arith) refl refl;
+  runs_on = λ _. rests told o (running_without_key (waiting_no_more o)) refl refl refl refl refl refl (omega arith) refl refl;
+})
+
+-- a row behind it that asks for another write
+writes-told : (snapshot : SnapshotFacts) (o after : Outcome) → after.knows.who ≡ o.knows.who → after.knows.run ≡ o.knows.run → after.knows.seen ≡ Some snapshot → after.knows.known ≡ (Told snapshot o).knows.known → after.knows.informed ≡ (Told snapshot o).knows.informed → after.knows.settings ≡ (Told snapshot o).knows.settings
+    → o.knows.sequence ≤ after.knows.sequence → lease_asked after.knows.waited ≡ None → after.machine.hold ≡ o.machine.hold → is_active after.role ≡ true → (asked : Waited) → after.knows.waited ≡ Some asked → asked.sequence ≡ after.knows.sequence → Onward (Some snapshot) o after
+writes-told snapshot o after who run seen known inform settings last none hold active asked is number =
+    onward-then (Some snapshot) o (Told snapshot o) after (tells snapshot o) (asks-on (Some snapshot) (Told snapshot o) after who run seen known inform settings last (λ n e. absurd (none-some _ (sym none ∙ e))) hold active asked is number)
+
+-- what a leader owes its cluster, whatever became of its watchdog
+duty-onward : (now : Ticks) (revision : ℕ) (snapshot : SnapshotFacts) (o : Outcome) (machine : Machine) (outs : List Output) → machine.hold ≡ o.machine.hold → DutyRows (Onward (Some snapshot) o) now revision (record (Told snapshot o) { role = Leader revision; machine = machine; outputs = outs })
+duty-onward now revision snapshot o machine outs hold = let led : Outcome = record (Told snapshot o) { role = Leader revision; machine = machine; outputs = outs } in record {
+  plan = record {
+    kept = quiet-told snapshot o led refl refl refl refl refl refl (omega arith) refl hold;
+    writes = λ settling txn _. writes-told snapshot o (writing_sync now settling txn led) refl refl refl refl refl refl (omega arith) refl hold refl _ refl refl;
+    adds = λ required. quiet-told snapshot o (requiring required (noting led)) refl refl refl refl refl refl (omega arith) refl hold;
+    drops = λ required. quiet-told snapshot o (requiring required led) refl refl refl refl refl refl (omega arith) refl hold;
+  };
+  clears = λ compared. quiet-told snapshot o (dropping compared led) refl refl refl refl refl refl (omega arith) refl hold;
+  asks = λ candidate. writes-told snapshot o (checking now candidate (unheard led)) refl refl refl refl refl refl (omega arith) refl hold refl _ refl refl;
+  judges = handover-onward (Some snapshot) now revision o (unheard led) (quiet-told snapshot o (unheard led) refl refl refl refl refl refl (omega arith) refl hold);
+}
+
+renewed-onward : (now ttl : Ticks) (revision : ℕ) (snapshot : SnapshotFacts) (o : Outcome) → Onward (Some snapshot) o (leader_renewed now ttl revision (Told snapshot o))
+renewed-onward now ttl revision snapshot o = let led : Outcome = led_on now ttl revision (Told snapshot o) in
+    let ended : Outcome = record (ending_server now StartTooLong led) { role = Ending revision HandOver } in
+    renewed-by (Onward (Some snapshot) o) now ttl revision (Told snapshot o) (quiet-told snapshot o ended refl refl refl refl refl refl (omega arith) refl refl) (duty-onward now revision snapshot o led.machine led.outputs refl)
+
+stray-onward : (now ttl : Ticks) (revision : ℕ) (snapshot : SnapshotFacts) (o : Outcome) → Onward (Some snapshot) o (stray_renewed now ttl revision (Told snapshot o))
+stray-onward now ttl revision snapshot o = let over : Outcome = takes_over now revision (arming now ttl (Told snapshot o)) in let ended : Outcome = ending_server now WatchdogNotArmed (Told snapshot o) in
+    if-cases (Onward (Some snapshot) o) (is_refusing o.machine.watchdog.mode o.machine.watchdog.works) ended over
+    (λ _. quiet-told snapshot o ended refl refl refl refl refl refl (omega arith) refl refl) (λ _. quiet-told snapshot o over refl refl refl refl refl refl (omega arith) refl refl)
+
+arms-onward : (now ttl : Ticks) (revision : ℕ) (snapshot : SnapshotFacts) (o : Outcome) → Onward (Some snapshot) o (arms now ttl revision (Told snapshot o))
+arms-onward now ttl revision snapshot o = let back : Outcome = gives_back revision (record (Told snapshot o) { outputs = listed outputs.CannotArm o.outputs }) in let arm : Outcome = arming now ttl (Told snapshot o) in
+    if-cases (Onward (Some snapshot) o) (is_refusing o.machine.watchdog.mode o.machine.watchdog.works) back (begins_or_claims now revision arm)
+    (λ _. quiet-told snapshot o back refl refl refl refl refl refl (omega arith) refl refl)
+    (λ _. begins-or-claims-by (Onward (Some snapshot) o) now revision arm (quiet-told snapshot o (begins now revision arm) refl refl refl refl refl refl (omega arith) refl refl)
+    (writes-told snapshot o (claims now revision (passing arm)) refl refl refl refl refl refl (omega arith) refl refl refl _ refl refl))
+
+takes-onward : (now ttl : Ticks) (revision : ℕ) (snapshot : SnapshotFacts) (o : Outcome) → Onward (Some snapshot) o (takes_key now ttl revision (Told snapshot o))
+takes-onward now ttl revision snapshot o = let back : Outcome = gives_back revision (Told snapshot o) in
+    if-cases (Onward (Some snapshot) o) (may_take now (Told snapshot o).knows o.machine) (arms now ttl revision (Told snapshot o)) back
+    (λ _. arms-onward now ttl revision snapshot o) (λ _. quiet-told snapshot o back refl refl refl refl refl refl (omega arith) refl refl)
+
+rested-onward : (now : Ticks) (renews : Bool) (revision : ℕ) (snapshot : SnapshotFacts) (o : Outcome) → Onward (Some snapshot) o (takes_key_in_pause now renews revision (Told snapshot o))
+rested-onward now renews revision snapshot o = let rest : Outcome = resting renews (Told snapshot o) in
+    takes-in-pause-by (Onward (Some snapshot) o) now renews revision (Told snapshot o)
+    (quiet-told snapshot o (gives_back revision (Told snapshot o)) refl refl refl refl refl refl (omega arith) refl refl)
+    (quiet-told snapshot o (begins now revision rest) refl refl refl refl refl refl (omega arith) refl refl)
+    (writes-told snapshot o (claims now revision (passing rest)) refl refl refl refl refl refl (omega arith) refl refl refl _ refl refl)
+
+pub granted-onward : (now : Ticks) (sequence : ℕ) (grant : Granted) (snapshot : SnapshotFacts) (o : Outcome) → Onward (Some snapshot) o (granted now sequence grant snapshot o)
+granted-onward now sequence grant snapshot o = granted-by (Onward (Some snapshot) o) now sequence grant snapshot o
+    (same (Some snapshot) o)
+    (rests (Some snapshot) o (waiting_no_more o) refl refl refl refl refl refl (omega arith) refl refl)
+    (λ waited _ _. record {
+      other = tells snapshot o;
+      leader = λ held _. renewed-onward now waited.ttl grant.revision snapshot o;
+      stray = λ _. stray-onward now waited.ttl grant.revision snapshot o;
+      takes = λ _. takes-onward now waited.ttl grant.revision snapshot o;
+      rests = λ renews _ held _. let led : Outcome = rested_on renews grant.revision (Told snapshot o) in duties-of (Onward (Some snapshot) o) now grant.revision led (duty-onward now grant.revision snapshot o led.machine led.outputs refl);
+      stray_rests = λ renews _ _. quiet-told snapshot o (takes_over now grant.revision (resting renews (Told snapshot o))) refl refl refl refl refl refl (omega arith) refl refl;
+      takes_resting = λ renews _ _. rested-onward now renews grant.revision snapshot o;
+    })
+    (record {
+      other = tells snapshot o;
+      begins = λ revision _. quiet-told snapshot o (begins now revision (Told snapshot o)) refl refl refl refl refl refl (omega arith) refl refl;
+      postpones = λ revision _. quiet-told snapshot o (postpones revision (Told snapshot o)) refl refl refl refl refl refl (omega arith) refl refl;
+      settles = λ required _. quiet-told snapshot o (requiring required (Told snapshot o)) refl refl refl refl refl refl (omega arith) refl refl;
+    })
+
+pub answered-onward : (told : Option SnapshotFacts) (now : Ticks) (sequence : ℕ) (answer : PeerAnswer) (o : Outcome) → Onward told o (answered now sequence answer o)
+answered-onward told now sequence answer o =
+    let kept : Onward told o (keeping answer o) = keeps told o (keeping answer o) refl refl refl refl refl refl (omega arith) (λ n e. inl e) refl (λ alone. alone) (λ counted. counted) in
+    answered-by (Onward told o) now sequence answer o (record {
+      kept = same told o;
+      quiet = rests told o (waiting_no_more o) refl refl refl refl refl refl (omega arith) refl refl;
+      keeps = kept;
+      judges = λ may. onward-then told o (keeping answer o) (judged now (keeping answer o)) kept (judged-onward told now (keeping answer o) may);
+      checks = λ held _. handover-onward told now held o (keeping answer o) kept;
+    })
+
+pub asked-onward : (told : Option SnapshotFacts) (from : MemberId) (run sequence : ℕ) (o : Outcome) → Onward told o (asked from run sequence o)
+asked-onward told from run sequence o = keeps told o (asked from run sequence o) refl refl refl refl refl refl (omega arith) (λ n e. inl e) refl (λ alone. alone) (λ counted. counted)
+
+-- the snapshot that comes with what is heard
+abbrev pub told_by : Heard → Option SnapshotFacts
+told_by Wake = None
+told_by (Got sequence snapshot) = Some snapshot
+told_by (HeardGranted sequence grant snapshot) = Some snapshot
+told_by (Mismatch sequence key found) = None
+told_by (Asked from run sequence) = None
+told_by (Answered sequence answer) = None
+told_by (HearsOperator action) = None
+
+-- an operator is answered behind what precedes an input, by what is read
+pub looked-onward : (told : Option SnapshotFacts) (now : Ticks) (sequence : ℕ) (snapshot : SnapshotFacts) (o : Outcome) → Onward told o (looked sequence snapshot (before now o))
+looked-onward told now sequence snapshot o = looked-by (Onward told o) sequence snapshot (before now o) (told-onward told o (before now o) (before-onward told now o))
+
+-- what an operator wants, or the agent by itself, is granted; or refused
+pub any-granted-onward : (now : Ticks) (sequence : ℕ) (grant : Granted) (snapshot : SnapshotFacts) (o : Outcome) → Onward (Some snapshot) o (granted_any now sequence grant snapshot o)
+any-granted-onward now sequence grant snapshot o =
+    granted-any-by (Onward (Some snapshot) o) now sequence grant snapshot o (same (Some snapshot) o) (told-onward (Some snapshot) o (learned snapshot o) (learns snapshot o)) (granted-onward now sequence grant snapshot o)
+
+pub any-refused-onward : (now : Ticks) (sequence : ℕ) (o : Outcome) → Onward None o (refused_any now sequence o)
+any-refused-onward now sequence o = refused-any-by (Onward None o) now sequence o (told-onward None o o (same None o)) (refused-onward None now sequence o)
+
+pub operated-onward : (now : Ticks) (action : OperatorAction) (o : Outcome) → Onward None o (operated now action.request action.asked o)
+operated-onward now action o = operated-by (Onward None o) now action.request action.asked o (acts-onward None now action.request o)
+
+pub step-onward : (now : Ticks) (points : List HistoryPoint) (heard : Heard) (o : Outcome) → Onward (told_by heard) o (step now points heard o)
+step-onward now points Wake o = wake-onward None now o
+step-onward now points (Got sequence snapshot) o = let p : Outcome = looked sequence snapshot (before now o) in
+    onward-then (Some snapshot) o p (got now points sequence snapshot p) (looked-onward (Some snapshot) now sequence snapshot o) (got-onward now points sequence snapshot p)
+step-onward now points (HeardGranted sequence grant snapshot) o = let b : Outcome = before now o in
+    onward-then (Some snapshot) o b (granted_any now sequence grant snapshot b) (before-onward (Some snapshot) now o) (any-granted-onward now sequence grant snapshot b)
+step-onward now points (Mismatch sequence key found) o = let b : Outcome = before now o in onward-then None o b (refused_any now sequence b) (before-onward None now o) (any-refused-onward now sequence b)
+step-onward now points (Asked from run sequence) o = onward-then None o (before now o) (asked from run sequence (before now o)) (before-onward None now o) (asked-onward None from run sequence (before now o))
+step-onward now points (Answered sequence answer) o = onward-then None o (before now o) (answered now sequence answer (before now o)) (before-onward None now o) (answered-onward None now sequence answer (before now o))
+step-onward now points (HearsOperator action) o = let b : Outcome = before now o in onward-then None o b (operated now action.request action.asked b) (before-onward None now o) (operated-onward now action b)

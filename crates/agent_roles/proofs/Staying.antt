@@ -1,0 +1,55 @@
+-- What an input leaves of what its agent waits for, and that it isn't paused.
+use Rattle.std.proofs.Common.{◌≡◌, ℕ, false, List, refl, sym, subst, ap, ◌∙◌, inl, inr}
+use Rattle.std.proofs.lemmas.Bool.{false_from_ne_true}
+use Rattle.pat_base.specs.declared.ticks.Ticks.{Ticks}
+use Rattle.lease_store.specs.declared.key.Key.TheVariants as keys
+use Rattle.wal_model.specs.declared.entry.HistoryPoint.{HistoryPoint}
+use Rattle.cluster_config.specs.Snapshots.{SnapshotFacts, entry_in, settings_in}
+use Rattle.agent_model.specs.declared.heard.Heard.{Heard}
+use Rattle.agent_model.specs.declared.why.Why.{Why}
+use Rattle.agent_model.specs.declared.why.Why.TheVariants.{HandOver, Lost}
+use Rattle.agent_model.specs.Agents.{EndsAlone, HasCounted, Outcome}
+use Rattle.agent_model.specs.Before.{has_ended, before}
+use Rattle.agent_model.specs.Snapshots.{informed}
+use Rattle.agent_model.specs.Table.{step}
+use Rattle.agent_roles.proofs.Knowing.{alone-of, ends-of, step-onward, told-pause, before-read}
+use Rattle.agent_roles.proofs.Living.{no-way}
+use Rattle.agent_model.proofs.Rows.{before-by}
+use Rattle.agent_model.specs.Pausing.{is_paused}
+use Rattle.cluster_config.specs.KeyValues.{config_in}
+use Rattle.lease_store.specs.declared.config.Config.{Config}
+
+-- what comes before an input leaves what is waited for
+ended-waits : (why : Why) (held : ℕ) (o : Outcome) → (has_ended why held o).knows.waited ≡ o.knows.waited
+ended-waits HandOver held o = refl
+ended-waits Lost held o = refl
+
+pub before-waits : (now : Ticks) (o : Outcome) → (before now o).knows.waited ≡ o.knows.waited
+before-waits now o = before-by (λ (x : Outcome). x.knows.waited ≡ o.knows.waited) now o (record {
+  kept = λ _. refl;
+  leader = λ _ _ _. refl;
+  ending = λ held why _ _. ended-waits why held o;
+  follower = λ _ _. refl;
+  holder = λ _ _ _. refl;
+  ready = λ _ _ _. refl;
+  stray = λ _ _. refl;
+})
+
+-- an agent that reads of no pause behind what precedes an input isn't paused after it
+pub stays-unpaused : (now : Ticks) (snapshot : SnapshotFacts) (o : Outcome) → is_paused o.knows ≡ false → (config_in snapshot).pause ≡ false → is_paused (informed snapshot (before now o).knows) ≡ false
+stays-unpaused now snapshot o was told = let settings : Config = (before now o).knows.settings in
+    false_from_ne_true (settings_in settings snapshot).pause (λ e. elim (told-pause settings (entry_in keys.Config snapshot) e) [
+      | inl before-it ↦ no-way (sym (ap (λ (c : Config). c.pause) (before-read now o).0 ∙ was) ∙ before-it)
+      | inr new ↦ no-way (sym told ∙ new)
+    ])
+
+-- what is waited for goes on to be counted
+pub input-counts : (now : Ticks) (points : List HistoryPoint) (heard : Heard) (o after : Outcome) → after ≡ step now points heard o → HasCounted o.knows → HasCounted after.knows
+input-counts now points heard o after is counted = subst (λ (x : Outcome). HasCounted x.knows) (sym is) ((step-onward now points heard o).counts counted)
+
+-- who ends its server goes on waiting for no answer
+pub input-ends : (now : Ticks) (points : List HistoryPoint) (heard : Heard) (o : Outcome) → EndsAlone o.role o.knows.waited → EndsAlone (step now points heard o).role (step now points heard o).knows.waited
+input-ends now points heard o ends = ends-of (step now points heard o) ((step-onward now points heard o).ends (alone-of o ends))
+
+pub input-ends-as : (now : Ticks) (points : List HistoryPoint) (heard : Heard) (o after : Outcome) → after ≡ step now points heard o → EndsAlone o.role o.knows.waited → EndsAlone after.role after.knows.waited
+input-ends-as now points heard o after is ends = subst (λ (x : Outcome). EndsAlone x.role x.knows.waited) (sym is) (input-ends now points heard o ends)

@@ -1,0 +1,539 @@
+-- Each input has its grounds, by the rows of the decision table.
+use Rattle.std.proofs.Common.{ℕ, ◌≡◌, ◌⊎◌, ◌+◌, ◌++◌, ◌&&◌, Bool, true, false, if◌then◌else◌, List, [], Option, Some, None, All, Contains, refl, sym, subst, ap, ◌∙◌, inl, inr, zero, suc}
+use Rattle.std.proofs.lemmas.List.Elements.{All-push, All-nil, All-contains}
+use Rattle.lease_law.proofs.Tools.{none-some}
+use Rattle.pat_base.specs.MemberId.{member_of}
+use Rattle.pat_base.specs.declared.member_id.MemberId.{MemberId}
+use Rattle.pat_base.specs.declared.member_id.TheConstants.{MOST_MEMBERS}
+use Rattle.pat_base.specs.declared.peer_answer.PeerAnswer.{PeerAnswer}
+use Rattle.pat_base.specs.declared.server_state.Required.{Required}
+use Rattle.pat_base.specs.declared.ticks.Ticks.{Ticks}
+use Rattle.pat_base.specs.ServerState.{live}
+use Rattle.lease_store.specs.declared.action.OperatorRequest.{OperatorRequest}
+use Rattle.lease_store.specs.declared.action.OperatorRequest.TheVariants as requests
+use Rattle.lease_store.specs.declared.config.Config.{Config}
+use Rattle.lease_store.specs.declared.granted.Granted.{Granted}
+use Rattle.lease_store.specs.declared.txn.Txn.{Txn}
+use Rattle.lease_store.specs.declared.txn.Txn.TheVariants as txns
+use Rattle.wal_model.specs.declared.entry.HistoryPoint.{HistoryPoint}
+use Rattle.pg_model.specs.declared.status.ServerStatus.{ServerStatus}
+use Rattle.pg_model.specs.Running.{is_primary}
+use Rattle.pg_model.specs.Status.{status_wiped}
+use Rattle.cluster_config.specs.Snapshots.{SnapshotFacts, leader_in, settings_in}
+use Rattle.event_book.specs.declared.message.Body.TheVariants as bodies
+use Rattle.event_book.specs.declared.reason.Reason.{Reason}
+use Rattle.event_book.specs.declared.reason.Reason.TheVariants.{StartTooLong, WatchdogNotArmed}
+use Rattle.leader_key.specs.Watchdog.{is_armable, timeout_of}
+use Rattle.agent_model.specs.declared.heard.Heard.{Heard}
+use Rattle.agent_model.specs.declared.heard.Heard.TheVariants as heards
+use Rattle.agent_model.specs.declared.knowledge.Knowledge.{Knowledge}
+use Rattle.agent_model.specs.declared.knowledge.Waited.{Waited}
+use Rattle.agent_model.specs.declared.machine.Machine.{Machine}
+use Rattle.agent_model.specs.declared.operating.Told.{Told}
+use Rattle.agent_model.specs.declared.output.Output.{Output}
+use Rattle.agent_model.specs.declared.output.Output.TheVariants as outputs
+use Rattle.agent_model.specs.declared.output.Target.TheVariants as targets
+use Rattle.agent_model.specs.declared.who.Who.{Who}
+use Rattle.agent_model.specs.declared.why.Why.{Why}
+use Rattle.agent_model.specs.declared.why.Why.TheVariants.{HandOver, Lost}
+use Rattle.agent_model.specs.Acting.{arming, requiring, feeding, armed, fed_until, deadline_after, disarmed, ending_server, starting_replica, following_server, is_refusing, shutting_down, touching, waiting_no_more}
+use Rattle.agent_model.specs.Agents.{RoleFacts, Follower, Holder, Ready, Leader, Ending, Stray, Outcome, EndsAlone, IsSoundAgent, made}
+use Rattle.agent_model.specs.Answers.{is_other, asking_one, asking_first}
+use Rattle.agent_model.specs.Before.{has_ended, before}
+use Rattle.agent_model.specs.Claiming.{begins, begins_or_claims, claims, passing, postpones}
+use Rattle.agent_model.specs.Decisions.{arms, gives_back, granted, has_primary, is_decision, is_lease_of, may_create, may_take, refused, stray_renewed, takes_key, takes_key_in_pause, takes_over, leader_renewed}
+use Rattle.agent_model.specs.HandingOver.{asking_whom}
+use Rattle.agent_model.specs.Operators.{given_up, learned, looked, operated, restarting, telling, wiping}
+use Rattle.agent_model.specs.Outputs.{listed}
+use Rattle.agent_model.specs.Pausing.{is_paused, is_wanted, may_start_behind, rest_told, resting, running_without_key}
+use Rattle.agent_model.specs.Peers.{answered, asked, awaits_others, keeping}
+use Rattle.agent_model.specs.Planning.{noting}
+use Rattle.agent_model.specs.Racing.{finds_free, judged, unheard}
+use Rattle.agent_model.specs.Repairs.{repairing}
+use Rattle.agent_model.specs.Snapshots.{asks_as_stray, follow_row, follows, got, informed, led_by_another, read_noted}
+use Rattle.agent_model.specs.Synchronous.{expected_of, unnamed}
+use Rattle.agent_model.specs.Table.{step, granted_any, refused_any}
+use Rattle.agent_model.specs.Wake.{overdue, turn_noted, turned, woken}
+use Rattle.agent_model.proofs.Rows.{HandoverRows, ReplyRows, DutyRows, IsOperatorTxn, WritesSync, dropping, led_on, rested_on, if-cases, before-by, looked-by, given-up-by, granted-any-by, refused-any-by, operated-by, renewed-by, duties-of, passing-by, overdue-when, turn-by, wake-by, got-when, refused-when, answered-when, granted-when, follow-by, free-by, judged-by}
+use Rattle.agent_roles.specs.Powers.{lease_of}
+use Rattle.agent_roles.proofs.Living.{no-way}
+use Rattle.agent_rules.specs.Grounds.{HasGround, HasGrounds, HearsNoLeader, IsReinit, CreateGround, RequestGround, TakeGround}
+use Rattle.agent_rules.specs.Grounds.BeginGround.{Takes, WasReady}
+use Rattle.agent_rules.specs.Grounds.CreateGround.{Finds, Judges, RunsOn}
+use Rattle.agent_rules.proofs.Taking.{Decides, IsFitting, first-true, may-take, repaired-fitting, second-true}
+
+-- an output that gives no lease back
+abbrev KeepsLeases : Output → Type 0
+KeepsLeases (outputs.Send targets.Store sequence (bodies.Request (txns.Release revision))) = ⊥
+KeepsLeases _ = Unit {0}
+
+-- over what precedes the input, `b`, which hears this
+module _ (now : Ticks) (heard : Heard) (b : Outcome) where
+  abbrev Ground : Output → Type 0
+  Ground output = HasGround now heard b output
+
+  -- the other members are waited for since a turn read that nobody leads
+  abbrev AsksSince : Option Waited → Type 0
+  AsksSince waited = awaits_others waited ≡ true → (awaits_others b.knows.waited ≡ true) ⊎ (HearsNoLeader heard × (may_create b.role ≡ true))
+
+  -- outputs so far, the role behind them, and what is waited for: where a lease was given back there is none
+  record Sofar (outs : List Output) (role : RoleFacts) (waited : Option Waited) : Type 0 where
+    grounds : All Ground outs
+    keeps : All KeepsLeases outs ⊎ (lease_of role ≡ None)
+    asks : AsksSince waited
+
+  abbrev So : Outcome → Type 0
+  So x = Sofar x.outputs x.role x.knows.waited
+
+  more : (outs : List Output) (role : RoleFacts) (waited : Option Waited) (output : Output) → Ground output → KeepsLeases output → Sofar outs role waited → Sofar (listed output outs) role waited
+  more outs role waited output ground keeps s = record {
+    grounds = All-push Ground outs output s.grounds ground;
+    keeps = elim s.keeps [ inl all ↦ inl (All-push KeepsLeases outs output all keeps) | inr none ↦ inr none ];
+    asks = s.asks;
+  }
+
+  waits : (outs : List Output) (role : RoleFacts) (was waited : Option Waited) → awaits_others waited ≡ false → Sofar outs role was → Sofar outs role waited
+  waits outs role was waited other s = record { grounds = s.grounds; keeps = s.keeps; asks = λ e. absurd (no-way (sym other ∙ e)) }
+
+  -- without a lease from now on
+  without : (outs : List Output) (was role : RoleFacts) (waited : Option Waited) → lease_of role ≡ None → Sofar outs was waited → Sofar outs role waited
+  without outs was role waited none s = record { grounds = s.grounds; keeps = inr none; asks = s.asks }
+
+  -- who has a lease gave none back
+  kept-by : (outs : List Output) (role : RoleFacts) (waited : Option Waited) (revision : ℕ) → lease_of role ≡ Some revision → Sofar outs role waited → All KeepsLeases outs
+  kept-by outs role waited revision has s = elim s.keeps [ inl all ↦ all | inr none ↦ absurd (none-some revision (sym none ∙ has)) ]
+
+  with-role : (outs : List Output) (was role : RoleFacts) (waited : Option Waited) → All KeepsLeases outs → Sofar outs was waited → Sofar outs role waited
+  with-role outs was role waited all s = record { grounds = s.grounds; keeps = inl all; asks = s.asks }
+
+  from-lease : (outs : List Output) (was role : RoleFacts) (waited : Option Waited) (revision : ℕ) → lease_of was ≡ Some revision → Sofar outs was waited → Sofar outs role waited
+  from-lease outs was role waited revision has s = with-role outs was role waited (kept-by outs was waited revision has s) s
+
+  quiet : (x : Outcome) → So x → So (waiting_no_more x)
+  quiet x s = waits x.outputs x.role x.knows.waited None refl s
+
+  disarm-so : (outs : List Output) (role : RoleFacts) (waited : Option Waited) (deadline : Option Ticks) → Sofar outs role waited → Sofar (disarmed deadline outs) role waited
+  disarm-so outs role waited None s = s
+  disarm-so outs role waited (Some deadline) s = more outs role waited outputs.Disarmed tt tt s
+
+  arm-so : (outs : List Output) (role : RoleFacts) (waited : Option Waited) (until : Ticks) (armable : Bool) → (armable ≡ true → is_armable b.machine.watchdog.mode b.machine.watchdog.works ≡ true)
+      → Sofar outs role waited → Sofar (armed (if armable then Some until else None) outs) role waited
+  arm-so outs role waited until true is s = more outs role waited (outputs.Armed until) (is refl) tt s
+  arm-so outs role waited until false is s = s
+
+  feed-so : (outs : List Output) (role : RoleFacts) (waited : Option Waited) (until : Ticks) (armable : Bool) → (armable ≡ true → is_armable b.machine.watchdog.mode b.machine.watchdog.works ≡ true)
+      → Sofar outs role waited → Sofar (fed_until (if armable then Some until else None) outs) role waited
+  feed-so outs role waited until true is s = more outs role waited (outputs.Fed until) (is refl) tt s
+  feed-so outs role waited until false is s = s
+
+  rest-so : (outs : List Output) (role : RoleFacts) (waited : Option Waited) (renews : Bool) (deadline : Option Ticks) → Sofar outs role waited → Sofar (rest_told renews deadline outs) role waited
+  rest-so outs role waited renews None s = s
+  rest-so outs role waited true (Some deadline) s = more (listed outputs.Disarmed outs) role waited outputs.DisablesWatchdog tt tt (more outs role waited outputs.Disarmed tt tt s)
+  rest-so outs role waited false (Some deadline) s = more outs role waited outputs.Disarmed tt tt s
+
+  touch-so : (x : Outcome) → So x → So (touching x)
+  touch-so x s = more x.outputs x.role x.knows.waited _ tt tt s
+
+  end-so : (reason : Reason) (x : Outcome) → So x → Sofar (listed (outputs.Stop reason) x.outputs) x.role x.knows.waited
+  end-so reason x s = more x.outputs x.role x.knows.waited (outputs.Stop reason) tt tt s
+
+  -- asks of other members
+  ask-so : (who : Who) (sequence : ℕ) (member : Option MemberId) (outs : List Output) (role : RoleFacts) (waited : Option Waited) → Sofar outs role waited → Sofar (asking_one who sequence member outs) role waited
+  ask-so who sequence None outs role waited s = s
+  ask-so who sequence (Some member) outs role waited s =
+      if-cases (λ (l : List Output). Sofar l role waited) (is_other who member) (listed (outputs.Send (targets.Member member) sequence bodies.Ask) outs) outs
+      (λ _. more outs role waited (outputs.Send (targets.Member member) sequence bodies.Ask) tt tt s) (λ _. s)
+
+  asks-so : (who : Who) (sequence count : ℕ) (outs : List Output) (role : RoleFacts) (waited : Option Waited) → Sofar outs role waited → Sofar (asking_first who sequence count outs) role waited
+  asks-so who sequence zero outs role waited s = s
+  asks-so who sequence (suc count) outs role waited s = ask-so who sequence (member_of count) (asking_first who sequence count outs) role waited (asks-so who sequence count outs role waited s)
+
+  whom-so : (who : Who) (candidate : Option MemberId) (sequence : ℕ) (outs : List Output) (role : RoleFacts) (waited : Option Waited) → Sofar outs role waited → Sofar (asking_whom who candidate sequence outs) role waited
+  whom-so who None sequence outs role waited s = asks-so who sequence MOST_MEMBERS outs role waited s
+  whom-so who (Some candidate) sequence outs role waited s = ask-so who sequence (Some candidate) outs role waited s
+
+  -- a race is judged by who may create
+  judged-so : (x : Outcome) → CreateGround heard b → So x → So (judged now x)
+  judged-so x may s = judged-by So now x
+      (waits _ x.role None _ refl (more x.outputs x.role None _ may tt (quiet x s)))
+      (λ bar. touch-so (record (waiting_no_more x) { outputs = listed (outputs.DoesNotRace bar) x.outputs }) (more x.outputs x.role None (outputs.DoesNotRace bar) tt tt (quiet x s)))
+
+  -- a leader hands over
+  handover-so : (revision : ℕ) (x : Outcome) → All KeepsLeases x.outputs → So x → HandoverRows So now revision x
+  handover-so revision x all s = record {
+    kept = quiet x s;
+    clears = λ compared. more x.outputs x.role None _ tt tt (quiet x s);
+    hands = λ candidate.
+        let told : List Output = listed (outputs.HandsOver candidate) x.outputs in
+        let again : All KeepsLeases told = All-push KeepsLeases x.outputs (outputs.HandsOver candidate) all tt in
+        with-role (listed outputs.ShutDown told) x.role (Ending revision HandOver) None (All-push KeepsLeases told outputs.ShutDown again tt)
+        (more told x.role None outputs.ShutDown tt tt (more x.outputs x.role None (outputs.HandsOver candidate) tt tt (quiet x s)));
+  }
+
+  reply-so : (x : Outcome) → So x → ReplyRows So x
+  reply-so x s = record { kept = s; answers = λ request told. more x.outputs x.role x.knows.waited (outputs.Told request told) tt tt s }
+
+  postpone-so : (held : ℕ) (x : Outcome) → lease_of x.role ≡ Some held → So x → So (postpones held x)
+  postpone-so held x has s =
+      let outs : List Output = disarmed x.machine.watchdog.deadline x.outputs in
+      from-lease (listed outputs.PostponesPromotion outs) x.role (Holder held) x.knows.waited held has
+      (more outs x.role x.knows.waited outputs.PostponesPromotion tt tt (disarm-so x.outputs x.role x.knows.waited x.machine.watchdog.deadline s))
+
+  begin-so : (revision : ℕ) (x : Outcome) → Ground outputs.Begin → All KeepsLeases x.outputs → So x → So (begins now revision x)
+  begin-so revision x may all s =
+      let required : Output = outputs.Require (unnamed x.knows.turn_settings) in
+      let outs : List Output = listed required x.outputs in
+      with-role (listed outputs.Begin outs) x.role (Leader revision) x.knows.waited (All-push KeepsLeases outs outputs.Begin (All-push KeepsLeases x.outputs required all tt) tt)
+      (more outs x.role x.knows.waited outputs.Begin may tt (more x.outputs x.role x.knows.waited required tt tt s))
+
+  follow-so : (x : Outcome) (leader : MemberId) → x.machine ≡ b.machine → So x → So (follows now leader x)
+  follow-so x leader same s =
+      let y : Outcome = led_by_another x in
+      let may : Bool = may_start_behind x.knows in
+      let z : So y = without x.outputs x.role Follower x.knows.waited refl s in
+      let row : Outcome = follow_row may now leader x.machine.server.state y in
+      let told : So (touching row) = touch-so row (follow-by So may now leader x.machine.server.state y z
+      (more x.outputs Follower x.knows.waited (outputs.StartReplica (Some leader)) tt tt z) (more x.outputs Follower x.knows.waited (outputs.Follow leader) tt tt z) (more x.outputs Follower x.knows.waited outputs.ShutDown tt tt z)) in
+      repaired-fitting So x.knows.settings leader x.machine.server (touching row) told
+      (λ repair fits. more (touching row).outputs (touching row).role (touching row).knows.waited (outputs.Repair leader repair) (subst (λ (m : Machine). IsFitting repair m.server) same fits) tt told)
+
+  free-so : (x : Outcome) → HearsNoLeader heard → may_create b.role ≡ true → So x → So (finds_free now x)
+  free-so x free may s =
+      let y : Outcome = record x { role = Follower } in
+      let z : So y = without x.outputs x.role Follower x.knows.waited refl s in
+      free-by So now y (record {
+        starts = touch-so (starting_replica now None y) (more x.outputs Follower x.knows.waited (outputs.StartReplica None) tt tt z);
+        touches = touch-so y z;
+        bars = λ bar. touch-so (record y { outputs = listed (outputs.DoesNotRace bar) y.outputs }) (more x.outputs Follower x.knows.waited (outputs.DoesNotRace bar) tt tt z);
+        judges = judged-so (unheard y) (Finds free may) z;
+        asks = record { grounds = (asks-so x.knows.who (x.knows.sequence + 1) MOST_MEMBERS x.outputs Follower x.knows.waited z).grounds; keeps = inr refl; asks = λ e. inr (free, may) };
+      })
+
+  -- what a leader owes its cluster
+  sync-ground : (txn : Txn) → WritesSync txn → RequestGround now heard b txn
+  sync-ground (txns.SetSync revision sync standbys) is = tt
+  sync-ground (txns.DropSync revision sync) is = tt
+  sync-ground _ is = absurd is
+
+  sync-keeps : (sequence : ℕ) (txn : Txn) → WritesSync txn → KeepsLeases (outputs.Send targets.Store sequence (bodies.Request txn))
+  sync-keeps sequence (txns.SetSync revision sync standbys) is = tt
+  sync-keeps sequence (txns.DropSync revision sync) is = tt
+  sync-keeps sequence _ is = absurd is
+
+  duty-so : (revision : ℕ) (x : Outcome) → All KeepsLeases x.outputs → So x → DutyRows So now revision x
+  duty-so revision x all s = record {
+    plan = record {
+      kept = s;
+      writes = λ settling txn writes. waits _ x.role x.knows.waited _ refl (more x.outputs x.role x.knows.waited _ (sync-ground txn writes) (sync-keeps (x.knows.sequence + 1) txn writes) s);
+      adds = λ required. more x.outputs x.role x.knows.waited (outputs.Require required) tt tt s;
+      drops = λ required. more x.outputs x.role x.knows.waited (outputs.Require required) tt tt s;
+    };
+    clears = λ compared. more x.outputs x.role x.knows.waited _ tt tt s;
+    asks = λ candidate. waits _ x.role x.knows.waited _ refl (whom-so x.knows.who candidate (x.knows.sequence + 1) x.outputs x.role x.knows.waited s);
+    judges = handover-so revision (unheard x) all s;
+  }
+
+  -- ---- who waits for what, as it was before the input's own rows
+  record Like (x : Outcome) : Type 0 where
+    role : x.role ≡ b.role
+    machine : x.machine ≡ b.machine
+    waited : x.knows.waited ≡ b.knows.waited
+    settings : x.knows.settings ≡ b.knows.settings
+
+  creates : (x : Outcome) → Like x → awaits_others x.knows.waited ≡ true → may_create x.role ≡ true → CreateGround heard b
+  creates x like asked may = Judges (ap awaits_others (sym like.waited) ∙ asked) (ap may_create (sym like.role) ∙ may)
+
+  overdue-so : (x : Outcome) → Like x → So x → So (overdue now x)
+  overdue-so x like s = overdue-when So now x (record {
+    kept = s;
+    quiet = quiet x s;
+    leader = λ held is _. from-lease _ x.role (Ending held Lost) None held (rw is refl) (end-so _ (waiting_no_more x) (quiet x s));
+    stray = λ _ _. end-so _ (waiting_no_more x) (quiet x s);
+    judges = λ asked may. judged-so x (creates x like asked may) s;
+    ready = λ held is. postpone-so held (waiting_no_more x) (rw is refl) (quiet x s);
+    checks = λ held is. handover-so held x (kept-by x.outputs x.role x.knows.waited held (rw is refl) s) s;
+  })
+
+  turn-so : (x : Outcome) → So x → So (turned now x)
+  turn-so x s = turn-by So now x (record { kept = s; quiet = s; reads = λ _. waits _ x.role x.knows.waited _ refl (more x.outputs x.role x.knows.waited _ tt tt s) })
+
+  answered-so : (sequence : ℕ) (answer : PeerAnswer) (x : Outcome) → Like x → So x → So (answered now sequence answer x)
+  answered-so sequence answer x like s = answered-when So now sequence answer x (record {
+    kept = s;
+    quiet = quiet x s;
+    keeps = s;
+    judges = λ asked may. judged-so (keeping answer x) (creates x like asked may) s;
+    checks = λ held is. handover-so held (keeping answer x) (kept-by x.outputs x.role x.knows.waited held (rw is refl) s) s;
+  })
+
+  refused-so : (sequence : ℕ) (x : Outcome) → So x → So (refused now sequence x)
+  refused-so sequence x s = refused-when So now sequence x (record {
+    kept = s;
+    quiet = quiet x s;
+    leader = λ held is _. from-lease _ x.role (Ending held Lost) None held (rw is refl) (end-so _ (waiting_no_more x) (quiet x s));
+    stray = λ _ _. end-so _ (waiting_no_more x) (quiet x s);
+    follower = λ held _. without x.outputs x.role Follower None refl (quiet x s);
+    ready = λ held is. postpone-so held (waiting_no_more x) (rw is refl) (quiet x s);
+    runs_on = λ _. without _ x.role Stray None refl (more x.outputs x.role None outputs.RunsWithoutKey tt tt (quiet x s));
+  })
+
+  -- ---- the answer to a read
+  paused-by : (x : Outcome) (snapshot : SnapshotFacts) → Like x → is_paused (read_noted now snapshot x.knows) ≡ true → is_paused (informed snapshot b.knows) ≡ true
+  paused-by x snapshot like paused = ap (λ (c : Config). (settings_in c snapshot).pause) (sym like.settings) ∙ paused
+
+  got-so : (points : List HistoryPoint) (sequence : ℕ) (snapshot : SnapshotFacts) (x : Outcome) → heard ≡ heards.Got sequence snapshot → Like x → So x → So (got now points sequence snapshot x)
+  got-so points sequence snapshot x is like s =
+      let read : Outcome = record x { knows = read_noted now snapshot x.knows } in
+      let r : So read = quiet x s in
+      let free : leader_in snapshot ≡ None → HearsNoLeader heard = λ none. record { sequence = sequence; snapshot = snapshot; is = is; free = none } in
+      got-when So now points sequence snapshot x (record {
+        kept = s;
+        quiet = r;
+        other = r;
+        leader = λ held role _. from-lease _ x.role (Ending held Lost) None held (rw role refl) (end-so _ read r);
+        stray = λ _ _. end-so _ read r;
+        renews = λ _ leader _ _. waits _ x.role None _ refl (more x.outputs x.role None _ tt tt r);
+        touches = touch-so read r;
+        follows = λ leader _ _. follow-so read leader.holder like.machine r;
+        free = λ none may. free-so read (free none) (ap may_create (sym like.role) ∙ may) r;
+        runs_on = λ _. without _ x.role Stray None refl (more x.outputs x.role None outputs.RunsWithoutKey tt tt r);
+        asks_on = λ none primary paused.
+            let runs : So (running_without_key read) = without _ x.role Stray None refl (more x.outputs x.role None outputs.RunsWithoutKey tt tt r) in
+            waits _ Stray None _ refl (more (listed outputs.RunsWithoutKey x.outputs) Stray None _ (RunsOn (free none) (ap has_primary (sym like.role) ∙ primary) (paused-by x snapshot like paused)) tt runs);
+      })
+
+  -- ---- a grant
+  armed-keeps : (outs : List Output) (deadline : Option Ticks) → All KeepsLeases outs → All KeepsLeases (armed deadline outs)
+  armed-keeps outs None all = all
+  armed-keeps outs (Some until) all = All-push KeepsLeases outs (outputs.Armed until) all tt
+
+  rest-keeps : (outs : List Output) (renews : Bool) (deadline : Option Ticks) → All KeepsLeases outs → All KeepsLeases (rest_told renews deadline outs)
+  rest-keeps outs renews None all = all
+  rest-keeps outs true (Some deadline) all = All-push KeepsLeases (listed outputs.Disarmed outs) outputs.DisablesWatchdog (All-push KeepsLeases outs outputs.Disarmed all tt) tt
+  rest-keeps outs false (Some deadline) all = All-push KeepsLeases outs outputs.Disarmed all tt
+
+  -- where one is waited for, nothing was given back before
+  renewed-so : (ttl : Ticks) (revision held : ℕ) (x : Outcome) → x.machine ≡ b.machine → lease_of x.role ≡ Some held → So x → So (leader_renewed now ttl revision x)
+  renewed-so ttl revision held x same has s =
+      let led : Outcome = led_on now ttl revision x in
+      let fed : Sofar led.outputs x.role x.knows.waited = feed-so x.outputs x.role x.knows.waited (record { 0 = now.0 + timeout_of x.machine.watchdog.margin ttl.0 }) (is_armable x.machine.watchdog.mode x.machine.watchdog.works)
+      (λ e. ap (λ (m : Machine). is_armable m.watchdog.mode m.watchdog.works) (sym same) ∙ e) s in
+      let all : All KeepsLeases led.outputs = kept-by led.outputs x.role x.knows.waited held has fed in
+      let leads : So led = with-role led.outputs x.role (Leader revision) x.knows.waited all fed in
+      renewed-by So now ttl revision x (from-lease _ (Leader revision) (Ending revision HandOver) x.knows.waited revision refl (end-so StartTooLong led leads)) (duty-so revision led all leads)
+
+  stray-so : (ttl : Ticks) (revision : ℕ) (x : Outcome) → x.machine ≡ b.machine → All KeepsLeases x.outputs → So x → So (stray_renewed now ttl revision x)
+  stray-so ttl revision x same all s =
+      if-cases So (is_refusing x.machine.watchdog.mode x.machine.watchdog.works) (ending_server now WatchdogNotArmed x) (takes_over now revision (arming now ttl x))
+      (λ _. end-so WatchdogNotArmed x s)
+      (λ _. with-role (arming now ttl x).outputs x.role (Leader revision) x.knows.waited (armed-keeps x.outputs (deadline_after now ttl x.machine.watchdog) all)
+      (arm-so x.outputs x.role x.knows.waited (record { 0 = now.0 + timeout_of x.machine.watchdog.margin ttl.0 }) (is_armable x.machine.watchdog.mode x.machine.watchdog.works) (λ e. ap (λ (m : Machine). is_armable m.watchdog.mode m.watchdog.works) (sym same) ∙ e) s))
+
+  gives-so : (revision : ℕ) (x : Outcome) → So x → So (gives_back revision x)
+  gives-so revision x s = record { grounds = All-push Ground x.outputs _ s.grounds tt; keeps = inr refl; asks = s.asks }
+
+  -- who takes the leader key begins, or claims the sync key
+  begins-or-claims-so : (revision : ℕ) (x : Outcome) → TakeGround now heard b revision → x.knows.turn_settings ≡ b.knows.turn_settings → x.knows.turn_sync ≡ b.knows.turn_sync → All KeepsLeases x.outputs → So x → So (begins_or_claims now revision x)
+  begins-or-claims-so revision x takes settings sync all s =
+      if-cases So x.knows.turn_settings.synchronous_mode (claims now revision (passing x)) (begins now revision x)
+      (λ on. let y : Outcome = passing x in
+      let both : Sofar y.outputs x.role x.knows.waited × All KeepsLeases y.outputs =
+      passing-by (λ (outs : List Output). Sofar outs x.role x.knows.waited × All KeepsLeases outs) x (s, all) (more x.outputs x.role x.knows.waited outputs.Passes tt tt s, All-push KeepsLeases x.outputs outputs.Passes all tt) in
+      with-role (claims now revision y).outputs x.role (Ready revision) _ (All-push KeepsLeases y.outputs _ both.1 tt)
+      (waits _ x.role x.knows.waited _ refl (more y.outputs x.role x.knows.waited _ (takes, ap (λ (c : Config). c.synchronous_mode) (sym settings) ∙ on, ap expected_of sync) tt both.0)))
+      (λ off. begin-so revision x (Takes revision takes (ap (λ (c : Config). c.synchronous_mode) (sym settings) ∙ off)) all s)
+
+  module _ (sequence : ℕ) (grant : Granted) (snapshot : SnapshotFacts) (is : heard ≡ heards.Granted sequence grant snapshot) where
+    abbrev Heard_so : Outcome
+    Heard_so = record b { knows = informed snapshot b.knows }
+
+    takes-so : (ttl : Ticks) → Decides sequence grant b → is_paused (informed snapshot b.knows) ≡ false → All KeepsLeases b.outputs → So b → So (takes_key now ttl grant.revision Heard_so)
+    takes-so ttl decides unpaused all s =
+        let r : So Heard_so = quiet b s in
+        if-cases So (may_take now (informed snapshot b.knows) b.machine) (arms now ttl grant.revision Heard_so) (gives_back grant.revision Heard_so)
+        (λ may. if-cases So (is_refusing b.machine.watchdog.mode b.machine.watchdog.works) (gives_back grant.revision (record Heard_so { outputs = listed outputs.CannotArm b.outputs })) (begins_or_claims now grant.revision (arming now ttl Heard_so))
+        (λ _. gives-so grant.revision (record Heard_so { outputs = listed outputs.CannotArm b.outputs }) (more b.outputs b.role None outputs.CannotArm tt tt r))
+        (λ works. begins-or-claims-so grant.revision (arming now ttl Heard_so)
+        (subst (λ (h : Heard). TakeGround now h b grant.revision) (sym is) (may-take now sequence grant snapshot b decides may (λ _. works) (λ paused. absurd (no-way (sym unpaused ∙ paused))))) refl refl
+        (armed-keeps b.outputs (deadline_after now ttl b.machine.watchdog) all)
+        (arm-so b.outputs b.role None (record { 0 = now.0 + timeout_of b.machine.watchdog.margin ttl.0 }) (is_armable b.machine.watchdog.mode b.machine.watchdog.works) (λ e. e) r)))
+        (λ _. gives-so grant.revision Heard_so r)
+
+    takes-resting-so : (renews : Bool) → Decides sequence grant b → is_paused (informed snapshot b.knows) ≡ true → All KeepsLeases b.outputs → So b → So (takes_key_in_pause now renews grant.revision Heard_so)
+    takes-resting-so renews decides paused all s =
+        let r : So Heard_so = quiet b s in
+        if-cases So (is_wanted b.knows.who.me b.knows.turn_failover b.machine.server.state && may_take now (informed snapshot b.knows) b.machine) (begins_or_claims now grant.revision (resting renews Heard_so)) (gives_back grant.revision Heard_so)
+        (λ both. begins-or-claims-so grant.revision (resting renews Heard_so)
+        (subst (λ (h : Heard). TakeGround now h b grant.revision) (sym is)
+        (may-take now sequence grant snapshot b decides (second-true (is_wanted b.knows.who.me b.knows.turn_failover b.machine.server.state) _ both) (λ unpaused. absurd (no-way (sym unpaused ∙ paused)))
+        (λ _. first-true (is_wanted b.knows.who.me b.knows.turn_failover b.machine.server.state) _ both))) refl refl
+        (rest-keeps b.outputs renews b.machine.watchdog.deadline all) (rest-so b.outputs b.role None renews b.machine.watchdog.deadline r))
+        (λ _. gives-so grant.revision Heard_so r)
+
+    -- a grant is used by who waits for it, and then gave nothing back before
+    granted-so : (All KeepsLeases b.outputs ⊎ (b.knows.waited ≡ None)) → So b → So (granted now sequence grant snapshot b)
+    granted-so fresh s =
+        let r : So Heard_so = quiet b s in
+        let front : (asked : Waited) → b.knows.waited ≡ Some asked → All KeepsLeases b.outputs = λ asked waits. elim fresh [ inl all ↦ all | inr none ↦ absurd (none-some asked (sym none ∙ waits)) ] in
+        granted-when So now sequence grant snapshot b s (quiet b s)
+        (λ asked waited decision. let all : All KeepsLeases b.outputs = front asked waited in record {
+          other = r;
+          leader = λ held _ role. renewed-so asked.ttl grant.revision held Heard_so refl (rw role refl) r;
+          stray = λ _ _. stray-so asked.ttl grant.revision Heard_so refl all r;
+          takes = λ unpaused may. takes-so asked.ttl (record { asked = asked; is = waited; decision = decision; role = may }) unpaused all s;
+          rests = λ renews _ held _.
+              let led : Outcome = rested_on renews grant.revision Heard_so in
+              let rested : All KeepsLeases led.outputs = rest-keeps b.outputs renews b.machine.watchdog.deadline all in
+              duties-of So now grant.revision led (duty-so grant.revision led rested (with-role led.outputs b.role (Leader grant.revision) None rested (rest-so b.outputs b.role None renews b.machine.watchdog.deadline r)));
+          stray_rests = λ renews _ _. with-role _ b.role (Leader grant.revision) None (rest-keeps b.outputs renews b.machine.watchdog.deadline all) (rest-so b.outputs b.role None renews b.machine.watchdog.deadline r);
+          takes_resting = λ renews paused may. takes-resting-so renews (record { asked = asked; is = waited; decision = decision; role = may }) paused all s;
+        })
+        (record {
+          other = r;
+          begins = λ revision role _. begin-so revision Heard_so (WasReady sequence grant snapshot is (rw role refl)) (kept-by b.outputs b.role None revision (rw role refl) r) r;
+          postpones = λ revision role. postpone-so revision Heard_so (rw role refl) r;
+          settles = λ required _. more b.outputs b.role None (outputs.Require required) tt tt r;
+        })
+
+  -- ---- what an operator asks
+  operated-so : (request : ℕ) (asked : OperatorRequest) → (asked ≡ requests.Reinit → IsReinit heard) → So b → So (operated now request asked b)
+  operated-so request (requests.Failover kind failover) reinit s = more b.outputs b.role b.knows.waited _ tt tt s
+  operated-so request (requests.Configuration config) reinit s = more b.outputs b.role b.knows.waited _ tt tt s
+  operated-so request requests.Restart reinit s = more _ b.role b.knows.waited (outputs.Told request _) tt tt (more b.outputs b.role b.knows.waited (outputs.Restart (is_primary b.machine.server.state)) tt tt s)
+  operated-so request requests.Reinit reinit s = more _ b.role b.knows.waited (outputs.Told request _) tt tt (more b.outputs b.role b.knows.waited outputs.Wipe (reinit refl) tt s)
+
+  -- ---- what precedes the input's own rows
+  like-self : Like b
+  like-self = record { role = refl; machine = refl; waited = refl; settings = refl }
+
+  told-like : ReplyRows Like b
+  told-like = record { kept = like-self; answers = λ request told. record { role = refl; machine = refl; waited = refl; settings = refl } }
+
+  -- ---- a whole input
+  -- what is told of an input but of a wipe
+  grounds-of : (after : Outcome) → So after → (Contains after.outputs outputs.Wipe → live b.machine.server.state ≡ true → after.machine.server ≡ b.machine.server) → HasGrounds now heard b after
+  grounds-of after s wiped = record {
+    outputs_have = s.grounds;
+    asks = s.asks;
+    wipes = wiped;
+    releases = λ sequence revision given has. elim s.keeps [ inl all ↦ All-contains KeepsLeases after.outputs _ all given | inr none ↦ none-some revision (sym none ∙ has) ];
+  }
+
+  -- no operator asks for a wipe
+  unwiped : (after : Outcome) → (IsReinit heard → ⊥) → So after → HasGrounds now heard b after
+  unwiped after none s = grounds-of after s (λ wipes lives. absurd (none (All-contains Ground after.outputs outputs.Wipe s.grounds wipes)))
+
+-- what precedes an input gives no lease back, or leaves none, with nothing that is waited for
+abbrev Fresh : Outcome → Type 0
+Fresh x = All KeepsLeases x.outputs ⊎ ((lease_of x.role ≡ None) × (x.knows.waited ≡ None))
+
+disarmed-all : (P : Output → Type 0) → P outputs.Disarmed → (deadline : Option Ticks) (outs : List Output) → All P outs → All P (disarmed deadline outs)
+disarmed-all P is None outs all = all
+disarmed-all P is (Some deadline) outs all = All-push P outs outputs.Disarmed all is
+
+ended-grounds : (now : Ticks) (heard : Heard) (b : Outcome) (why : Why) (held : ℕ) (o : Outcome) → All (HasGround now heard b) o.outputs → All (HasGround now heard b) (has_ended why held o).outputs
+ended-grounds now heard b HandOver held o all = All-push (HasGround now heard b) _ _ (disarmed-all (HasGround now heard b) tt o.machine.watchdog.deadline o.outputs all) tt
+ended-grounds now heard b Lost held o all = disarmed-all (HasGround now heard b) tt o.machine.watchdog.deadline o.outputs all
+
+before-grounds : (now : Ticks) (heard : Heard) (b o : Outcome) → All (HasGround now heard b) o.outputs → All (HasGround now heard b) (before now o).outputs
+before-grounds now heard b o all =
+    let rest : All (HasGround now heard b) (disarmed o.machine.watchdog.deadline o.outputs) = disarmed-all (HasGround now heard b) tt o.machine.watchdog.deadline o.outputs all in
+    before-by (λ (x : Outcome). All (HasGround now heard b) x.outputs) now o (record {
+      kept = λ _. all;
+      leader = λ held _ _. rest;
+      ending = λ held why _ _. ended-grounds now heard b why held o all;
+      follower = λ _ _. all;
+      holder = λ held _ _. all;
+      ready = λ held _ _. rest;
+      stray = λ _ _. rest;
+    })
+
+ended-fresh : (why : Why) (held : ℕ) (o : Outcome) → o.knows.waited ≡ None → All KeepsLeases o.outputs → Fresh (has_ended why held o)
+ended-fresh HandOver held o none all = inr (refl, none)
+ended-fresh Lost held o none all = inl (disarmed-all KeepsLeases tt o.machine.watchdog.deadline o.outputs all)
+
+before-fresh : (now : Ticks) (o : Outcome) → EndsAlone o.role o.knows.waited → All KeepsLeases o.outputs → Fresh (before now o)
+before-fresh now o alone all =
+    let rest : All KeepsLeases (disarmed o.machine.watchdog.deadline o.outputs) = disarmed-all KeepsLeases tt o.machine.watchdog.deadline o.outputs all in
+    before-by Fresh now o (record {
+      kept = λ _. inl all;
+      leader = λ held _ _. inl rest;
+      ending = λ held why is _. ended-fresh why held o (subst (λ (r : RoleFacts). EndsAlone r o.knows.waited) is alone) all;
+      follower = λ _ _. inl all;
+      holder = λ held _ _. inl all;
+      ready = λ held _ _. inl rest;
+      stray = λ _ _. inl rest;
+    })
+
+-- a wipe leaves a live server as it is
+wiped-live : (server : ServerStatus) → live server.state ≡ true → status_wiped server ≡ server
+wiped-live server lives = rw lives refl
+
+operated-wipes : (now : Ticks) (request : ℕ) (asked : OperatorRequest) (b : Outcome) → asked ≡ requests.Reinit → live b.machine.server.state ≡ true → (operated now request asked b).machine.server ≡ b.machine.server
+operated-wipes now request asked b is lives = ap (λ (a : OperatorRequest). (operated now request a b).machine.server) is ∙ wiped-live b.machine.server lives
+
+module _ (now : Ticks) (points : List HistoryPoint) (role : RoleFacts) (knows : Knowledge) (machine : Machine) (sound : IsSoundAgent role knows) where
+  abbrev Start : Outcome
+  Start = made role knows machine []
+
+  abbrev First : Outcome
+  First = before now Start
+
+  fresh : Fresh First
+  fresh = before-fresh now Start sound.ends (All-nil KeepsLeases)
+
+  first-so : (heard : Heard) → Sofar now heard First First.outputs First.role First.knows.waited
+  first-so heard = record {
+    grounds = before-grounds now heard First Start (All-nil (HasGround now heard First));
+    keeps = elim fresh [ inl all ↦ inl all | inr none ↦ inr none.0 ];
+    asks = λ e. inl e;
+  }
+
+  woken-so : So now heards.Wake First (woken now Start)
+  woken-so =
+      let s = first-so heards.Wake in
+      let told : Outcome = given_up now First in
+      let t : So now heards.Wake First told = given-up-by (So now heards.Wake First) now First (reply-so now heards.Wake First First s) in
+      wake-by (So now heards.Wake First) now Start s
+      (turn-so now heards.Wake First (overdue now told) (overdue-so now heards.Wake First told (given-up-by (Like now heards.Wake First) now First (told-like now heards.Wake First)) t))
+
+  read-so : (sequence : ℕ) (snapshot : SnapshotFacts) → So now (heards.Got sequence snapshot) First (got now points sequence snapshot (looked sequence snapshot First))
+  read-so sequence snapshot =
+      let heard : Heard = heards.Got sequence snapshot in
+      got-so now heard First points sequence snapshot (looked sequence snapshot First) refl (looked-by (Like now heard First) sequence snapshot First (told-like now heard First))
+      (looked-by (So now heard First) sequence snapshot First (reply-so now heard First First (first-so heard)))
+
+  grant-so : (sequence : ℕ) (grant : Granted) (snapshot : SnapshotFacts) → So now (heards.Granted sequence grant snapshot) First (granted_any now sequence grant snapshot First)
+  grant-so sequence grant snapshot =
+      let heard : Heard = heards.Granted sequence grant snapshot in
+      let s = first-so heard in
+      granted-any-by (So now heard First) now sequence grant snapshot First s (reply-so now heard First (learned snapshot First) s)
+      (granted-so now heard First sequence grant snapshot refl (elim fresh [ inl all ↦ inl all | inr none ↦ inr none.1 ]) s)
+
+  pub input-has-grounds-of : (heard : Heard) → HasGrounds now heard First (step now points heard Start)
+  input-has-grounds-of heards.Wake = unwiped now heards.Wake First _ (λ e. e) woken-so
+  input-has-grounds-of (heards.Got sequence snapshot) = unwiped now (heards.Got sequence snapshot) First _ (λ e. e) (read-so sequence snapshot)
+  input-has-grounds-of (heards.Granted sequence grant snapshot) = unwiped now (heards.Granted sequence grant snapshot) First _ (λ e. e) (grant-so sequence grant snapshot)
+  input-has-grounds-of (heards.Mismatch sequence key found) =
+      let heard : Heard = heards.Mismatch sequence key found in
+      unwiped now heard First _ (λ e. e)
+      (refused-any-by (So now heard First) now sequence First (reply-so now heard First First (first-so heard)) (refused-so now heard First sequence First (first-so heard)))
+  input-has-grounds-of (heards.Asked from run sequence) =
+      let heard : Heard = heards.Asked from run sequence in unwiped now heard First _ (λ e. e) (more now heard First First.outputs First.role First.knows.waited _ tt tt (first-so heard))
+  input-has-grounds-of (heards.Answered sequence answer) =
+      let heard : Heard = heards.Answered sequence answer in unwiped now heard First _ (λ e. e) (answered-so now heard First sequence answer First (like-self now heard First) (first-so heard))
+  input-has-grounds-of (heards.Operated action) =
+      let heard : Heard = heards.Operated action in
+      let s = operated-so now heard First action.request action.asked (λ e. e) (first-so heard) in
+      let after : Outcome = operated now action.request action.asked First in
+      grounds-of now heard First after s
+      (λ wipes lives. operated-wipes now action.request action.asked First (All-contains (HasGround now heard First) after.outputs outputs.Wipe s.grounds wipes) lives)
+
+pub input-has-grounds : (now : Ticks) (points : List HistoryPoint) (heard : Heard) (role : RoleFacts) (knows : Knowledge) (machine : Machine) → IsSoundAgent role knows → HasGrounds now heard (before now (made role knows machine [])) (step now points heard (made role knows machine []))
+input-has-grounds now points heard role knows machine sound = input-has-grounds-of now points role knows machine sound heard
+
+-- the same of what is made of an input, where no output stood before
+pub input-has-grounds-as : (now : Ticks) (points : List HistoryPoint) (heard : Heard) (role : RoleFacts) (knows : Knowledge) (machine : Machine) (outs : List Output) (after : Outcome) → after ≡ step now points heard (made role knows machine outs) → IsSoundAgent role knows
+    → outs ≡ [] → HasGrounds now heard (before now (made role knows machine [])) after
+input-has-grounds-as now points heard role knows machine outs after is sound none =
+    subst (λ (x : Outcome). HasGrounds now heard (before now (made role knows machine [])) x) (sym (is ∙ ap (λ (l : List Output). step now points heard (made role knows machine l)) none)) (input-has-grounds now points heard role knows machine sound)

@@ -1,0 +1,3 @@
+pub mod FreeKey
+pub mod Beginning
+pub mod Handovers

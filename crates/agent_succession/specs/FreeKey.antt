@@ -1,0 +1,142 @@
+-- What becomes of a free leader key: who asks for it, who asks the others first, and who stays out.
+use Rattle.std.specs.Prelude.{ℕ, ◌≡◌, ◌+◌, ◌<◌, ◌==◌, nat_le, true, false, [], Some, None, Contains}
+use Rattle.pat_base.specs.declared.member_id.MemberId.{MemberId}
+use Rattle.pat_base.specs.declared.peer_answer.PeerAnswer.{PeerAnswer}
+use Rattle.pat_base.specs.declared.ticks.Ticks.{Ticks}
+use Rattle.lease_store.specs.declared.action.Bar.{Bar}
+use Rattle.lease_store.specs.declared.granted.Granted.{Granted}
+use Rattle.lease_store.specs.declared.txn.Txn.TheVariants as txns
+use Rattle.leader_race.specs.Eligibility.{eligibility_of}
+use Rattle.leader_race.specs.Outcome.{outcome_of}
+use Rattle.event_book.specs.declared.message.Body.TheVariants as bodies
+use Rattle.cluster_config.specs.Snapshots.{SnapshotFacts, leader_in, settings_in}
+use Rattle.agent_model.specs.declared.heard.Heard.{Heard}
+use Rattle.agent_model.specs.declared.heard.Heard.TheVariants.{Wake, Got, Granted as HeardGranted, Answered}
+use Rattle.agent_model.specs.declared.knowledge.Knowledge.{Knowledge}
+use Rattle.agent_model.specs.declared.knowledge.Question.TheVariants.{Asking, Creating, Claiming}
+use Rattle.agent_model.specs.declared.knowledge.Waited.{Waited}
+use Rattle.agent_model.specs.declared.output.Output.TheVariants as outputs
+use Rattle.agent_model.specs.declared.output.Target.TheVariants as targets
+use Rattle.agent_model.specs.Acting.{is_refusing, lease_span, status_begun}
+use Rattle.agent_model.specs.Agents.{Follower, Ready, Leader, Outcome}
+use Rattle.agent_model.specs.Answers.{is_other, with_answer, asking_all, all_answered}
+use Rattle.agent_model.specs.Claiming.{can_begin_on_claim}
+use Rattle.agent_model.specs.Decisions.{may_create, may_take, is_write_of}
+use Rattle.agent_model.specs.Info.{info_of}
+use Rattle.agent_model.specs.Outputs.{listed}
+use Rattle.agent_model.specs.Pausing.{is_paused}
+use Rattle.agent_model.specs.Peers.{is_asking, awaits_answer}
+use Rattle.agent_roles.specs.Powers.{IsAwaitedLease}
+use Rattle.agent_model.specs.Racing.{answers_until}
+use Rattle.agent_model.specs.Snapshots.{awaits_read, informed}
+use Rattle.agent_model.specs.Synchronous.{expected_of}
+use Rattle.agent_model.specs.Views.{shown}
+use Rattle.agent_model.specs.Wake.{turned}
+
+-- the answer to the read that an agent waits for tells that nobody leads, and the agent is a follower or a holder
+pub record HearsFree (sequence : ℕ) (snapshot : SnapshotFacts) (o : Outcome) : Type 0 where
+  pub awaited : awaits_read o.knows.waited sequence ≡ true
+  pub free : leader_in snapshot ≡ None
+  pub role : may_create o.role ≡ true
+
+-- the agent tells what bars it, and tells of itself. That is all: it has no lease, leaves its machine alone, and waits for nothing
+pub record StaysOut (snapshot : SnapshotFacts) (bar : Bar) (o after : Outcome) : Type 0 where
+  pub role : after.role ≡ Follower
+  pub machine : after.machine ≡ o.machine
+  pub waits : after.knows.waited ≡ None
+  pub outputs_are : after.outputs ≡ listed (outputs.Send targets.Store (o.knows.sequence + 1) (bodies.Request (txns.Touch (info_of o.knows.who o.machine.server) (lease_span (settings_in o.knows.settings snapshot))))) (listed (outputs.DoesNotRace bar) o.outputs)
+
+-- the agent asks for the leader key, and waits for the answer
+pub record AsksForKey (o after : Outcome) : Type 0 where
+  pub waited : Waited
+  pub waits : after.knows.waited ≡ Some waited
+  pub asks : waited.question ≡ Creating
+  pub outputs_are : after.outputs ≡ listed (outputs.Send targets.Store waited.sequence (bodies.Request (txns.Create (info_of o.knows.who o.machine.server) waited.ttl None None))) o.outputs
+
+-- the agent asks each other member how far its server is, and nobody else, all under one new number. It waits for the answers, of
+-- which it has none yet
+pub record AsksOthers (now : Ticks) (o after : Outcome) : Type 0 where
+  pub waited : Waited
+  pub waits : after.knows.waited ≡ Some waited
+  pub asks : waited.question ≡ Asking
+  pub later : o.knows.sequence < waited.sequence
+  pub until : waited.until ≡ answers_until now
+  pub unheard : after.knows.answers ≡ []
+  pub each : (member : MemberId) → is_other o.knows.who member ≡ true → Contains after.outputs (outputs.Send (targets.Member member) waited.sequence bodies.Ask)
+  pub outputs_are : after.outputs ≡ asking_all o.knows.who waited.sequence o.outputs
+
+-- the agent waits for the answers of the others, and its newest snapshot is this one
+pub record AwaitsAnswers (waited : Waited) (snapshot : SnapshotFacts) (o : Outcome) : Type 0 where
+  pub waits : o.knows.waited ≡ Some waited
+  pub asking : is_asking waited.question ≡ true
+  pub role : may_create o.role ≡ true
+  pub seen : o.knows.seen ≡ Some snapshot
+
+-- this is the last answer that it waits for
+pub record HearsLast (waited : Waited) (sequence : ℕ) (answer : PeerAnswer) (snapshot : SnapshotFacts) (o : Outcome) : Type 0 where
+  pub awaits : AwaitsAnswers waited snapshot o
+  pub number : awaits_answer waited sequence ≡ true
+  pub all : all_answered o.knows.who (with_answer answer o.knows.answers) ≡ true
+
+-- the time for the answers that it waits for is over
+pub record RunsLate (now : Ticks) (waited : Waited) (snapshot : SnapshotFacts) (o : Outcome) : Type 0 where
+  pub awaits : AwaitsAnswers waited snapshot o
+  pub late : nat_le waited.until.0 now.0 ≡ true
+
+-- the agent tells what bars it, and tells of itself. That is all: its role stays, it leaves its machine alone, and waits for nothing
+pub record LosesRace (bar : Bar) (o after : Outcome) : Type 0 where
+  pub role : after.role ≡ o.role
+  pub machine : after.machine ≡ o.machine
+  pub waits : after.knows.waited ≡ None
+  pub outputs_are : after.outputs ≡ listed (outputs.Send targets.Store (o.knows.sequence + 1) (bodies.Request (txns.Touch (info_of o.knows.who o.machine.server) (lease_span o.knows.settings)))) (listed (outputs.DoesNotRace bar) o.outputs)
+
+-- it loses the race, and then a turn begins that is due
+pub record LosesAndTurns (now : Ticks) (bar : Bar) (o after : Outcome) : Type 0 where
+  pub lost : Outcome
+  pub loses : LosesRace bar o lost
+  pub turns : after ≡ turned now lost
+
+-- an input that finds the leader key free, behind what precedes it: a member that nothing bars asks each other one how far its server is,
+-- and where there is no other asks for the key
+abbrev pub AsksWhereFree : Ticks → Heard → Outcome → Outcome → Type 0
+AsksWhereFree now (Got sequence snapshot) o after = HearsFree sequence snapshot o → eligibility_of (shown now o) snapshot ≡ None → (all_answered o.knows.who [] ≡ false → AsksOthers now o after) × (all_answered o.knows.who [] ≡ true → AsksForKey o after)
+AsksWhereFree now _ o after = Unit {0}
+
+-- an input that judges a race, since the last answer came or the time for them is over: who wins asks for the key
+abbrev pub AsksWhereWon : Ticks → Heard → Outcome → Outcome → Type 0
+AsksWhereWon now (Answered sequence answer) o after = (waited : Waited) (snapshot : SnapshotFacts) → HearsLast waited sequence answer snapshot o → outcome_of (shown now o) snapshot (with_answer answer o.knows.answers) ≡ None → AsksForKey o after
+AsksWhereWon now Wake o after = (waited : Waited) (snapshot : SnapshotFacts) → RunsLate now waited snapshot o → outcome_of (shown now o) snapshot o.knows.answers ≡ None → AsksForKey o after
+AsksWhereWon now _ o after = Unit {0}
+
+-- the agent leads by the lease of this revision, and its server begins to accept writes, at once or when its start is complete
+pub record BeginsOn (now : Ticks) (revision : ℕ) (o after : Outcome) : Type 0 where
+  pub role : after.role ≡ Leader revision
+  pub server : after.machine.server ≡ status_begun now o.machine.server
+  pub begins : Contains after.outputs outputs.Begin
+
+-- the agent is about to begin, over its server as it was: it claims the sync key as its turn read it, and waits for the answer
+pub record ClaimsOn (revision : ℕ) (o after : Outcome) : Type 0 where
+  pub role : after.role ≡ Ready revision
+  pub server : after.machine.server ≡ o.machine.server
+  pub waited : Waited
+  pub waits : after.knows.waited ≡ Some waited
+  pub asks : waited.question ≡ Claiming
+  pub claims : Contains after.outputs (outputs.Send targets.Store waited.sequence (bodies.Request (txns.Claim revision (expected_of o.knows.turn_sync))))
+
+-- the answer of this number grants this member the claim that it waits for
+pub record IsAwaitedClaim (sequence : ℕ) (grant : Granted) (knows : Knowledge) : Type 0 where
+  pub waited : Waited
+  pub is : knows.waited ≡ Some waited
+  pub asks : waited.question ≡ Claiming
+  pub number : waited.sequence == sequence ≡ true
+  pub mine : is_write_of knows.who.me grant ≡ true
+
+-- an input that hears, outside a pause, the grant of the leader key that it waits for: who may take it, and whose watchdog can be armed or isn't needed,
+-- begins, or in synchronous mode claims the sync key. One that hears the grant of that claim: who is about to begin begins, where its
+-- server still can
+abbrev pub BeginsWhereGranted : Ticks → Heard → Outcome → Outcome → Type 0
+BeginsWhereGranted now (HeardGranted sequence grant snapshot) o after =
+    (is_paused (informed snapshot o.knows) ≡ false → IsAwaitedLease sequence grant o.knows → may_create o.role ≡ true → may_take now (informed snapshot o.knows) o.machine ≡ true → is_refusing o.machine.watchdog.mode o.machine.watchdog.works ≡ false
+    → (o.knows.turn_settings.synchronous_mode ≡ false → BeginsOn now grant.revision o after) × (o.knows.turn_settings.synchronous_mode ≡ true → ClaimsOn grant.revision o after))
+    × ((revision : ℕ) → is_paused (informed snapshot o.knows) ≡ false → IsAwaitedClaim sequence grant o.knows → o.role ≡ Ready revision → can_begin_on_claim o.machine.server.was_primary o.machine.server.state ≡ true → BeginsOn now revision o after)
+BeginsWhereGranted now _ o after = Unit {0}

@@ -1,0 +1,2 @@
+pub mod FreeKey
+pub mod Handovers

@@ -1,0 +1,3 @@
+pub mod Upholding
+pub mod Members
+pub mod Walking
