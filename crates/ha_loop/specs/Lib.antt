@@ -1,2 +1,2 @@
-pub mod Roles
-pub mod Room
+pub use Rattle.agent_turn.specs.Roles
+pub use Rattle.agent_turn.specs.Room

@@ -6,7 +6,7 @@ ghost use Rattle.agent_model.specs.declared.machine.Machine.{Machine};
 ghost use Rattle.agent_model.specs.declared.heard.Heard.TheVariants as heards;
 ghost use Rattle.agent_model.specs.Agents.{AgentFacts, RoleFacts, IsSound, IsWithin, Follower, word_of, fresh_knowledge, made, most_messages};
 ghost use Rattle.pat_base.specs.Moments.{latest};
-ghost use Rattle.ha_loop.specs.Roles.{role_of};
+ghost use Rattle.agent_turn.specs.Roles.{role_of};
 ghost use Rattle.agent_commit_law.specs.Committing.{CommitsFrom};
 ghost use Rattle.agent_model.specs.Bounds.{IsSmall};
 ghost use Rattle.agent_succession.specs.FreeKey.{AsksWhereFree, AsksWhereWon, BeginsWhereGranted};
@@ -21,18 +21,9 @@ ghost use Rattle.agent_model.specs.Table.{prepared, step};
 ghost use Rattle.agent_model.specs.Views.{view_of};
 ghost use Rattle.agent_model.specs.Wake.{due_from, is_due};
 
-use crate::Outputs;
-use crate::before::before;
-use crate::decisions::{granted, refused};
-use crate::operators::{
-    grants_operator, look, operate, operates, operator_granted, operator_refused,
-};
-use crate::peers::{answered, asked};
-use crate::role::Role;
-use crate::snapshots::got;
-use crate::view::{view_of, word_of};
-use crate::wake::{due_from, is_due, wake};
 use agent_model::{Answers, Heard, Knowledge, Machine, Who};
+use agent_rows::{due_from, is_due, take_input};
+use agent_turn::{Outputs, Role, Turn, view_of, word_of};
 use cluster_config::{AgentView, Snapshot};
 use lease_store::{Config, OperatorAction};
 use pat_base::{MemberSet, State, Ticks};
@@ -51,7 +42,7 @@ pub struct Agent {
 
 impl Model for Agent {
     ghost use Rattle.agent_model.specs.Agents.{AgentFacts, IsSoundAgent};
-    ghost use Rattle.ha_loop.specs.Roles.{role_of};
+    ghost use Rattle.agent_turn.specs.Roles.{role_of};
 
     ghost Value = { AgentFacts };
 
@@ -259,50 +250,11 @@ fn hear(
     ensures numbers { knows.new.sequence ≤ knows.old.sequence + most_outputs }
     ensures room { out.old.spare ≤ out.new.spare + most_outputs }
 {
-    match heard {
-        Heard::Wake => wake(role, knows, machine, out, now),
-        Heard::Got { sequence, snapshot } => {
-            let role = before(role, knows, machine, out, now);
-            look(&role, knows, out, sequence, &snapshot);
-            got(role, knows, machine, out, now, history, sequence, snapshot)
-        }
-        Heard::Granted {
-            sequence,
-            granted: grant,
-            snapshot,
-        } => {
-            let role = before(role, knows, machine, out, now);
-            if grants_operator(sequence, &grant, knows) {
-                operator_granted(knows, out, snapshot);
-                return role;
-            }
-            granted(role, knows, machine, out, now, sequence, grant, snapshot)
-        }
-        Heard::Mismatch { sequence, .. } => {
-            let role = before(role, knows, machine, out, now);
-            if operates(knows, sequence) {
-                operator_refused(knows, out);
-                return role;
-            }
-            refused(role, knows, machine, out, now, sequence)
-        }
-        Heard::Asked {
-            from,
-            run,
-            sequence,
-        } => {
-            let role = before(role, knows, machine, out, now);
-            asked(knows, machine, out, from, run, sequence);
-            role
-        }
-        Heard::Answered { sequence, answer } => {
-            let role = before(role, knows, machine, out, now);
-            answered(role, knows, machine, out, now, sequence, answer)
-        }
-        Heard::Operated { action } => {
-            let role = before(role, knows, machine, out, now);
-            operate(action.request, action.asked, knows, machine, out, now);
-            role
-        }
-    }
+    let mut turn = Turn {
+        moment: now,
+        knows,
+        machine,
+        out,
+    };
+    take_input(role, &mut turn, heard, history)
 }

@@ -1,6 +1,6 @@
 use Rattle.std.proofs.Common.{◌≡◌, [], rules, subst, sym}
 use Rattle.agent_model.specs.Agents.{made}
-use Rattle.ha_loop.specs.Roles.{role_of}
+use Rattle.agent_turn.specs.Roles.{role_of}
 use Rattle.agent_succession.specs.FreeKey.{AsksWhereFree, AsksWhereWon, BeginsWhereGranted}
 use Rattle.agent_model.specs.Table.{prepared, step}
 use Rattle.agent_model.specs.Bounds.{IsSmall}

@@ -1,0 +1,75 @@
+//! Inputs, by what is heard.
+ghost use Rattle.std.specs.Prelude.{◌≡◌};
+ghost use Rattle.agent_turn.specs.Turns.{HasLeft, Spent, reached};
+ghost use Rattle.agent_model.specs.Agents.{IsWithin};
+ghost use Rattle.agent_model.specs.Outputs.{most_outputs};
+ghost use Rattle.agent_turn.specs.Roles.{role_of};
+ghost use Rattle.agent_model.specs.Table.{step};
+
+use crate::before::before;
+use crate::decisions::{granted, refused};
+use crate::operators::{
+    grants_operator, look, operate, operates, operator_granted, operator_refused,
+};
+use crate::peers::{answered, asked};
+use crate::snapshots::got;
+use crate::wake::wake;
+use agent_model::Heard;
+use agent_turn::{Role, Turn};
+use lease_store::Granted;
+use wal_model::History;
+
+/// An input: the role after it.
+pub fn take_input(role: Role, turn: &mut Turn, heard: Heard, history: &History) -> Role
+    requires turn { HasLeft most_outputs most_outputs turn.old }
+    requires server { IsWithin turn.old.machine.now.server }
+    ensures outcome { reached (role_of result) turn.new ≡ step turn.old.moment history.now.points heard (reached (role_of role) turn.old) }
+    ensures left { Spent most_outputs most_outputs turn.old turn.new }
+{
+    match heard {
+        Heard::Wake => wake(role, turn),
+        Heard::Got { sequence, snapshot } => {
+            let role = before(role, turn);
+            look(&role, turn, sequence, &snapshot);
+            got(role, turn, history, sequence, snapshot)
+        }
+        Heard::Granted {
+            sequence,
+            granted: grant,
+            snapshot,
+        } => {
+            let role = before(role, turn);
+            if grants_operator(sequence, &grant, turn.knows) {
+                operator_granted(turn, snapshot);
+                return role;
+            }
+            granted(role, turn, sequence, grant, snapshot)
+        }
+        Heard::Mismatch { sequence, .. } => {
+            let role = before(role, turn);
+            if operates(turn.knows, sequence) {
+                operator_refused(turn);
+                return role;
+            }
+            refused(role, turn, sequence)
+        }
+        Heard::Asked {
+            from,
+            run,
+            sequence,
+        } => {
+            let role = before(role, turn);
+            asked(turn, from, run, sequence);
+            role
+        }
+        Heard::Answered { sequence, answer } => {
+            let role = before(role, turn);
+            answered(role, turn, sequence, answer)
+        }
+        Heard::Operated { action } => {
+            let role = before(role, turn);
+            operate(action.request, action.asked, turn);
+            role
+        }
+    }
+}

@@ -1,0 +1,119 @@
+//! What members ask one another, and the race for a free leader key that is judged by what they answer.
+ghost use Rattle.std.specs.Prelude.{◌≡◌};
+ghost use Rattle.agent_turn.specs.Turns.{ComesTo, HasLeft, Spent, reached};
+ghost use Rattle.agent_model.specs.Agents.{IsSound, IsWithin, RoleFacts, made, word_of};
+ghost use Rattle.agent_model.specs.Peers.{asked, accepted_answer, answered, answered_for, awaits_answer, awaits_check, is_asking, is_checking, judged_if_all, judged_if_racing, keeping};
+ghost use Rattle.agent_model.specs.Outputs.{listed};
+ghost use Rattle.agent_model.specs.declared.output.Output.TheVariants as outputs;
+ghost use Rattle.agent_model.specs.Answers.{all_answered, asking_all, asking_first, asking_one, first_answered, has_answered, is_other, is_settled, peer_answer_of, with_answer};
+ghost use Rattle.agent_turn.specs.Roles.{role_of};
+ghost use Rattle.lease_store.specs.declared.txn.Txn.TheVariants as txns;
+ghost use Rattle.event_book.specs.declared.message.Body.TheVariants as bodies;
+ghost use Rattle.pat_base.specs.MemberId.{member_of};
+ghost use Rattle.agent_model.specs.declared.knowledge.Question.TheVariants as questions;
+ghost use Rattle.agent_model.specs.declared.output.Target.TheVariants as targets;
+ghost use Rattle.agent_model.specs.Acting.{counted, lease_span, seconds_after, waiting, waiting_no_more};
+ghost use Rattle.pat_base.specs.Moments.{latest};
+ghost use Rattle.pat_base.specs.declared.member_id.TheConstants.{MOST_MEMBERS};
+ghost use Rattle.agent_model.specs.Decisions.{may_create};
+ghost use Rattle.agent_model.specs.Info.{info_of, runs};
+ghost use Rattle.agent_model.specs.Racing.{answers_until, asking_others, barred, creating, judged, judged_as, outcome_at, outcome_by};
+ghost use Rattle.agent_model.specs.Views.{shown, view_of};
+
+use crate::asking::all_answered;
+use crate::handing_over::hear_successor;
+use crate::racing::judge;
+use agent_model::{Output, Question, Waited, Who};
+use agent_turn::{Role, Turn, may_create, runs, word_of};
+use pat_base::{MemberId, PeerAnswer};
+use pg_model::ServerStatus;
+
+/// Another member asks: it is answered at once.
+pub(crate) fn asked(turn: &mut Turn, from: MemberId, run: u64, sequence: u64)
+    requires { HasLeft 1 0 turn.old }
+    ensures outcome { ComesTo (asked from run sequence) turn.old turn.new }
+    ensures left { Spent 1 0 turn.old turn.new }
+{
+    let answer = peer_answer_of(&turn.knows.who, &turn.machine.server);
+    turn.out.put(Output::Answer {
+        to: from,
+        run,
+        sequence,
+        answer,
+    });
+}
+
+/// How far a member's server is.
+fn peer_answer_of(who: &Who, server: &ServerStatus) -> PeerAnswer
+    ensures { result ≡ peer_answer_of who.now server.now }
+{
+    PeerAnswer {
+        member: who.me,
+        writes: server.state.writes(),
+        end: if runs(server.state) { server.end } else { None },
+        tags: who.tags,
+    }
+}
+
+/// Another member answers: what is waited for is used, and any other dropped.
+pub(crate) fn answered(role: Role, turn: &mut Turn, sequence: u64, answer: PeerAnswer) -> Role
+    requires turn { HasLeft 2 1 turn.old }
+    requires server { IsWithin turn.old.machine.now.server }
+    ensures outcome { reached (role_of result) turn.new ≡ answered turn.old.moment sequence answer (reached (role_of role) turn.old) }
+    ensures left { Spent 2 1 turn.old turn.new }
+{
+    let Some(waited) = turn.knows.waited else {
+        return role;
+    };
+    if awaits_answer(waited, sequence) {
+        accept_answer(&role, turn, answer);
+        return role;
+    }
+    if awaits_check(waited, sequence) {
+        return hear_successor(role, turn, answer);
+    }
+    role
+}
+
+/// A leader waits for answers of this number.
+fn awaits_check(waited: Waited, sequence: u64) -> bool
+    ensures { result ≡ awaits_check waited sequence }
+{
+    is_checking(waited.question) && waited.sequence == sequence
+}
+
+fn is_checking(question: Question) -> bool
+    ensures { result ≡ is_checking question }
+{
+    matches!(question, Question::Checking)
+}
+
+/// Answers of this number are waited for in a race.
+fn awaits_answer(waited: Waited, sequence: u64) -> bool
+    ensures { result ≡ awaits_answer waited sequence }
+{
+    is_asking(waited.question) && waited.sequence == sequence
+}
+
+fn is_asking(question: Question) -> bool
+    ensures { result ≡ is_asking question }
+{
+    matches!(question, Question::Asking)
+}
+
+/// An answer that is waited for counts in a role that races.
+fn accept_answer(role: &Role, turn: &mut Turn, answer: PeerAnswer)
+    requires { HasLeft 2 1 turn.old }
+    ensures outcome { reached (role_of role.now) turn.new ≡ accepted_answer turn.old.moment answer (reached (role_of role.now) turn.old) }
+    ensures left { Spent 2 1 turn.old turn.new }
+{
+    if !may_create(role) {
+        turn.knows.waited = None;
+        return;
+    }
+    let who = turn.knows.who;
+    turn.knows.answers.keep(answer);
+    if all_answered(&who, &turn.knows.answers) {
+        judge(word_of(role), turn);
+    }
+}

@@ -1,0 +1,177 @@
+//! What an agent does once it has read what the key store holds.
+ghost use Rattle.std.specs.Prelude.{◌≡◌};
+ghost use Rattle.agent_model.specs.Agents.{Follower, IsSound, IsWithin, Leader, Stray, made};
+ghost use Rattle.agent_turn.specs.Turns.{HasLeft, Spent, reached};
+ghost use Rattle.pat_base.specs.declared.member_id.TheConstants.{MOST_MEMBERS};
+ghost use Rattle.agent_model.specs.Snapshots.{accepted, asks_as_stray, awaits_read, ends_fork, finds_own_key, follow_row, follows, follows_anew, got, informed, is_active, is_read, known_with, leader_finds_free, leader_without_key, led, led_by, led_by_another, missing_point, missing_row, no_key, others_key, own_key, read_noted, renewal, renewing, row_at, row_told, starts_behind, status_told, stray_finds_free, stray_without_key, turn_start};
+ghost use Rattle.agent_turn.specs.Roles.{role_of};
+ghost use Rattle.lease_store.specs.declared.txn.Txn.TheVariants as txns;
+ghost use Rattle.leader_key.specs.Lease.{writer_revision};
+ghost use Rattle.event_book.specs.declared.message.Body.TheVariants as bodies;
+ghost use Rattle.pg_model.specs.Status.{status_following, status_replica_started};
+ghost use Rattle.agent_model.specs.declared.knowledge.Question.TheVariants as questions;
+ghost use Rattle.agent_model.specs.declared.output.Output.TheVariants as outputs;
+ghost use Rattle.agent_model.specs.declared.output.Target.TheVariants as targets;
+ghost use Rattle.agent_model.specs.Acting.{counted, is_hold_active, lease_span, seconds_after, upstream_of, waiting};
+ghost use Rattle.pat_base.specs.Moments.{latest};
+ghost use Rattle.agent_model.specs.Info.{info_of};
+ghost use Rattle.agent_model.specs.Outputs.{listed};
+ghost use Rattle.agent_model.specs.Pausing.{is_paused, may_start_behind, running_without_key};
+ghost use Rattle.agent_model.specs.Racing.{finds_free};
+
+use crate::following::follow_row;
+use crate::keyless::{leader_finds_free, leader_without_key, stray_finds_free, stray_without_key};
+use crate::racing::finds_free;
+use crate::renewing::renew;
+use crate::repairing::{put_repair, repair_of};
+use agent_model::{Question, Waited};
+use agent_turn::{
+    Role, Turn, inform, is_active, is_hold_active, is_paused, may_start_behind, sync_read_in,
+};
+use cluster_config::{LeaderEntry, Snapshot};
+use pat_base::MemberId;
+use wal_model::History;
+
+/// The answer to a read: what is waited for is used, and any other dropped.
+pub(crate) fn got(
+    role: Role,
+    turn: &mut Turn,
+    history: &History,
+    sequence: u64,
+    snapshot: Snapshot,
+) -> Role
+    requires turn { HasLeft MOST_MEMBERS 1 turn.old }
+    requires server { IsWithin turn.old.machine.now.server }
+    ensures outcome { reached (role_of result) turn.new ≡ got turn.old.moment history.now.points sequence snapshot (reached (role_of role) turn.old) }
+    ensures left { Spent MOST_MEMBERS 1 turn.old turn.new }
+{
+    if !awaits_read(turn.knows.waited, sequence) {
+        return role;
+    }
+    if !is_active(&role) {
+        turn.knows.waited = None;
+        return role;
+    }
+    let leader = snapshot.leader();
+    turn.knows.turn_sync = sync_read_in(&snapshot);
+    turn.knows.turn_failover = snapshot.failover();
+    inform(turn.knows, snapshot);
+    turn.knows.last_read = Some(turn.moment);
+    turn.knows.turn_settings = turn.knows.settings;
+    led(role, turn, history, leader)
+}
+
+/// The answer to this read is waited for.
+pub(crate) fn awaits_read(waited: Option<Waited>, sequence: u64) -> bool
+    ensures { result ≡ awaits_read waited sequence }
+{
+    match waited {
+        None => false,
+        Some(waited) => is_read(waited.question) && waited.sequence == sequence,
+    }
+}
+
+fn is_read(question: Question) -> bool
+    ensures { result ≡ is_read question }
+{
+    matches!(question, Question::Reading)
+}
+
+/// What the agent does on the leader key.
+fn led(role: Role, turn: &mut Turn, history: &History, leader: Option<LeaderEntry>) -> Role
+    requires turn { HasLeft MOST_MEMBERS 1 turn.old }
+    requires server { IsWithin turn.old.machine.now.server }
+    ensures outcome { reached (role_of result) turn.new ≡ led turn.old.moment history.now.points leader (reached (role_of role) turn.old) }
+    ensures left { Spent MOST_MEMBERS 1 turn.old turn.new }
+{
+    match leader {
+        None => no_key(role, turn),
+        Some(leader) if leader.holder.number == turn.knows.who.me.number => {
+            own_key(&role, turn, history, leader.revision);
+            role
+        }
+        Some(leader) => others_key(role, turn, leader.holder),
+    }
+}
+
+/// The leader key is its own.
+fn own_key(role: &Role, turn: &mut Turn, history: &History, revision: u64)
+    requires { HasLeft 1 1 turn.old }
+    ensures outcome { reached (role_of role.now) turn.new ≡ own_key turn.old.moment history.now.points revision (role_of role.now) (reached (role_of role.now) turn.old) }
+    ensures left { Spent 1 1 turn.old turn.new }
+{
+    match role {
+        Role::Leader(_) | Role::Stray => renew(turn, history, revision),
+        Role::Follower | Role::Holder(_) => { finds_own_key(turn, history, revision) }
+        Role::Ready(_) | Role::Ending(_, _) => {}
+    }
+}
+
+/// An agent that isn't leading finds the leader key its own: it asks for the renewal, unless its hold is active; in a pause it asks
+/// in any case.
+fn finds_own_key(turn: &mut Turn, history: &History, revision: u64)
+    requires { HasLeft 1 1 turn.old }
+    ensures outcome { reached Follower turn.new ≡ finds_own_key turn.old.moment history.now.points revision (reached Follower turn.old) }
+    ensures left { Spent 1 1 turn.old turn.new }
+{
+    if is_hold_active(turn.moment, turn.machine.hold) && !is_paused(turn.knows) {
+        turn.touch();
+    } else {
+        renew(turn, history, revision);
+    }
+}
+
+/// The leader key is another's.
+fn others_key(role: Role, turn: &mut Turn, leader: MemberId) -> Role
+    requires turn { HasLeft 3 1 turn.old }
+    requires server { IsWithin turn.old.machine.now.server }
+    ensures outcome { reached (role_of result) turn.new ≡ others_key turn.old.moment leader (role_of role) (reached (role_of role) turn.old) }
+    ensures left { Spent 3 1 turn.old turn.new }
+{
+    match role {
+        Role::Leader(writer) => leader_without_key(writer, turn),
+        Role::Stray => stray_without_key(turn),
+        Role::Follower => follows(turn, leader),
+        Role::Holder(lease) => {
+            lease.lost();
+            follows(turn, leader)
+        }
+        role => role,
+    }
+}
+
+/// Another member leads: the server follows that one's, and the agent tells of itself; a log that has to be is repaired behind that.
+fn follows(turn: &mut Turn, leader: MemberId) -> Role
+    requires turn { HasLeft 3 1 turn.old }
+    requires server { IsWithin turn.old.machine.now.server }
+    ensures outcome { reached (role_of result) turn.new ≡ follows turn.old.moment leader (reached Follower turn.old) }
+    ensures left { Spent 3 1 turn.old turn.new }
+{
+    let settings = turn.knows.settings;
+    let may_start = may_start_behind(turn.knows);
+    let repair = repair_of(&settings, leader, &turn.machine.server);
+    turn.knows.handed_over = false;
+    follow_row(may_start, turn, leader);
+    turn.touch();
+    put_repair(leader, repair, turn);
+    Role::Follower
+}
+
+/// The leader key is absent.
+fn no_key(role: Role, turn: &mut Turn) -> Role
+    requires turn { HasLeft MOST_MEMBERS 1 turn.old }
+    requires server { IsWithin turn.old.machine.now.server }
+    ensures outcome { reached (role_of result) turn.new ≡ no_key turn.old.moment (role_of role) (reached (role_of role) turn.old) }
+    ensures left { Spent MOST_MEMBERS 1 turn.old turn.new }
+{
+    match role {
+        Role::Leader(writer) => leader_finds_free(writer, turn),
+        Role::Stray => stray_finds_free(turn),
+        Role::Follower => finds_free(turn),
+        Role::Holder(lease) => {
+            lease.lost();
+            finds_free(turn)
+        }
+        role => role,
+    }
+}

@@ -1,0 +1,201 @@
+//! What a woken agent does: an operator whose time is over comes first, then a deadline that has passed, and then a turn that is
+//! due.
+ghost use Rattle.std.specs.Prelude.{◌≡◌};
+ghost use Rattle.agent_turn.specs.Turns.{ComesTo, HasLeft, Spent, reached};
+ghost use Rattle.agent_model.specs.Agents.{Ending, IsSound, IsWithin, made};
+ghost use Rattle.agent_model.specs.Wake.{due_from, finds_ended, has_turn, is_due, is_overdue, is_stopping, leader_out_of_reach, out_of_reach, out_of_reach_as, overdue, overdue_for, reading, roused, stray_out_of_reach, turn_as, turn_begins, turn_noted, turned, unanswered, waits_until, woken};
+ghost use Rattle.agent_turn.specs.Roles.{role_of};
+ghost use Rattle.event_book.specs.declared.message.Body.TheVariants as bodies;
+ghost use Rattle.event_book.specs.declared.reason.Reason.TheVariants as reasons;
+ghost use Rattle.leader_key.specs.Lease.{writer_revision};
+ghost use Rattle.pg_model.specs.Status.{status_stopping};
+ghost use Rattle.agent_model.specs.declared.output.Output.TheVariants as outputs;
+ghost use Rattle.agent_model.specs.declared.output.Target.TheVariants as targets;
+ghost use Rattle.agent_model.specs.declared.why.Why.TheVariants as whys;
+ghost use Rattle.agent_model.specs.Acting.{counted, seconds_after, waiting};
+ghost use Rattle.pat_base.specs.Moments.{latest};
+ghost use Rattle.agent_model.specs.Outputs.{listed};
+
+use crate::before::before;
+use crate::claiming::claim_fails;
+use crate::handing_over::judge_if_leading;
+use crate::operators::give_up;
+use crate::racing::judge_if_racing;
+use agent_model::{Knowledge, Machine, Question, Waited};
+use agent_turn::{Role, Turn, is_paused};
+use event_book::{Body, Reason};
+use pat_base::{State, Ticks};
+
+/// A wake.
+pub(crate) fn wake(role: Role, turn: &mut Turn) -> Role
+    requires turn { HasLeft 6 3 turn.old }
+    requires server { IsWithin turn.old.machine.now.server }
+    ensures outcome { reached (role_of result) turn.new ≡ woken turn.old.moment (reached (role_of role) turn.old) }
+    ensures left { Spent 6 3 turn.old turn.new }
+{
+    let due = is_due(&role, turn.knows, turn.machine, turn.moment);
+    let role = before(role, turn);
+    if !due {
+        return role;
+    }
+    give_up(turn);
+    let role = overdue(role, turn);
+    turned(&role, turn);
+    role
+}
+
+/// Whether there is something to do for an agent that is woken.
+pub fn is_due(role: &Role, knows: &Knowledge, machine: &Machine, now: Ticks) -> bool
+    ensures { result ≡ is_due now (role_of role.now) knows.now machine.now }
+{
+    finds_ended(role, machine.server.state) || is_overdue(now, knows.waited) || has_turn(now, knows)
+}
+
+/// An agent that ends its server can find that it has ended.
+fn finds_ended(role: &Role, state: State) -> bool
+    ensures { result ≡ finds_ended (role_of role.now) state }
+{
+    match role {
+        Role::Ending(_, _) => !state.live(),
+        _ => false,
+    }
+}
+
+fn is_overdue(now: Ticks, waited: Option<Waited>) -> bool
+    ensures { result ≡ is_overdue now waited }
+{
+    match waited {
+        None => false,
+        Some(waited) => waited.until <= now,
+    }
+}
+
+fn has_turn(now: Ticks, knows: &Knowledge) -> bool
+    ensures { result ≡ has_turn now knows.now }
+{
+    knows.waited.is_none() && knows.next_turn <= now
+}
+
+/// From when on there is something to do for an agent whose server is in this state.
+pub fn due_from(role: &Role, knows: &Knowledge, state: State) -> Ticks
+    ensures { result ≡ due_from (role_of role.now) knows.now state }
+{
+    if finds_ended(role, state) {
+        return Ticks(0);
+    }
+    waits_until(knows.waited, knows.next_turn)
+}
+
+fn waits_until(waited: Option<Waited>, next_turn: Ticks) -> Ticks
+    ensures { result ≡ waits_until waited next_turn }
+{
+    match waited {
+        None => next_turn,
+        Some(waited) => waited.until,
+    }
+}
+
+/// A deadline that has passed.
+fn overdue(role: Role, turn: &mut Turn) -> Role
+    requires turn { HasLeft 2 1 turn.old }
+    requires server { IsWithin turn.old.machine.now.server }
+    ensures outcome { reached (role_of result) turn.new ≡ overdue turn.old.moment (reached (role_of role) turn.old) }
+    ensures left { Spent 2 1 turn.old turn.new }
+{
+    let Some(waited) = turn.knows.waited else {
+        return role;
+    };
+    if turn.moment < waited.until {
+        return role;
+    }
+    unanswered(waited.question, role, turn)
+}
+
+/// A question isn't answered in time.
+fn unanswered(question: Question, role: Role, turn: &mut Turn) -> Role
+    requires turn { HasLeft 2 1 turn.old }
+    requires server { IsWithin turn.old.machine.now.server }
+    ensures outcome { reached (role_of result) turn.new ≡ unanswered turn.old.moment question (reached (role_of role) turn.old) }
+    ensures left { Spent 2 1 turn.old turn.new }
+{
+    match question {
+        Question::Reading | Question::Renewing => out_of_reach(role, turn),
+        Question::Asking => {
+            judge_if_racing(&role, turn);
+            role
+        }
+        Question::Checking => judge_if_leading(role, turn),
+        Question::Claiming => {
+            turn.knows.waited = None;
+            claim_fails(role, turn)
+        }
+        Question::Creating | Question::Syncing(_) => {
+            turn.knows.waited = None;
+            role
+        }
+    }
+}
+
+/// A leader whose read or renewal isn't answered in time ends its server, since another may have its key soon. So does one that
+/// has no lease while its server is live. In a pause their servers run on.
+fn out_of_reach(role: Role, turn: &mut Turn) -> Role
+    requires turn { HasLeft 1 0 turn.old }
+    requires server { IsWithin turn.old.machine.now.server }
+    ensures outcome { reached (role_of result) turn.new ≡ out_of_reach turn.old.moment (reached (role_of role) turn.old) }
+    ensures left { Spent 1 0 turn.old turn.new }
+{
+    turn.knows.waited = None;
+    if is_paused(turn.knows) {
+        return role;
+    }
+    match role {
+        Role::Leader(writer) => turn.lose(writer, Reason::StoreOutOfReach),
+        Role::Stray => {
+            turn.end_server(Reason::StoreOutOfReach);
+            Role::Stray
+        }
+        role => role,
+    }
+}
+
+/// A turn begins, if one is due.
+fn turned(role: &Role, turn: &mut Turn)
+    requires { HasLeft 1 1 turn.old }
+    ensures outcome { reached (role_of role.now) turn.new ≡ turned turn.old.moment (reached (role_of role.now) turn.old) }
+    ensures left { Spent 1 1 turn.old turn.new }
+{
+    if has_turn(turn.moment, turn.knows) {
+        turn_begins(role, turn);
+    }
+}
+
+/// A turn begins. Who ends its server only waits for that.
+fn turn_begins(role: &Role, turn: &mut Turn)
+    requires { HasLeft 1 1 turn.old }
+    ensures outcome { reached (role_of role.now) turn.new ≡ turn_begins turn.old.moment (reached (role_of role.now) turn.old) }
+    ensures left { Spent 1 1 turn.old turn.new }
+{
+    turn.knows.last_turn = Some(turn.moment);
+    turn.knows.next_turn = turn.moment + turn.knows.settings.loop_wait_ticks();
+    match role {
+        Role::Ending(_, _) => {}
+        Role::Stray if is_stopping(turn.machine.server.state) => {}
+        _ => read(turn),
+    }
+}
+
+fn is_stopping(state: State) -> bool
+    ensures { result ≡ is_stopping state }
+{
+    matches!(state, State::Stopping { .. })
+}
+
+/// Asks what the key store holds.
+fn read(turn: &mut Turn)
+    requires { HasLeft 1 1 turn.old }
+    ensures outcome { ComesTo (reading turn.old.moment) turn.old turn.new }
+    ensures left { Spent 1 1 turn.old turn.new }
+{
+    let until = turn.moment + turn.knows.settings.retry_timeout_ticks();
+    turn.ask(Question::Reading, until, Body::Read);
+}

@@ -1,0 +1,297 @@
+//! What an agent does, of which the rows are made: messages, orders to its server, and its watchdog.
+ghost use Rattle.std.specs.Prelude.{◌≡◌, ◌≤◌, ◌<◌, ◌+◌, ◌*◌, ◌^◌, if◌then◌else◌, IfOk, IfErr, Some, None, false, true, is_err};
+ghost use Rattle.pat_base.specs.ServerState.{live};
+ghost use Rattle.pg_model.specs.Status.{status_stopping};
+ghost use Rattle.lease_store.specs.declared.txn.Txn.TheVariants as txns;
+ghost use Rattle.event_book.specs.declared.message.Body.TheVariants as bodies;
+ghost use Rattle.leader_key.specs.Lease.{lease_revision, armed_revision, writer_revision};
+ghost use Rattle.leader_key.specs.Watchdog.{IsLeaseSpan, is_armable};
+ghost use Rattle.agent_model.specs.declared.output.Output.TheVariants as outputs;
+ghost use Rattle.agent_model.specs.declared.why.Why.TheVariants as whys;
+ghost use Rattle.agent_model.specs.Acting.{sending, asking, touching, releasing, ending_server, requiring, disarming, arming, feeding, armed, disarmed, fed_until, is_refusing, is_hold_active, waiting_no_more};
+ghost use Rattle.agent_model.specs.Agents.{IsSound, IsWithin, Ending, Stray, Outcome};
+ghost use Rattle.agent_model.specs.Outputs.{listed};
+ghost use Rattle.agent_model.specs.Pausing.{rest_told, resting, running_without_key};
+ghost use Rattle.agent_turn.specs.Roles.{role_of};
+ghost use Rattle.agent_turn.specs.Turns.{HasLeft, Spent, ComesTo};
+
+use crate::info::info_of;
+use crate::outputs::Outputs;
+use crate::role::Role;
+use crate::turn::Turn;
+use agent_model::{Output, Question, Target, Waited, Why};
+use event_book::{Body, Reason};
+use leader_key::{Armed, Lease, Mode, NotArmed, Watchdog, Writer};
+use lease_store::{Granted, Txn};
+use pat_base::{Required, Ticks};
+
+impl Turn<'_> {
+    /// Sends this to the key store, and doesn't wait for the answer.
+    pub fn send(&mut self, body: Body)
+        requires { HasLeft 1 1 self.old }
+        ensures outcome { ComesTo (sending body) self.old self.new }
+        ensures left { Spent 1 1 self.old self.new }
+    {
+        self.knows.sequence += 1;
+        self.out.put(Output::Send {
+            to: Target::Store,
+            sequence: self.knows.sequence,
+            body,
+        });
+    }
+
+    /// Asks the key store, and waits for the answer until a moment.
+    pub fn ask(&mut self, question: Question, until: Ticks, body: Body)
+        requires { HasLeft 1 1 self.old }
+        ensures outcome { ComesTo (asking self.old.moment question until body) self.old self.new }
+        ensures left { Spent 1 1 self.old self.new }
+    {
+        self.send(body);
+        self.knows.waited = Some(Waited {
+            question,
+            sequence: self.knows.sequence,
+            until,
+            ttl: self.knows.settings.ttl_ticks(),
+            sent: self.moment,
+        });
+    }
+
+    /// Nothing is waited for any more.
+    pub fn wait_no_more(&mut self)
+        requires { HasLeft 0 0 self.old }
+        ensures outcome { ComesTo waiting_no_more self.old self.new }
+        ensures left { Spent 0 0 self.old self.new }
+    {
+        self.knows.waited = None;
+    }
+
+    /// Tells of itself, without waiting for the answer.
+    pub fn touch(&mut self)
+        requires { HasLeft 1 1 self.old }
+        ensures outcome { ComesTo touching self.old self.new }
+        ensures left { Spent 1 1 self.old self.new }
+    {
+        let touch = Txn::Touch {
+            info: info_of(&self.knows.who, &self.machine.server),
+            ttl: self.knows.settings.ttl_ticks(),
+        };
+        self.send(Body::Request(touch));
+    }
+
+    /// Gives the leader key up.
+    pub fn release(&mut self, lease: Lease)
+        requires { HasLeft 1 1 self.old }
+        ensures outcome { ComesTo (releasing (lease_revision lease)) self.old self.new }
+        ensures left { Spent 1 1 self.old self.new }
+    {
+        self.send(Body::Request(lease.release()));
+    }
+
+    /// Ends the server.
+    pub fn end_server(&mut self, reason: Reason)
+        requires turn { HasLeft 1 0 self.old }
+        requires server { IsWithin self.old.machine.now.server }
+        ensures outcome { ComesTo (ending_server self.old.moment reason) self.old self.new }
+        ensures left { Spent 1 0 self.old self.new }
+    {
+        self.machine.server.stop(self.moment);
+        self.out.put(Output::Stop { reason });
+    }
+
+    /// A leader ends its server, since it loses the leader key.
+    pub fn lose(&mut self, writer: Writer, reason: Reason) -> Role
+        requires turn { HasLeft 1 0 self.old }
+        requires server { IsWithin self.old.machine.now.server }
+        ensures role { role_of result ≡ Ending (writer_revision writer) whys.Lost }
+        ensures outcome { ComesTo (ending_server self.old.moment reason) self.old self.new }
+        ensures left { Spent 1 0 self.old self.new }
+    {
+        self.end_server(reason);
+        Role::Ending(writer, Why::Lost)
+    }
+
+    /// The server's commits wait for these from now on.
+    pub fn require(&mut self, required: Required)
+        requires { HasLeft 1 0 self.old }
+        ensures outcome { ComesTo (requiring required) self.old self.new }
+        ensures left { Spent 1 0 self.old self.new }
+    {
+        self.machine.replication.required = required;
+        self.out.put(Output::Require { required });
+    }
+
+    /// Removes the watchdog's deadline.
+    pub fn disarm(&mut self)
+        requires { HasLeft 1 0 self.old }
+        ensures outcome { ComesTo disarming self.old self.new }
+        ensures left { Spent 1 0 self.old self.new }
+    {
+        let deadline = self.machine.watchdog.deadline();
+        note_disarmed(self.out, deadline);
+        self.machine.watchdog.disarm();
+    }
+
+    /// The server of a writer has ended: its lease, and no deadline.
+    pub fn end_writer(&mut self, writer: Writer) -> Lease
+        requires turn { HasLeft 1 0 self.old }
+        requires ended { live self.old.machine.now.server.state ≡ false }
+        ensures revision { lease_revision result ≡ writer_revision writer }
+        ensures outcome { ComesTo disarming self.old self.new }
+        ensures left { Spent 1 0 self.old self.new }
+    {
+        let deadline = self.machine.watchdog.deadline();
+        note_disarmed(self.out, deadline);
+        let state = self.machine.server.state;
+        writer.end(&state, &mut self.machine.watchdog)
+    }
+
+    /// What was armed is given up: its lease, and no deadline.
+    pub fn undo(&mut self, armed: Armed) -> Lease
+        requires { HasLeft 1 0 self.old }
+        ensures revision { lease_revision result ≡ armed_revision armed }
+        ensures outcome { ComesTo disarming self.old self.new }
+        ensures left { Spent 1 0 self.old self.new }
+    {
+        let deadline = self.machine.watchdog.deadline();
+        note_disarmed(self.out, deadline);
+        armed.undo(&mut self.machine.watchdog)
+    }
+
+    /// Arms the watchdog on a lease. The lease comes back exactly where the member needs a watchdog whose device doesn't work.
+    pub fn arm(&mut self, lease: Lease, ttl: Ticks) -> Result<Armed, Lease>
+        requires turn { HasLeft 1 0 self.old }
+        requires span { IsLeaseSpan ttl.0 }
+        ensures refused { is_err result ≡ is_refusing self.old.machine.now.watchdog.mode self.old.machine.now.watchdog.works }
+        ensures armed { IfOk result (λ value. (armed_revision value ≡ lease_revision lease) × ComesTo (arming self.old.moment ttl) self.old self.new) }
+        ensures kept { IfErr result (λ back. (back ≡ lease) × ComesTo (λ o. o) self.old self.new × Spent 0 0 self.old self.new) }
+        ensures left { Spent 1 0 self.old self.new }
+    {
+        match lease.arm(&mut self.machine.watchdog, self.moment, ttl) {
+            Err(NotArmed(lease)) => Err(lease),
+            Ok(armed) => {
+                let deadline = deadline_of(&self.machine.watchdog);
+                note_armed(self.out, deadline);
+                Ok(armed)
+            }
+        }
+    }
+
+    /// Feeds the watchdog of a writer, whose lease was renewed.
+    pub fn feed(&mut self, writer: Writer, ttl: Ticks, grant: Granted) -> Writer
+        requires turn { HasLeft 1 0 self.old }
+        requires span { IsLeaseSpan ttl.0 }
+        requires leased { grant.leased ≡ true }
+        ensures revision { writer_revision result ≡ grant.revision }
+        ensures outcome { ComesTo (feeding self.old.moment ttl) self.old self.new }
+        ensures left { Spent 1 0 self.old self.new }
+    {
+        let writer = writer.renewed(grant, &mut self.machine.watchdog, self.moment, ttl);
+        let deadline = deadline_of(&self.machine.watchdog);
+        note_fed(self.out, deadline);
+        writer
+    }
+
+    /// A leader whose lease was renewed goes on without a watchdog.
+    pub fn rest_writer(&mut self, writer: Writer, renews: bool, grant: Granted) -> Writer
+        requires turn { HasLeft 2 0 self.old }
+        requires leased { grant.leased ≡ true }
+        ensures revision { writer_revision result ≡ grant.revision }
+        ensures outcome { ComesTo (resting renews) self.old self.new }
+        ensures left { Spent 2 0 self.old self.new }
+    {
+        let deadline = self.machine.watchdog.deadline();
+        tell_rest(self.out, renews, deadline);
+        writer.rested(grant, &mut self.machine.watchdog)
+    }
+
+    /// A member leads without a watchdog, on a lease that it gets by a renewal or as the key was free.
+    pub fn rest(&mut self, lease: Lease, renews: bool) -> Armed
+        requires { HasLeft 2 0 self.old }
+        ensures revision { armed_revision result ≡ lease_revision lease }
+        ensures outcome { ComesTo (resting renews) self.old self.new }
+        ensures left { Spent 2 0 self.old self.new }
+    {
+        let deadline = self.machine.watchdog.deadline();
+        tell_rest(self.out, renews, deadline);
+        lease.rest(&mut self.machine.watchdog)
+    }
+
+    /// A primary runs on without the leader key.
+    pub fn run_without_key(&mut self) -> Role
+        requires { HasLeft 1 0 self.old }
+        ensures role { role_of result ≡ Stray }
+        ensures outcome { ComesTo running_without_key self.old self.new }
+        ensures left { Spent 1 0 self.old self.new }
+    {
+        self.out.put(Output::RunsWithoutKey);
+        Role::Stray
+    }
+}
+
+fn note_disarmed(out: &mut Outputs, deadline: Option<Ticks>)
+    requires { 1 ≤ out.old.spare }
+    ensures out { out.new.outputs ≡ disarmed deadline out.old.outputs }
+    ensures room { out.old.spare ≤ out.new.spare + 1 }
+{
+    if deadline.is_some() {
+        out.put(Output::Disarmed);
+    }
+}
+
+/// Tells the watchdog's new deadline, if it got one.
+fn note_fed(out: &mut Outputs, deadline: Option<Ticks>)
+    requires { 1 ≤ out.old.spare }
+    ensures out { out.new.outputs ≡ fed_until deadline out.old.outputs }
+    ensures room { out.old.spare ≤ out.new.spare + 1 }
+{
+    if let Some(until) = deadline {
+        out.put(Output::Fed { until });
+    }
+}
+
+/// Tells the watchdog's first deadline, if it got one.
+fn note_armed(out: &mut Outputs, deadline: Option<Ticks>)
+    requires { 1 ≤ out.old.spare }
+    ensures out { out.new.outputs ≡ armed deadline out.old.outputs }
+    ensures room { out.old.spare ≤ out.new.spare + 1 }
+{
+    if let Some(until) = deadline {
+        out.put(Output::Armed { until });
+    }
+}
+
+/// The deadline of a watchdog that is used and whose device works.
+fn deadline_of(watchdog: &Watchdog) -> Option<Ticks>
+    ensures { result ≡ if is_armable watchdog.now.mode watchdog.now.works then watchdog.now.deadline else None }
+{
+    match watchdog.mode() {
+        Mode::Off => None,
+        Mode::Automatic | Mode::Required if watchdog.works() => watchdog.deadline(),
+        _ => None,
+    }
+}
+
+/// Whether a hold is active.
+pub fn is_hold_active(now: Ticks, hold: Option<Ticks>) -> bool
+    ensures { result ≡ is_hold_active now hold }
+{
+    match hold {
+        None => false,
+        Some(hold) => now < hold,
+    }
+}
+
+/// Tells that a deadline is removed, and notes it where that comes of a renewal.
+fn tell_rest(out: &mut Outputs, renews: bool, deadline: Option<Ticks>)
+    requires { 2 ≤ out.old.spare }
+    ensures out { out.new.outputs ≡ rest_told renews deadline out.old.outputs }
+    ensures room { out.old.spare ≤ out.new.spare + 2 }
+{
+    if deadline.is_none() {
+        return;
+    }
+    out.put(Output::Disarmed);
+    if renews {
+        out.put(Output::DisablesWatchdog);
+    }
+}

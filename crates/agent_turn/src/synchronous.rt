@@ -1,0 +1,110 @@
+//! What an agent reads of the sync key, and whom commits come to wait for (Patroni documentation, "Replication modes").
+ghost use Rattle.std.specs.Prelude.{◌≡◌, option_copied};
+ghost use Rattle.cluster_config.specs.KeyValues.{sync_by};
+ghost use Rattle.agent_model.specs.Synchronous.{sync_read_by, sync_read_of_entry, sync_read_in, sync_read_if, expected_of, is_named_if, may_lead_in_sync, is_strict, unnamed, waiting_for};
+
+use agent_model::{Knowledge, SyncRead};
+use cluster_config::{Snapshot, is_failover_to, is_named};
+use lease_store::{Config, Expected, Key, KeyEntry, SyncKey, Value};
+use pat_base::{MemberId, MemberSet, Required};
+
+/// The sync key that a snapshot has, with its revision.
+pub fn sync_read_in(snapshot: &Snapshot) -> Option<SyncRead>
+    ensures { result ≡ sync_read_in snapshot.now }
+{
+    sync_read_of_entry(snapshot.entry(Key::Sync))
+}
+
+fn sync_read_of_entry(found: Option<&KeyEntry>) -> Option<SyncRead>
+    ensures { result ≡ sync_read_of_entry (option_copied found.entry) }
+{
+    let found = found?;
+    sync_read_by(found.revision, sync_by(&found.value))
+}
+
+/// A sync key that was written under this revision.
+fn sync_read_by(revision: u64, key: Option<SyncKey>) -> Option<SyncRead>
+    ensures { result ≡ sync_read_by revision key }
+{
+    let key = key?;
+    Some(SyncRead { key, revision })
+}
+
+/// The sync key by a value of it.
+fn sync_by(value: &Value) -> Option<SyncKey>
+    ensures { result ≡ sync_by value.now }
+{
+    match value {
+        Value::Sync(sync) => Some(*sync),
+        _ => None,
+    }
+}
+
+/// The sync key of the newest snapshot, if there is one.
+pub fn sync_read_if(seen: Option<&Snapshot>) -> Option<SyncRead>
+    ensures { result ≡ sync_read_if (option_copied seen.entry) }
+{
+    sync_read_in(seen?)
+}
+
+/// What a request expects of a sync key that was read so.
+pub fn expected_of(read: Option<SyncRead>) -> Expected
+    ensures { result ≡ expected_of read }
+{
+    match read {
+        None => Expected::Absent,
+        Some(read) => Expected::Revision(read.revision),
+    }
+}
+
+/// The key that was read doesn't keep this member from leading.
+pub fn is_named_if(me: MemberId, read: Option<SyncRead>) -> bool
+    ensures { result ≡ is_named_if me read }
+{
+    match read {
+        None => true,
+        Some(read) => is_named(me, read.key),
+    }
+}
+
+/// In synchronous mode only a member may lead that the sync key names, as the turn read both, or one that a failover by hand names
+/// (Patroni documentation, "Switchover and failover endpoints").
+pub fn may_lead_in_sync(knows: &Knowledge) -> bool
+    ensures { result ≡ may_lead_in_sync knows.now }
+{
+    if knows.turn_settings.synchronous_mode {
+        is_named_if(knows.who.me, knows.turn_sync)
+            || is_failover_to(knows.who.me, knows.turn_failover)
+    } else {
+        true
+    }
+}
+
+/// Commits wait for some standby in synchronous mode, also where none is named.
+fn is_strict(settings: &Config) -> bool
+    ensures { result ≡ is_strict settings.now }
+{
+    settings.synchronous_mode && settings.synchronous_mode_strict
+}
+
+/// Whom commits wait for where no standby is named.
+pub fn unnamed(settings: &Config) -> Required
+    ensures { result ≡ unnamed settings.now }
+{
+    if is_strict(settings) {
+        Required::AnyOne
+    } else {
+        Required::Nobody
+    }
+}
+
+/// Whom commits wait for where these standbys are named.
+pub fn waiting_for(settings: &Config, standbys: MemberSet) -> Required
+    ensures { result ≡ waiting_for settings.now standbys }
+{
+    if standbys.is_empty() {
+        unnamed(settings)
+    } else {
+        Required::All(standbys)
+    }
+}
