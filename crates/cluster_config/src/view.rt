@@ -17,7 +17,7 @@ pub enum RoleWord {
     /// It ends its server, and has the leader key until that has ended.
     Ending,
     /// Its server accepts writes, or will, while it has no lease.
-    Stray,
+    Unleased,
 }
 
 /// What an agent shows of itself and of its server at a moment: to operators, to other members, and to those who ask about

@@ -32,7 +32,7 @@ const PATHS: [&str; 14] = [
 const LATER: Ticks = Ticks(200);
 
 /// The roles without the leader key, and those that hold it.
-const WITHOUT_KEY: [RoleWord; 2] = [RoleWord::Follower, RoleWord::Stray];
+const WITHOUT_KEY: [RoleWord; 2] = [RoleWord::Follower, RoleWord::Unleased];
 
 const WITH_KEY: [RoleWord; 4] = [
     RoleWord::Holder,

@@ -24,7 +24,7 @@ has_key roles.Holder = true
 has_key roles.Ready = true
 has_key roles.Leader = true
 has_key roles.Ending = true
-has_key roles.Stray = false
+has_key roles.Unleased = false
 
 -- what refuses a restart; nothing where the server runs
 abbrev pub restart_refusal : AgentView → Option Refused

@@ -47,6 +47,6 @@ fn has_key(role: RoleWord) -> bool
 {
     match role {
         RoleWord::Holder | RoleWord::Ready | RoleWord::Leader | RoleWord::Ending => true,
-        RoleWord::Follower | RoleWord::Stray => false,
+        RoleWord::Follower | RoleWord::Unleased => false,
     }
 }

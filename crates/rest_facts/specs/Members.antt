@@ -27,7 +27,7 @@ has_key roles.Holder = true
 has_key roles.Ready = true
 has_key roles.Leader = true
 has_key roles.Ending = true
-has_key roles.Stray = false
+has_key roles.Unleased = false
 
 -- the sync key, if there is one, names the member as a standby
 abbrev pub is_standby_of : MemberId → Option SyncKey → Bool

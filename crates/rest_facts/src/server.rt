@@ -31,7 +31,7 @@ pub(crate) fn has_key(role: RoleWord) -> bool
 {
     match role {
         RoleWord::Holder | RoleWord::Ready | RoleWord::Leader | RoleWord::Ending => true,
-        RoleWord::Follower | RoleWord::Stray => false,
+        RoleWord::Follower | RoleWord::Unleased => false,
     }
 }
 
