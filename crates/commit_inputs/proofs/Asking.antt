@@ -18,7 +18,7 @@ use Rattle.event_book.specs.declared.message.Body.TheVariants as bodies
 use Rattle.event_book.specs.declared.message.Message.{Message}
 use Rattle.event_book.specs.Facts.{Facts}
 use Rattle.event_book.specs.Flight.{sent_after}
-use Rattle.event_book.specs.Functions.{put_at}
+use Rattle.event_book.specs.Functions.{put_at, set_members}
 use Rattle.script_model.specs.Script.{HeadText}
 use Rattle.agent_model.specs.declared.heard.Heard.{Heard}
 use Rattle.agent_model.specs.declared.knowledge.Question.{Question}
@@ -84,7 +84,7 @@ put-by member run sequence on Claiming (txns.Claim revision sync) puts follows =
 put-by member run sequence on (Syncing Stays) (txns.SetSync revision sync standbys) puts follows =
     (publish_request member.id.number run sequence revision sync standbys, refl, record { writes = refl; standbys = λ r. tt })
 put-by member run sequence on (Syncing (Lists set)) (txns.SetSync revision sync standbys) puts follows =
-    (publish_request member.id.number run sequence revision sync standbys, refl, record { writes = refl; standbys = λ r n. ap (λ (names : MemberSet). lease_past.set_members names n) puts })
+    (publish_request member.id.number run sequence revision sync standbys, refl, record { writes = refl; standbys = λ r n. ap (λ (names : MemberSet). set_members names n) puts })
 put-by member run sequence on (Syncing Empties) txn puts follows = absurd follows
 put-by member run sequence on _ _ puts follows = absurd puts
 

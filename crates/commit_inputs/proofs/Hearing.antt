@@ -39,6 +39,7 @@ use Rattle.cluster_model.specs.Hearing.{heard_from, heard_in, member_at_end, sna
 use Rattle.cluster_model.specs.State.{Cluster}
 use Rattle.lease_law.specs.Leases.{FailsafeKey, LeaderKey}
 use Rattle.lease_law.specs.Past as lease_past
+use Rattle.event_book.specs.Functions.{set_members}
 use Rattle.lease_law.specs.Stores.{failsafe_key_of, leader_key_of}
 use Rattle.lease_law.proofs.Tools.{and-first, eq-from, none-some, not-false, some-is}
 use Rattle.lease_book.proofs.Hearing.{heard-granted}
@@ -76,14 +77,14 @@ on-is : (found : Option KeyEntry) → IsOnHeld found → (settings_of_entry defa
 on-is None on = absurd on
 on-is (Some found) on = on-by found.value on
 
-nobody-below : (count n : ℕ) → lease_past.set_members nobody n ≡ true → n < count
-nobody-below count n is = absurd (not-false (lease_past.set_members nobody n) (no-members nobody refl n) is)
+nobody-below : (count n : ℕ) → set_members nobody n ≡ true → n < count
+nobody-below count n is = absurd (not-false (set_members nobody n) (no-members nobody refl n) is)
 
-below-by : (count revision : ℕ) (value : Value) → NamesMembers count (sync_value value revision) → (n : ℕ) → lease_past.set_members (standbys_of (sync_by value)) n ≡ true → n < count
+below-by : (count revision : ℕ) (value : Value) → NamesMembers count (sync_value value revision) → (n : ℕ) → set_members (standbys_of (sync_by value)) n ≡ true → n < count
 below-by count revision (values.Sync key) names n is = (names _ refl).members n is
 below-by count revision _ names n is = nobody-below count n is
 
-below-is : (count : ℕ) (found : Option KeyEntry) → NamesMembers count (sync_key_of found) → (n : ℕ) → lease_past.set_members (standbys_of (sync_of_entry found)) n ≡ true → n < count
+below-is : (count : ℕ) (found : Option KeyEntry) → NamesMembers count (sync_key_of found) → (n : ℕ) → set_members (standbys_of (sync_of_entry found)) n ≡ true → n < count
 below-is count None names n is = nobody-below count n is
 below-is count (Some found) names n is = below-by count found.revision found.value names n is
 

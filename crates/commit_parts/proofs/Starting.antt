@@ -23,6 +23,7 @@ use Rattle.cluster_model.specs.Next.{agent_start_events, agent_start_events_of}
 use Rattle.cluster_model.specs.Parts.{event_of, events_of, for_some}
 use Rattle.cluster_model.specs.State.{Cluster}
 use Rattle.lease_law.specs.Past as lease_past
+use Rattle.event_book.specs.Premises as lease_premises
 use Rattle.event_book.specs.Kinds.{AllAre}
 use Rattle.lease_law.proofs.Tools.{none-some, some-is}
 use Rattle.commit_law.specs.Actions.{Start, fresh_agent}
@@ -52,7 +53,7 @@ use Rattle.commit_parts.proofs.Servers.{leave-follow, moves-follow, upheld-still
 use Rattle.commit_parts.proofs.Transitions.{composable, state_behind}
 
 -- both laws read the same runs of agents
-runs-by : (known other : ℕ → ℕ) (kind : EventKind) → known ≡ other → runs_after known kind ≡ lease_past.runs_after other kind
+runs-by : (known other : ℕ → ℕ) (kind : EventKind) → known ≡ other → runs_after known kind ≡ lease_premises.runs_after other kind
 runs-by known other (kinds.Agent (agents.Started agent run)) same = ap (λ (runs : ℕ → ℕ). put_at runs agent.id.number run) same
 runs-by known other _ same = same
 
