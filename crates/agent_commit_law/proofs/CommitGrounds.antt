@@ -20,13 +20,13 @@ use Rattle.lease_law.proofs.Tools.{some-is, none-some, eq-from}
 use Rattle.lease_law.specs.Past.{set_members}
 use Rattle.sync_state.specs.Published.{standbys_of, published_in}
 use Rattle.sync_state.specs.Standbys.{required_members, noted_position}
-use Rattle.commit_law.proofs.Tools.{or-cases}
-use Rattle.commit_law.specs.Keys.{SyncKey, Need, Overlaps}
-use Rattle.commit_law.specs.Flights.{LeaseGrant, SyncGrant}
-use Rattle.commit_law.specs.States.{State, Reaches, Waits}
-use Rattle.commit_law.specs.Inputs.{AgentInput, HearsLeaseGrant, HearsSyncGrant, WinsByName, HasConfirmed, sync_revision_of}
-use Rattle.commit_law.specs.Carried.{IsSound, IsLed}
-use Rattle.commit_law.specs.Past.{need_in, revision_in}
+use Rattle.commit_actions.proofs.Tools.{or-cases}
+use Rattle.commit_actions.specs.Keys.{SyncKey, Need, Overlaps}
+use Rattle.commit_actions.specs.Flights.{LeaseGrant, SyncGrant}
+use Rattle.commit_actions.specs.States.{State, Reaches, Waits}
+use Rattle.commit_actions.specs.Inputs.{AgentInput, HearsLeaseGrant, HearsSyncGrant, WinsByName, HasConfirmed, sync_revision_of}
+use Rattle.commit_actions.specs.Carried.{IsSound, IsLed}
+use Rattle.commit_actions.specs.Past.{need_in, revision_in}
 use Rattle.agent_model.specs.declared.knowledge.Knowledge.{Knowledge}
 use Rattle.agent_model.specs.declared.knowledge.SyncRead.{SyncRead}
 use Rattle.agent_model.specs.declared.knowledge.Waited.{Waited}
@@ -36,7 +36,7 @@ use Rattle.agent_model.specs.declared.who.Who.{Who}
 use Rattle.agent_model.specs.Agents.{RoleFacts, Leader, Outcome, Ready, is_leader, is_ready}
 use Rattle.agent_model.specs.Before.{before, before_as, finds_live, has_ended}
 use Rattle.agent_commit_law.specs.Committing.{sync_seen, number_waited, IsConnected, IsEndOf, StandsToCommit, IsAwaitedWrite, HearsLease, HearsWrite}
-use Rattle.commit_law.specs.Keys.{IsStrict}
+use Rattle.commit_actions.specs.Keys.{IsStrict}
 use Rattle.agent_model.specs.Decisions.{asks_lease, asks_sync, is_lease_of, is_write_of, may_create}
 use Rattle.agent_model.specs.Fits.{Fits}
 use Rattle.agent_law.specs.Powers.{IsAwaitedLease}
