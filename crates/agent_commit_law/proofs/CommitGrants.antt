@@ -11,12 +11,12 @@ use Rattle.event_book.specs.declared.message.Body.TheVariants as bodies
 use Rattle.event_book.specs.Functions.{set_members}
 use Rattle.sync_state.specs.Published.{published_in}
 use Rattle.sync_state.specs.Standbys.{required_members, noted_position}
-use Rattle.commit_law.specs.Keys.{SyncKey, Need, Overlaps, Added, Narrows}
-use Rattle.commit_law.specs.Flights.{SyncRequest}
-use Rattle.commit_law.specs.States.{Agent, State}
-use Rattle.commit_law.specs.Inputs.{AgentInput, ChangingRequired, Publishing, SettlingRequired, sync_revision_of}
-use Rattle.commit_law.specs.Carried.{IsSound}
-use Rattle.commit_law.specs.Past.{need_in, publish_request}
+use Rattle.commit_actions.specs.Keys.{SyncKey, Need, Overlaps, Added, Narrows}
+use Rattle.commit_actions.specs.Flights.{SyncRequest}
+use Rattle.commit_actions.specs.States.{Agent, State}
+use Rattle.commit_actions.specs.Inputs.{AgentInput, ChangingRequired, Publishing, SettlingRequired, sync_revision_of}
+use Rattle.commit_actions.specs.Carried.{IsSound}
+use Rattle.commit_actions.specs.Past.{need_in, publish_request}
 use Rattle.agent_model.specs.declared.heard.Heard.TheVariants.{Granted as HeardGranted}
 use Rattle.agent_model.specs.declared.knowledge.Settling.{Settling}
 use Rattle.agent_model.specs.declared.machine.Replication.{Replication}

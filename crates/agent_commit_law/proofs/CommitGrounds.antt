@@ -20,13 +20,13 @@ use Rattle.lease_law.proofs.Tools.{some-is, none-some, eq-from}
 use Rattle.event_book.specs.Functions.{set_members}
 use Rattle.sync_state.specs.Published.{standbys_of, published_in}
 use Rattle.sync_state.specs.Standbys.{required_members, noted_position}
-use Rattle.commit_law.proofs.Tools.{or-cases}
-use Rattle.commit_law.specs.Keys.{SyncKey, Need, Overlaps, IsStrict}
-use Rattle.commit_law.specs.Flights.{LeaseGrant, SyncGrant}
-use Rattle.commit_law.specs.States.{State, Reaches, Waits}
-use Rattle.commit_law.specs.Inputs.{AgentInput, HearsLeaseGrant, HearsSyncGrant, WinsByName, HasConfirmed, sync_revision_of}
-use Rattle.commit_law.specs.Carried.{IsSound, IsLed}
-use Rattle.commit_law.specs.Past.{need_in, revision_in}
+use Rattle.commit_actions.proofs.Tools.{or-cases}
+use Rattle.commit_actions.specs.Keys.{SyncKey, Need, Overlaps, IsStrict}
+use Rattle.commit_actions.specs.Flights.{LeaseGrant, SyncGrant}
+use Rattle.commit_actions.specs.States.{State, Reaches, Waits}
+use Rattle.commit_actions.specs.Inputs.{AgentInput, HearsLeaseGrant, HearsSyncGrant, WinsByName, HasConfirmed, sync_revision_of}
+use Rattle.commit_actions.specs.Carried.{IsSound, IsLed}
+use Rattle.commit_actions.specs.Past.{need_in, revision_in}
 use Rattle.agent_model.specs.declared.knowledge.Knowledge.{Knowledge}
 use Rattle.agent_model.specs.declared.knowledge.SyncRead.{SyncRead}
 use Rattle.agent_model.specs.declared.knowledge.Waited.{Waited}

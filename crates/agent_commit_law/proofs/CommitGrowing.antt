@@ -13,8 +13,8 @@ use Rattle.cluster_config.specs.KeyValues.{config_in}
 use Rattle.cluster_config.specs.Snapshots.{SnapshotFacts}
 use Rattle.event_book.specs.Functions.{set_members}
 use Rattle.lease_law.proofs.Tools.{both as no-both, none-some, not-false}
-use Rattle.commit_law.specs.Keys.{Need, Nobody, All, AtLeast, Narrows}
-use Rattle.commit_law.specs.Past.{need_in}
+use Rattle.commit_actions.specs.Keys.{Need, Nobody, All, AtLeast, Narrows}
+use Rattle.commit_actions.specs.Past.{need_in}
 use Rattle.cluster_config.specs.Naming.{is_one_of}
 use Rattle.sync_state.specs.Published.{published_in}
 use Rattle.sync_state.specs.Sets.{nobody, set_of}

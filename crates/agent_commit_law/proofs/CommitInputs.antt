@@ -20,9 +20,9 @@ use Rattle.event_book.specs.Functions.{set_members}
 use Rattle.lease_law.proofs.Tools.{some-is, none-some, not-false}
 use Rattle.sync_state.specs.Published.{published_in}
 use Rattle.sync_state.specs.Sets.{both, either}
-use Rattle.commit_law.specs.Actions.{fresh_agent}
-use Rattle.commit_law.specs.States.{Agent, State}
-use Rattle.commit_law.specs.Inputs.{AgentInput, HearsSnapshot, Does, Idling, Racing, HearingAnswer, WinningRace, CreatingLeader, Arming, TakingOver, ChangingRequired, Publishing, Promoting, SettlingRequired, ArmsAlone, IsGivenByLease}
+use Rattle.commit_actions.specs.Actions.{fresh_agent}
+use Rattle.commit_actions.specs.States.{Agent, State}
+use Rattle.commit_actions.specs.Inputs.{AgentInput, HearsSnapshot, Does, Idling, Racing, HearingAnswer, WinningRace, CreatingLeader, Arming, TakingOver, ChangingRequired, Publishing, Promoting, SettlingRequired, ArmsAlone, IsGivenByLease}
 use Rattle.agent_model.specs.declared.heard.Heard.{Heard}
 use Rattle.agent_model.specs.declared.heard.Heard.TheVariants.{Wake, Got, Granted as HeardGranted, Mismatch, Asked, Answered, Operated as HearsOperator}
 use Rattle.agent_model.specs.declared.knowledge.Knowledge.{Knowledge}

@@ -7,11 +7,11 @@ use Rattle.pat_base.specs.declared.ticks.Ticks.{Ticks}
 use Rattle.cluster_config.specs.Snapshots.{SnapshotFacts}
 use Rattle.lease_law.proofs.Tools.{some-is, none-some}
 use Rattle.sync_state.specs.Standbys.{noted_position}
-use Rattle.commit_law.specs.Flights.{SyncRequest}
-use Rattle.commit_law.specs.Keys.{SyncKey}
-use Rattle.commit_law.specs.States.{Agent, State}
-use Rattle.commit_law.specs.Inputs.{AgentInput, HearsSnapshot, KeepsTurn, BeginsTurn, KeepsServer, Sends, Does, Idling}
-use Rattle.commit_law.specs.Past.{need_in}
+use Rattle.commit_actions.specs.Flights.{SyncRequest}
+use Rattle.commit_actions.specs.Keys.{SyncKey}
+use Rattle.commit_actions.specs.States.{Agent, State}
+use Rattle.commit_actions.specs.Inputs.{AgentInput, HearsSnapshot, KeepsTurn, BeginsTurn, KeepsServer, Sends, Does, Idling}
+use Rattle.commit_actions.specs.Past.{need_in}
 use Rattle.agent_model.specs.declared.heard.Heard.{Heard}
 use Rattle.agent_model.specs.declared.knowledge.Waited.{Waited}
 use Rattle.agent_model.specs.Agents.{Outcome}

@@ -16,8 +16,8 @@ use Rattle.lease_store.specs.declared.value.MemberInfo.{MemberInfo}
 use Rattle.event_book.specs.declared.message.Body.{Body}
 use Rattle.lease_law.proofs.Tools.{none-some}
 use Rattle.event_book.specs.declared.message.Body.TheVariants as bodies
-use Rattle.commit_law.specs.Flights.{SyncRequest}
-use Rattle.commit_law.specs.Past.{create_query, renew_query, query_of}
+use Rattle.commit_actions.specs.Flights.{SyncRequest}
+use Rattle.commit_actions.specs.Past.{create_query, renew_query, query_of}
 use Rattle.agent_model.specs.declared.output.Output.{Output}
 use Rattle.agent_model.specs.declared.output.Output.TheVariants as outputs
 use Rattle.agent_model.specs.declared.output.Target.TheVariants as targets

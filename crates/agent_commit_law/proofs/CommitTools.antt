@@ -19,9 +19,9 @@ use Rattle.event_book.specs.Functions.{set_members}
 use Rattle.sync_state.specs.Sets.{nobody, both, either, is_within, set_of}
 use Rattle.sync_state.specs.Standbys.{required_members, noted_position, has_confirmed, confirmed_in}
 use Rattle.sync_state.proofs.SetBits.{bit_where, bit-set_of}
-use Rattle.commit_law.specs.Keys.{Need, Nobody, All, count, Overlaps, Narrows}
-use Rattle.commit_law.specs.Past.{need_in}
-use Rattle.commit_law.proofs.Counting.{none-of, count-empty}
+use Rattle.commit_actions.specs.Keys.{Need, Nobody, All, count, Overlaps, Narrows}
+use Rattle.commit_actions.specs.Past.{need_in}
+use Rattle.commit_actions.proofs.Counting.{none-of, count-empty}
 use Rattle.agent_model.specs.Synchronous.{is_strict, unnamed, waiting_for}
 use Rattle.agent_model.proofs.Rows.{if-cases}
 

@@ -20,12 +20,12 @@ use Rattle.event_book.specs.declared.message.Body.TheVariants as bodies
 use Rattle.event_book.specs.Functions.{set_members}
 use Rattle.sync_state.specs.Published.{published_in}
 use Rattle.sync_state.specs.Standbys.{noted_position}
-use Rattle.commit_law.specs.Keys.{IsStrict, SyncKey, Need, Nobody, All as AllOf, AtLeast}
-use Rattle.commit_law.specs.Flights.{SyncRequest, LeaseGranted, SyncGranted}
-use Rattle.commit_law.specs.States.{Agent, State, HasLog}
-use Rattle.commit_law.specs.Inputs.{Sending, AgentInput, HearsSnapshot, IsLawful, Does, Racing, HearingAnswer, WinningRace, CreatingLeader, Arming, ChangingRequired, SettlingRequired}
-use Rattle.commit_law.specs.Carried.{IsSound}
-use Rattle.commit_law.specs.Past.{Query, SyncQuery, query_of, need_in}
+use Rattle.commit_actions.specs.Keys.{IsStrict, SyncKey, Need, Nobody, All as AllOf, AtLeast}
+use Rattle.commit_actions.specs.Flights.{SyncRequest, LeaseGranted, SyncGranted}
+use Rattle.commit_actions.specs.States.{Agent, State, HasLog}
+use Rattle.commit_actions.specs.Inputs.{Sending, AgentInput, HearsSnapshot, IsLawful, Does, Racing, HearingAnswer, WinningRace, CreatingLeader, Arming, ChangingRequired, SettlingRequired}
+use Rattle.commit_actions.specs.Carried.{IsSound}
+use Rattle.commit_actions.specs.Past.{Query, SyncQuery, query_of, need_in}
 use Rattle.agent_model.specs.declared.heard.Heard.{Heard}
 use Rattle.agent_model.specs.declared.heard.Heard.TheVariants as heards
 use Rattle.agent_model.specs.declared.knowledge.Knowledge.{Knowledge}

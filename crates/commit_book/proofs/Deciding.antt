@@ -22,9 +22,9 @@ use Rattle.lease_law.specs.Stores.{leader_key_of, IsLeased, is_granted as grants
 use Rattle.lease_law.proofs.SameStore.{present-endless}
 use Rattle.lease_law.proofs.Tools.{both}
 use Rattle.lease_book.proofs.Flights.{snapshot-leader}
-use Rattle.commit_law.specs.Actions.{at_revision, is_as_read}
-use Rattle.commit_law.specs.Keys.{SyncKey}
-use Rattle.commit_law.specs.Past.{Past, leader_revision, revision_in}
+use Rattle.commit_actions.specs.Actions.{at_revision, is_as_read}
+use Rattle.commit_actions.specs.Keys.{SyncKey}
+use Rattle.commit_actions.specs.Past.{Past, leader_revision, revision_in}
 use Rattle.commit_book.specs.Keys.{sync_key_of, lease_keys, IsSameKeys}
 
 turned : (m n : ℕ) → (m == n) ≡ (n == m)

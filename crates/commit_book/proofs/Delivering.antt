@@ -23,13 +23,13 @@ use Rattle.event_book.specs.Functions.{put_at}
 use Rattle.lease_law.specs.Showing.{granted_events, refused_events, read_events}
 use Rattle.lease_law.specs.Stores.{IsSpannedTxn, is_granted as is_grant}
 use Rattle.lease_law.proofs.Tools.{both, put-all}
-use Rattle.commit_law.specs.Actions.{Action, Create, Decide, Note, OtherWrite, Release, Renew, SendSnapshot, IsAllowed, IsNumbered, MayRenew, is_granted}
-use Rattle.commit_law.specs.Books.{IsShown, AreAllowed, book_of}
-use Rattle.commit_law.specs.Flights.{Flying}
-use Rattle.commit_law.specs.Past.{Setup, Past, VolatileState, OtherQuery, claim_request, publish_request, query_of, query_in_flight_of, is_keyless, is_leaderless, leader_revision, past_over, state_of}
-use Rattle.commit_law.specs.Showing.{IsOtherTxn, carries_set, decided_events}
-use Rattle.commit_law.specs.States.{State}
-use Rattle.commit_law.proofs.Showing.{claim-shown, publish-shown, create-shown, renew-shown, other-shown, release-shown, answered-shown, refused-shown, snapshot-shown}
+use Rattle.commit_actions.specs.Actions.{Action, Create, Decide, Note, OtherWrite, Release, Renew, SendSnapshot, IsAllowed, IsNumbered, MayRenew, is_granted}
+use Rattle.commit_book.specs.Books.{IsShown, AreAllowed, book_of}
+use Rattle.commit_actions.specs.Flights.{Flying}
+use Rattle.commit_actions.specs.Past.{Setup, Past, VolatileState, OtherQuery, claim_request, publish_request, query_of, query_in_flight_of, is_keyless, is_leaderless, leader_revision, past_over, state_of}
+use Rattle.commit_book.specs.Showing.{IsOtherTxn, carries_set, decided_events}
+use Rattle.commit_actions.specs.States.{State}
+use Rattle.commit_book.proofs.Showing.{claim-shown, publish-shown, create-shown, renew-shown, other-shown, release-shown, answered-shown, refused-shown, snapshot-shown}
 use Rattle.commit_book.specs.Deliveries.{transition_of, granted_if, granted_actions, refused_action, ComparesNoSync, MayBeGranted, IsDelivered}
 use Rattle.commit_book.specs.Flights.{flying_if, IsSameFlight, IsSameBook}
 use Rattle.commit_book.specs.Keys.{IsSameKeys}

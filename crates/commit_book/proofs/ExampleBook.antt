@@ -8,8 +8,8 @@ use Rattle.lease_store.specs.declared.value.MemberInfo.{MemberInfo}
 use Rattle.event_book.specs.declared.member.Member.{Member}
 use Rattle.event_book.specs.Facts.{start_of}
 use Rattle.event_book.specs.Logs.{Logs}
-use Rattle.commit_law.specs.Flights.{SyncGranted}
-use Rattle.commit_law.specs.Past.{first_past, past_over}
+use Rattle.commit_actions.specs.Flights.{SyncGranted}
+use Rattle.commit_actions.specs.Past.{first_past, past_over}
 use Rattle.commit_book.specs.Example.{led_and_claimed, claim_flying}
 use Rattle.commit_book.specs.Flights.{AreCausal}
 

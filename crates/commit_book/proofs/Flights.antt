@@ -27,10 +27,10 @@ use Rattle.lease_law.specs.Leases.{LeaderKey, FailsafeKey}
 use Rattle.lease_law.proofs.Tools.{some-is, none-some, put-all, put-here, put-there, dropped}
 use Rattle.lease_book.proofs.Entries.{in-with, in-without, rises-with, rises-without}
 use Rattle.lease_book.proofs.Flights.{snapshot-leader, snapshot-failsafe}
-use Rattle.commit_law.specs.Keys.{SyncKey}
-use Rattle.commit_law.specs.Flights.{Aim, ClaimSync, CreateLeader, PublishStandbys, SyncRequest, Flying, Requested, LeaseGranted, SnapshotSent}
-use Rattle.commit_law.specs.Actions.{sync_key_by}
-use Rattle.commit_law.specs.Past.{Past, Query, LeaseQuery, CarryQuery, SyncQuery, OtherQuery, first_past, query_of, query_sent, is_keyless, is_leaderless, failsafe_revision_of, leader_revision, lease_grant_of, sync_grant_of, request_grant_of, snapshot_of, grant_in_flight_of, answer_in_flight_of, query_in_flight_of, request_in_flight_of, race_answer_of, peer_in_flight_of, flying_of, past_after}
+use Rattle.commit_actions.specs.Keys.{SyncKey}
+use Rattle.commit_actions.specs.Flights.{Aim, ClaimSync, CreateLeader, PublishStandbys, SyncRequest, Flying, Requested, LeaseGranted, SnapshotSent}
+use Rattle.commit_actions.specs.Actions.{sync_key_by}
+use Rattle.commit_actions.specs.Past.{Past, Query, LeaseQuery, CarryQuery, SyncQuery, OtherQuery, first_past, query_of, query_sent, is_keyless, is_leaderless, failsafe_revision_of, leader_revision, lease_grant_of, sync_grant_of, request_grant_of, snapshot_of, grant_in_flight_of, answer_in_flight_of, query_in_flight_of, request_in_flight_of, race_answer_of, peer_in_flight_of, flying_of, past_after}
 use Rattle.commit_book.specs.Keys.{sync_key_of, lease_keys, IsSameKeys}
 use Rattle.commit_book.specs.Flights.{past_at_sending, flying_if, is_leasing, IsNamed, HasWritten, IsWritten, AnswersBody, Answers, IsCausal, IsSameFlight}
 use Rattle.commit_book.proofs.Keys.{sync-present}

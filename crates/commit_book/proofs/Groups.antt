@@ -35,7 +35,7 @@ use Rattle.lease_law.specs.Showing.{granted_events, refused_events, read_events}
 use Rattle.lease_law.specs.Stores.{IsSpannedTxn, IsSpanned}
 use Rattle.lease_book.proofs.Groups.{members-spanned}
 use Rattle.lease_book.specs.Groups.{IsMemberEnd, IsOfMembers, IsNumberedAbove, AreNumberedAbove}
-use Rattle.commit_law.specs.Past.{Past, Query, first_past, leader_revision, past_after, past_over, query_of}
+use Rattle.commit_actions.specs.Past.{Past, Query, first_past, leader_revision, past_after, past_over, query_of}
 use Rattle.commit_book.specs.Keys.{IsSameKeys}
 use Rattle.commit_book.specs.Flights.{is_leasing, IsNamed, IsWritten, Answers, IsCausal, AreCausal, IsSameBook}
 use Rattle.commit_book.proofs.Deciding.{granted-leader}

@@ -14,10 +14,10 @@ use Rattle.event_book.specs.Facts.{Facts}
 use Rattle.lease_law.specs.Stores.{leader_key_of, failsafe_key_of}
 use Rattle.lease_law.proofs.Tools.{both}
 use Rattle.lease_book.specs.Flights.{revision_of}
-use Rattle.commit_law.specs.Keys.{SyncKey}
-use Rattle.commit_law.specs.Flights.{Aim, ClaimSync, CreateLeader, PublishStandbys, SyncRequest, Flying, LeaseGranted, SyncGranted}
-use Rattle.commit_law.specs.Actions.{sync_key_by}
-use Rattle.commit_law.specs.Past.{Past, Query, LeaseQuery, CarryQuery, SyncQuery, OtherQuery, is_keyless, is_leaderless, lease_grant_of, sync_grant_of, request_grant_of, grant_in_flight_of}
+use Rattle.commit_actions.specs.Keys.{SyncKey}
+use Rattle.commit_actions.specs.Flights.{Aim, ClaimSync, CreateLeader, PublishStandbys, SyncRequest, Flying, LeaseGranted, SyncGranted}
+use Rattle.commit_actions.specs.Actions.{sync_key_by}
+use Rattle.commit_actions.specs.Past.{Past, Query, LeaseQuery, CarryQuery, SyncQuery, OtherQuery, is_keyless, is_leaderless, lease_grant_of, sync_grant_of, request_grant_of, grant_in_flight_of}
 use Rattle.commit_book.specs.Keys.{sync_key_of}
 use Rattle.commit_book.specs.Flights.{past_at_sending, is_creating, is_leasing, IsNamed, HasWritten, IsWritten, IsAnswerTo, Answers, IsSameFlight}
 use Rattle.commit_book.specs.Hearing.{snapshot_in, CarriesLease, CarriesWrite}

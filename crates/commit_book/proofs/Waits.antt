@@ -20,8 +20,8 @@ use Rattle.lease_book.specs.Waiting.{IsLastAsked, AsksOnly}
 use Rattle.lease_book.proofs.Flights.{asked-there}
 use Rattle.lease_book.proofs.Hearing.{heard-granted}
 use Rattle.lease_book.proofs.Waits.{asked-by}
-use Rattle.commit_law.specs.Flights.{SyncRequest}
-use Rattle.commit_law.specs.Past.{Past, Query, SyncQuery, past_after, query_of, query_sent}
+use Rattle.commit_actions.specs.Flights.{SyncRequest}
+use Rattle.commit_actions.specs.Past.{Past, Query, SyncQuery, past_after, query_of, query_sent}
 use Rattle.commit_book.specs.Flights.{is_creating, IsSameFlight}
 use Rattle.commit_book.specs.Hearing.{CarriesWrite}
 use Rattle.commit_book.specs.Waiting.{IsAskedOnce}

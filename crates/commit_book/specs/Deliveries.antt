@@ -13,11 +13,11 @@ use Rattle.event_book.specs.declared.member.Member.{Member}
 use Rattle.event_book.specs.declared.message.Body.TheVariants as bodies
 use Rattle.event_book.specs.Facts.{Facts, facts_over}
 use Rattle.lease_law.specs.Showing.{granted_events}
-use Rattle.commit_law.specs.Actions.{Action, Create, Decide, Note, OtherWrite, Release, Renew, SendSnapshot, IsNumbered}
-use Rattle.commit_law.specs.Books.{Transition, AreAllowed, book_of}
-use Rattle.commit_law.specs.Past.{Setup, Past, VolatileState, past_over}
-use Rattle.commit_law.specs.Showing.{carries_set, decided_events, event_at}
-use Rattle.commit_law.specs.States.{State}
+use Rattle.commit_actions.specs.Actions.{Action, Create, Decide, Note, OtherWrite, Release, Renew, SendSnapshot, IsNumbered}
+use Rattle.commit_book.specs.Books.{Transition, AreAllowed, book_of}
+use Rattle.commit_actions.specs.Past.{Setup, Past, VolatileState, past_over}
+use Rattle.commit_book.specs.Showing.{carries_set, decided_events, event_at}
+use Rattle.commit_actions.specs.States.{State}
 use Rattle.commit_book.specs.Flights.{IsSameBook}
 
 -- one action, after which each member is as before it in what no event says

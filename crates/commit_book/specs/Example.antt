@@ -12,7 +12,7 @@ use Rattle.event_book.specs.declared.member.Member.{Member}
 use Rattle.event_book.specs.declared.message.Body.TheVariants as bodies
 use Rattle.lease_law.specs.Showing.{granted_events}
 use Rattle.lease_book.specs.Example.{asked_and_granted}
-use Rattle.commit_law.specs.Flights.{SyncGrant}
+use Rattle.commit_actions.specs.Flights.{SyncGrant}
 
 -- a claim of who holds the leader key of revision 2, where there is no sync key
 abbrev pub claim_of : Txn

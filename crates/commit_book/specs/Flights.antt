@@ -15,9 +15,9 @@ use Rattle.event_book.specs.Flight.{InFlightFacts, in_flight, grant_for}
 use Rattle.event_book.specs.Facts.{Facts, facts_after}
 use Rattle.lease_law.specs.Stores.{leader_key_of, failsafe_key_of, IsSpanned}
 use Rattle.lease_book.specs.Flights.{revision_of, Rises}
-use Rattle.commit_law.specs.Flights.{Aim, ClaimSync, CreateLeader, PublishStandbys, SyncRequest, Flying}
-use Rattle.commit_law.specs.Actions.{sync_key_by}
-use Rattle.commit_law.specs.Past.{Past, Query, LeaseQuery, CarryQuery, SyncQuery, OtherQuery, first_past, flying_of, leader_revision, past_after, query_sent}
+use Rattle.commit_actions.specs.Flights.{Aim, ClaimSync, CreateLeader, PublishStandbys, SyncRequest, Flying}
+use Rattle.commit_actions.specs.Actions.{sync_key_by}
+use Rattle.commit_actions.specs.Past.{Past, Query, LeaseQuery, CarryQuery, SyncQuery, OtherQuery, first_past, flying_of, leader_revision, past_after, query_sent}
 use Rattle.commit_book.specs.Keys.{sync_key_of, IsSameKeys}
 
 -- what commits read of a book as this message is sent: the keys of its snapshot, the revision of its grant, and these requests so far

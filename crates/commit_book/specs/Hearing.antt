@@ -6,9 +6,9 @@ use Rattle.lease_store.specs.KeyOrder.{key_cmp}
 use Rattle.event_book.specs.declared.member.Member.{Member}
 use Rattle.event_book.specs.Flight.{InFlightFacts}
 use Rattle.lease_law.specs.Stores.{failsafe_key_of}
-use Rattle.commit_law.specs.Actions.{sync_key_by}
-use Rattle.commit_law.specs.Flights.{Aim, Flying, LeaseGranted, SnapshotSent, SyncGranted}
-use Rattle.commit_law.specs.Past.{Past, failsafe_revision_of}
+use Rattle.commit_actions.specs.Actions.{sync_key_by}
+use Rattle.commit_actions.specs.Flights.{Aim, Flying, LeaseGranted, SnapshotSent, SyncGranted}
+use Rattle.commit_actions.specs.Past.{Past, failsafe_revision_of}
 use Rattle.commit_book.specs.Keys.{sync_key_of}
 
 -- a snapshot that shows these keys of what is carried

@@ -10,8 +10,8 @@ use Rattle.event_book.specs.Facts.{Facts}
 use Rattle.lease_law.specs.Past as lease_past
 use Rattle.event_book.specs.Functions.{set_members}
 use Rattle.lease_law.specs.Stores.{IsEndless, IsSameStore}
-use Rattle.commit_law.specs.Keys.{SyncKey}
-use Rattle.commit_law.specs.Past.{Past}
+use Rattle.commit_actions.specs.Keys.{SyncKey}
+use Rattle.commit_actions.specs.Past.{Past}
 
 -- the sync key with this value and revision, if the value is one of a sync key. None of its standbys may lack an acknowledged commit
 abbrev pub sync_value : Value → ℕ → Option SyncKey

@@ -1,7 +1,7 @@
 -- Requests by their names: the member that asks, its run and the number in that run. lease_law reads the name of each one.
 use Rattle.std.specs.Prelude.{ℕ, ◌≡◌, Option, Some}
 use Rattle.lease_law.specs.Leases.{Question}
-use Rattle.commit_law.specs.Past.{Query}
+use Rattle.commit_actions.specs.Past.{Query}
 
 -- a request of this name that was asked is this one, as commits read it
 abbrev pub IsAskedOnce : (ℕ → Option Question) → (ℕ → Query) → ℕ → ℕ → ℕ → Query → Type 0

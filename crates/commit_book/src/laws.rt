@@ -33,9 +33,9 @@ ghost use Rattle.lease_law.specs.Stores.{IsSpanned, IsSpannedTxn, failsafe_key_o
 ghost use Rattle.lease_book.specs.Flights as bridge_flights;
 ghost use Rattle.lease_book.specs.Groups.{IsOfMembers, IsNumberedAbove, AreNumberedAbove};
 ghost use Rattle.lease_book.specs.Waiting.{AsksOnly, IsLastAsked};
-ghost use Rattle.commit_law.specs.Actions.{Action, IsAllowed, SendSnapshot, is_granted};
-ghost use Rattle.commit_law.specs.Flights.{SyncRequest, Requested, SyncGranted};
-ghost use Rattle.commit_law.specs.Past.{Past, Query, Setup, VolatileState, OtherQuery, SyncQuery, claim_request, first_past, is_keyless, is_leaderless, leader_revision, past_after, past_over, publish_request, query_of, state_of};
+ghost use Rattle.commit_actions.specs.Actions.{Action, IsAllowed, SendSnapshot, is_granted};
+ghost use Rattle.commit_actions.specs.Flights.{SyncRequest, Requested, SyncGranted};
+ghost use Rattle.commit_actions.specs.Past.{Past, Query, Setup, VolatileState, OtherQuery, SyncQuery, claim_request, first_past, is_keyless, is_leaderless, leader_revision, past_after, past_over, publish_request, query_of, state_of};
 ghost use Rattle.commit_book.specs.Deliveries.{ComparesNoSync, IsDelivered, MayBeGranted, granted_actions, refused_action, transition_of};
 ghost use Rattle.commit_book.specs.Example.{claim_flying, led_and_claimed};
 ghost use Rattle.commit_book.specs.Flights.{AreCausal, IsCausal, IsSameBook, IsSameFlight, is_creating};

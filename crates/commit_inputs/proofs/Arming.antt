@@ -14,10 +14,10 @@ use Rattle.lease_law.specs.Leases.{Answer, Answered, Flying, Grant}
 use Rattle.lease_law.specs.Past as lease_past
 use Rattle.lease_law.specs.States as lease
 use Rattle.lease_law.proofs.Tools.{both, some-is}
-use Rattle.commit_law.specs.Inputs.{ArmsAlone}
-use Rattle.commit_law.specs.Past.{leader_revision}
-use Rattle.commit_law.specs.States.{State}
-use Rattle.commit_law.proofs.FromLease.{grant-alone, grant-present}
+use Rattle.commit_actions.specs.Inputs.{ArmsAlone}
+use Rattle.commit_actions.specs.Past.{leader_revision}
+use Rattle.commit_actions.specs.States.{State}
+use Rattle.commit_book.proofs.FromLease.{grant-alone, grant-present}
 use Rattle.lease_parts.specs.Declaring.{declared_of, works_of}
 use Rattle.lease_parts.specs.Kept.{MeetsPremises}
 use Rattle.lease_parts.specs.Volatile as run_volatile

@@ -48,8 +48,8 @@ use Rattle.std.proofs.lemmas.Bool.{cases_eq}
 use Rattle.lease_book.specs.Flights as bridge_flights
 use Rattle.lease_book.specs.Groups.{AreNumberedAbove, IsNumberedAbove}
 use Rattle.lease_book.proofs.Flights.{asked-new, asked-there, none-requested, requested-is}
-use Rattle.commit_law.specs.Flights.{SyncRequest}
-use Rattle.commit_law.specs.Past.{Past, Query, SyncQuery, claim_request, past_after, past_over, publish_request, query_sent}
+use Rattle.commit_actions.specs.Flights.{SyncRequest}
+use Rattle.commit_actions.specs.Past.{Past, Query, SyncQuery, claim_request, past_after, past_over, publish_request, query_sent}
 use Rattle.run_promise.specs.Members.{member_count}
 use Rattle.lease_inputs.specs.InputEvents.{IsMessageOf, Asks, AsksPeer, AnswersPeer, IsOfInput}
 use Rattle.agent_questions.specs.Questions.{AsksAnew, AsksFor, IsPutBy, IsPutByBody, SendsBetween, WaitsOn, Same, Nothing, New}

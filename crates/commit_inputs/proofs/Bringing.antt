@@ -17,10 +17,10 @@ use Rattle.cluster_model.specs.Inputs.{moment_of}
 use Rattle.cluster_model.specs.Orders.{require_of}
 use Rattle.cluster_model.specs.Parts.{each, events_of}
 use Rattle.cluster_model.specs.State.{Cluster}
-use Rattle.commit_law.specs.Flights.{Flying, SyncRequest}
-use Rattle.commit_law.specs.Inputs.{IsGivenByLease, Sending}
-use Rattle.commit_law.specs.Past.{Past, Setup, VolatileState, need_in, need_of, past_over}
-use Rattle.commit_law.proofs.Fronts.{past-append}
+use Rattle.commit_actions.specs.Flights.{Flying, SyncRequest}
+use Rattle.commit_actions.specs.Inputs.{IsGivenByLease, Sending}
+use Rattle.commit_actions.specs.Past.{Past, Setup, VolatileState, need_in, need_of, past_over}
+use Rattle.commit_book.proofs.Fronts.{past-append}
 use Rattle.commit_servers.specs.Acting.{Fits}
 use Rattle.commit_servers.specs.Matching.{live_in}
 use Rattle.commit_servers.specs.Sound.{WaitsForMembers}
@@ -28,7 +28,7 @@ use Rattle.run_promise.specs.Members.{member_count}
 use Rattle.lease_inputs.proofs.InputMachines.{Seen as MachineSeen}
 use Rattle.lease_inputs.proofs.InputSeen.{found-of}
 use Rattle.run_promise.proofs.Upholding.{over-append}
-use Rattle.sync_order_law.proofs.Asides.{once-behind, once-none}
+use Rattle.commit_book.proofs.Asides.{once-behind, once-none}
 use Rattle.commit_parts.specs.Bridged.{CommitsBridged}
 use Rattle.commit_parts.specs.Reading.{past_of, setup_of, state_of_run, volatile_of}
 use Rattle.commit_outputs.proofs.Alone.{alone-moves}

@@ -29,9 +29,9 @@ use Rattle.cluster_model.specs.Machines.{points_of}
 use Rattle.cluster_model.specs.Parts.{each}
 use Rattle.cluster_model.specs.State.{Cluster}
 use Rattle.lease_law.proofs.Tools.{none-some, some-is}
-use Rattle.commit_law.specs.Actions.{Input, IsNumbered, act}
-use Rattle.commit_law.specs.Past.{Past, Setup, log_found, past_over, state_of}
-use Rattle.commit_law.specs.States.{State}
+use Rattle.commit_actions.specs.Actions.{Input, IsNumbered, act}
+use Rattle.commit_actions.specs.Past.{Past, Setup, log_found, past_over, state_of}
+use Rattle.commit_actions.specs.States.{State}
 use Rattle.run_promise.specs.Members.{member_count}
 use Rattle.commit_parts.specs.Bridged.{CommitsBridged}
 use Rattle.commit_parts.specs.Reading.{past_of, setup_of, state_of_run, volatile_of}

@@ -39,26 +39,26 @@ use Rattle.cluster_model.specs.Parts.{each, event_of, events_of}
 use Rattle.cluster_model.specs.State.{Cluster}
 use Rattle.lease_law.specs.Leases.{LeaderKey}
 use Rattle.lease_law.proofs.Tools.{put-all, put-here, put-there}
-use Rattle.commit_law.specs.Actions.{send}
-use Rattle.commit_law.specs.Books.{AllLeaveCommits}
-use Rattle.commit_law.specs.Flights.{Flying, Requested, SyncRequest}
-use Rattle.commit_law.specs.Functions.{forget}
-use Rattle.commit_law.specs.Inputs.{IsGivenByLease, Sending}
-use Rattle.commit_law.specs.States.{Reaches}
-use Rattle.commit_law.specs.Past.{position_of, publish_request, LeaseQuery, CarryQuery, OtherQuery, Past, Query, Setup, SyncQuery, need_of, past_after, past_over, query_in_flight_of, query_of, request_in_flight_of, was_live_by_message, was_live_by_txn}
-use Rattle.commit_law.proofs.Fronts.{past-append}
+use Rattle.commit_actions.specs.Actions.{send}
+use Rattle.commit_book.specs.Books.{AllLeaveCommits}
+use Rattle.commit_actions.specs.Flights.{Flying, Requested, SyncRequest}
+use Rattle.commit_actions.specs.Functions.{forget}
+use Rattle.commit_actions.specs.Inputs.{IsGivenByLease, Sending}
+use Rattle.commit_actions.specs.States.{Reaches}
+use Rattle.commit_actions.specs.Past.{position_of, publish_request, LeaseQuery, CarryQuery, OtherQuery, Past, Query, Setup, SyncQuery, need_of, past_after, past_over, query_in_flight_of, query_of, request_in_flight_of, was_live_by_message, was_live_by_txn}
+use Rattle.commit_book.proofs.Fronts.{past-append}
 use Rattle.commit_servers.specs.Acting.{Fits}
 use Rattle.commit_servers.specs.Matching.{live_in}
 use Rattle.commit_servers.proofs.Beginning.{fits-aside}
 use Rattle.lease_parts.specs.Bridged.{KnowsItself}
 use Rattle.run_promise.specs.Members.{member_count}
 use Rattle.run_promise.proofs.Upholding.{over-append}
-use Rattle.sync_order_law.specs.Changes.{AllLeaveOrder}
-use Rattle.sync_order_law.specs.Order.{Awaits}
-use Rattle.sync_order_law.specs.Requests.{PublishesInOrder}
-use Rattle.sync_order_law.proofs.Asides.{leave-then, once-none}
-use Rattle.sync_order_law.proofs.Inside.{Seen, all-aside, seen_of}
-use Rattle.sync_order_law.proofs.Publishing.{published}
+use Rattle.commit_book.specs.Changes.{AllLeaveOrder}
+use Rattle.commit_book.specs.Order.{Awaits}
+use Rattle.commit_book.specs.Requests.{PublishesInOrder}
+use Rattle.commit_book.proofs.Asides.{leave-then, once-none}
+use Rattle.commit_book.proofs.Inside.{Seen, all-aside, seen_of}
+use Rattle.commit_book.proofs.Publishing.{published}
 use Rattle.sync_state.specs.Standbys.{noted_position}
 use Rattle.commit_parts.specs.Ordered.{AllInOrder, AsksInOrder, noted_by}
 use Rattle.commit_parts.proofs.Ordering.{order-then}
@@ -272,7 +272,7 @@ module _ (head : HeadText) (book : List Event) (cluster : Cluster) (good : Commi
       → PublishesInOrder P M (noted_position (After head book cluster good a).knows.noted) (publish_request M a.agent.knows.run sequence revision sync standbys) (set_members standbys)
   publishes-as inside revision sync standbys is =
       published (setup_of head) P (volatile_of cluster) M (Theirs head book cluster good a Sends) (record { number = Number; request = publish_request M a.agent.knows.run sequence revision sync standbys }) (set_members standbys)
-      good.sound good.fits.strict (Lawful head book cluster good few a Sends (page inside).sent).lawful
+      good.sound good.fits.strict good.noted (Lawful head book cluster good few a Sends (page inside).sent).lawful
       (ap (λ (b : Body). sending_under Number (request_of_body M a.agent.knows.run sequence b)) (sym is)) refl
       (subst (λ (b : Body). IsSynchronousBody (member_count head) b) (sym is) synchronous)
 
@@ -289,6 +289,10 @@ module _ (head : HeadText) (book : List Event) (cluster : Cluster) (good : Commi
             subst (λ (noted : ℕ). Reaches noted (position_of (slice_get (past_over P Upto).confirmed M) standby)) (sym (ap noted_by here-behind))
             (subst (λ (told : Told). Reaches (noted_position (After head book cluster good a).knows.noted) (position_of (slice_get told.confirmed M) standby)) (sym (front-told head book cluster good a front all of_table))
             (at-first.confirmed standby named added));
+        since = λ standby named added.
+            subst (λ (grown : ℕ → ℕ). Reaches (grown M) (position_of (slice_get (past_over P Upto).confirmed M) standby)) (sym (ap (λ (seen : Seen). seen.grown) seen-same))
+            (subst (λ (told : Told). Reaches (P.grown M) (position_of (slice_get told.confirmed M) standby)) (sym (front-told head book cluster good a front all of_table))
+            (at-first.since standby named added));
       }
   asked-ordered inside _ is = tt
 

@@ -19,7 +19,7 @@ use Rattle.agent_commit_law.specs.Committing.{GrowsByConnected, NeedsOne}
 use Rattle.cluster_model.specs.Machines.{connected_end, connected_ends, is_connected, machine_from, machine_of, nothing_confirmed, replication_of}
 use Rattle.cluster_model.specs.State.{Cluster}
 use Rattle.lease_law.proofs.Tools.{none-some}
-use Rattle.commit_law.specs.Past.{need_in, need_of}
+use Rattle.commit_actions.specs.Past.{need_in, need_of}
 use Rattle.commit_servers.specs.Sound.{WaitsForMembers}
 use Rattle.commit_servers.proofs.Acting.{required-at}
 use Rattle.run_promise.specs.Members.{member_count}

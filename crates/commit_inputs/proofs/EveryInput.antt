@@ -33,14 +33,14 @@ use Rattle.cluster_model.specs.Parts.{event_of}
 use Rattle.cluster_model.specs.State.{Cluster}
 use Rattle.lease_law.specs.Past as lease_past
 use Rattle.lease_law.proofs.Tools.{none-some, some-is}
-use Rattle.commit_law.specs.Actions.{IsNumbered, Lose, Note}
-use Rattle.commit_law.specs.Books.{IsShown}
-use Rattle.commit_law.specs.Inputs.{AgentInput}
-use Rattle.commit_law.specs.Past.{VolatileState}
-use Rattle.commit_law.specs.Showing.{IsIdle}
-use Rattle.commit_law.proofs.Showing.{idle-shown}
+use Rattle.commit_actions.specs.Actions.{IsNumbered, Lose, Note}
+use Rattle.commit_book.specs.Books.{IsShown}
+use Rattle.commit_actions.specs.Inputs.{AgentInput}
+use Rattle.commit_actions.specs.Past.{VolatileState}
+use Rattle.commit_book.specs.Showing.{IsIdle}
+use Rattle.commit_book.proofs.Showing.{idle-shown}
 use Rattle.lease_parts.specs.Declaring.{declared_of, works_of}
-use Rattle.run_promise.specs.Members.{member_count, IsDeclared}
+use Rattle.run_promise.specs.Members.{member_count}
 use Rattle.lease_parts.specs.Kept.{IsKept}
 use Rattle.run_promise.specs.Parts.{InputsUphold}
 use Rattle.run_promise.specs.Promise.{Upholds}

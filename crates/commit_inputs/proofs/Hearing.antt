@@ -43,19 +43,19 @@ use Rattle.event_book.specs.Functions.{set_members}
 use Rattle.lease_law.specs.Stores.{failsafe_key_of, leader_key_of}
 use Rattle.lease_law.proofs.Tools.{and-first, eq-from, none-some, not-false, some-is}
 use Rattle.lease_book.proofs.Hearing.{heard-granted}
-use Rattle.commit_law.specs.Actions.{sync_key_by}
-use Rattle.commit_law.specs.Flights.{Flying, LeaseGranted, SnapshotSent, SyncGranted, SyncRequest}
-use Rattle.commit_law.specs.Inputs.{AgentInput, HearsSnapshot}
-use Rattle.commit_law.specs.Keys.{SyncKey}
-use Rattle.commit_law.specs.Past.{Past, Query, SyncQuery, failsafe_revision_of, is_keyless, is_leaderless}
-use Rattle.commit_law.specs.States.{State}
+use Rattle.commit_actions.specs.Actions.{sync_key_by}
+use Rattle.commit_actions.specs.Flights.{Flying, LeaseGranted, SnapshotSent, SyncGranted, SyncRequest}
+use Rattle.commit_actions.specs.Inputs.{AgentInput, HearsSnapshot}
+use Rattle.commit_actions.specs.Keys.{SyncKey}
+use Rattle.commit_actions.specs.Past.{Past, Query, SyncQuery, failsafe_revision_of, is_keyless, is_leaderless}
+use Rattle.commit_actions.specs.States.{State}
 use Rattle.commit_book.specs.Flights.{Answers, IsNamed, past_at_sending}
 use Rattle.commit_book.specs.Keys.{sync_key_of, sync_value}
 use Rattle.commit_book.proofs.Hearing.{heard-lease, heard-snapshot, heard-write}
 use Rattle.run_promise.specs.Members.{member_count}
 use Rattle.lease_parts.specs.Waiting.{IsAddressed, IsAnswer, IsPeerBody}
 use Rattle.lease_inputs.proofs.InputHears.{message-is, unpaused-told}
-use Rattle.sync_order_law.specs.Order.{NamesMembers}
+use Rattle.commit_book.specs.Order.{NamesMembers}
 use Rattle.commit_parts.specs.Bridged.{CommitsBridged}
 use Rattle.commit_parts.specs.Modes.{IsOnHeld, IsOnTold, IsOnValue}
 use Rattle.commit_parts.specs.Reading.{past_of, state_of_run}

@@ -34,15 +34,15 @@ use Rattle.cluster_model.specs.Parts.{each}
 use Rattle.cluster_model.specs.State.{Cluster}
 use Rattle.lease_law.specs.Past as lease_past
 use Rattle.lease_law.proofs.Tools.{none-some, put-all}
-use Rattle.commit_law.specs.Actions.{Input, send}
-use Rattle.commit_law.specs.Books.{AllLeaveCommits, ChangeOnce, IsShown}
-use Rattle.commit_law.specs.Functions.{forget}
-use Rattle.commit_law.specs.Inputs.{AgentInput, Arming, ChangingRequired, CreatingLeader, Does, HearingAnswer, Idling, IsGivenByLease, Promoting, Publishing, Racing, Sending, SettlingRequired, TakingOver, WinningRace}
-use Rattle.commit_law.specs.Keys.{Need, Nobody}
-use Rattle.commit_law.specs.Past.{Past, VolatileState, need_in, need_of, past_after, past_over}
-use Rattle.commit_law.specs.Showing.{AreOwn}
-use Rattle.commit_law.specs.States.{Agent, State}
-use Rattle.commit_law.proofs.Showing.{input-shown}
+use Rattle.commit_actions.specs.Actions.{Input, send}
+use Rattle.commit_book.specs.Books.{AllLeaveCommits, ChangeOnce, IsShown}
+use Rattle.commit_actions.specs.Functions.{forget}
+use Rattle.commit_actions.specs.Inputs.{AgentInput, Arming, ChangingRequired, CreatingLeader, Does, HearingAnswer, Idling, IsGivenByLease, Promoting, Publishing, Racing, Sending, SettlingRequired, TakingOver, WinningRace}
+use Rattle.commit_actions.specs.Keys.{Need, Nobody}
+use Rattle.commit_actions.specs.Past.{Past, VolatileState, need_in, need_of, past_after, past_over}
+use Rattle.commit_book.specs.Showing.{AreOwn}
+use Rattle.commit_actions.specs.States.{Agent, State}
+use Rattle.commit_book.proofs.Showing.{input-shown}
 use Rattle.commit_servers.specs.Acting.{Fits}
 use Rattle.commit_servers.specs.Matching.{live_in}
 use Rattle.lease_parts.specs.Declaring.{declared_of, works_of}
@@ -51,7 +51,7 @@ use Rattle.lease_parts.specs.Volatile as run_volatile
 use Rattle.lease_inputs.proofs.InputKinds.{IsOpening}
 use Rattle.cluster_model.proofs.Places.{get-elsewhere, get-here}
 use Rattle.commit_parts.specs.Bridged.{CommitsBridged}
-use Rattle.sync_order_law.specs.Changes.{AllLeaveOrder, ChangeOrderOnce}
+use Rattle.commit_book.specs.Changes.{AllLeaveOrder, ChangeOrderOnce}
 use Rattle.commit_parts.specs.Ordered.{AllInOrder}
 use Rattle.commit_parts.specs.Reading.{agent_now, past_of, setup_of, state_of_run, volatile_of}
 use Rattle.commit_parts.proofs.Agents.{volatile-put}

@@ -13,7 +13,7 @@ use Rattle.agent_commit_law.proofs.CommitQuiet.{IsUnasking}
 use Rattle.cluster_model.specs.Cluster.{cluster_after}
 use Rattle.cluster_model.specs.State.{Cluster}
 use Rattle.event_book.specs.Kinds.{AllAre}
-use Rattle.commit_law.specs.Past.{Past, past_after}
+use Rattle.commit_actions.specs.Past.{Past, past_after}
 use Rattle.lease_inputs.specs.InputEvents.{AnswersPeer, Asks, AsksPeer, IsMessageOf, IsOfInput}
 use Rattle.commit_parts.specs.Ordered.{AllInOrder, AsksInOrder, HappensInOrder}
 use Rattle.commit_outputs.proofs.Covering.{quiet-ordered}

@@ -2,14 +2,14 @@
 use Rattle.std.proofs.Common.{◌≡◌, ◌⊎◌, ℕ, ◌≤◌, ◌<◌, Bool, true, false, List, Option, Some, None, refl, ◌∙◌, sym, subst, arith, inl, inr}
 use Rattle.wal_model.specs.declared.entry.Entry.{Entry}
 use Rattle.event_book.specs.Functions.{put_at}
-use Rattle.commit_law.specs.Keys.{SyncKey, Need, Meets, Overlaps}
-use Rattle.commit_law.specs.Flights.{Aim, ClaimSync, PublishStandbys, Flying, CreateLeader}
-use Rattle.commit_law.specs.States.{Agent, Machine, State, is_ready, Acts, Includes, HasLog, IsUndiverged, IsBehind, HaveBytes, Waits}
-use Rattle.commit_law.specs.Inputs.{IsUnled}
-use Rattle.commit_law.specs.Actions.{IsNumbered}
-use Rattle.commit_law.specs.Carried.{IsComplete, IsSyncKeyKept, IsConfirmed, AreNear, IsAimKept, IsTurnKept, IsSound}
+use Rattle.commit_actions.specs.Keys.{SyncKey, Need, Meets, Overlaps}
+use Rattle.commit_actions.specs.Flights.{Aim, ClaimSync, PublishStandbys, Flying, CreateLeader}
+use Rattle.commit_actions.specs.States.{Agent, Machine, State, is_ready, Acts, Includes, HasLog, IsUndiverged, IsBehind, HaveBytes, Waits}
+use Rattle.commit_actions.specs.Inputs.{IsUnled}
+use Rattle.commit_actions.specs.Actions.{IsNumbered}
+use Rattle.commit_actions.specs.Carried.{IsComplete, IsSyncKeyKept, IsConfirmed, AreNear, IsAimKept, IsTurnKept, IsSound}
 use Rattle.lease_law.proofs.Tools.{none-some, not-false, put-all}
-use Rattle.commit_law.proofs.Counting.{but-sub, meets-sub}
+use Rattle.commit_actions.proofs.Counting.{but-sub, meets-sub}
 
 -- an agent that has just started
 pub record NewRun (x y : Machine) (agent : Agent) : Type 0 where

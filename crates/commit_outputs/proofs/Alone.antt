@@ -34,7 +34,7 @@ use Rattle.cluster_model.specs.Orders.{arming, declared_member, feed_kinds, feed
 use Rattle.cluster_model.specs.Parts.{each, event_of, events_of, for_some}
 use Rattle.cluster_model.specs.Requests.{config_text_of, told_kind}
 use Rattle.cluster_model.specs.State.{Cluster}
-use Rattle.commit_law.specs.Past.{Past, Setup, past_over}
+use Rattle.commit_actions.specs.Past.{Past, Setup, past_over}
 use Rattle.commit_servers.specs.Acting.{Fits}
 use Rattle.commit_servers.specs.Happening.{MayFollow, MayHappen}
 use Rattle.commit_servers.proofs.Repairing.{repair-follow, wipe-follow}

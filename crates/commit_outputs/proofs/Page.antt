@@ -27,7 +27,7 @@ use Rattle.cluster_model.specs.Orders.{is_same_required, require_of, required_na
 use Rattle.cluster_model.specs.Parts.{event_of, events_of}
 use Rattle.cluster_model.specs.State.{Cluster}
 use Rattle.lease_law.proofs.Tools.{both}
-use Rattle.commit_law.specs.Past.{Past, VolatileState, need_in, need_of, past_after, past_over}
+use Rattle.commit_actions.specs.Past.{Past, VolatileState, need_in, need_of, past_after, past_over}
 use Rattle.commit_book.specs.Flights.{IsSameFlight, flying_if}
 use Rattle.commit_servers.specs.Acting.{Fits}
 use Rattle.commit_servers.specs.Matching.{live_in}
@@ -37,12 +37,12 @@ use Rattle.commit_servers.proofs.Kept.{others-by}
 use Rattle.commit_servers.proofs.Matching.{same-by}
 use Rattle.commit_servers.proofs.Keeping.{sound-by}
 use Rattle.cluster_model.proofs.Places.{get-here}
-use Rattle.sync_order_law.specs.Changes.{ChangeOrderOnce}
+use Rattle.commit_book.specs.Changes.{ChangeOrderOnce}
 use Rattle.commit_outputs.proofs.Covering.{IsCarried, NoneAbove, Told, told_of}
 use Rattle.event_book.specs.Logs.{logs_in}
 use Rattle.event_book.specs.Required.{required_in, confirmed_in}
-use Rattle.commit_law.specs.Showing.{AreOwn}
-use Rattle.commit_law.specs.Books.{AllLeaveCommits}
+use Rattle.commit_book.specs.Showing.{AreOwn}
+use Rattle.commit_book.specs.Books.{AllLeaveCommits}
 use Rattle.pat_base.specs.declared.member_set.MemberSet.{MemberSet}
 use Rattle.std.proofs.lemmas.Bool.Decides.{nat_tests}
 use Rattle.event_book.specs.Writers.{writes_in}

@@ -18,9 +18,9 @@ use Rattle.cluster_model.specs.Beginnings.{kinds_by, server_restart_in, server_r
 use Rattle.cluster_model.specs.Cluster.{cluster_after}
 use Rattle.cluster_model.specs.Parts.{event_of, events_of}
 use Rattle.cluster_model.specs.State.{Cluster}
-use Rattle.commit_law.specs.Actions.{Cease}
-use Rattle.commit_law.specs.Past.{Past, Setup, past_after}
-use Rattle.commit_law.proofs.Showing.{cease-shown}
+use Rattle.commit_actions.specs.Actions.{Cease}
+use Rattle.commit_actions.specs.Past.{Past, Setup, past_after}
+use Rattle.commit_book.proofs.Showing.{cease-shown}
 use Rattle.commit_servers.specs.Acting.{Fits}
 use Rattle.commit_servers.specs.Matching.{IsLiveAhead, IsSameServers, live_in, live_now}
 use Rattle.commit_servers.specs.Sound.{AreServersSound}

@@ -25,11 +25,11 @@ use Rattle.cluster_model.specs.Limits.{most_in_flight}
 use Rattle.cluster_model.specs.Messages.{agent_message, lost_at_once, receiver_of, replying_events, send_events, sending_events}
 use Rattle.cluster_model.specs.Parts.{event_of, events_of}
 use Rattle.cluster_model.specs.State.{Cluster}
-use Rattle.commit_law.specs.Actions.{AnswerRace, IsNumbered, Lose}
-use Rattle.commit_law.specs.Flights.{Flying}
-use Rattle.commit_law.specs.Past.{Past, Setup, flying_of, past_over, race_answer_of, state_of}
-use Rattle.commit_law.specs.States.{State}
-use Rattle.commit_law.proofs.Showing.{lost-shown, race-answer-shown}
+use Rattle.commit_actions.specs.Actions.{AnswerRace, IsNumbered, Lose}
+use Rattle.commit_actions.specs.Flights.{Flying}
+use Rattle.commit_actions.specs.Past.{Past, Setup, flying_of, past_over, race_answer_of, state_of}
+use Rattle.commit_actions.specs.States.{State}
+use Rattle.commit_book.proofs.Showing.{lost-shown, race-answer-shown}
 use Rattle.commit_servers.specs.Acting.{Fits}
 use Rattle.commit_parts.specs.Reading.{volatile_of}
 use Rattle.commit_outputs.proofs.Covering.{SaysNothing, ask-says, quiet-says}

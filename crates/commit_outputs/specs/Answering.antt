@@ -4,7 +4,7 @@ use Rattle.pat_base.specs.declared.lsn.Lsn.{Lsn}
 use Rattle.wal_model.specs.Log.{end_of}
 use Rattle.agent_model.specs.declared.output.Output.{Output}
 use Rattle.agent_model.specs.declared.output.Output.TheVariants as outputs
-use Rattle.commit_law.specs.States.{HasLog, State}
+use Rattle.commit_actions.specs.States.{HasLog, State}
 
 -- an output that answers no other member
 abbrev pub AnswersNone : Output → Type 0

@@ -14,10 +14,10 @@ use Rattle.cluster_model.specs.Parts.{event_of}
 use Rattle.cluster_model.specs.State.{Cluster}
 use Rattle.lease_law.specs.Past as lease_past
 use Rattle.lease_law.proofs.Tools.{none-some, put-all, some-is}
-use Rattle.commit_law.specs.Actions.{Kill}
-use Rattle.commit_law.specs.Past.{Past, Setup, VolatileState, past_after}
-use Rattle.commit_law.specs.States.{Agent}
-use Rattle.commit_law.proofs.Showing.{killed-shown}
+use Rattle.commit_actions.specs.Actions.{Kill}
+use Rattle.commit_actions.specs.Past.{Past, Setup, VolatileState, past_after}
+use Rattle.commit_actions.specs.States.{Agent}
+use Rattle.commit_book.proofs.Showing.{killed-shown}
 use Rattle.commit_servers.specs.Acting.{Fits}
 use Rattle.commit_servers.proofs.Beginning.{fits-agents, fits-aside}
 use Rattle.commit_servers.proofs.Kept.{change-once}

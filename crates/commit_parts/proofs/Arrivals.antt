@@ -32,10 +32,10 @@ use Rattle.lease_law.specs.Showing.{granted_events, read_events, refused_events}
 use Rattle.lease_law.specs.Stores.{IsSpannedTxn, is_granted as is_grant}
 use Rattle.lease_law.proofs.Tools.{put-there}
 use Rattle.agent_commit_law.specs.Committing.{IsSynchronousBody, IsSynchronousTxn}
-use Rattle.commit_law.specs.Actions.{Action, IsNumbered}
-use Rattle.commit_law.specs.Books.{Transition}
-use Rattle.commit_law.specs.Past.{claim_request, OtherQuery, Past, Setup, VolatileState, past_after, past_over}
-use Rattle.commit_law.specs.States.{State}
+use Rattle.commit_actions.specs.Actions.{Action, IsNumbered}
+use Rattle.commit_book.specs.Books.{Transition}
+use Rattle.commit_actions.specs.Past.{claim_request, OtherQuery, Past, Setup, VolatileState, past_after, past_over}
+use Rattle.commit_actions.specs.States.{State}
 use Rattle.commit_book.specs.Deliveries.{ComparesNoSync, IsDelivered, MayBeGranted, granted_if, is_told}
 use Rattle.commit_book.specs.Flights.{AreCausal}
 use Rattle.commit_book.proofs.Delivering.{claim-decided, granted-delivery, read-delivery, refused-delivery}
@@ -58,8 +58,8 @@ use Rattle.commit_parts.specs.Moving.{volatile_last}
 use Rattle.commit_parts.specs.Ordered.{AllInOrder, HappensInOrder}
 use Rattle.event_book.specs.declared.event.StoreEvent.TheVariants as stores
 use Rattle.commit_book.proofs.Flights.{request-flying}
-use Rattle.sync_order_law.specs.Changes.{EachChangesOnce}
-use Rattle.sync_order_law.proofs.Claims.{claim-named}
+use Rattle.commit_book.specs.Changes.{EachChangesOnce}
+use Rattle.commit_book.proofs.Claims.{claim-named}
 
 -- ---- deliveries as they go
 fits-asides : (past : Past) (cluster : Cluster) (events : List Event) (volatile_states : ℕ → VolatileState) → AllAre IsAside events → Fits past cluster.facts volatile_states

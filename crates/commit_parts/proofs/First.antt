@@ -1,5 +1,5 @@
 -- Before the first event, what both laws carry holds of a cluster whose head has synchronous mode on.
-use Rattle.std.proofs.Common.{ℕ, ◌≡◌, ◌+◌, true, false, List, [], slice_get, Option, Some, None, option_map, refl, ◌∙◌, ap, sym, subst}
+use Rattle.std.proofs.Common.{arith, ℕ, ◌≡◌, ◌≤◌, ◌+◌, true, false, List, [], slice_get, Option, Some, None, option_map, refl, ◌∙◌, ap, sym, subst}
 use Rattle.std.proofs.Math.Path.{fun_ext}
 use Rattle.std.proofs.lemmas.Option.{slice_get-map}
 use Rattle.pat_base.specs.declared.name.Name.{Name}
@@ -15,11 +15,11 @@ use Rattle.cluster_model.specs.Machines.{who_of}
 use Rattle.cluster_model.specs.Starting.{cluster_of, first_agent, options_of}
 use Rattle.lease_law.specs.Past as lease_past
 use Rattle.lease_law.proofs.Tools.{none-some, some-is}
-use Rattle.commit_law.specs.Actions.{fresh_agent}
-use Rattle.commit_law.specs.Books.{first_volatile_states}
-use Rattle.commit_law.specs.Carried.{IsSound}
-use Rattle.commit_law.specs.Past.{VolatileState, state_of}
-use Rattle.commit_law.proofs.Fronts.{inv-first}
+use Rattle.commit_actions.specs.Actions.{fresh_agent}
+use Rattle.commit_book.specs.Books.{first_volatile_states}
+use Rattle.commit_actions.specs.Carried.{IsSound}
+use Rattle.commit_actions.specs.Past.{VolatileState, state_of}
+use Rattle.commit_book.proofs.Fronts.{inv-first}
 use Rattle.commit_book.proofs.Groups.{book-first}
 use Rattle.commit_servers.specs.Acting.{Fits}
 use Rattle.commit_servers.proofs.First.{bytes-first, fits-first}
@@ -53,6 +53,9 @@ waits-nothing named head m (Some member) agent is =
       writes = λ waited waits. absurd (none-some waited waits);
     })
 
+from-zero : (n : ℕ) → 0 ≤ n
+from-zero n = omega arith
+
 pub commits-first : (head : HeadText) → IsHead head → head.config.config.synchronous_mode ≡ true → head.config.config.pause ≡ false → CommitsBridged head [] (cluster_of head)
 commits-first head is on unpaused =
     let start = start_of head.config (names_of head) head.base in
@@ -76,6 +79,7 @@ commits-first head is on unpaused =
       sound = subst (λ (v : ℕ → VolatileState). IsSound (state_of (setup_of head) (past_of head []) v)) (sym same)
           (inv-first (setup_of head) (logs_in start.servers) (required_in start.servers) (confirmed_in start.servers) (bytes-first head.config (names_of head) head.base is.base_least));
       asks = λ i carried e. absurd (none-some carried e);
+      noted = λ m. record { none = λ nobody. refl; within = λ live. from-zero _; noted = λ agent live here leads. from-zero agent.noted };
       reached = refl;
       ordered = tt;
     }

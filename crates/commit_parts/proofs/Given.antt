@@ -15,10 +15,10 @@ use Rattle.lease_law.specs.Past as lease_past
 use Rattle.lease_law.specs.States as lease
 use Rattle.lease_law.proofs.Tools.{both, none-some, some-is}
 use Rattle.lease_book.proofs.Hearing.{heard-asked}
-use Rattle.commit_law.specs.Actions.{IsAllowed, IsNumbered, SendSnapshot}
-use Rattle.commit_law.specs.Past.{is_keyless, is_leaderless, leader_revision}
-use Rattle.commit_law.specs.States.{Agent, is_ready}
-use Rattle.commit_law.proofs.FromLease.{grant-absent, grant-free, same-failsafe, same-leader}
+use Rattle.commit_actions.specs.Actions.{IsAllowed, IsNumbered, SendSnapshot}
+use Rattle.commit_actions.specs.Past.{is_keyless, is_leaderless, leader_revision}
+use Rattle.commit_actions.specs.States.{Agent, is_ready}
+use Rattle.commit_book.proofs.FromLease.{grant-absent, grant-free, same-failsafe, same-leader}
 use Rattle.lease_parts.specs.Declaring.{declared_of}
 use Rattle.run_promise.specs.Members.{member_count}
 use Rattle.lease_parts.specs.Volatile as run_volatile

@@ -6,13 +6,13 @@ use Rattle.event_book.specs.declared.message.Body.{Body}
 use Rattle.event_book.specs.declared.message.Body.TheVariants as bodies
 use Rattle.event_book.specs.Functions.{put_at}
 use Rattle.lease_law.proofs.Tools.{none-some, put-all, some-is}
-use Rattle.commit_law.specs.Actions.{Accept, Action, Cease, Clone, Commit, Confirm, Decide, End, Input, IsAllowed, IsNumbered, Kill, Receive, Rewind, Start, Wipe, act, decide_at, fresh_agent, machine_after, with_decision, with_grant}
-use Rattle.commit_law.specs.Books.{AreAllowed, Transition, book_of}
-use Rattle.commit_law.specs.Flights.{Aim, ClaimSync, CreateLeader, Flying, PublishStandbys, Requested, SyncRequest}
-use Rattle.commit_law.specs.Inputs.{AgentInput, IsLawful}
-use Rattle.commit_law.specs.Past.{Past, Setup, VolatileState, past_over, state_of}
-use Rattle.commit_law.specs.States.{Agent, Machine, State}
-use Rattle.commit_law.proofs.Fronts.{past-append}
+use Rattle.commit_actions.specs.Actions.{Accept, Action, Cease, Clone, Commit, Confirm, Decide, End, Input, IsAllowed, IsNumbered, Kill, Receive, Rewind, Start, Wipe, act, fresh_agent, machine_after}
+use Rattle.commit_book.specs.Books.{AreAllowed, Transition, book_of}
+use Rattle.commit_actions.specs.Inputs.{AgentInput, IsLawful}
+use Rattle.commit_actions.specs.Past.{Past, Setup, VolatileState, past_over, state_of}
+use Rattle.commit_actions.specs.States.{Agent, Machine, State}
+use Rattle.commit_law.proofs.Deciding.{decided-members}
+use Rattle.commit_book.proofs.Fronts.{past-append}
 use Rattle.commit_parts.specs.Agents.{IsAskNumbered}
 use Rattle.commit_parts.specs.Moving.{volatile_last}
 
@@ -53,20 +53,6 @@ went-on s m input law run sequence old = record {
 
 put-numbered : (members : ℕ → Machine) (k : ℕ) (y : Machine) → StaysNumbered (members k) y → StayNumbered members (put_at members k y)
 put-numbered members k y kept = put-all members k y (λ n z. StaysNumbered (members n) z) kept (λ n other run sequence old. old)
-
--- a decision of the key store leaves the members as they were
-granted-members : (s : State) (i j : ℕ) (request : SyncRequest) (aim : Aim) → (with_grant s i j request aim).members ≡ s.members
-granted-members s i j request CreateLeader = refl
-granted-members s i j request ClaimSync = refl
-granted-members s i j request (PublishStandbys standbys quorum) = refl
-
-decision-members : (s : State) (i j : ℕ) (request : SyncRequest) (granted : Bool) → (with_decision s i j request granted).members ≡ s.members
-decision-members s i j request true = granted-members s i j request request.aim
-decision-members s i j request false = refl
-
-decided-members : (s : State) (i j : ℕ) (found : Option Flying) → (decide_at s i j found).members ≡ s.members
-decided-members s i j (Some (Requested request)) = decision-members s i j request _
-decided-members s i j _ = refl
 
 -- so it stays behind each allowed action
 pub numbered-by : (s : State) (action : Action) → IsAllowed s action → StayNumbered s.members (act s action).members

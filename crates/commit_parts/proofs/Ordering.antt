@@ -3,7 +3,7 @@ use Rattle.std.proofs.Common.{◌++◌, List, [], ◌∷◌}
 use Rattle.event_book.specs.declared.event.Event.{Event}
 use Rattle.cluster_model.specs.Cluster.{cluster_after, cluster_over}
 use Rattle.cluster_model.specs.State.{Cluster}
-use Rattle.commit_law.specs.Past.{Past, past_after, past_over}
+use Rattle.commit_actions.specs.Past.{Past, past_after, past_over}
 use Rattle.commit_parts.specs.Ordered.{AllInOrder}
 
 pub order-then : (past : Past) (cluster : Cluster) (xs ys : List Event) → AllInOrder past cluster xs → AllInOrder (past_over past xs) (cluster_over cluster xs) ys → AllInOrder past cluster (xs ++ ys)

@@ -17,21 +17,21 @@ use Rattle.lease_store.specs.declared.value.KeyEntry.{KeyEntry}
 use Rattle.lease_store.specs.KeyOrder.{key_cmp}
 use Rattle.lease_law.proofs.Runs.{head-is, no-cons, tail-is}
 use Rattle.lease_law.proofs.Tools.{both, none-some, some-is}
-use Rattle.commit_law.specs.Keys.{SyncKey, IsStrict}
+use Rattle.commit_actions.specs.Keys.{SyncKey, IsStrict}
 use Rattle.agent_commit_law.specs.Committing.{IsSynchronousBody, IsSynchronousTxn}
 use Rattle.event_book.specs.Facts.{Facts}
 use Rattle.event_book.specs.Flight.{InFlightFacts, snapshot_for}
 use Rattle.cluster_model.specs.Cluster.{cluster_after, cluster_over}
 use Rattle.cluster_model.specs.State.{Cluster}
-use Rattle.commit_law.specs.Past.{Past, past_after, past_over, sync_after_grant}
-use Rattle.commit_law.specs.States.{State}
+use Rattle.commit_actions.specs.Past.{Past, past_after, past_over, sync_after_grant}
+use Rattle.commit_actions.specs.States.{State}
 use Rattle.commit_book.specs.Flights.{AreCausal, IsSameBook}
 use Rattle.commit_book.specs.Keys.{IsSameKeys, sync_key_of}
 use Rattle.commit_book.proofs.Groups.{book-by}
 use Rattle.commit_book.proofs.Keys.{sync-present}
 use Rattle.summary_model.specs.Claims.{KeepMode}
 use Rattle.commit_parts.specs.Agents.{AreSynchronous, AsksAreNumbered, IsAskNumbered, TellsMembers}
-use Rattle.sync_order_law.specs.Order.{NamesMembers}
+use Rattle.commit_book.specs.Order.{NamesMembers}
 use Rattle.commit_parts.specs.Modes.{IsSynchronous}
 use Rattle.commit_parts.proofs.Flights.{HoldsAsSent, all-after}
 use Rattle.commit_parts.proofs.Modes.{synchronous-by}

@@ -23,8 +23,8 @@ use Rattle.script_model.specs.Script.{HeadText}
 use Rattle.cluster_model.specs.Machines.{connected_end, connected_ends, is_connected, machine_from, machine_of, nothing_confirmed, replication_of}
 use Rattle.cluster_model.specs.State.{Cluster}
 use Rattle.lease_law.proofs.Tools.{none-some, some-is}
-use Rattle.commit_law.specs.Past.{Past, log_found, need_in, need_of, position_in, position_of}
-use Rattle.commit_law.specs.States.{HasLog}
+use Rattle.commit_actions.specs.Past.{Past, log_found, need_in, need_of, position_in, position_of}
+use Rattle.commit_actions.specs.States.{HasLog}
 use Rattle.commit_servers.specs.Matching.{live_now}
 use Rattle.commit_servers.specs.Sound.{IsServerSound}
 use Rattle.commit_servers.proofs.Acting.{confirmed-at, log-at, required-at, writes-at}

@@ -26,10 +26,10 @@ use Rattle.lease_law.specs.Past as lease_past
 use Rattle.event_book.specs.Premises as lease_premises
 use Rattle.event_book.specs.Kinds.{AllAre}
 use Rattle.lease_law.proofs.Tools.{none-some, some-is}
-use Rattle.commit_law.specs.Actions.{Start, fresh_agent}
-use Rattle.commit_law.specs.Past.{Past, Setup, VolatileState, past_after, past_over, runs_after}
-use Rattle.commit_law.specs.States.{Agent}
-use Rattle.commit_law.proofs.Showing.{start-shown}
+use Rattle.commit_actions.specs.Actions.{Start, fresh_agent}
+use Rattle.commit_actions.specs.Past.{Past, Setup, VolatileState, past_after, past_over, runs_after}
+use Rattle.commit_actions.specs.States.{Agent}
+use Rattle.commit_book.proofs.Showing.{start-shown}
 use Rattle.commit_servers.specs.Acting.{Fits}
 use Rattle.commit_servers.specs.Happening.{MayFollow, MayHappen}
 use Rattle.commit_servers.proofs.Beginning.{fits-agents, fits-aside}

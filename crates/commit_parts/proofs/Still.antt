@@ -14,8 +14,8 @@ use Rattle.cluster_model.specs.Parts.{event_of}
 use Rattle.cluster_model.specs.State.{Cluster}
 use Rattle.lease_law.specs.Past as lease_past
 use Rattle.lease_law.proofs.Tools.{eq-from}
-use Rattle.commit_law.specs.Past.{Past, Setup, VolatileState, past_after}
-use Rattle.commit_law.specs.States.{Agent, State}
+use Rattle.commit_actions.specs.Past.{Past, Setup, VolatileState, past_after}
+use Rattle.commit_actions.specs.States.{Agent, State}
 use Rattle.commit_book.specs.Flights.{AreCausal}
 use Rattle.commit_servers.specs.Acting.{Fits, Leads}
 use Rattle.commit_servers.specs.Happening.{MayHappen}

@@ -22,11 +22,11 @@ use Rattle.leader_key.specs.Watchdog.{is_due_at}
 use Rattle.lease_law.specs.Leases.{LeaderKey}
 use Rattle.event_book.specs.Kinds.{AllAre}
 use Rattle.lease_law.specs.States.{kept_if, leader_kept}
-use Rattle.commit_law.specs.Actions.{Expire, Kill, Note}
-use Rattle.commit_law.specs.Books.{AreAllowed, Transition}
-use Rattle.commit_law.specs.Past.{Past, Setup, VolatileState, past_after}
-use Rattle.commit_law.specs.Showing.{event_at}
-use Rattle.commit_law.proofs.Showing.{expired-shown, tick-shown}
+use Rattle.commit_actions.specs.Actions.{Expire, Kill, Note}
+use Rattle.commit_book.specs.Books.{AreAllowed, Transition}
+use Rattle.commit_actions.specs.Past.{Past, Setup, VolatileState, past_after}
+use Rattle.commit_book.specs.Showing.{event_at}
+use Rattle.commit_book.proofs.Showing.{expired-shown, tick-shown}
 use Rattle.commit_servers.specs.Acting.{Fits, Leads}
 use Rattle.commit_servers.specs.Happening.{MayFollow, MayHappen}
 use Rattle.commit_servers.specs.Matching.{volatile_after}
@@ -53,7 +53,7 @@ use Rattle.commit_parts.specs.Reading.{setup_of, volatile_of}
 use Rattle.commit_parts.proofs.Agents.{gone-leave, volatile-gone}
 use Rattle.commit_parts.proofs.Going.{GoesFrom, goes-follow, goes-none, goes-then, upheld-goes}
 use Rattle.commit_parts.specs.Moving.{Moves}
-use Rattle.sync_order_law.specs.Changes.{ChangeOrderOnce}
+use Rattle.commit_book.specs.Changes.{ChangeOrderOnce}
 use Rattle.commit_parts.proofs.Still.{IsStill, agent-stays, volatile-same}
 use Rattle.pat_base.specs.declared.member_id.TheConstants.{MOST_MEMBERS}
 

@@ -4,12 +4,14 @@ use Rattle.script_model.specs.Script.{HeadText}
 use Rattle.event_book.specs.declared.event.Event.{Event}
 use Rattle.cluster_model.specs.Cluster.{cluster_over}
 use Rattle.cluster_model.specs.State.{Cluster}
-use Rattle.commit_law.specs.Books.{AreAllowed, KeepsNow, Transition, book_of}
-use Rattle.commit_law.specs.Carried.{IsSound}
-use Rattle.commit_law.specs.Past.{Past, Setup, VolatileState, past_over, state_of}
-use Rattle.commit_law.specs.States.{State}
+use Rattle.commit_book.specs.Books.{AreAllowed, KeepsNow, Transition, book_of}
+use Rattle.commit_actions.specs.Carried.{IsSound}
+use Rattle.commit_actions.specs.Past.{Past, Setup, VolatileState, past_over, state_of}
+use Rattle.commit_actions.specs.States.{State}
+use Rattle.commit_law.specs.Noted.{AreNoted}
+use Rattle.commit_servers.proofs.Growing.{noted-behind}
 use Rattle.commit_servers.proofs.Kept.{keeps-now}
-use Rattle.commit_law.proofs.Fronts.{kept-after, kept-inside, past-append}
+use Rattle.commit_book.proofs.Fronts.{kept-after, kept-inside, past-append}
 use Rattle.lease_law.proofs.Runs.{cuts, no-cons}
 use Rattle.lease_parts.specs.Bridged.{Bridged}
 use Rattle.lease_parts.specs.Kept.{IsKept}
@@ -21,9 +23,9 @@ use Rattle.commit_parts.specs.Bridged.{CommitsBridged, FitsCommits, KeepsInOrder
 use Rattle.commit_parts.specs.Ordered.{AllInOrder}
 use Rattle.commit_parts.specs.Reading.{past_of, setup_of, volatile_of}
 use Rattle.commit_parts.proofs.Ordering.{order-front, order-then}
-use Rattle.sync_order_law.specs.Changes.{EachChangesOnce}
-use Rattle.sync_order_law.specs.Order.{IsInOrder, NamesMembers}
-use Rattle.sync_order_law.proofs.Inside.{order-inside, order-now}
+use Rattle.commit_book.specs.Changes.{EachChangesOnce}
+use Rattle.commit_book.specs.Order.{IsInOrder, NamesMembers}
+use Rattle.commit_book.proofs.Inside.{order-inside, order-now}
 use Rattle.cluster_model.specs.Starting.{cluster_of}
 use Rattle.run_promise.specs.Members.{member_count}
 use Rattle.run_promise.proofs.Upholding.{over-append}
@@ -35,6 +37,14 @@ sound-last setup past volatile_states [] all sound = sound
 sound-last setup past volatile_states (t ∷ ts) all sound =
     subst (λ (p : Past). IsSound (state_of setup p (volatile_last t.volatile_states ts))) (sym (past-append past t.events (book_of ts)))
     (sound-last setup (past_over past t.events) t.volatile_states ts all.3 (kept-after setup past volatile_states t sound all.0 all.1))
+
+noted-last : (setup : Setup) (past : Past) (volatile_states : ℕ → VolatileState) (transitions : List Transition) → AreAllowed setup past volatile_states transitions → EachChangesOnce transitions
+    → AreNoted (state_of setup past volatile_states).members past.grown
+    → AreNoted (state_of setup (past_over past (book_of transitions)) (volatile_last volatile_states transitions)).members (past_over past (book_of transitions)).grown
+noted-last setup past volatile_states [] all once noted = noted
+noted-last setup past volatile_states (t ∷ ts) all once noted =
+    subst (λ (p : Past). AreNoted (state_of setup p (volatile_last t.volatile_states ts)).members p.grown) (sym (past-append past t.events (book_of ts)))
+    (noted-last setup (past_over past t.events) t.volatile_states ts all.3 once.1 (noted-behind setup past volatile_states t all.0 all.1 all.2 once.0 noted))
 
 none-left : (front back : List Event) → front ++ back ≡ [] → front ≡ []
 none-left [] back e = refl
@@ -138,6 +148,10 @@ upheld-by head book cluster transitions good allowed once same kept members orde
         asks =
             subst (λ (p : Past). AsksAreNumbered (state_of (setup_of head) p (volatile_of (cluster_over cluster (book_of transitions)))) (cluster_over cluster (book_of transitions)).facts.flight) (sym (past-more head book (book_of transitions)))
             behind.1;
+        noted =
+            subst (λ (p : Past). AreNoted (state_of (setup_of head) p (volatile_of (cluster_over cluster (book_of transitions)))).members p.grown) (sym (past-more head book (book_of transitions)))
+            (subst (λ (v : ℕ → VolatileState). AreNoted (state_of (setup_of head) (past_over (past_of head book) (book_of transitions)) v).members (past_over (past_of head book) (book_of transitions)).grown) same
+            (noted-last (setup_of head) (past_of head book) (volatile_of cluster) transitions allowed once good.noted));
         reached = ap (λ (c : Cluster). cluster_over c (book_of transitions)) good.reached ∙ sym (over-append (cluster_of head) book (book_of transitions));
         ordered = order-behind head book cluster (book_of transitions) good ordered;
       };

@@ -15,13 +15,13 @@ use Rattle.agent_model.specs.declared.knowledge.Waited.{Waited}
 use Rattle.agent_model.specs.Agents.{AgentFacts}
 use Rattle.agent_commit_law.specs.Committing.{AsksOn, IsAskedBy, IsSynchronousBody}
 use Rattle.agent_model.specs.Decisions.{asks_sync}
-use Rattle.commit_law.specs.Actions.{IsNumbered, sync_key_by}
-use Rattle.commit_law.specs.Flights.{SyncRequest}
-use Rattle.commit_law.specs.Past.{Query, SyncQuery}
-use Rattle.commit_law.specs.States.{State}
+use Rattle.commit_actions.specs.Actions.{IsNumbered, sync_key_by}
+use Rattle.commit_actions.specs.Flights.{SyncRequest}
+use Rattle.commit_actions.specs.Past.{Query, SyncQuery}
+use Rattle.commit_actions.specs.States.{State}
 use Rattle.commit_book.specs.Flights.{is_creating}
 use Rattle.commit_book.specs.Keys.{sync_key_of}
-use Rattle.sync_order_law.specs.Order.{NamesMembers}
+use Rattle.commit_book.specs.Order.{NamesMembers}
 
 -- each request in flight is as synchronous mode has it, among so many members
 abbrev pub AreSynchronous : ℕ → Flight → Type 0

@@ -6,9 +6,10 @@ use Rattle.cluster_model.specs.Cluster.{cluster_over}
 use Rattle.cluster_model.specs.Starting.{cluster_of}
 use Rattle.cluster_model.specs.State.{Cluster}
 use Rattle.lease_law.specs.Past as lease_past
-use Rattle.commit_law.specs.Books.{KeepsNow}
-use Rattle.commit_law.specs.Carried.{IsSound}
-use Rattle.commit_law.specs.Past.{Past}
+use Rattle.commit_law.specs.Noted.{AreNoted}
+use Rattle.commit_book.specs.Books.{KeepsNow}
+use Rattle.commit_actions.specs.Carried.{IsSound}
+use Rattle.commit_actions.specs.Past.{Past}
 use Rattle.commit_book.specs.Flights.{IsSameBook}
 use Rattle.commit_servers.specs.Acting.{Fits}
 use Rattle.lease_parts.specs.Bridged.{Bridged}
@@ -17,7 +18,7 @@ use Rattle.lease_parts.specs.Kept.{MeetsPremises}
 use Rattle.run_promise.specs.Promise.{Promise}
 use Rattle.summary_model.specs.Claims.{KeepMode}
 use Rattle.commit_parts.specs.Agents.{AreAgentsSynchronous, AreSynchronous, AsksAreNumbered, TellsMembers}
-use Rattle.sync_order_law.specs.Order.{NamesMembers}
+use Rattle.commit_book.specs.Order.{NamesMembers}
 use Rattle.commit_parts.specs.Modes.{IsSynchronous}
 use Rattle.commit_parts.specs.Ordered.{AllInOrder, KeepsOrder}
 use Rattle.commit_parts.specs.Reading.{past_of, state_of_run, volatile_of}
@@ -42,6 +43,7 @@ pub record CommitsBridged (head : HeadText) (book : List Event) (cluster : Clust
   pub fits : FitsCommits head book cluster
   pub sound : IsSound (state_of_run head book cluster)
   pub asks : AsksAreNumbered (state_of_run head book cluster) cluster.facts.flight
+  pub noted : AreNoted (state_of_run head book cluster).members (past_of head book).grown
   pub reached : cluster ≡ cluster_over (cluster_of head) book
   pub ordered : AllInOrder (past_of head []) (cluster_of head) book
 

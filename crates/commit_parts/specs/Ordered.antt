@@ -17,10 +17,10 @@ use Rattle.cluster_model.specs.Cluster.{cluster_after}
 use Rattle.cluster_model.specs.Starting.{cluster_of}
 use Rattle.cluster_model.specs.State.{Cluster}
 use Rattle.event_book.specs.Functions.{set_members}
-use Rattle.commit_law.specs.Carried.{NamesMember}
-use Rattle.commit_law.specs.Past.{Past, past_after, publish_request}
-use Rattle.sync_order_law.specs.Order.{IsInOrder}
-use Rattle.sync_order_law.specs.Requests.{PublishesInOrder}
+use Rattle.commit_actions.specs.Carried.{NamesMember}
+use Rattle.commit_actions.specs.Past.{Past, past_after, publish_request}
+use Rattle.commit_book.specs.Order.{IsInOrder}
+use Rattle.commit_book.specs.Requests.{PublishesInOrder}
 use Rattle.commit_parts.specs.Reading.{past_of}
 
 -- the log position that an agent noted, 0 where it noted none or isn't there: a standby must confirm it before it is published

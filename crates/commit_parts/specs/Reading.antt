@@ -8,9 +8,9 @@ use Rattle.event_book.specs.Required.{confirmed_in, required_in}
 use Rattle.agent_model.specs.Agents.{AgentFacts}
 use Rattle.agent_commit_law.specs.Committing.{committer_seen}
 use Rattle.cluster_model.specs.State.{Cluster}
-use Rattle.commit_law.specs.Actions.{fresh_agent}
-use Rattle.commit_law.specs.Past.{Past, Setup, VolatileState, first_past, past_over, state_of}
-use Rattle.commit_law.specs.States.{Agent, State}
+use Rattle.commit_actions.specs.Actions.{fresh_agent}
+use Rattle.commit_actions.specs.Past.{Past, Setup, VolatileState, first_past, past_over, state_of}
+use Rattle.commit_actions.specs.States.{Agent, State}
 use Rattle.commit_servers.specs.Matching.{live_in}
 use Rattle.run_promise.specs.Members.{member_count}
 

@@ -14,6 +14,7 @@ use Rattle.commit_parts.proofs.Commands.{upheld-command, upheld-restarts, uphold
 use Rattle.commit_inputs.proofs.EveryInput.{inputs-uphold}
 use Rattle.commit_parts.proofs.First.{commits-first}
 use Rattle.run_promise.proofs.Members.{few-names, declared-in}
+use Rattle.commit_runs.proofs.BookOrder.{order-by-book}
 use Rattle.commit_runs.proofs.Holding.{held-by-book}
 use Rattle.commit_parts.proofs.Servers.{upholds-acknowledge, upholds-note, upholds-receive}
 use Rattle.commit_parts.proofs.Ticks.{upholds-tick}
@@ -44,4 +45,4 @@ pub runs-keep : (head : HeadText) → IsHead head → (steps : List Step) → Ke
 runs-keep head is steps on front rest whole met mode = held-by-book head front (promised head is steps on front rest whole met mode).kept
 
 pub runs-in-order : (head : HeadText) → IsHead head → (steps : List Step) → KeepsOrderIn head (run_events (cluster_of head) steps)
-runs-in-order head is steps on front rest whole met mode = (promised head is steps on front rest whole met mode).order
+runs-in-order head is steps on front rest whole met mode = order-by-book head front (promised head is steps on front rest whole met mode).order

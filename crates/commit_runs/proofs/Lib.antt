@@ -1,4 +1,5 @@
 pub mod Holding
+pub mod BookOrder
 pub mod EveryRun
 pub mod Losses
 pub mod LossGroups

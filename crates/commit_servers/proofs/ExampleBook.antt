@@ -18,7 +18,7 @@ use Rattle.event_book.specs.declared.member.ServerOf.{ServerOf}
 use Rattle.event_book.specs.Logs.{logs_in}
 use Rattle.event_book.specs.Required.{required_in, confirmed_in}
 use Rattle.pat_base.specs.declared.member_set.MemberSet.{MemberSet}
-use Rattle.commit_law.specs.Past.{Past, VolatileState, first_past, past_after, past_over}
+use Rattle.commit_actions.specs.Past.{Past, VolatileState, first_past, past_after, past_over}
 use Rattle.commit_servers.specs.Matching.{live_in}
 use Rattle.commit_servers.specs.Happening.{MayFollow}
 use Rattle.commit_servers.specs.Acting.{Fits}

@@ -3,8 +3,8 @@ use Rattle.std.proofs.Common.{ℕ, ◌≡◌, ◌≤◌, ◌<◌, ◌==◌, Bool
 use Rattle.std.proofs.lemmas.Bool.Decides.{nat_tests}
 use Rattle.wal_model.specs.declared.entry.Entry.{Entry}
 use Rattle.wal_model.specs.Log.{IsPrefixOf}
-use Rattle.commit_law.specs.Past.{front_if, front_to}
-use Rattle.commit_law.specs.States.{HasEntryOf}
+use Rattle.commit_actions.specs.Past.{front_if, front_to}
+use Rattle.commit_actions.specs.States.{HasEntryOf}
 use Rattle.commit_servers.specs.Sound.{AreUpTo}
 
 is-commit : (n commit : ℕ) → (n == commit) ≡ true → n ≡ commit

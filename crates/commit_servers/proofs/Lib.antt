@@ -16,3 +16,4 @@ pub mod Beginning
 pub mod Ordering
 pub mod Kept
 pub mod ExampleBook
+pub mod Growing

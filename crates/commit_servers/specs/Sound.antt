@@ -9,8 +9,8 @@ use Rattle.wal_model.specs.Log.{end_of}
 use Rattle.pg_model.specs.declared.waiting.Waiting.{Waiting}
 use Rattle.pg_model.specs.Facts.{ServerFacts, entries_of, has_data}
 use Rattle.event_book.specs.Facts.{Facts}
-use Rattle.commit_law.specs.Past.{front_to}
-use Rattle.commit_law.specs.States.{HasLog, HasEntryOf}
+use Rattle.commit_actions.specs.Past.{front_to}
+use Rattle.commit_actions.specs.States.{HasLog, HasEntryOf}
 use Rattle.pat_base.specs.declared.member_id.TheConstants.{MOST_MEMBERS}
 
 -- these entries are of commits up to this number, or of the data before the first commit

@@ -19,7 +19,7 @@ ghost use Rattle.cluster_model.specs.Parts.{events_of};
 ghost use Rattle.cluster_model.specs.ServerCommands.{commit_of, crash_of, freezing_of, slow_of};
 ghost use Rattle.cluster_model.specs.State.{Cluster};
 ghost use Rattle.cluster_model.specs.Ticking.{completion_events, reset_events};
-ghost use Rattle.commit_law.specs.Past.{Setup, Past, VolatileState};
+ghost use Rattle.commit_actions.specs.Past.{Setup, Past, VolatileState};
 ghost use Rattle.commit_servers.specs.Matching.{IsSameServers, IsLiveAhead};
 ghost use Rattle.commit_servers.specs.Sound.{AreServersSound, WaitsForMembers};
 ghost use Rattle.commit_servers.specs.Happening.{MayHappen, MayFollow, LeavesSound, AllLeaveSound, AreInPlace};

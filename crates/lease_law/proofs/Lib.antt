@@ -9,7 +9,6 @@ pub mod Runs
 pub mod Falling
 pub mod Feeding
 pub mod Showing
-pub mod ExampleRun
 pub mod SameStore
 pub mod Deciding
 pub mod Delivering

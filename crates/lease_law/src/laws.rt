@@ -8,7 +8,6 @@ ghost use Rattle.lease_store.specs.declared.key.Key.{Key};
 ghost use Rattle.lease_store.specs.declared.txn.Expected.{Expected};
 ghost use Rattle.lease_store.specs.declared.txn.Txn.{Txn};
 ghost use Rattle.lease_store.specs.declared.txn_kind.TxnKind.{TxnKind};
-ghost use Rattle.lease_store.specs.declared.value.MemberInfo.{MemberInfo};
 ghost use Rattle.event_book.specs.Facts.{Facts, facts_after, start_of};
 ghost use Rattle.event_book.specs.declared.event.Event.{Event};
 ghost use Rattle.event_book.specs.declared.event.EventKind.TheVariants.{Tick as Ticked, Message};
@@ -29,7 +28,7 @@ ghost use Rattle.event_book.specs.Kinds.{AllAre};
 ghost use Rattle.lease_law.specs.States.{Declared, is_due, tick_machine};
 ghost use Rattle.lease_law.specs.Stores.{IsSameStore, IsSpanned, is_granted, outcome_by};
 ghost use Rattle.lease_law.specs.Showing.{IsOwn, IsLocal, IsLocalAction, input_of, granted_events, refused_events, read_events};
-ghost use Rattle.event_book.specs.Writers.{AcceptsWrites, Begins, HasOneWriter};
+ghost use Rattle.event_book.specs.Writers.{Begins, HasOneWriter};
 
 /// At most one server accepts writes.
 pub fn one_writer()
@@ -87,12 +86,6 @@ pub fn input_is_shown()
         → AllAre (IsOwn m) events
         → (past_over (past_of book) events).taken ≡ taken_by m (past_of book).clock takes (past_of book).taken
         → IsShown declared book volatile_states (record { action = Input m (input_of (past_of book) m volatile_state heard feeds takes events); events = events; volatile_states = put_at volatile_states m volatile_state }) }
-{}
-
-/// There are lawful and timely runs in which a server accepts writes.
-pub fn example()
-    ensures { (name : Name) (info : MemberInfo) (standbys : List Name) → let declared : Declared = record { margin = λ m. Some 50; failsafe = false } in
-        (transitions : List Transition) × AreLawful declared [] first_volatile_states transitions × IsTimely declared.margin (book_of transitions) × AcceptsWrites (book_of transitions) 0 }
 {}
 
 /// A book leaves the same leader key, failsafe key and last revision by the law's definitions as by the key store's.

@@ -4,6 +4,6 @@
 mod laws;
 
 pub use laws::{
-    carried, delivery_is_shown, example, feeds_in_time, input_is_shown, local_action_is_shown,
+    carried, delivery_is_shown, feeds_in_time, input_is_shown, local_action_is_shown,
     nobody_pauses, one_writer, premises_fall, same_store,
 };

@@ -1,0 +1,383 @@
+-- What the events of a book determine of commits, each part by a small definition of its own.
+use Rattle.std.specs.Prelude.{ℕ, ◌+◌, ◌==◌, ◌||◌, Bool, true, false, List, [], ◌∷◌, Option, Some, None, slice_get}
+use Rattle.pat_base.specs.declared.lsn.Lsn.{Lsn}
+use Rattle.pat_base.specs.declared.member_set.MemberSet.{MemberSet}
+use Rattle.pat_base.specs.declared.server_state.Required.{Required}
+use Rattle.pat_base.specs.declared.server_state.Required.TheVariants as needs
+use Rattle.lease_store.specs.declared.txn.Expected.{Expected}
+use Rattle.lease_store.specs.declared.txn.Expected.TheVariants.{Absent, Revision}
+use Rattle.lease_store.specs.declared.txn.Txn.{Txn}
+use Rattle.lease_store.specs.declared.txn.Txn.TheVariants as txns
+use Rattle.wal_model.specs.declared.entry.Entry.{Entry}
+use Rattle.pg_model.specs.Facts.{entries_of}
+use Rattle.event_book.specs.declared.event.Event.{Event}
+use Rattle.event_book.specs.declared.event.EventKind.{EventKind}
+use Rattle.event_book.specs.declared.event.EventKind.TheVariants as kinds
+use Rattle.event_book.specs.declared.event.AgentEvent.TheVariants as agents
+use Rattle.event_book.specs.declared.event.MessageEvent.{MessageEvent}
+use Rattle.event_book.specs.declared.event.MessageEvent.TheVariants.{Sent, Delivered, Lost}
+use Rattle.event_book.specs.declared.event.ReplicationEvent.TheVariants as replications
+use Rattle.event_book.specs.declared.event.StoreEvent.TheVariants as stores
+use Rattle.event_book.specs.declared.link.LinkEnd.{LinkEnd}
+use Rattle.event_book.specs.declared.link.LinkEnd.TheVariants as ends
+use Rattle.event_book.specs.declared.message.Body.{Body}
+use Rattle.event_book.specs.declared.message.Body.TheVariants as bodies
+use Rattle.event_book.specs.Acknowledged.{acknowledged_after}
+use Rattle.event_book.specs.Clock.{now_after}
+use Rattle.event_book.specs.Functions.{put_at, set_members}
+use Rattle.event_book.specs.Logs.{Logs, logs_after}
+use Rattle.event_book.specs.Required.{required_after, confirmed_after}
+use Rattle.event_book.specs.Writers.{writes_after}
+use Rattle.sync_order.specs.Grown.{grown_after}
+use Rattle.lease_law.specs.Leases.{LeaderKey, FailsafeKey}
+use Rattle.lease_law.specs.Past.{leader_after, failsafe_after, revision_after}
+use Rattle.commit_actions.specs.Keys.{SyncKey, Need, Nobody, All}
+use Rattle.commit_actions.specs.Flights.{Aim, ClaimSync, PublishStandbys, CreateLeader, SyncRequest, Flying, Requested, LeaseGranted, SyncGranted, SnapshotSent, RaceAnswered}
+use Rattle.commit_actions.specs.States.{Agent, Machine, State}
+use Rattle.commit_actions.specs.Actions.{fresh_agent, longer_log}
+
+-- what a compare expects: a revision, or absence
+abbrev pub revision_in : Expected → Option ℕ
+revision_in Absent = None
+revision_in (Revision r) = Some r
+
+-- what commits read of a request to the key store: it asks for the leader key, it compares the sync key, or neither
+pub data Query : Type 0 where
+  LeaseQuery : Query
+  -- a renewal of this revision by this member, which carries a set for the failsafe key
+  CarryQuery : (member revision : ℕ) → Query
+  SyncQuery : SyncRequest → Query
+  OtherQuery : Query
+
+-- the requests that compare the sync key, by their member, its run and its number
+abbrev pub claim_request : ℕ → ℕ → ℕ → ℕ → Expected → SyncRequest
+claim_request member run sequence revision sync = record { member = member; run = run; sequence = sequence; leader = revision; sync = revision_in sync; aim = ClaimSync }
+
+-- a write of the sync key that publishes these standbys
+abbrev pub publish_request : ℕ → ℕ → ℕ → ℕ → Expected → MemberSet → SyncRequest
+publish_request member run sequence revision sync standbys = record { member = member; run = run; sequence = sequence; leader = revision; sync = revision_in sync; aim = PublishStandbys (set_members standbys) 0 }
+
+-- a create that compares the sync key
+abbrev pub create_request : ℕ → ℕ → ℕ → Expected → SyncRequest
+create_request member run sequence sync = record { member = member; run = run; sequence = sequence; leader = 0; sync = revision_in sync; aim = CreateLeader }
+
+-- a create, which may compare the sync key
+abbrev pub create_query : ℕ → ℕ → ℕ → Option Expected → Query
+create_query member run sequence None = LeaseQuery
+create_query member run sequence (Some sync) = SyncQuery (create_request member run sequence sync)
+
+-- a renewal, which may carry a set for the failsafe key
+abbrev pub renew_query : ℕ → ℕ → Option MemberSet → Query
+renew_query member revision None = LeaseQuery
+renew_query member revision (Some members) = CarryQuery member revision
+
+-- what commits read of a transaction
+abbrev pub query_of : ℕ → ℕ → ℕ → Txn → Query
+query_of member run sequence (txns.Create info ttl failsafe sync) = create_query member run sequence sync
+query_of member run sequence (txns.Renew revision info ttl status row failsafe) = renew_query member revision failsafe
+query_of member run sequence (txns.Claim revision sync) = SyncQuery (claim_request member run sequence revision sync)
+query_of member run sequence (txns.SetSync revision sync standbys) = SyncQuery (publish_request member run sequence revision sync standbys)
+query_of member run sequence _ = OtherQuery
+
+-- what a book determines
+pub record Past : Type 0 where
+  pub clock : ℕ
+  pub sync : Option SyncKey
+  -- the leader key and the failsafe key, as lease_law reads them
+  pub leader : Option LeaderKey
+  pub failsafe : Option FailsafeKey
+  -- the holder of the leader key asked for a renewal that carries a set, which only a live leader does
+  pub holder_was_live : Bool
+  pub revision : ℕ
+  -- what each request so far asks, by the number of its message; the messages in flight
+  pub asked : ℕ → Query
+  pub flight : ℕ → Option Flying
+  pub runs : ℕ → ℕ
+  pub logs : Logs
+  pub writes : ℕ → Bool
+  pub required : List Required
+  -- where the logs ended when required lists last grew
+  pub grown : ℕ → ℕ
+  pub confirmed : List (List (Option Lsn))
+  pub acknowledged_log : List Entry
+  pub acknowledged : List ℕ
+
+-- the sync key after a granted transaction of this member, under this revision
+abbrev pub sync_after_grant : ℕ → ℕ → Option SyncKey → Txn → Option SyncKey
+sync_after_grant by revision sync (txns.Claim leader expected) = Some (record { leader = by; standbys = λ n. false; quorum = 0; revision = revision })
+sync_after_grant by revision sync (txns.SetSync leader expected standbys) = Some (record { leader = by; standbys = set_members standbys; quorum = 0; revision = revision })
+sync_after_grant by revision sync (txns.DropSync leader expected) = None
+sync_after_grant by revision sync _ = sync
+
+-- the sync key after an event
+abbrev pub sync_after : ℕ → Option SyncKey → EventKind → Option SyncKey
+sync_after revision sync (kinds.Store (stores.Granted number by txn standbys)) = sync_after_grant by.id.number (revision + 1) sync txn
+sync_after revision sync _ = sync
+
+-- there is neither a leader key nor a failsafe key
+abbrev pub is_keyless : Option LeaderKey → Option FailsafeKey → Bool
+is_keyless None None = true
+is_keyless _ _ = false
+
+-- there is no leader key
+abbrev pub is_leaderless : Option LeaderKey → Bool
+is_leaderless None = true
+is_leaderless (Some key) = false
+
+-- the member that the leader key names, 0 where there is none; whether that is this one
+abbrev pub key_holder : Option LeaderKey → ℕ
+key_holder None = 0
+key_holder (Some key) = key.holder
+
+-- the leader key names this member
+abbrev pub is_holder : Option LeaderKey → ℕ → Bool
+is_holder None m = false
+is_holder (Some key) m = key.holder == m
+
+-- the revision of the failsafe key
+abbrev pub failsafe_revision_of : Option FailsafeKey → Option ℕ
+failsafe_revision_of None = None
+failsafe_revision_of (Some key) = Some key.revision
+
+-- the holder of the leader key asks for a renewal that carries a set for the failsafe key; a create begins anew
+abbrev pub was_live_by_txn : Bool → Option LeaderKey → ℕ → Txn → Bool
+was_live_by_txn holder_was_live leader m (txns.Renew revision info ttl status row (Some members)) = holder_was_live || is_holder leader m
+was_live_by_txn holder_was_live leader m _ = holder_was_live
+
+-- the holder of the leader key was live, behind a message that is sent: only a request of a member can be a renewal that carries a set
+abbrev pub was_live_by_message : Bool → Option LeaderKey → LinkEnd → Body → Bool
+was_live_by_message holder_was_live leader (ends.Member member) (bodies.Request txn) = was_live_by_txn holder_was_live leader member.id.number txn
+was_live_by_message holder_was_live leader _ _ = holder_was_live
+
+-- a create that is granted begins anew; any other grant changes nothing
+abbrev pub was_live_by_grant : Bool → Txn → Bool
+was_live_by_grant holder_was_live (txns.Create info ttl failsafe sync) = false
+was_live_by_grant holder_was_live _ = holder_was_live
+
+-- whether the holder was live when it asked for a renewal that carries a set, after an event
+abbrev pub was_live_after : Bool → Option LeaderKey → EventKind → Bool
+was_live_after holder_was_live leader (kinds.Message (Sent number message)) = was_live_by_message holder_was_live leader message.from message.body
+was_live_after holder_was_live leader (kinds.Store (stores.Granted number by txn standbys)) = was_live_by_grant holder_was_live txn
+was_live_after holder_was_live leader _ = holder_was_live
+
+-- what a granted request tells its sender: the sync key that it wrote, or the leader key's new revision
+abbrev pub sync_grant_of : Option SyncKey → SyncRequest → Option Flying
+sync_grant_of None request = None
+sync_grant_of (Some key) request = Some (SyncGranted (record { member = request.member; run = request.run; sequence = request.sequence; key = key }))
+
+-- the grant of the leader key under the last revision
+abbrev pub lease_grant_of : Past → ℕ → ℕ → ℕ → Option Flying
+lease_grant_of past member run sequence = Some (LeaseGranted (record { member = member; run = run; sequence = sequence; revision = past.revision; sync = past.sync }))
+
+-- what a granted request that compares the sync key tells: to a create the grant of the leader key, to others the sync key
+abbrev pub request_grant_of : Past → SyncRequest → Aim → Option Flying
+request_grant_of past request CreateLeader = lease_grant_of past request.member request.run request.sequence
+request_grant_of past request _ = sync_grant_of past.sync request
+
+-- a snapshot
+abbrev pub snapshot_of : Past → Bool → Bool → Option Flying
+snapshot_of past keyless leaderless = Some (SnapshotSent (record { sync = past.sync; keyless = keyless; leaderless = leaderless; failsafe_revision = failsafe_revision_of past.failsafe }))
+
+-- the answer to a granted request
+abbrev pub grant_in_flight_of : Past → ℕ → ℕ → ℕ → Query → Option Flying
+grant_in_flight_of past member run sequence LeaseQuery = lease_grant_of past member run sequence
+grant_in_flight_of past member run sequence (CarryQuery by revision) = lease_grant_of past member run sequence
+grant_in_flight_of past member run sequence (SyncQuery request) = request_grant_of past request request.aim
+grant_in_flight_of past member run sequence OtherQuery = snapshot_of past false false
+
+-- a message of the key store to this member
+abbrev pub answer_in_flight_of : Past → ℕ → ℕ → ℕ → Body → Option Flying
+answer_in_flight_of past member run sequence bodies.Snapshot = snapshot_of past (is_keyless past.leader past.failsafe) (is_leaderless past.leader)
+answer_in_flight_of past member run sequence (bodies.Granted request leased) = grant_in_flight_of past member run sequence (past.asked request)
+answer_in_flight_of past member run sequence _ = None
+
+-- a request in flight, if it compares the sync key
+abbrev pub query_in_flight_of : Query → Option Flying
+query_in_flight_of (SyncQuery request) = Some (Requested request)
+query_in_flight_of _ = None
+
+-- a message of this member to the key store
+abbrev pub request_in_flight_of : ℕ → ℕ → ℕ → Body → Option Flying
+request_in_flight_of member run sequence (bodies.Request txn) = query_in_flight_of (query_of member run sequence txn)
+request_in_flight_of member run sequence _ = None
+
+-- an answer in a race, where its sender has a log
+abbrev pub race_answer_of : ℕ → ℕ → ℕ → ℕ → Option Lsn → Option Flying
+race_answer_of by member run sequence None = None
+race_answer_of by member run sequence (Some end) = Some (RaceAnswered (record { member = member; run = run; sequence = sequence; by = by; end = end.position }))
+
+-- a message of the first member to the second
+abbrev pub peer_in_flight_of : ℕ → ℕ → ℕ → ℕ → Body → Option Flying
+peer_in_flight_of by member run sequence (bodies.Answer answer) = race_answer_of by member run sequence answer.end
+peer_in_flight_of by member run sequence _ = None
+
+-- what commits read of a message that is sent
+abbrev pub flying_of : Past → LinkEnd → LinkEnd → ℕ → ℕ → Body → Option Flying
+flying_of past (ends.Member member) ends.Store run sequence body = request_in_flight_of member.id.number run sequence body
+flying_of past ends.Store (ends.Member member) run sequence body = answer_in_flight_of past member.id.number run sequence body
+flying_of past (ends.Member by) (ends.Member member) run sequence body = peer_in_flight_of by.id.number member.id.number run sequence body
+flying_of past ends.Store ends.Store run sequence body = None
+
+-- the messages in flight after an event
+abbrev pub past_flight_by : Past → MessageEvent → ℕ → Option Flying
+past_flight_by past (Sent number message) = put_at past.flight number (flying_of past message.from message.to message.run message.sequence message.body)
+past_flight_by past (Delivered number) = put_at past.flight number None
+past_flight_by past (Lost number) = put_at past.flight number None
+
+-- the messages in flight after an event
+abbrev pub past_flight_after : Past → EventKind → ℕ → Option Flying
+past_flight_after past (kinds.Message happening) = past_flight_by past happening
+past_flight_after past _ = past.flight
+
+-- what a message that is sent asks of the key store
+abbrev pub query_sent : LinkEnd → ℕ → ℕ → Body → Query
+query_sent (ends.Member member) run sequence (bodies.Request txn) = query_of member.id.number run sequence txn
+query_sent _ run sequence _ = OtherQuery
+
+-- what each request so far asks, after an event
+abbrev pub queries_after : (ℕ → Query) → EventKind → ℕ → Query
+queries_after asked (kinds.Message (Sent number message)) = put_at asked number (query_sent message.from message.run message.sequence message.body)
+queries_after asked _ = asked
+
+-- the run of each agent, after an event
+abbrev pub runs_after : (ℕ → ℕ) → EventKind → ℕ → ℕ
+runs_after runs (kinds.Agent (agents.Started agent run)) = put_at runs agent.id.number run
+runs_after runs _ = runs
+
+-- a log up to a commit, from this entry on: the entry alone where it is of that commit, and else with what follows
+abbrev pub front_if : Bool → Entry → List Entry → List Entry
+front_if true entry front = entry ∷ []
+front_if false entry front = entry ∷ front
+
+-- a log up to the entry of this commit
+abbrev pub front_to : ℕ → List Entry → List Entry
+front_to commit [] = []
+front_to commit (entry ∷ entries) = front_if (entry.serial == commit) entry (front_to commit entries)
+
+-- the log of a server, which a server that there is not lacks
+abbrev pub log_found : Option (Option (List Entry)) → Option (List Entry)
+log_found None = None
+log_found (Some log) = log
+
+-- the longest log up to an acknowledged commit, after an event
+abbrev pub acknowledged_log_after : Logs → List Entry → EventKind → List Entry
+acknowledged_log_after logs acknowledged_log (kinds.Replication (replications.Acknowledged server commit)) = longer_log acknowledged_log (front_to commit (entries_of (log_found (slice_get logs server.id.number))))
+acknowledged_log_after logs acknowledged_log _ = acknowledged_log
+
+-- what one more event leaves
+abbrev pub past_after : Past → EventKind → Past
+past_after past kind = record {
+  clock = now_after past.clock kind;
+  sync = sync_after past.revision past.sync kind;
+  leader = leader_after past.clock past.revision past.leader kind;
+  failsafe = failsafe_after past.revision past.failsafe kind;
+  holder_was_live = was_live_after past.holder_was_live past.leader kind;
+  revision = revision_after past.revision kind;
+  asked = queries_after past.asked kind;
+  flight = past_flight_after past kind;
+  runs = runs_after past.runs kind;
+  logs = logs_after past.logs kind;
+  writes = writes_after past.writes kind;
+  required = required_after past.required kind;
+  grown = grown_after past.required past.logs past.grown kind;
+  confirmed = confirmed_after past.confirmed kind;
+  acknowledged_log = acknowledged_log_after past.logs past.acknowledged_log kind;
+  acknowledged = acknowledged_after past.acknowledged kind;
+}
+
+-- what a list of events leaves
+abbrev pub past_over : Past → List Event → Past
+past_over past [] = past
+past_over past (event ∷ events) = past_over (past_after past event.kind) events
+
+-- before the first event, over servers with these logs, required lists and confirmed positions
+abbrev pub first_past : Logs → List Required → List (List (Option Lsn)) → Past
+first_past logs required confirmed = record {
+  clock = 0;
+  sync = None;
+  leader = None;
+  failsafe = None;
+  holder_was_live = false;
+  revision = 1;
+  asked = λ i. OtherQuery;
+  flight = λ i. None;
+  runs = λ m. 1;
+  logs = logs;
+  writes = λ n. false;
+  required = required;
+  grown = λ m. 0;
+  confirmed = confirmed;
+  acknowledged_log = [];
+  acknowledged = [];
+}
+
+-- what no event says of a member: whether its server is live, and its agent
+pub record VolatileState : Type 0 where
+  pub live : Bool
+  pub agent : Option Agent
+
+-- before the first event: no server is live, and each agent is in its first run
+abbrev pub first_volatile_state : VolatileState
+first_volatile_state = record { live = false; agent = Some (fresh_agent 1) }
+
+-- the revision of the leader key
+abbrev pub leader_revision : Option LeaderKey → Option ℕ
+leader_revision None = None
+leader_revision (Some key) = Some key.revision
+
+-- whom a required list has commits wait for; that of a server, if there is one
+abbrev pub need_in : Required → Need
+need_in needs.Nobody = Nobody
+need_in needs.AnyOne = Nobody
+need_in (needs.All members) = All (set_members members)
+
+-- whom the commits of a server wait for; nobody where there is no such server
+abbrev pub need_of : Option Required → Need
+need_of None = Nobody
+need_of (Some required) = need_in required
+
+-- the position that a server knows of a member
+abbrev pub position_in : Option (Option Lsn) → Option ℕ
+position_in None = None
+position_in (Some None) = None
+position_in (Some (Some end)) = Some end.position
+
+-- the position that a server knows of this member, if there is such a server
+abbrev pub position_of : Option (List (Option Lsn)) → ℕ → Option ℕ
+position_of None n = None
+position_of (Some positions) n = position_in (slice_get positions n)
+
+-- the machine of a member, by the book and by what no event says of it
+abbrev pub machine_of : Past → VolatileState → ℕ → Machine
+machine_of past volatile_state m = record {
+  live = volatile_state.live;
+  writes = past.writes m;
+  required = need_of (slice_get past.required m);
+  confirmed = position_of (slice_get past.confirmed m);
+  log = log_found (slice_get past.logs m);
+  agent = volatile_state.agent;
+  runs = past.runs m;
+}
+
+-- a cluster: its members have numbers below the first, and the second says whether creates of the leader key compare the sync key,
+-- as they do in quorum mode with failsafe mode
+pub record Setup : Type 0 where
+  pub member_count : ℕ
+  pub creates_compare : Bool
+
+-- the state of a cluster, by the book and by what no event says of its members
+abbrev pub state_of : Setup → Past → (ℕ → VolatileState) → State
+state_of setup past volatile_states = record {
+  member_count = setup.member_count;
+  creates_compare = setup.creates_compare;
+  holder = key_holder past.leader;
+  holder_was_live = past.holder_was_live;
+  failsafe_revision = failsafe_revision_of past.failsafe;
+  sync = past.sync;
+  leader = leader_revision past.leader;
+  revision = past.revision;
+  flight = past.flight;
+  members = λ m. machine_of past (volatile_states m) m;
+  acknowledged_log = past.acknowledged_log;
+  acknowledged = past.acknowledged;
+}

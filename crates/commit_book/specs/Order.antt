@@ -1,0 +1,28 @@
+-- The order of required lists and sync key at a moment of a book (Patroni, "Replication modes": who accepts writes is marked as the leader, and
+-- who is published as a standby is one that commits wait for).
+use Rattle.std.specs.Prelude.{ℕ, ◌≡◌, Bool, true, List, Option, Some, slice_get}
+use Rattle.pat_base.specs.declared.server_state.Required.{Required}
+use Rattle.commit_actions.specs.Carried.{IsLed}
+use Rattle.commit_actions.specs.Keys.{Need, All, SyncKey}
+use Rattle.commit_actions.specs.Past.{Past, need_of}
+use Rattle.commit_actions.specs.Keys.{IsStrict}
+
+-- commits wait for this member
+abbrev pub Awaits : Need → ℕ → Type 0
+Awaits (All members) n = members n ≡ true
+Awaits _ n = ⊥
+
+-- what who accepts writes, with these required lists, has to do with the sync key
+pub record AreInOrder (writes : ℕ → Bool) (required : List Required) (sync : Option SyncKey) : Type 0 where
+  -- the sync key names it as the leader
+  pub led : (server : ℕ) → writes server ≡ true → IsLed sync server
+  -- its commits wait for each standby in the sync key
+  pub awaited : (server : ℕ) (key : SyncKey) → writes server ≡ true → sync ≡ Some key → (standby : ℕ) → key.standbys standby ≡ true → Awaits (need_of (slice_get required server)) standby
+
+-- the same of what a book determines
+abbrev pub IsInOrder : Past → Type 0
+IsInOrder past = AreInOrder past.writes past.required past.sync
+
+-- the sync key, where there is one, names members alone, of which none may lack a commit: synchronous mode, not quorum mode
+abbrev pub NamesMembers : ℕ → Option SyncKey → Type 0
+NamesMembers member_count sync = (key : SyncKey) → sync ≡ Some key → IsStrict member_count key

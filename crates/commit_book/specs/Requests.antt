@@ -1,0 +1,17 @@
+-- What a leader owes that asks to publish standbys.
+use Rattle.std.specs.Prelude.{ℕ, ◌≡◌, Bool, true, false, Some, slice_get}
+use Rattle.commit_actions.specs.Flights.{SyncRequest}
+use Rattle.commit_actions.specs.Keys.{SyncKey}
+use Rattle.commit_actions.specs.Past.{Past, need_of, position_of}
+use Rattle.commit_actions.specs.States.{Reaches}
+use Rattle.commit_book.specs.Order.{Awaits}
+
+-- the request compares the present sync key; and each standby that it adds to that is one that the leader's commits wait for already, and has
+-- confirmed the position that the leader noted, and the end that its log had when its required list last grew
+pub record PublishesInOrder (past : Past) (leader noted : ℕ) (request : SyncRequest) (standbys : ℕ → Bool) : Type 0 where
+  pub key : SyncKey
+  pub is : past.sync ≡ Some key
+  pub compares : request.sync ≡ Some key.revision
+  pub awaited : (standby : ℕ) → standbys standby ≡ true → Awaits (need_of (slice_get past.required leader)) standby
+  pub confirmed : (standby : ℕ) → standbys standby ≡ true → key.standbys standby ≡ false → Reaches noted (position_of (slice_get past.confirmed leader) standby)
+  pub since : (standby : ℕ) → standbys standby ≡ true → key.standbys standby ≡ false → Reaches (past.grown leader) (position_of (slice_get past.confirmed leader) standby)

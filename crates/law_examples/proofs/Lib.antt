@@ -1,0 +1,3 @@
+pub mod ExampleRun
+pub mod ExampleSynchronous
+pub mod ExampleQuorum

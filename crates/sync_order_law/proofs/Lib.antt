@@ -1,4 +1,0 @@
-pub mod Asides
-pub mod Claims
-pub mod Inside
-pub mod Publishing
