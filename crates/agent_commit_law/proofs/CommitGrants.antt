@@ -11,12 +11,12 @@ use Rattle.event_book.specs.declared.message.Body.TheVariants as bodies
 use Rattle.event_book.specs.Functions.{set_members}
 use Rattle.sync_state.specs.Published.{published_in}
 use Rattle.sync_state.specs.Standbys.{required_members, noted_position}
-use Rattle.commit_actions.specs.Keys.{SyncKey, Need, Overlaps, Added, Narrows}
+use Rattle.commit_actions.specs.Keys.{SyncKey, Confirmers, Overlaps, Added, Narrows}
 use Rattle.commit_actions.specs.Flights.{SyncRequest}
 use Rattle.commit_actions.specs.States.{Agent, State}
 use Rattle.commit_actions.specs.Inputs.{AgentInput, ChangingRequired, Publishing, SettlingRequired, sync_revision_of}
 use Rattle.commit_actions.specs.Carried.{IsSound}
-use Rattle.commit_actions.specs.Past.{need_in, publish_request}
+use Rattle.commit_actions.specs.Past.{confirmers_in, publish_request}
 use Rattle.agent_model.specs.declared.heard.Heard.TheVariants.{Granted as HeardGranted}
 use Rattle.agent_model.specs.declared.knowledge.Settling.{Settling}
 use Rattle.agent_model.specs.declared.machine.Replication.{Replication}
@@ -75,7 +75,7 @@ pub record Changes (s : State) (m : ℕ) (o x : Outcome) : Type 0 where
   pub turn : x.knows.turn_sync ≡ o.knows.turn_sync
   pub waited : x.knows.waited ≡ None
   pub unasking : All IsUnasking x.outputs
-  pub notes : (noted_position x.knows.noted ≡ end_of (entries_of (s.members m).log)) ⊎ (Narrows (s.members m).required (need_in x.machine.replication.required) × (x.knows.noted ≡ o.knows.noted))
+  pub notes : (noted_position x.knows.noted ≡ end_of (entries_of (s.members m).log)) ⊎ (Narrows (s.members m).required (confirmers_in x.machine.replication.required) × (x.knows.noted ≡ o.knows.noted))
 
 notes-shown : (s : State) (m : ℕ) (input : AgentInput) (o x : Outcome) → IsCommitInputOf s m o x input → Changes s m o x
     → (input.agent.noted ≡ end_of (entries_of (s.members m).log)) ⊎ (Narrows (s.members m).required input.required × (input.agent.noted ≡ (was_of o).noted))
@@ -84,16 +84,16 @@ notes-shown s m input o x is changes = elim changes.notes [
   | inr narrows ↦ inr (subst (Narrows (s.members m).required) (sym is.required) narrows.0, keeps-noted s m input o x is narrows.1)
 ]
 
-overlaps-shown : (s : State) (m : ℕ) (input : AgentInput) (o x : Outcome) (key : SyncKey) (standbys : ℕ → Bool) → IsCommitInputOf s m o x input → key.quorum ≡ 0 → key.standbys ≡ standbys → Overlaps s.member_count standbys 0 (need_in x.machine.replication.required)
+overlaps-shown : (s : State) (m : ℕ) (input : AgentInput) (o x : Outcome) (key : SyncKey) (standbys : ℕ → Bool) → IsCommitInputOf s m o x input → key.quorum ≡ 0 → key.standbys ≡ standbys → Overlaps s.member_count standbys 0 (confirmers_in x.machine.replication.required)
     → Overlaps s.member_count key.standbys key.quorum input.required
 overlaps-shown s m input o x key standbys is quorum same over =
-    subst (λ (n : Need). Overlaps s.member_count key.standbys key.quorum n) (sym is.required)
-    (subst (λ (q : ℕ). Overlaps s.member_count key.standbys q (need_in x.machine.replication.required)) (sym quorum)
-    (subst (λ (set : ℕ → Bool). Overlaps s.member_count set 0 (need_in x.machine.replication.required)) (sym same) over))
+    subst (λ (n : Confirmers). Overlaps s.member_count key.standbys key.quorum n) (sym is.required)
+    (subst (λ (q : ℕ). Overlaps s.member_count key.standbys q (confirmers_in x.machine.replication.required)) (sym quorum)
+    (subst (λ (set : ℕ → Bool). Overlaps s.member_count set 0 (confirmers_in x.machine.replication.required)) (sym same) over))
 
 -- in a turn
 pub changes-lawful : (now : Ticks) (sequence : ℕ) (grant : Granted) (snapshot : SnapshotFacts) (s : State) (m : ℕ) (input : AgentInput) (o b x : Outcome) → Ground s m o b → Leased s m sequence grant snapshot input o → IsLedBy s m snapshot o → is_leader b.role ≡ true → Changes s m o x
-    → Overlaps s.member_count (set_members (published_in snapshot)) 0 (need_in x.machine.replication.required) → GrowsByConnected o (s.members m).required (need_in x.machine.replication.required) → Lawful now sequence grant snapshot s m input o x
+    → Overlaps s.member_count (set_members (published_in snapshot)) 0 (confirmers_in x.machine.replication.required) → GrowsByConnected o (s.members m).required (confirmers_in x.machine.replication.required) → Lawful now sequence grant snapshot s m input o x
 changes-lawful now sequence grant snapshot s m input o b x ground leased led leads changes over grows onward is =
     lawful-as now (HeardGranted sequence grant snapshot) (Some snapshot) s m input o x ground.stands is onward (waits-nothing o x changes.waited)
     (ChangingRequired (record {
@@ -112,7 +112,7 @@ changes-lawful now sequence grant snapshot s m input o b x ground leased led lea
 
 -- on a granted write of the sync key
 pub settles-lawful : (now : Ticks) (sequence : ℕ) (grant : Granted) (snapshot : SnapshotFacts) (s : State) (m : ℕ) (input : AgentInput) (o b x : Outcome) → Ground s m o b → (awaited : IsAwaitedWrite sequence grant o.knows) → (hears : HearsWrite s m input.heard sequence awaited.waited.question o.knows)
-    → is_leader b.role ≡ true → Changes s m o x → hears.key.quorum ≡ 0 → Overlaps s.member_count hears.key.standbys 0 (need_in x.machine.replication.required) → GrowsByConnected o (s.members m).required (need_in x.machine.replication.required) → Lawful now sequence grant snapshot s m input o x
+    → is_leader b.role ≡ true → Changes s m o x → hears.key.quorum ≡ 0 → Overlaps s.member_count hears.key.standbys 0 (confirmers_in x.machine.replication.required) → GrowsByConnected o (s.members m).required (confirmers_in x.machine.replication.required) → Lawful now sequence grant snapshot s m input o x
 settles-lawful now sequence grant snapshot s m input o b x ground awaited hears leads changes quorum over grows onward is =
     lawful-as now (HeardGranted sequence grant snapshot) (Some snapshot) s m input o x ground.stands is onward (waits-nothing o x changes.waited)
     (SettlingRequired (record {
@@ -158,7 +158,7 @@ publishes-lawful now ttl sequence grant snapshot s m input o b ground leased led
       standbys = set_members set;
       quorum = 0;
       aim = refl;
-      overlaps = subst (λ (n : Need). Overlaps s.member_count (set_members set) 0 n) (sym ground.stands.required) (covers-required s.member_count (set_members set) o.machine.replication.required required);
+      overlaps = subst (λ (n : Confirmers). Overlaps s.member_count (set_members set) 0 n) (sym ground.stands.required) (covers-required s.member_count (set_members set) o.machine.replication.required required);
       connected = λ n e. elim (each n e) [
         | inl was ↦ inl (was-published n was)
         | inr reached ↦ inr (confirmed-any s m (noted_position o.knows.noted) n (has-confirmed s m o (noted_position o.knows.noted) n ground.stands reached))

@@ -21,12 +21,12 @@ use Rattle.event_book.specs.Functions.{set_members}
 use Rattle.sync_state.specs.Published.{standbys_of, published_in}
 use Rattle.sync_state.specs.Standbys.{required_members, noted_position}
 use Rattle.commit_actions.proofs.Tools.{or-cases}
-use Rattle.commit_actions.specs.Keys.{SyncKey, Need, Overlaps, IsStrict}
+use Rattle.commit_actions.specs.Keys.{SyncKey, Confirmers, Overlaps, IsStrict}
 use Rattle.commit_actions.specs.Flights.{LeaseGrant, SyncGrant}
 use Rattle.commit_actions.specs.States.{State, Reaches, Waits}
 use Rattle.commit_actions.specs.Inputs.{AgentInput, HearsLeaseGrant, HearsSyncGrant, WinsByName, HasConfirmed, sync_revision_of}
 use Rattle.commit_actions.specs.Carried.{IsSound, IsLed}
-use Rattle.commit_actions.specs.Past.{need_in, revision_in}
+use Rattle.commit_actions.specs.Past.{confirmers_in, revision_in}
 use Rattle.agent_model.specs.declared.knowledge.Knowledge.{Knowledge}
 use Rattle.agent_model.specs.declared.knowledge.SyncRead.{SyncRead}
 use Rattle.agent_model.specs.declared.knowledge.Waited.{Waited}
@@ -196,8 +196,8 @@ same-true a b e = grind (arith, nat_tests)
 pub key-covers : (s : State) (m : ℕ) (o : Outcome) (key : SyncKey) → IsSound s → StandsToCommit s m o → (s.members m).live ≡ true → s.sync ≡ Some key → IsWithin key.standbys (set_members (required_members o.machine.replication.required))
 key-covers s m o key sound stands lives sync = let strict : IsStrict s.member_count key = stands.strict key sync in
     required-covers s.member_count key.standbys o.machine.replication.required strict.members
-    (subst (λ (q : ℕ). Overlaps s.member_count key.standbys q (need_in o.machine.replication.required)) strict.quorum
-    (subst (λ (n : Need). Overlaps s.member_count key.standbys key.quorum n) stands.required (sound.servers.overlaps m key lives sync)))
+    (subst (λ (q : ℕ). Overlaps s.member_count key.standbys q (confirmers_in o.machine.replication.required)) strict.quorum
+    (subst (λ (n : Confirmers). Overlaps s.member_count key.standbys key.quorum n) stands.required (sound.servers.overlaps m key lives sync)))
 
 pub led-by : (s : State) (m sequence : ℕ) (grant : Granted) (snapshot : SnapshotFacts) (input : AgentInput) (o : Outcome) → IsSound s → StandsToCommit s m o → HearsLease s m input.heard sequence grant.revision snapshot o.knows → IsAwaitedLease sequence grant o.knows
     → (s.members m).live ≡ true → IsLedBy s m snapshot o

@@ -13,8 +13,8 @@ use Rattle.cluster_config.specs.KeyValues.{config_in}
 use Rattle.cluster_config.specs.Snapshots.{SnapshotFacts}
 use Rattle.event_book.specs.Functions.{set_members}
 use Rattle.lease_law.proofs.Tools.{both as no-both, none-some, not-false}
-use Rattle.commit_actions.specs.Keys.{Need, Nobody, All, AtLeast, Narrows}
-use Rattle.commit_actions.specs.Past.{need_in}
+use Rattle.commit_actions.specs.Keys.{Confirmers, Nobody, All, AtLeast, Narrows}
+use Rattle.commit_actions.specs.Past.{confirmers_in}
 use Rattle.cluster_config.specs.Naming.{is_one_of}
 use Rattle.sync_state.specs.Published.{published_in}
 use Rattle.sync_state.specs.Sets.{nobody, set_of}
@@ -23,19 +23,19 @@ use Rattle.sync_state.specs.Candidates.{candidate_by, candidate_numbered, candid
 use Rattle.sync_state.proofs.SetBits.{bit-set_of}
 use Rattle.sync_state.proofs.Wanting.{wanted-candidate}
 use Rattle.agent_model.specs.Agents.{Outcome}
-use Rattle.agent_commit_law.specs.Committing.{GrowsByConnected, NeedsOne}
+use Rattle.agent_commit_law.specs.Committing.{GrowsByConnected, ListsMember}
 use Rattle.agent_commit_law.proofs.CommitTools.{is-one, no-members, where-one}
 use Rattle.std.specs.Int.{bit_at}
 use Rattle.pat_base.specs.declared.member_id.TheConstants.{MOST_MEMBERS}
 
 -- who is in a required list is waited for by name
-pub required-needs : (required : Required) (n : ℕ) → set_members (required_members required) n ≡ true → NeedsOne (need_in required) n
+pub required-needs : (required : Required) (n : ℕ) → set_members (required_members required) n ≡ true → ListsMember (confirmers_in required) n
 required-needs requireds.Nobody n is = absurd (not-false (set_members nobody n) (no-members nobody refl n) is)
 required-needs requireds.AnyOne n is = absurd (not-false (set_members nobody n) (no-members nobody refl n) is)
 required-needs (requireds.All members) n is = is
 
 -- a list that shrinks grows by nobody
-pub narrows-grows : (o : Outcome) (before after : Need) → Narrows before after → GrowsByConnected o before after
+pub narrows-grows : (o : Outcome) (before after : Confirmers) → Narrows before after → GrowsByConnected o before after
 narrows-grows o before Nobody narrows n needs = absurd needs
 narrows-grows o Nobody (All after) narrows n needs = absurd narrows
 narrows-grows o (All before) (All after) narrows n needs = inl (narrows n needs)

@@ -44,7 +44,7 @@ use Rattle.agent_model.specs.Acting.{deadline_after, disarmed, ending_server, ar
 use Rattle.agent_model.specs.Agents.{RoleFacts, Follower, Ending, Outcome, is_leader, made, fresh_knowledge}
 use Rattle.agent_model.specs.Before.{before, has_ended}
 use Rattle.agent_model.specs.Claiming.{begins, can_begin_on_claim, claims, passing, postpones}
-use Rattle.agent_commit_law.specs.Committing.{sync_seen, committer_seen, ArmsOn, DoesAs, IsOn, HearsOn, HearsToCommit, KnowsBelow, AsksOn, FollowsOn, requests_of, is_begin, IsOneAtMost, IsCovered, IsSynchronousBody, IsSynchronousOutput, HasForm, Apart, Asks, Passes, Requires, Begins, StaysOn, CommitsFrom}
+use Rattle.agent_commit_law.specs.Committing.{sync_seen, committer_seen, ArmsOn, DoesAs, IsSynchronousSnapshot, HearsSynchronousMode, HearsToCommit, KnowsBelow, AsksInSynchronousMode, FollowsSynchronousMode, requests_of, is_begin, IsOneAtMost, IsCovered, IsSynchronousBody, IsSynchronousOutput, HasForm, Apart, Asks, Passes, Requires, Begins, StaysInSynchronousMode, CommitsFrom}
 use Rattle.agent_model.specs.Decisions.{takes_over, gives_back, granted}
 use Rattle.agent_model.specs.HandingOver.{checking, hands_over}
 use Rattle.agent_model.specs.Operators.{grants_operator, looked, operated, operator_granted}
@@ -90,7 +90,7 @@ before-covered now o all = before-by (λ (x : Outcome). All IsCovered x.outputs)
     ended-covered Lost held = disarms
 
 -- behind quiet outputs the mode stays on
-quiet-stays : (heard : Heard) (o x : Outcome) → AsksOn x.knows → All IsQuiet x.outputs → StaysOn heard o x
+quiet-stays : (heard : Heard) (o x : Outcome) → AsksInSynchronousMode x.knows → All IsQuiet x.outputs → StaysInSynchronousMode heard o x
 quiet-stays heard o x asks quiet = record {
   asks = asks;
   one = quiet-one o.knows.who.me.number o.knows.run x.outputs quiet;
@@ -100,7 +100,7 @@ quiet-stays heard o x asks quiet = record {
 }
 
 -- with one more output behind those that send no other request
-last-stays : (heard : Heard) (o x : Outcome) (outs : List Output) (output : Output) → AsksOn x.knows → x.outputs ≡ listed output outs → is_begin output ≡ false → All IsUnasking outs → HasForm x.outputs → ((count : ℕ) → KnowsBelow count heard o → IsSynchronousOutput count output) → StaysOn heard o x
+last-stays : (heard : Heard) (o x : Outcome) (outs : List Output) (output : Output) → AsksInSynchronousMode x.knows → x.outputs ≡ listed output outs → is_begin output ≡ false → All IsUnasking outs → HasForm x.outputs → ((count : ℕ) → KnowsBelow count heard o → IsSynchronousOutput count output) → StaysInSynchronousMode heard o x
 last-stays heard o x outs output asks is unbegun still form sends =
     record {
       asks = asks;
@@ -111,7 +111,7 @@ last-stays heard o x outs output asks is unbegun still form sends =
     }
 
 -- a question to the key store is the last output
-asks-stays : (heard : Heard) (o x : Outcome) (outs : List Output) (sequence : ℕ) (body : Body) → AsksOn x.knows → x.outputs ≡ listed (outputs.Send targets.Store sequence body) outs → All IsCovered outs → ((count : ℕ) → KnowsBelow count heard o → IsSynchronousBody count body) → StaysOn heard o x
+asks-stays : (heard : Heard) (o x : Outcome) (outs : List Output) (sequence : ℕ) (body : Body) → AsksInSynchronousMode x.knows → x.outputs ≡ listed (outputs.Send targets.Store sequence body) outs → All IsCovered outs → ((count : ℕ) → KnowsBelow count heard o → IsSynchronousBody count body) → StaysInSynchronousMode heard o x
 asks-stays heard o x outs sequence body asks is all sends = last-stays heard o x outs (outputs.Send targets.Store sequence body) asks is refl (unasking outs (covered outs all)) (Asks outs sequence body all (sym is)) sends
 
 -- so is a claim, behind the note that the sync key doesn't name the member, if that is so
@@ -121,13 +121,13 @@ claims-form o sequence revision sync all = let claim : Output = outputs.Send tar
     (Passes o.outputs sequence revision sync all (sym (append_assoc o.outputs (outputs.Passes ∷ []) (claim ∷ []))))
 
 -- nothing is waited for, or this question
-rest : (knows : Knowledge) → knows.waited ≡ None → AsksOn knows
+rest : (knows : Knowledge) → knows.waited ≡ None → AsksInSynchronousMode knows
 rest knows none waited is = absurd (none-some waited (sym none ∙ is))
 
-asks-this : (knows : Knowledge) (asked : Waited) → knows.waited ≡ Some asked → FollowsOn knows.turn_settings.synchronous_mode asked.question → AsksOn knows
-asks-this knows asked is follows waited waits = subst (λ (w : Waited). FollowsOn knows.turn_settings.synchronous_mode w.question) (some-is asked waited (sym is ∙ waits)) follows
+asks-this : (knows : Knowledge) (asked : Waited) → knows.waited ≡ Some asked → FollowsSynchronousMode knows.turn_settings.synchronous_mode asked.question → AsksInSynchronousMode knows
+asks-this knows asked is follows waited waits = subst (λ (w : Waited). FollowsSynchronousMode knows.turn_settings.synchronous_mode w.question) (some-is asked waited (sym is ∙ waits)) follows
 
-requires-stays : (heard : Heard) (o y : Outcome) (required : Required) → y.knows.waited ≡ None → All IsCovered y.outputs → StaysOn heard o (requiring required y)
+requires-stays : (heard : Heard) (o y : Outcome) (required : Required) → y.knows.waited ≡ None → All IsCovered y.outputs → StaysInSynchronousMode heard o (requiring required y)
 requires-stays heard o y required none all =
     last-stays heard o (requiring required y) y.outputs (outputs.Require required) (rest y.knows none) refl refl (unasking y.outputs (covered y.outputs all)) (Requires y.outputs required all refl) (λ count below. tt)
 
@@ -137,13 +137,13 @@ module _ (now : Ticks) (sequence : ℕ) (grant : Granted) (snapshot : SnapshotFa
   Hears = HeardGranted sequence grant snapshot
 
   abbrev Stays : Outcome → Type 0
-  Stays x = StaysOn Hears o x
+  Stays x = StaysInSynchronousMode Hears o x
 
   quiet : All IsQuiet b.outputs
   quiet = covered b.outputs all
 
   -- a leader that asks for a write of the sync key
-  names-stays : (ttl : Ticks) (settling : Settling) (set : MemberSet) → ((on : Bool) → FollowsOn on (Syncing settling)) → ((count : ℕ) → KnowsBelow count Hears o → (n : ℕ) → set_members set n ≡ true → n < count)
+  names-stays : (ttl : Ticks) (settling : Settling) (set : MemberSet) → ((on : Bool) → FollowsSynchronousMode on (Syncing settling)) → ((count : ℕ) → KnowsBelow count Hears o → (n : ℕ) → set_members set n ≡ true → n < count)
       → Stays (naming now grant.revision settling set (led_on now ttl grant.revision (Told snapshot b)))
   names-stays ttl settling set follows below =
       let fed : Outcome = led_on now ttl grant.revision (Told snapshot b) in
@@ -176,7 +176,7 @@ module _ (now : Ticks) (sequence : ℕ) (grant : Granted) (snapshot : SnapshotFa
       let u : Outcome = unheard fed in
       let w : Outcome = waiting_no_more u in
       let idle : FailoverRows (Idle None b) now grant.revision fed = failover-idle None now grant.revision b fed (led-idle now ttl grant.revision snapshot b leads) (omega arith) in
-      let still : (x : Outcome) → Idle None b x → AsksOn x.knows → Stays x = λ x after asks. quiet-stays Hears o x asks (after.quiet quiet) in
+      let still : (x : Outcome) → Idle None b x → AsksInSynchronousMode x.knows → Stays x = λ x after asks. quiet-stays Hears o x asks (after.quiet quiet) in
       record {
         kept = still fed idle.kept (rest fed.knows refl);
         clears = λ compared. still (dropping compared fed) (idle.clears compared) (rest (dropping compared fed).knows refl);
@@ -238,7 +238,7 @@ module _ (now : Ticks) (sequence : ℕ) (grant : Granted) (snapshot : SnapshotFa
         empties = λ _. requires-stays Hears o told requireds.Nobody refl all;
       }
 
-  grant-stays : is_paused (informed snapshot b.knows) ≡ false → AsksOn b.knows → IsOn snapshot → Stays (granted now sequence grant snapshot b)
+  grant-stays : is_paused (informed snapshot b.knows) ≡ false → AsksInSynchronousMode b.knows → IsSynchronousSnapshot snapshot → Stays (granted now sequence grant snapshot b)
   grant-stays unpaused asks on = granted-steps Stays now sequence grant snapshot b on (record {
     kept = quiet-stays Hears o b asks quiet;
     quiet = quiet-stays Hears o (waiting_no_more b) (rest (waiting_no_more b).knows refl) quiet;
@@ -249,7 +249,7 @@ module _ (now : Ticks) (sequence : ℕ) (grant : Granted) (snapshot : SnapshotFa
   })
 
 -- an input that leaves what commits depend on
-rests : (now : Ticks) (heard : Heard) (told onto : Option SnapshotFacts) (o x : Outcome) → All IsQuiet o.outputs → Onward onto o x → Idle told o x → (AsksOn o.knows → HearsOn heard → AsksOn x.knows)
+rests : (now : Ticks) (heard : Heard) (told onto : Option SnapshotFacts) (o x : Outcome) → All IsQuiet o.outputs → Onward onto o x → Idle told o x → (AsksInSynchronousMode o.knows → HearsSynchronousMode heard → AsksInSynchronousMode x.knows)
     → ((s : State) (m : ℕ) (input : AgentInput) → HearsToCommit s m input heard o → (snapshot : SnapshotFacts) → told ≡ Some snapshot → HearsSnapshot s input (sync_seen (sync_read_in snapshot))) → CommitsFrom now heard o x
 rests now heard told onto o x quiet onward idle asks hears = record {
   stays = λ _ on hears-on. quiet-stays heard o x (asks on hears-on) (idle.quiet quiet);
@@ -263,7 +263,7 @@ told-is : (told snapshot : SnapshotFacts) → ◌≡◌ {A = Option SnapshotFact
 told-is told snapshot e = cc
 
 -- so does one that hears no snapshot, behind what comes before an input
-behind-commits : (now : Ticks) (heard : Heard) (o x : Outcome) → All IsQuiet o.outputs → Onward None (before now o) x → Idle None (before now o) x → (AsksOn (before now o).knows → AsksOn x.knows) → CommitsFrom now heard o x
+behind-commits : (now : Ticks) (heard : Heard) (o x : Outcome) → All IsQuiet o.outputs → Onward None (before now o) x → Idle None (before now o) x → (AsksInSynchronousMode (before now o).knows → AsksInSynchronousMode x.knows) → CommitsFrom now heard o x
 behind-commits now heard o x quiet onward idle asks = let b : Outcome = before now o in
     rests now heard None None o x quiet (onward-then None o b x (before-onward None now o) onward) (idle-then None o b x (before-idle None now o) idle (before-onward None now o).last)
     (λ on _. asks (before-asks now o on)) (λ s m input _ snapshot e. absurd (none-told snapshot e))
@@ -306,7 +306,7 @@ input-commits-as now points heard role knows machine outs after is none = let sa
     subst (λ (x : Outcome). CommitsFrom now heard (made role knows machine []) x) (sym same) (step-commits now points heard (made role knows machine []) (All-nil IsCovered))
 
 -- an agent that starts waits for nothing, and is to the law one that starts
-pub fresh-asks : (who : Who) (first : Ticks) (run : ℕ) → AsksOn (fresh_knowledge who first run)
+pub fresh-asks : (who : Who) (first : Ticks) (run : ℕ) → AsksInSynchronousMode (fresh_knowledge who first run)
 fresh-asks who first run waited is = absurd (none-some waited is)
 
 pub fresh-seen : (who : Who) (first : Ticks) (run : ℕ) → committer_seen Follower (fresh_knowledge who first run) ≡ fresh_agent run

@@ -11,7 +11,7 @@ use Rattle.commit_actions.specs.Flights.{SyncRequest}
 use Rattle.commit_actions.specs.Keys.{SyncKey}
 use Rattle.commit_actions.specs.States.{Agent, State}
 use Rattle.commit_actions.specs.Inputs.{AgentInput, HearsSnapshot, KeepsTurn, BeginsTurn, KeepsServer, Sends, Does, Idling}
-use Rattle.commit_actions.specs.Past.{need_in}
+use Rattle.commit_actions.specs.Past.{confirmers_in}
 use Rattle.agent_model.specs.declared.heard.Heard.{Heard}
 use Rattle.agent_model.specs.declared.knowledge.Waited.{Waited}
 use Rattle.agent_model.specs.Agents.{Outcome}
@@ -82,7 +82,7 @@ keeps-live s m input o after stands is begun =
 pub keeps-server : (s : State) (m : ℕ) (input : AgentInput) (o after : Outcome) → StandsToCommit s m o → IsCommitInputOf s m o after input → has_one is_begin after.outputs ≡ false → after.machine.replication.required ≡ o.machine.replication.required → KeepsServer s m input
 keeps-server s m input o after stands is begun required = record {
   live = keeps-live s m input o after stands is begun;
-  required = is.required ∙ (ap (λ (r : Required). need_in r) required ∙ sym stands.required);
+  required = is.required ∙ (ap (λ (r : Required). confirmers_in r) required ∙ sym stands.required);
 }
 
 -- what an input leaves of being Ready, of leading, and of the noted position

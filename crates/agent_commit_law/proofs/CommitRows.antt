@@ -21,12 +21,12 @@ use Rattle.event_book.specs.Functions.{set_members}
 use Rattle.sync_state.specs.Published.{published_in}
 use Rattle.sync_state.specs.Sets.{both, either, is_within}
 use Rattle.sync_state.specs.Standbys.{required_members, noted_position}
-use Rattle.commit_actions.specs.Keys.{Need, Narrows}
+use Rattle.commit_actions.specs.Keys.{Confirmers, Narrows}
 use Rattle.commit_actions.specs.Flights.{SyncRequest}
 use Rattle.commit_actions.specs.States.{Agent, State}
 use Rattle.commit_actions.specs.Inputs.{AgentInput, WinsByName, Arming, TakingOver, Promoting, sync_revision_of}
 use Rattle.commit_actions.specs.Carried.{IsSound}
-use Rattle.commit_actions.specs.Past.{need_in, claim_request}
+use Rattle.commit_actions.specs.Past.{confirmers_in, claim_request}
 use Rattle.agent_model.specs.declared.heard.Heard.TheVariants.{Granted as HeardGranted}
 use Rattle.agent_model.specs.declared.knowledge.Question.{Question}
 use Rattle.agent_model.specs.declared.knowledge.Question.TheVariants.{Claiming, Syncing}
@@ -42,7 +42,7 @@ use Rattle.agent_model.specs.Acting.{deadline_after, ending_server, arming, requ
 use Rattle.agent_model.specs.Agents.{Ready, Ending, Outcome, is_leader, is_ready}
 use Rattle.agent_model.specs.Before.{before}
 use Rattle.agent_model.specs.Claiming.{begins, claims, passing, postpones, can_begin_on_claim, told_passing}
-use Rattle.agent_commit_law.specs.Committing.{sync_seen, StandsToCommit, IsAwaitedWrite, IsAskedBy, HearsWrite, HearsGranted, IsOn, FollowsOn, AsksOn, NeedsOne, IsCommitInputOf, is_passing, IsLawfulAs}
+use Rattle.agent_commit_law.specs.Committing.{sync_seen, StandsToCommit, IsAwaitedWrite, IsAskedBy, HearsWrite, HearsGranted, IsSynchronousSnapshot, FollowsSynchronousMode, AsksInSynchronousMode, ListsMember, IsCommitInputOf, is_passing, IsLawfulAs}
 use Rattle.agent_model.specs.Decisions.{takes_over, gives_back, may_create, granted}
 use Rattle.agent_model.specs.HandingOver.{checking, hands_over}
 use Rattle.agent_model.specs.Outputs.{has_one, listed}
@@ -58,7 +58,7 @@ use Rattle.agent_commit_law.proofs.CommitLawful.{lawful-as, keeps-turn, keeps-se
 use Rattle.agent_commit_law.proofs.CommitGrowing.{narrows-grows, required-needs, wanted-connected}
 use Rattle.agent_commit_law.proofs.CommitQuiet.{IsQuiet, IsUnasking, asks-last, quietly, quiet-armed, quiet-fed, quiet-none, quiet-unbegun, last-unbegun, passing-unasked, unasked}
 use Rattle.agent_commit_law.proofs.CommitSteps.{IsForeign, wanted_at, confirmed_at, required_at, PlanSteps, LeaseSteps, WriteSteps, granted-steps}
-use Rattle.agent_commit_law.proofs.CommitTools.{IsWithin, HasReached, within-set, both-first, either-first, either-one, either-within, unnamed-need, waiting-covers, waiting-narrows, confirmed-reached}
+use Rattle.agent_commit_law.proofs.CommitTools.{IsWithin, HasReached, within-set, both-first, either-first, either-one, either-within, unnamed-confirmers, waiting-covers, waiting-narrows, confirmed-reached}
 use Rattle.agent_roles.proofs.Fitting.{ended-for}
 use Rattle.agent_roles.proofs.Granting.{Told, one-before, one-last}
 use Rattle.agent_roles.proofs.Knowing.{before-onward, granted-onward, onward-then}
@@ -141,7 +141,7 @@ promotes-lawful now sequence revision grant snapshot s m input o b ground awaite
       hears = hears-write s m sequence grant input o awaited hears;
       was_ready = behind.idle.ready (rw role refl);
       ready = ap (λ (a : Agent). a.ready) is.agent;
-      required = is.required ∙ unnamed-need b.knows.turn_settings;
+      required = is.required ∙ unnamed-confirmers b.knows.turn_settings;
       sends = sends-nothing s m input o x is (asks-last m o.knows.run (listed required b.outputs) outputs.Begin all);
       turn = keeps-turn s m input o x is behind.turn;
       log = ground.stands.has_log (ap (λ (y : ServerStatus). has_data y.state) (sym behind.server) ∙ begins-data b.machine.server.was_primary b.machine.server.state can);
@@ -159,15 +159,15 @@ withdrawn-lawful now sequence grant snapshot s m input o b ground awaited hears 
     let sync : s.sync ≡ Some hears.key = written s m sequence grant input o awaited hears ground.sound ground.stands lives in
     let asked : (n : ℕ) → hears.key.standbys n ≡ set_members set n = subst (λ (q : Question). IsAskedBy q hears.key) question hears.asked in
     let covers : IsWithin hears.key.standbys (set_members (required_members o.machine.replication.required)) = key-covers s m o hears.key ground.sound ground.stands lives sync in
-    let narrows : Narrows (s.members m).required (need_in required) =
-    subst (λ (n : Need). Narrows n (need_in required)) (sym ground.stands.required) (waiting-narrows o.machine.replication.required (Told snapshot b).knows.settings set (λ n e. covers n (asked n ∙ e))) in
+    let narrows : Narrows (s.members m).required (confirmers_in required) =
+    subst (λ (n : Confirmers). Narrows n (confirmers_in required)) (sym ground.stands.required) (waiting-narrows o.machine.replication.required (Told snapshot b).knows.settings set (λ n e. covers n (asked n ∙ e))) in
     settles-lawful now sequence grant snapshot s m input o b x ground awaited hears leads (record {
       ready = unready b.role leads;
       turn = behind.turn;
       waited = refl;
       unasking = unasked b.outputs required (behind.idle.quiet ground.quiet);
       notes = inr (narrows, behind.idle.noted);
-    }) (ground.stands.strict hears.key sync).quorum (waiting-covers s.member_count hears.key.standbys (Told snapshot b).knows.settings set (λ n e. sym (asked n) ∙ e)) (narrows-grows o (s.members m).required (need_in required) narrows)
+    }) (ground.stands.strict hears.key sync).quorum (waiting-covers s.member_count hears.key.standbys (Told snapshot b).knows.settings set (λ n e. sym (asked n) ∙ e)) (narrows-grows o (s.members m).required (confirmers_in required) narrows)
 
 -- a renewed leader without a step
 pub led-idle : (now ttl : Ticks) (revision : ℕ) (snapshot : SnapshotFacts) (b : Outcome) → is_leader b.role ≡ true → Idle None b (led_on now ttl revision (Told snapshot b))
@@ -218,21 +218,21 @@ plan-lawful now ttl sequence grant snapshot s m input o b ground leased leads =
             notes = inl (noted-end s m o b ground.stands behind);
           }) (λ n e. either-first (required_at b) wanted n (subst (λ (f : ℕ → Bool). f n ≡ true) (sym (required-before o b behind)) (led.covers n e)))
           (λ n e. elim (either-one (required_at b) wanted n e) [
-            | inl before-it ↦ inl (subst (λ (need : Need). NeedsOne need n) (sym ground.stands.required) (required-needs o.machine.replication.required n (subst (λ (f : ℕ → Bool). f n ≡ true) (required-before o b behind) before-it)))
+            | inl before-it ↦ inl (subst (λ (confirmers : Confirmers). ListsMember confirmers n) (sym ground.stands.required) (required-needs o.machine.replication.required n (subst (λ (f : ℕ → Bool). f n ≡ true) (required-before o b behind) before-it)))
             | inr new ↦ let there = wanted-connected (leader_view now fed.knows fed.machine) snapshot n new in inr (there.0, subst (λ (r : Replication). slice_get r.connected n ≡ Some (Some there.0)) behind.replication there.1)
           ]);
       publishes = λ covered confirmed. publishes-lawful now ttl sequence grant snapshot s m input o b ground leased led leads Stays wanted (within covered)
           (λ n e. inr (reached-before o b n behind (confirmed-reached (leader_view now fed.knows fed.machine) n (within-set wanted (confirmed_at now fed) confirmed n e))));
       drops = λ covered. let set : MemberSet = either published wanted in let list : Required = waiting_for fed.knows.settings set in
-          let narrows : Narrows (s.members m).required (need_in list) =
-          subst (λ (n : Need). Narrows n (need_in list)) (sym ground.stands.required) (waiting-narrows o.machine.replication.required fed.knows.settings set (either-within published wanted required led.covers (within covered))) in
+          let narrows : Narrows (s.members m).required (confirmers_in list) =
+          subst (λ (n : Confirmers). Narrows n (confirmers_in list)) (sym ground.stands.required) (waiting-narrows o.machine.replication.required fed.knows.settings set (either-within published wanted required led.covers (within covered))) in
           changes-lawful now sequence grant snapshot s m input o b (requiring list fed) ground leased led leads (record {
             ready = refl;
             turn = behind.turn;
             waited = refl;
             unasking = unasked fed.outputs list quiet;
             notes = inr (narrows, behind.idle.noted);
-          }) (waiting-covers s.member_count (set_members published) fed.knows.settings set (either-first published wanted)) (narrows-grows o (s.members m).required (need_in list) narrows);
+          }) (waiting-covers s.member_count (set_members published) fed.knows.settings set (either-first published wanted)) (narrows-grows o (s.members m).required (confirmers_in list) narrows);
     }
 
 -- what it does under a failover key leaves what commits depend on
@@ -280,18 +280,18 @@ lease-lawful now ttl sequence grant snapshot s m input o b ground leased unready
 
 -- what a granted write of the sync key comes to
 write-lawful : (now : Ticks) (sequence : ℕ) (grant : Granted) (snapshot : SnapshotFacts) (s : State) (m : ℕ) (input : AgentInput) (o b : Outcome) → Ground s m o b → (awaited : IsAwaitedWrite sequence grant o.knows) → HearsWrite s m input.heard sequence awaited.waited.question o.knows
-    → FollowsOn o.knows.turn_settings.synchronous_mode awaited.waited.question → WriteSteps (Lawful now sequence grant snapshot s m input o) now awaited.waited.question snapshot b
+    → FollowsSynchronousMode o.knows.turn_settings.synchronous_mode awaited.waited.question → WriteSteps (Lawful now sequence grant snapshot s m input o) now awaited.waited.question snapshot b
 write-lawful now sequence grant snapshot s m input o b ground awaited hears follows =
     let told : Outcome = Told snapshot b in record {
       other = rests now sequence grant snapshot s m input o b told ground (told-idle snapshot b);
       begins = λ revision question role can. promotes-lawful now sequence revision grant snapshot s m input o b ground awaited hears question role can;
       postpones = λ revision. rests now sequence grant snapshot s m input o b (postpones revision told) ground (idle-then None b told (postpones revision told) (told-idle snapshot b) (postpones-idle None revision told) (omega arith));
       lists = λ set question leads. withdrawn-lawful now sequence grant snapshot s m input o b ground awaited hears set question leads;
-      empties = λ question. absurd (subst (λ (q : Question). FollowsOn o.knows.turn_settings.synchronous_mode q) question follows);
+      empties = λ question. absurd (subst (λ (q : Question). FollowsSynchronousMode o.knows.turn_settings.synchronous_mode q) question follows);
     }
 
 -- a granted request
-pub grant-commits : (now : Ticks) (sequence : ℕ) (grant : Granted) (snapshot : SnapshotFacts) (s : State) (m : ℕ) (input : AgentInput) (o : Outcome) → IsSound s → StandsToCommit s m o → All IsQuiet o.outputs → is_paused o.knows ≡ false → AsksOn o.knows → IsOn snapshot → HearsGranted s m input.heard sequence grant snapshot o.knows
+pub grant-commits : (now : Ticks) (sequence : ℕ) (grant : Granted) (snapshot : SnapshotFacts) (s : State) (m : ℕ) (input : AgentInput) (o : Outcome) → IsSound s → StandsToCommit s m o → All IsQuiet o.outputs → is_paused o.knows ≡ false → AsksInSynchronousMode o.knows → IsSynchronousSnapshot snapshot → HearsGranted s m input.heard sequence grant snapshot o.knows
     → IsCommitInputOf s m o (granted now sequence grant snapshot (before now o)) input → IsLawfulAs now (HeardGranted sequence grant snapshot) o s m input
 grant-commits now sequence grant snapshot s m input o sound stands quiet was asks on hears is =
     let b : Outcome = before now o in

@@ -28,7 +28,7 @@ use Rattle.agent_model.specs.declared.why.Why.TheVariants.{HandOver}
 use Rattle.agent_model.specs.Acting.{ending_server, arming, requiring, is_refusing, waiting_no_more}
 use Rattle.agent_model.specs.Agents.{RoleFacts, Follower, Holder, Ready, Leader, Ending, Stray, Outcome, is_leader}
 use Rattle.agent_model.specs.Claiming.{begins, claims, begins_or_claims, passing, postpones, can_begin_on_claim, may_begin_on_claim}
-use Rattle.agent_commit_law.specs.Committing.{IsAwaitedWrite, IsOn}
+use Rattle.agent_commit_law.specs.Committing.{IsAwaitedWrite, IsSynchronousSnapshot}
 use Rattle.agent_model.specs.Decisions.{is_decision, is_sync_decision, is_lease_of, is_write_of, belongs, is_start_too_long, takes_over, stray_renewed, leader_renewed, may_create, may_take, gives_back, arms, takes_key, lease_granted, accepted_grant, sync_granted, accepted_sync, granted_write, granted_for, granted, asks_renewal, granted_in_pause, lease_used, uses_lease}
 use Rattle.agent_model.specs.HandingOver.{duties}
 use Rattle.agent_model.specs.Outputs.{listed}
@@ -90,7 +90,7 @@ plan-on-by P now revision snapshot o (Some sync) is rows =
     if-cases (λ (plan : Plan). P (planned_as now revision plan o)) (sync.leader.number == o.knows.who.me.number) (change_of (standbys_in (leader_view now o.knows o.machine) snapshot)) plans.Mark
     (λ _. change-by P now revision snapshot o rows) (λ other. rows.mark (λ key e mine. other-key o.knows.who.me.number sync other key (sym is ∙ e) mine))
 
-pub planned-on-by : (P : Outcome → Type 0) (now : Ticks) (revision : ℕ) (snapshot : SnapshotFacts) (o : Outcome) → IsOn snapshot → PlanSteps P now revision snapshot o → P (planned_on now revision (Some snapshot) o)
+pub planned-on-by : (P : Outcome → Type 0) (now : Ticks) (revision : ℕ) (snapshot : SnapshotFacts) (o : Outcome) → IsSynchronousSnapshot snapshot → PlanSteps P now revision snapshot o → P (planned_on now revision (Some snapshot) o)
 planned-on-by P now revision snapshot o on rows = let view : LeaderView = leader_view now o.knows o.machine in
     if-cases (λ (plan : Plan). P (planned_as now revision plan o)) (config_in snapshot).synchronous_mode (plan_on view snapshot (sync_in snapshot)) (plan_off (sync_in snapshot))
     (λ _. plan-on-by P now revision snapshot o (sync_in snapshot) refl rows) (λ off. absurd (no-way (sym off ∙ on.synchronous)))
@@ -107,7 +107,7 @@ pub record LeaseSteps (P : Outcome → Type 0) (now ttl : Ticks) (revision : ℕ
   pub refuses : P (gives_back revision (record (Told snapshot o) { outputs = listed outputs.CannotArm o.outputs }))
   pub claims : may_create o.role ≡ true → P (claims now revision (passing (arming now ttl (Told snapshot o))))
 
-renewed-steps : (P : Outcome → Type 0) (now ttl : Ticks) (revision : ℕ) (snapshot : SnapshotFacts) (o : Outcome) (held : ℕ) → o.role ≡ Leader held → IsOn snapshot → LeaseSteps P now ttl revision snapshot o → P (leader_renewed now ttl revision (Told snapshot o))
+renewed-steps : (P : Outcome → Type 0) (now ttl : Ticks) (revision : ℕ) (snapshot : SnapshotFacts) (o : Outcome) (held : ℕ) → o.role ≡ Leader held → IsSynchronousSnapshot snapshot → LeaseSteps P now ttl revision snapshot o → P (leader_renewed now ttl revision (Told snapshot o))
 renewed-steps P now ttl revision snapshot o held is on rows = let led : Outcome = led_on now ttl revision (Told snapshot o) in
     if-cases P (is_start_too_long now led.knows led.machine.server.state) (record (ending_server now StartTooLong led) { role = Ending revision HandOver }) (duties now revision led)
     (λ _. rows.ends) (λ _. duties-by P now revision led (planned-on-by P now revision snapshot led on (rows.plans held is)) (rows.fails_over held is))
@@ -125,7 +125,7 @@ takes-steps P now ttl revision snapshot o creates mode rows = let told : Outcome
     (λ _. if-cases P o.knows.turn_settings.synchronous_mode (claims now revision (passing arm)) (begins now revision arm) (λ _. rows.claims creates) (λ off. absurd (no-way (sym off ∙ mode)))))
     (λ _. rows.returns)
 
-lease-steps : (P : Outcome → Type 0) (now ttl : Ticks) (revision : ℕ) (snapshot : SnapshotFacts) (role : RoleFacts) (o : Outcome) → o.role ≡ role → IsOn snapshot → o.knows.turn_settings.synchronous_mode ≡ true → LeaseSteps P now ttl revision snapshot o → P (lease_granted now ttl revision role (Told snapshot o))
+lease-steps : (P : Outcome → Type 0) (now ttl : Ticks) (revision : ℕ) (snapshot : SnapshotFacts) (role : RoleFacts) (o : Outcome) → o.role ≡ role → IsSynchronousSnapshot snapshot → o.knows.turn_settings.synchronous_mode ≡ true → LeaseSteps P now ttl revision snapshot o → P (lease_granted now ttl revision role (Told snapshot o))
 lease-steps P now ttl revision snapshot (Leader held) o is on mode rows = renewed-steps P now ttl revision snapshot o held is on rows
 lease-steps P now ttl revision snapshot Stray o is on mode rows = stray-steps P now ttl revision snapshot o is rows
 lease-steps P now ttl revision snapshot Follower o is on mode rows = takes-steps P now ttl revision snapshot o (rw is refl) mode rows
@@ -176,7 +176,7 @@ pub record GrantSteps (P : Outcome → Type 0) (now : Ticks) (sequence : ℕ) (g
   pub leases : (awaited : IsAwaitedLease sequence grant o.knows) → LeaseSteps P now awaited.waited.ttl grant.revision snapshot o
   pub writes : (awaited : IsAwaitedWrite sequence grant o.knows) → WriteSteps P now awaited.waited.question snapshot o
 
-granted-for-steps : (P : Outcome → Type 0) (now : Ticks) (sequence : ℕ) (grant : Granted) (snapshot : SnapshotFacts) (waited : Option Waited) (o : Outcome) → o.knows.waited ≡ waited → IsOn snapshot → GrantSteps P now sequence grant snapshot o → P (granted_for now sequence grant snapshot waited o)
+granted-for-steps : (P : Outcome → Type 0) (now : Ticks) (sequence : ℕ) (grant : Granted) (snapshot : SnapshotFacts) (waited : Option Waited) (o : Outcome) → o.knows.waited ≡ waited → IsSynchronousSnapshot snapshot → GrantSteps P now sequence grant snapshot o → P (granted_for now sequence grant snapshot waited o)
 granted-for-steps P now sequence grant snapshot None o is on rows = rows.kept
 granted-for-steps P now sequence grant snapshot (Some waited) o is on rows =
     if-cases P (is_decision waited sequence && is_lease_of o.knows.who.me grant) (accepted_grant now waited grant.revision snapshot o) (granted_write now sequence grant snapshot waited o)
@@ -193,5 +193,5 @@ granted-for-steps P now sequence grant snapshot (Some waited) o is on rows =
     (λ fits. write-steps P now waited.question waited.question snapshot o.role o rows.unpaused refl refl fits (rows.writes awaited)) (λ _. rows.quiet))
     (λ _. rows.kept))
 
-pub granted-steps : (P : Outcome → Type 0) (now : Ticks) (sequence : ℕ) (grant : Granted) (snapshot : SnapshotFacts) (o : Outcome) → IsOn snapshot → GrantSteps P now sequence grant snapshot o → P (granted now sequence grant snapshot o)
+pub granted-steps : (P : Outcome → Type 0) (now : Ticks) (sequence : ℕ) (grant : Granted) (snapshot : SnapshotFacts) (o : Outcome) → IsSynchronousSnapshot snapshot → GrantSteps P now sequence grant snapshot o → P (granted now sequence grant snapshot o)
 granted-steps P now sequence grant snapshot o on rows = granted-for-steps P now sequence grant snapshot o.knows.waited o refl on rows

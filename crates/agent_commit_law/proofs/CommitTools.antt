@@ -19,8 +19,8 @@ use Rattle.event_book.specs.Functions.{set_members}
 use Rattle.sync_state.specs.Sets.{nobody, both, either, is_within, set_of}
 use Rattle.sync_state.specs.Standbys.{required_members, noted_position, has_confirmed, confirmed_in}
 use Rattle.sync_state.proofs.SetBits.{bit_where, bit-set_of}
-use Rattle.commit_actions.specs.Keys.{Need, Nobody, All, count, Overlaps, Narrows}
-use Rattle.commit_actions.specs.Past.{need_in}
+use Rattle.commit_actions.specs.Keys.{Confirmers, Nobody, All, count, Overlaps, Narrows}
+use Rattle.commit_actions.specs.Past.{confirmers_in}
 use Rattle.commit_actions.proofs.Counting.{none-of, count-empty}
 use Rattle.agent_model.specs.Synchronous.{is_strict, unnamed, waiting_for}
 use Rattle.agent_model.proofs.Rows.{if-cases}
@@ -96,7 +96,7 @@ within-nobody : (set : ℕ → Bool) → IsWithin set (set_members nobody) → (
 within-nobody set within n = false_from_ne_true (set n) (λ is. not-false (set_members nobody n) (no-members nobody refl n) (within n is))
 
 -- published standbys, each a member of the cluster, that a required list covers by the law are required
-pub required-covers : (member_count : ℕ) (published : ℕ → Bool) (required : Required) → ((n : ℕ) → published n ≡ true → n < member_count) → Overlaps member_count published 0 (need_in required) → IsWithin published (set_members (required_members required))
+pub required-covers : (member_count : ℕ) (published : ℕ → Bool) (required : Required) → ((n : ℕ) → published n ≡ true → n < member_count) → Overlaps member_count published 0 (confirmers_in required) → IsWithin published (set_members (required_members required))
 required-covers member_count published requireds.Nobody range over n is = absurd (not-false (published n) (none-of member_count published (omega (arith, over)) n (range n is)) is)
 required-covers member_count published requireds.AnyOne range over n is = absurd (not-false (published n) (none-of member_count published (omega (arith, over)) n (range n is)) is)
 required-covers member_count published (requireds.All members) range over n is = over n is
@@ -105,21 +105,21 @@ count-no : (member_count : ℕ) (set : ℕ → Bool) → ((n : ℕ) → set n �
 count-no member_count set none = omega (arith, count-empty member_count set none)
 
 -- and the other way round
-pub covers-required : (member_count : ℕ) (published : ℕ → Bool) (required : Required) → IsWithin published (set_members (required_members required)) → Overlaps member_count published 0 (need_in required)
+pub covers-required : (member_count : ℕ) (published : ℕ → Bool) (required : Required) → IsWithin published (set_members (required_members required)) → Overlaps member_count published 0 (confirmers_in required)
 covers-required member_count published requireds.Nobody within = count-no member_count published (within-nobody published within)
 covers-required member_count published requireds.AnyOne within = count-no member_count published (within-nobody published within)
 covers-required member_count published (requireds.All members) within = within
 
 -- where nobody is named, the law has commits wait for nobody
-pub unnamed-need : (settings : Config) → need_in (unnamed settings) ≡ Nobody
-unnamed-need settings = if-cases (λ (r : Required). need_in r ≡ Nobody) (is_strict settings) requireds.AnyOne requireds.Nobody (λ _. refl) (λ _. refl)
+pub unnamed-confirmers : (settings : Config) → confirmers_in (unnamed settings) ≡ Nobody
+unnamed-confirmers settings = if-cases (λ (r : Required). confirmers_in r ≡ Nobody) (is_strict settings) requireds.AnyOne requireds.Nobody (λ _. refl) (λ _. refl)
 
 -- whom commits wait for where these standbys are named
-waiting-by : (P : Need → Type 0) (settings : Config) (set : MemberSet) → (set.bits ≡ 0 → P Nobody) → ((set.bits == 0) ≡ false → P (All (set_members set))) → P (need_in (waiting_for settings set))
-waiting-by P settings set none some = if-cases (λ (r : Required). P (need_in r)) (set.bits == 0) (unnamed settings) (requireds.All set)
-    (λ e. subst P (sym (unnamed-need settings)) (none (same-numbers set.bits 0 e))) (λ e. some e)
+waiting-by : (P : Confirmers → Type 0) (settings : Config) (set : MemberSet) → (set.bits ≡ 0 → P Nobody) → ((set.bits == 0) ≡ false → P (All (set_members set))) → P (confirmers_in (waiting_for settings set))
+waiting-by P settings set none some = if-cases (λ (r : Required). P (confirmers_in r)) (set.bits == 0) (unnamed settings) (requireds.All set)
+    (λ e. subst P (sym (unnamed-confirmers settings)) (none (same-numbers set.bits 0 e))) (λ e. some e)
 
-pub waiting-covers : (member_count : ℕ) (published : ℕ → Bool) (settings : Config) (set : MemberSet) → IsWithin published (set_members set) → Overlaps member_count published 0 (need_in (waiting_for settings set))
+pub waiting-covers : (member_count : ℕ) (published : ℕ → Bool) (settings : Config) (set : MemberSet) → IsWithin published (set_members set) → Overlaps member_count published 0 (confirmers_in (waiting_for settings set))
 waiting-covers member_count published settings set within = waiting-by (Overlaps member_count published 0) settings set
     (λ none. count-no member_count published (λ n. false_from_ne_true (published n) (λ is. not-false (set_members set n) (no-members set none n) (within n is))))
     (λ _. within)
@@ -127,14 +127,14 @@ waiting-covers member_count published settings set within = waiting-by (Overlaps
 some-bits : (n : ℕ) → (n == 0) ≡ false → n ≡ 0 → ⊥
 some-bits n e none = grind (arith, nat_tests)
 
-narrows-all : (required : Required) (set : MemberSet) → (set.bits == 0) ≡ false → IsWithin (set_members set) (set_members (required_members required)) → Narrows (need_in required) (All (set_members set))
+narrows-all : (required : Required) (set : MemberSet) → (set.bits == 0) ≡ false → IsWithin (set_members set) (set_members (required_members required)) → Narrows (confirmers_in required) (All (set_members set))
 narrows-all requireds.Nobody set some within = absurd (some-bits set.bits some (no-bits set (within-nobody (set_members set) within)))
 narrows-all requireds.AnyOne set some within = absurd (some-bits set.bits some (no-bits set (within-nobody (set_members set) within)))
 narrows-all (requireds.All members) set some within = within
 
 -- a required list shrinks to members that it has
-pub waiting-narrows : (required : Required) (settings : Config) (set : MemberSet) → IsWithin (set_members set) (set_members (required_members required)) → Narrows (need_in required) (need_in (waiting_for settings set))
-waiting-narrows required settings set within = waiting-by (Narrows (need_in required)) settings set (λ _. tt) (λ some. narrows-all required set some within)
+pub waiting-narrows : (required : Required) (settings : Config) (set : MemberSet) → IsWithin (set_members set) (set_members (required_members required)) → Narrows (confirmers_in required) (confirmers_in (waiting_for settings set))
+waiting-narrows required settings set within = waiting-by (Narrows (confirmers_in required)) settings set (λ _. tt) (λ some. narrows-all required set some within)
 
 -- a connected member whose position is at or past another
 pub record HasReached (connected : List (Option Lsn)) (position n : ℕ) : Type 0 where

@@ -20,12 +20,12 @@ use Rattle.event_book.specs.declared.message.Body.TheVariants as bodies
 use Rattle.event_book.specs.Functions.{set_members}
 use Rattle.sync_state.specs.Published.{published_in}
 use Rattle.sync_state.specs.Standbys.{noted_position}
-use Rattle.commit_actions.specs.Keys.{IsStrict, SyncKey, Need, Nobody, All as AllOf, AtLeast}
+use Rattle.commit_actions.specs.Keys.{IsStrict, SyncKey, Confirmers, Nobody, All as AllOf, AtLeast}
 use Rattle.commit_actions.specs.Flights.{SyncRequest, LeaseGranted, SyncGranted}
 use Rattle.commit_actions.specs.States.{Agent, State, HasLog}
 use Rattle.commit_actions.specs.Inputs.{Sending, AgentInput, HearsSnapshot, IsLawful, Does, Racing, HearingAnswer, WinningRace, CreatingLeader, Arming, ChangingRequired, SettlingRequired}
 use Rattle.commit_actions.specs.Carried.{IsSound}
-use Rattle.commit_actions.specs.Past.{Query, SyncQuery, query_of, need_in}
+use Rattle.commit_actions.specs.Past.{Query, SyncQuery, query_of, confirmers_in}
 use Rattle.agent_model.specs.declared.heard.Heard.{Heard}
 use Rattle.agent_model.specs.declared.heard.Heard.TheVariants as heards
 use Rattle.agent_model.specs.declared.knowledge.Knowledge.{Knowledge}
@@ -84,7 +84,7 @@ IsEndOf _ _ = ⊥
 pub record StandsToCommit (s : State) (m : ℕ) (o : Outcome) : Type 0 where
   pub agent : (s.members m).agent ≡ Some (committer_seen o.role o.knows)
   pub live : (s.members m).live ≡ live o.machine.server.state
-  pub required : (s.members m).required ≡ need_in o.machine.replication.required
+  pub required : (s.members m).required ≡ confirmers_in o.machine.replication.required
   pub end : IsEndOf o.machine.server.end (s.members m).log
   pub has_log : has_data o.machine.server.state ≡ true → HasLog (s.members m).log
   pub connected : (n : ℕ) (end : Lsn) → slice_get o.machine.replication.connected n ≡ Some (Some end) → IsConnected s m n end
@@ -132,27 +132,27 @@ HearsToCommit s m input (heards.Granted sequence grant snapshot) o = HearsGrante
 HearsToCommit s m input _ o = Unit {0}
 
 -- the synchronous mode is on in a snapshot, and the cluster isn't paused by it
-pub record IsOn (snapshot : SnapshotFacts) : Type 0 where
+pub record IsSynchronousSnapshot (snapshot : SnapshotFacts) : Type 0 where
   pub synchronous : (config_in snapshot).synchronous_mode ≡ true
   pub unpaused : (config_in snapshot).pause ≡ false
 
 -- so it is in the snapshot that comes with what is heard, if one does
-abbrev pub HearsOn : Heard → Type 0
-HearsOn (heards.Got sequence snapshot) = IsOn snapshot
-HearsOn (heards.Granted sequence grant snapshot) = IsOn snapshot
-HearsOn _ = Unit {0}
+abbrev pub HearsSynchronousMode : Heard → Type 0
+HearsSynchronousMode (heards.Got sequence snapshot) = IsSynchronousSnapshot snapshot
+HearsSynchronousMode (heards.Granted sequence grant snapshot) = IsSynchronousSnapshot snapshot
+HearsSynchronousMode _ = Unit {0}
 
 -- the mode is on, where this question follows what a turn read; and it isn't that the sync key be removed
-abbrev pub FollowsOn : Bool → Question → Type 0
-FollowsOn on Asking = on ≡ true
-FollowsOn on Creating = on ≡ true
-FollowsOn on Renewing = on ≡ true
-FollowsOn on (Syncing Empties) = ⊥
-FollowsOn on _ = Unit {0}
+abbrev pub FollowsSynchronousMode : Bool → Question → Type 0
+FollowsSynchronousMode on Asking = on ≡ true
+FollowsSynchronousMode on Creating = on ≡ true
+FollowsSynchronousMode on Renewing = on ≡ true
+FollowsSynchronousMode on (Syncing Empties) = ⊥
+FollowsSynchronousMode on _ = Unit {0}
 
 -- what an agent waits for it asked with the synchronous mode on
-abbrev pub AsksOn : Knowledge → Type 0
-AsksOn knows = ForSome knows.waited (λ waited. FollowsOn knows.turn_settings.synchronous_mode waited.question)
+abbrev pub AsksInSynchronousMode : Knowledge → Type 0
+AsksInSynchronousMode knows = ForSome knows.waited (λ waited. FollowsSynchronousMode knows.turn_settings.synchronous_mode waited.question)
 
 -- the request that compares the sync key, if this is one
 abbrev pub request_in : Query → Option SyncRequest
@@ -287,7 +287,7 @@ live_shown o after = if has_one is_begin after.outputs then live after.machine.s
 pub record IsCommitInputOf (s : State) (m : ℕ) (o after : Outcome) (input : AgentInput) : Type 0 where
   pub agent : input.agent ≡ committer_seen after.role after.knows
   pub live : input.live ≡ live_shown o after
-  pub required : input.required ≡ need_in after.machine.replication.required
+  pub required : input.required ≡ confirmers_in after.machine.replication.required
   pub sends : IsSent (requests_of m o.knows.run after.outputs) input.sends
   pub holder_was_live : input.holder_was_live ≡ s.holder_was_live
   pub inside : has_one is_passing after.outputs ≡ false
@@ -297,19 +297,19 @@ abbrev pub ArmsOn : Ticks → Heard → Outcome → ℕ → Type 0
 ArmsOn now (heards.Granted sequence grant snapshot) o revision = IsAwaitedLease sequence grant o.knows × (grant.revision ≡ revision) × (is_ready o.role ≡ false)
 ArmsOn now _ o revision = ⊥
 
--- a need waits for this member by name
-abbrev pub NeedsOne : Need → ℕ → Type 0
-NeedsOne Nobody n = ⊥
-NeedsOne (AllOf members) n = members n ≡ true
-NeedsOne (AtLeast number members) n = members n ≡ true
+-- this member is among the confirmers, by name
+abbrev pub ListsMember : Confirmers → ℕ → Type 0
+ListsMember Nobody n = ⊥
+ListsMember (AllOf members) n = members n ≡ true
+ListsMember (AtLeast number members) n = members n ≡ true
 
 -- the server is connected to this member
 abbrev pub IsConnectedTo : Outcome → ℕ → Type 0
 IsConnectedTo o n = (end : Lsn) × (slice_get o.machine.replication.connected n ≡ Some (Some end))
 
 -- whom commits come to wait for they waited for before, or the server is connected to it
-abbrev pub GrowsByConnected : Outcome → Need → Need → Type 0
-GrowsByConnected o before after = (n : ℕ) → NeedsOne after n → NeedsOne before n ⊎ IsConnectedTo o n
+abbrev pub GrowsByConnected : Outcome → Confirmers → Confirmers → Type 0
+GrowsByConnected o before after = (n : ℕ) → ListsMember after n → ListsMember before n ⊎ IsConnectedTo o n
 
 -- what an input does, so far as the law leaves open what the table settles: no race counts, no create compares the sync key, an agent claims
 -- on the lease that it waits for, and a required list grows by connected members
@@ -331,8 +331,8 @@ pub record IsLawfulAs (now : Ticks) (heard : Heard) (o : Outcome) (s : State) (m
 -- an input leaves the synchronous mode on: what it waits for it asked with the mode on; it sends one request at most that compares the
 -- sync key; what it sends is as the mode has it, among members of whom it knows; its outputs have one of the forms; and the server begins
 -- only where it can
-pub record StaysOn (heard : Heard) (o after : Outcome) : Type 0 where
-  pub asks : AsksOn after.knows
+pub record StaysInSynchronousMode (heard : Heard) (o after : Outcome) : Type 0 where
+  pub asks : AsksInSynchronousMode after.knows
   pub one : IsOneAtMost (requests_of o.knows.who.me.number o.knows.run after.outputs)
   pub sends : (count : ℕ) → KnowsBelow count heard o → All (IsSynchronousOutput count) after.outputs
   pub form : HasForm after.outputs
@@ -340,5 +340,5 @@ pub record StaysOn (heard : Heard) (o after : Outcome) : Type 0 where
 
 -- while the synchronous mode is on, and no pause, whatever input of the law stands for this one of the table is lawful
 pub record CommitsFrom (now : Ticks) (heard : Heard) (o after : Outcome) : Type 0 where
-  pub stays : is_paused o.knows ≡ false → AsksOn o.knows → HearsOn heard → StaysOn heard o after
-  pub lawful : is_paused o.knows ≡ false → AsksOn o.knows → HearsOn heard → (s : State) (m : ℕ) (input : AgentInput) → IsSound s → StandsToCommit s m o → HearsToCommit s m input heard o → IsCommitInputOf s m o after input → IsLawfulAs now heard o s m input
+  pub stays : is_paused o.knows ≡ false → AsksInSynchronousMode o.knows → HearsSynchronousMode heard → StaysInSynchronousMode heard o after
+  pub lawful : is_paused o.knows ≡ false → AsksInSynchronousMode o.knows → HearsSynchronousMode heard → (s : State) (m : ℕ) (input : AgentInput) → IsSound s → StandsToCommit s m o → HearsToCommit s m input heard o → IsCommitInputOf s m o after input → IsLawfulAs now heard o s m input

@@ -1,7 +1,7 @@
 -- Counting members: what overlap gives.
 use Rattle.std.proofs.Common.{◌≡◌, ◌⊎◌, ℕ, zero, suc, ◌+◌, ◌≤◌, ◌<◌, ◌==◌, nat_le, ◌&&◌, ◌||◌, not, Bool, true, false, refl, ◌∙◌, ap, sym, arith, inl, inr}
 use Rattle.std.proofs.lemmas.Bool.Decides.{nat_tests}
-use Rattle.commit_actions.specs.Keys.{Need, Nobody, All, AtLeast, one_if, count, AllBut, Meets, Overlaps, MayPublish, Added, Counted, Confirmed, Narrows}
+use Rattle.commit_actions.specs.Keys.{Confirmers, Nobody, All, AtLeast, one_if, count, AllBut, Meets, Overlaps, MayPublish, Added, Counted, Confirmed, Narrows}
 use Rattle.lease_law.proofs.Tools.{both, not-false, le-from, gt-from}
 
 pub count-none : (n : ℕ) → count n (λ m. false) ≡ 0
@@ -60,13 +60,13 @@ and-not false b e f = absurd (both e)
 pub but-sub : (member_count : ℕ) (standbys : ℕ → Bool) (quorum : ℕ) (X Y : ℕ → Type 0) → ((m : ℕ) → X m → Y m) → AllBut member_count standbys quorum X → AllBut member_count standbys quorum Y
 but-sub member_count standbys quorum X Y sub a = record { spared = a.spared; few = a.few; others = λ m is not_spared. sub m (a.others m is not_spared) }
 
-pub meets-sub : (member_count : ℕ) (need : Need) (X Y : ℕ → Type 0) → ((m : ℕ) → X m → Y m) → Meets member_count need X → Meets member_count need Y
+pub meets-sub : (member_count : ℕ) (confirmers : Confirmers) (X Y : ℕ → Type 0) → ((m : ℕ) → X m → Y m) → Meets member_count confirmers X → Meets member_count confirmers Y
 meets-sub member_count Nobody X Y sub met = tt
 meets-sub member_count (All members) X Y sub met = λ m is. sub m (met m is)
 meets-sub member_count (AtLeast number members) X Y sub met = record { sure = met.sure; within = met.within; enough = met.enough; all = λ m is. sub m (met.all m is) }
 
 -- what whom commits wait for has, all standbys but a few have
-pub overlap-gives : (member_count : ℕ) (standbys : ℕ → Bool) (quorum : ℕ) (need : Need) (X : ℕ → Type 0) → Overlaps member_count standbys quorum need → Meets member_count need X → AllBut member_count standbys quorum X
+pub overlap-gives : (member_count : ℕ) (standbys : ℕ → Bool) (quorum : ℕ) (confirmers : Confirmers) (X : ℕ → Type 0) → Overlaps member_count standbys quorum confirmers → Meets member_count confirmers X → AllBut member_count standbys quorum X
 overlap-gives member_count standbys quorum Nobody X over met = record { spared = standbys; few = over; others = λ m is other. absurd (not-false (standbys m) other is) }
 overlap-gives member_count standbys quorum (All members) X over met = record { spared = λ m. false; few = omega (arith, count-none member_count); others = λ m is other. met m (over m is) }
 overlap-gives member_count standbys quorum (AtLeast number members) X over met = record {
@@ -83,7 +83,7 @@ or-not-second : (a b : Bool) → (a || b) ≡ false → b ≡ false
 or-not-second true b e = absurd (both (sym e))
 or-not-second false b e = e
 
-pub narrows-gives : (member_count : ℕ) (before after : Need) (X : ℕ → Type 0) → Narrows before after → Meets member_count before X → Meets member_count after X
+pub narrows-gives : (member_count : ℕ) (before after : Confirmers) (X : ℕ → Type 0) → Narrows before after → Meets member_count before X → Meets member_count after X
 narrows-gives member_count before Nobody X n met = tt
 narrows-gives member_count (All before) (All after) X n met = λ m is. met m (n m is)
 narrows-gives member_count Nobody (All after) X n met = absurd n
@@ -93,18 +93,18 @@ narrows-gives member_count (All before) (AtLeast k after) X n met = absurd n
 narrows-gives member_count (AtLeast j before) (AtLeast k after) X n met = absurd n
 
 -- who may be published: all but a few have what the old standbys but a few, and who confirmed, have
-pub publish-gives : (member_count : ℕ) (old : ℕ → Bool) (old_quorum : ℕ) (new : ℕ → Bool) (quorum : ℕ) (need : Need) (C X : ℕ → Type 0) → Overlaps member_count new quorum need → MayPublish member_count old old_quorum new quorum need C → AllBut member_count old old_quorum X → ((m : ℕ) → C m → X m) → AllBut member_count new quorum X
-publish-gives member_count old old_quorum new quorum need C X over (Added each fewer) before sure = record {
+pub publish-gives : (member_count : ℕ) (old : ℕ → Bool) (old_quorum : ℕ) (new : ℕ → Bool) (quorum : ℕ) (confirmers : Confirmers) (C X : ℕ → Type 0) → Overlaps member_count new quorum confirmers → MayPublish member_count old old_quorum new quorum confirmers C → AllBut member_count old old_quorum X → ((m : ℕ) → C m → X m) → AllBut member_count new quorum X
+publish-gives member_count old old_quorum new quorum confirmers C X over (Added each fewer) before sure = record {
   spared = before.spared;
   few = omega (arith, before.few, fewer);
   others = λ m is other. elim (each m is) [ inl was ↦ before.others m was other | inr c ↦ sure m c ];
 }
-publish-gives member_count old old_quorum new quorum need C X over (Counted sum) before sure = record {
+publish-gives member_count old old_quorum new quorum confirmers C X over (Counted sum) before sure = record {
   spared = λ m. (new m && not (old m)) || before.spared m;
   few = omega (arith, count-or member_count (λ m. new m && not (old m)) before.spared, sum, before.few);
   others = λ m is other. before.others m (and-not (new m) (old m) is (or-not (new m && not (old m)) (before.spared m) other)) (or-not-second (new m && not (old m)) (before.spared m) other);
 }
-publish-gives member_count old old_quorum new quorum need C X over (Confirmed met) before sure = overlap-gives member_count new quorum need X over (meets-sub member_count need C X sure met)
+publish-gives member_count old old_quorum new quorum confirmers C X over (Confirmed met) before sure = overlap-gives member_count new quorum confirmers X over (meets-sub member_count confirmers C X sure met)
 
 -- a set with more members than another has one that the other hasn't
 pub record Beyond (member_count : ℕ) (a b : ℕ → Bool) : Type 0 where

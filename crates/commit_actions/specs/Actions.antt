@@ -4,7 +4,7 @@ use Rattle.wal_model.specs.declared.entry.Entry.{Entry}
 use Rattle.wal_model.specs.Log.{IsPrefixOf, end_of, common_of, received}
 use Rattle.event_book.specs.Functions.{put_at}
 use Rattle.commit_actions.specs.Functions.{forget}
-use Rattle.commit_actions.specs.Keys.{SyncKey, Need, Nobody, Meets}
+use Rattle.commit_actions.specs.Keys.{SyncKey, Confirmers, Nobody, Meets}
 use Rattle.commit_actions.specs.Flights.{Aim, ClaimSync, PublishStandbys, SyncRequest, LeaseGrant, SyncGrant, Flying, Requested, LeaseGranted, SyncGranted, SnapshotSent, RaceAnswered, CreateLeader}
 use Rattle.pg_model.specs.Facts.{entries_of}
 use Rattle.commit_actions.specs.States.{Agent, Machine, State, Reaches, HasLog, HasEntryOf, Acts, is_ready}
@@ -255,7 +255,7 @@ state_after s [] = s
 state_after s (action ∷ actions) = state_after (act s action) actions
 
 -- before the first action: no server is live, there is no key, and nothing is in flight
-abbrev pub first_state : ℕ → Bool → (ℕ → Need) → (ℕ → ℕ → Option ℕ) → (ℕ → Option (List Entry)) → State
+abbrev pub first_state : ℕ → Bool → (ℕ → Confirmers) → (ℕ → ℕ → Option ℕ) → (ℕ → Option (List Entry)) → State
 first_state member_count creates_compare required confirmed logs = record {
   member_count = member_count;
   creates_compare = creates_compare;

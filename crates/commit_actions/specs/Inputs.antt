@@ -1,7 +1,7 @@
 -- Which inputs of an agent are lawful, and what the timed lease gives to them.
 use Rattle.std.specs.Prelude.{ℕ, ◌≡◌, ◌⊎◌, ◌≤◌, ◌<◌, Bool, true, false, Option, Some, None}
 use Rattle.wal_model.specs.Log.{end_of}
-use Rattle.commit_actions.specs.Keys.{SyncKey, Need, Nobody, count, Overlaps, MayPublish, Narrows}
+use Rattle.commit_actions.specs.Keys.{SyncKey, Confirmers, Nobody, count, Overlaps, MayPublish, Narrows}
 use Rattle.commit_actions.specs.Flights.{ClaimSync, PublishStandbys, SyncRequest, LeaseGrant, SyncGrant, RaceAnswer, Flying, LeaseGranted, SyncGranted, SnapshotSent, RaceAnswered, CreateLeader}
 use Rattle.pg_model.specs.Facts.{entries_of}
 use Rattle.commit_actions.specs.States.{Race, Agent, Machine, State, Acts, Reaches, HasLog, Waits}
@@ -18,7 +18,7 @@ pub record AgentInput : Type 0 where
   pub heard : Option ℕ
   pub agent : Agent
   pub live : Bool
-  pub required : Need
+  pub required : Confirmers
   pub sends : Option Sending
   pub holder_was_live : Bool
 

@@ -31,7 +31,7 @@ use Rattle.event_book.specs.Writers.{writes_after}
 use Rattle.sync_order.specs.Grown.{grown_after}
 use Rattle.lease_law.specs.Leases.{LeaderKey, FailsafeKey}
 use Rattle.lease_law.specs.Past.{leader_after, failsafe_after, revision_after}
-use Rattle.commit_actions.specs.Keys.{SyncKey, Need, Nobody, All}
+use Rattle.commit_actions.specs.Keys.{SyncKey, Confirmers, Nobody, All}
 use Rattle.commit_actions.specs.Flights.{Aim, ClaimSync, PublishStandbys, CreateLeader, SyncRequest, Flying, Requested, LeaseGranted, SyncGranted, SnapshotSent, RaceAnswered}
 use Rattle.commit_actions.specs.States.{Agent, Machine, State}
 use Rattle.commit_actions.specs.Actions.{fresh_agent, longer_log}
@@ -326,15 +326,15 @@ leader_revision None = None
 leader_revision (Some key) = Some key.revision
 
 -- whom a required list has commits wait for; that of a server, if there is one
-abbrev pub need_in : Required → Need
-need_in needs.Nobody = Nobody
-need_in needs.AnyOne = Nobody
-need_in (needs.All members) = All (set_members members)
+abbrev pub confirmers_in : Required → Confirmers
+confirmers_in needs.Nobody = Nobody
+confirmers_in needs.AnyOne = Nobody
+confirmers_in (needs.All members) = All (set_members members)
 
 -- whom the commits of a server wait for; nobody where there is no such server
-abbrev pub need_of : Option Required → Need
-need_of None = Nobody
-need_of (Some required) = need_in required
+abbrev pub confirmers_of : Option Required → Confirmers
+confirmers_of None = Nobody
+confirmers_of (Some required) = confirmers_in required
 
 -- the position that a server knows of a member
 abbrev pub position_in : Option (Option Lsn) → Option ℕ
@@ -352,7 +352,7 @@ abbrev pub machine_of : Past → VolatileState → ℕ → Machine
 machine_of past volatile_state m = record {
   live = volatile_state.live;
   writes = past.writes m;
-  required = need_of (slice_get past.required m);
+  required = confirmers_of (slice_get past.required m);
   confirmed = position_of (slice_get past.confirmed m);
   log = log_found (slice_get past.logs m);
   agent = volatile_state.agent;

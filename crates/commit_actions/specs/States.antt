@@ -2,7 +2,7 @@
 use Rattle.std.specs.Prelude.{ℕ, ◌≡◌, ◌⊎◌, ◌≤◌, Bool, true, false, List, [], ◌∷◌, ◌++◌, Option, Some, None}
 use Rattle.wal_model.specs.declared.entry.Entry.{Entry}
 use Rattle.wal_model.specs.Log.{IsPrefixOf}
-use Rattle.commit_actions.specs.Keys.{SyncKey, Need}
+use Rattle.commit_actions.specs.Keys.{SyncKey, Confirmers}
 use Rattle.commit_actions.specs.Flights.{Flying}
 
 -- a race for the leader key: the number of its asks, and where the logs end of the members that answered
@@ -33,7 +33,7 @@ pub record Machine : Type 0 where
   pub live : Bool
   pub writes : Bool
   -- whom its commits wait for, and the log positions that others confirmed to it
-  pub required : Need
+  pub required : Confirmers
   pub confirmed : ℕ → Option ℕ
   -- its log, which is absent after a wipe
   pub log : Option (List Entry)

@@ -19,7 +19,7 @@ use Rattle.lease_law.proofs.Runs.{no-cons, head-is, tail-is, cuts}
 use Rattle.lease_law.proofs.Tools.{none-some, some-is}
 use Rattle.commit_actions.specs.Actions.{IsAllowed}
 use Rattle.commit_actions.specs.Carried.{IsSound}
-use Rattle.commit_actions.specs.Past.{Setup, Past, past_after, past_over, first_past, VolatileState, log_found, need_of, position_of, state_of}
+use Rattle.commit_actions.specs.Past.{Setup, Past, past_after, past_over, first_past, VolatileState, log_found, confirmers_of, position_of, state_of}
 use Rattle.commit_book.specs.Books.{KeepsNow, AllHaveBytes, Transition, LeavesCommits, AllLeaveCommits, ChangeOnce, IsShown, AreAllowed, first_volatile_states, book_of}
 use Rattle.commit_law.proofs.Runs.{inv-act, inv-first-state, sound-keeps}
 
@@ -157,7 +157,7 @@ past-shown past (e ∷ book) =
     past-shown (past_after past e.kind) book ∙ ap (λ (t : List ℕ). t ++ acknowledged_in book) (shown-by past.acknowledged e.kind) ∙ append_assoc past.acknowledged (acknowledged_of e.kind) (acknowledged_in book)
 
 pub inv-first : (setup : Setup) (logs : Logs) (required : List Required) (confirmed : List (List (Option Lsn))) → AllHaveBytes logs → IsSound (state_of setup (first_past logs required confirmed) first_volatile_states)
-inv-first setup logs required confirmed have_bytes = inv-first-state setup.member_count setup.creates_compare (λ m. need_of (slice_get required m)) (λ m. position_of (slice_get confirmed m)) (λ m. log_found (slice_get logs m)) have_bytes
+inv-first setup logs required confirmed have_bytes = inv-first-state setup.member_count setup.creates_compare (λ m. confirmers_of (slice_get required m)) (λ m. position_of (slice_get confirmed m)) (λ m. log_found (slice_get logs m)) have_bytes
 
 pub kept-book : (setup : Setup) (logs : Logs) (required : List Required) (confirmed : List (List (Option Lsn))) (transitions : List Transition) (front rest : List Event) → AllHaveBytes logs → AreAllowed setup (first_past logs required confirmed) first_volatile_states transitions → front ++ rest ≡ book_of transitions → KeepsCommits logs front
 kept-book setup logs required confirmed transitions front rest have_bytes allowed e server writes commit told =

@@ -19,7 +19,7 @@ use Rattle.commit_actions.specs.Actions.{IsAllowed}
 use Rattle.commit_book.specs.Books.{IsShown, Transition}
 use Rattle.commit_actions.specs.Carried.{IsSound}
 use Rattle.commit_actions.specs.Keys.{Nobody, All, Overlaps, SyncKey, count}
-use Rattle.commit_actions.specs.Past.{Past, Setup, VolatileState, need_in, need_of, past_after, past_over, state_of, sync_after}
+use Rattle.commit_actions.specs.Past.{Past, Setup, VolatileState, confirmers_in, confirmers_of, past_after, past_over, state_of, sync_after}
 use Rattle.commit_actions.proofs.Counting.{none-of}
 use Rattle.commit_book.proofs.Fronts.{kept-after}
 use Rattle.commit_book.specs.Changes.{AllLeaveOrder, ChangeOrderOnce, LeavesOrder}
@@ -34,16 +34,16 @@ none-counted member_count quorum standbys standby none small is few =
     zero-of : (a b : ℕ) → a ≤ b → b ≡ 0 → a ≡ 0
     zero-of a b less none = omega (arith, less, none)
 
-need-awaits : (member_count quorum : ℕ) (standbys : ℕ → Bool) (standby : ℕ) (required : Required) → quorum ≡ 0 → standby < member_count → standbys standby ≡ true
-    → Overlaps member_count standbys quorum (need_in required) → Awaits (need_in required) standby
-need-awaits member_count quorum standbys standby requireds.Nobody none small is overlaps = absurd (none-counted member_count quorum standbys standby none small is overlaps)
-need-awaits member_count quorum standbys standby requireds.AnyOne none small is overlaps = absurd (none-counted member_count quorum standbys standby none small is overlaps)
-need-awaits member_count quorum standbys standby (requireds.All members) none small is overlaps = overlaps standby is
+confirmers-awaits : (member_count quorum : ℕ) (standbys : ℕ → Bool) (standby : ℕ) (required : Required) → quorum ≡ 0 → standby < member_count → standbys standby ≡ true
+    → Overlaps member_count standbys quorum (confirmers_in required) → Awaits (confirmers_in required) standby
+confirmers-awaits member_count quorum standbys standby requireds.Nobody none small is overlaps = absurd (none-counted member_count quorum standbys standby none small is overlaps)
+confirmers-awaits member_count quorum standbys standby requireds.AnyOne none small is overlaps = absurd (none-counted member_count quorum standbys standby none small is overlaps)
+confirmers-awaits member_count quorum standbys standby (requireds.All members) none small is overlaps = overlaps standby is
 
 pub awaits : (member_count quorum : ℕ) (standbys : ℕ → Bool) (standby : ℕ) (required : Option Required) → quorum ≡ 0 → standby < member_count → standbys standby ≡ true
-    → Overlaps member_count standbys quorum (need_of required) → Awaits (need_of required) standby
+    → Overlaps member_count standbys quorum (confirmers_of required) → Awaits (confirmers_of required) standby
 awaits member_count quorum standbys standby None none small is overlaps = absurd (none-counted member_count quorum standbys standby none small is overlaps)
-awaits member_count quorum standbys standby (Some required) none small is overlaps = need-awaits member_count quorum standbys standby required none small is overlaps
+awaits member_count quorum standbys standby (Some required) none small is overlaps = confirmers-awaits member_count quorum standbys standby required none small is overlaps
 
 pub order-now : (setup : Setup) (past : Past) (volatile_states : ℕ → VolatileState) → IsSound (state_of setup past volatile_states) → NamesMembers setup.member_count past.sync → IsInOrder past
 order-now setup past volatile_states sound members = record {

@@ -6,8 +6,8 @@ use Rattle.lease_law.proofs.Tools.{both, none-some, some-is}
 use Rattle.commit_actions.specs.Carried.{IsSound}
 use Rattle.commit_actions.specs.Flights.{Aim, ClaimSync, CreateLeader, PublishStandbys, SyncRequest}
 use Rattle.commit_actions.specs.Inputs.{AgentInput, Does, HasConfirmed, IsLawful, Publishes, Sending, Idling, Racing, HearingAnswer, WinningRace, CreatingLeader, Arming, TakingOver, ChangingRequired, Publishing, Promoting, SettlingRequired}
-use Rattle.commit_actions.specs.Keys.{Need, MayPublish, Added, Counted, Confirmed, Meets, Overlaps, SyncKey, count}
-use Rattle.commit_actions.specs.Past.{Past, Setup, VolatileState, need_in, need_of, position_of, state_of}
+use Rattle.commit_actions.specs.Keys.{Confirmers, MayPublish, Added, Counted, Confirmed, Meets, Overlaps, SyncKey, count}
+use Rattle.commit_actions.specs.Past.{Past, Setup, VolatileState, confirmers_in, confirmers_of, position_of, state_of}
 use Rattle.commit_actions.specs.States.{Reaches, State}
 use Rattle.commit_actions.proofs.Counting.{none-of}
 use Rattle.commit_law.specs.Noted.{AreNoted}
@@ -17,12 +17,12 @@ use Rattle.commit_book.proofs.Inside.{awaits}
 
 -- ---- each standby that it adds has confirmed
 -- whom commits wait for has it, where they wait for each
-meets-in : (member_count : ℕ) (required : Required) (X : ℕ → Type 0) (standby : ℕ) → Awaits (need_in required) standby → Meets member_count (need_in required) X → X standby
+meets-in : (member_count : ℕ) (required : Required) (X : ℕ → Type 0) (standby : ℕ) → Awaits (confirmers_in required) standby → Meets member_count (confirmers_in required) X → X standby
 meets-in member_count requireds.Nobody X standby awaited met = absurd awaited
 meets-in member_count requireds.AnyOne X standby awaited met = absurd awaited
 meets-in member_count (requireds.All members) X standby awaited met = met standby awaited
 
-meets-one : (member_count : ℕ) (required : Option Required) (X : ℕ → Type 0) (standby : ℕ) → Awaits (need_of required) standby → Meets member_count (need_of required) X → X standby
+meets-one : (member_count : ℕ) (required : Option Required) (X : ℕ → Type 0) (standby : ℕ) → Awaits (confirmers_of required) standby → Meets member_count (confirmers_of required) X → X standby
 meets-one member_count None X standby awaited met = absurd awaited
 meets-one member_count (Some required) X standby awaited met = meets-in member_count required X standby awaited met
 
@@ -37,8 +37,8 @@ none-added member_count quorum new old standby small is added sum =
     zero : (a b : ℕ) → a + b ≤ 0 → a ≡ 0
     zero a b sum = omega (arith, sum)
 
-added-has : (member_count quorum : ℕ) (old new : ℕ → Bool) (required : Option Required) (X : ℕ → Type 0) (standby : ℕ) → MayPublish member_count old quorum new 0 (need_of required) X
-    → standby < member_count → new standby ≡ true → old standby ≡ false → Awaits (need_of required) standby → X standby
+added-has : (member_count quorum : ℕ) (old new : ℕ → Bool) (required : Option Required) (X : ℕ → Type 0) (standby : ℕ) → MayPublish member_count old quorum new 0 (confirmers_of required) X
+    → standby < member_count → new standby ≡ true → old standby ≡ false → Awaits (confirmers_of required) standby → X standby
 added-has member_count quorum old new required X standby (Added each fewer) small is added awaited = elim (each standby is) [
   | inl there ↦ absurd (was-there (old standby) there added)
   | inr has ↦ has
@@ -102,10 +102,10 @@ module _ (setup : Setup) (past : Past) (volatile_states : ℕ → VolatileState)
       })
       (inl (ap (λ (m : ℕ). (S.members m).live) p.hears.member ∙ p.live)) ∙ p.key_is in
       let strict = members p.key present in
-      let covers : Overlaps setup.member_count standbys 0 (need_of (slice_get past.required leader)) =
-      subst (λ (a : Aim). OverlapsAim (need_of (slice_get past.required leader)) a) same p.overlaps in
-      let may : MayPublish setup.member_count p.key.standbys p.key.quorum standbys 0 (need_of (slice_get past.required leader)) (HasConfirmed (S.members leader) law.was.noted) =
-      subst (λ (a : Aim). MayAim p.key (need_of (slice_get past.required leader)) (HasConfirmed (S.members leader) law.was.noted) a) same p.may in
+      let covers : Overlaps setup.member_count standbys 0 (confirmers_of (slice_get past.required leader)) =
+      subst (λ (a : Aim). OverlapsAim (confirmers_of (slice_get past.required leader)) a) same p.overlaps in
+      let may : MayPublish setup.member_count p.key.standbys p.key.quorum standbys 0 (confirmers_of (slice_get past.required leader)) (HasConfirmed (S.members leader) law.was.noted) =
+      subst (λ (a : Aim). MayAim p.key (confirmers_of (slice_get past.required leader)) (HasConfirmed (S.members leader) law.was.noted) a) same p.may in
       let awaited = λ (standby : ℕ) (is : standbys standby ≡ true). awaits setup.member_count 0 standbys standby (slice_get past.required leader) refl (small standby is) is covers in
       let has-noted = λ (standby : ℕ) (is : standbys standby ≡ true) (added : p.key.standbys standby ≡ false).
       (added-has setup.member_count p.key.quorum p.key.standbys standbys (slice_get past.required leader) (HasConfirmed (S.members leader) law.was.noted) standby may (small standby is) is added (awaited standby is)).1 in
@@ -120,13 +120,13 @@ module _ (setup : Setup) (past : Past) (volatile_states : ℕ → VolatileState)
             reaches-less (past.grown leader) law.was.noted (position_of (slice_get past.confirmed leader) standby) ((noted leader).noted law.was p.live law.was_is p.led) (has-noted standby is added);
       }
     where
-      OverlapsAim : Need → Aim → Type 0
-      OverlapsAim need (PublishStandbys new quorum) = Overlaps setup.member_count new quorum need
-      OverlapsAim need _ = ⊥
+      OverlapsAim : Confirmers → Aim → Type 0
+      OverlapsAim confirmers (PublishStandbys new quorum) = Overlaps setup.member_count new quorum confirmers
+      OverlapsAim confirmers _ = ⊥
 
-      MayAim : SyncKey → Need → (ℕ → Type 0) → Aim → Type 0
-      MayAim key need X (PublishStandbys new quorum) = MayPublish setup.member_count key.standbys key.quorum new quorum need X
-      MayAim key need X _ = ⊥
+      MayAim : SyncKey → Confirmers → (ℕ → Type 0) → Aim → Type 0
+      MayAim key confirmers X (PublishStandbys new quorum) = MayPublish setup.member_count key.standbys key.quorum new quorum confirmers X
+      MayAim key confirmers X _ = ⊥
 
 pub published : (setup : Setup) (past : Past) (volatile_states : ℕ → VolatileState) (leader : ℕ) (input : AgentInput) (sending : Sending) (standbys : ℕ → Bool) → IsSound (state_of setup past volatile_states) → NamesMembers setup.member_count past.sync
     → AreNoted (state_of setup past volatile_states).members past.grown

@@ -39,12 +39,12 @@ use Rattle.lease_law.specs.States.{leader_kept}
 use Rattle.lease_law.specs.Outcomes.{failsafe_carried}
 use Rattle.lease_law.specs.Past.{extended_by, members_if}
 use Rattle.commit_actions.specs.Functions.{forget}
-use Rattle.commit_actions.specs.Keys.{SyncKey, Need}
+use Rattle.commit_actions.specs.Keys.{SyncKey, Confirmers}
 use Rattle.commit_actions.specs.Flights.{Flying, SyncRequest, Requested, RaceAnswered}
 use Rattle.commit_actions.specs.States.{Agent, Machine, State}
 use Rattle.commit_actions.specs.Inputs.{Sending, AgentInput}
 use Rattle.commit_actions.specs.Actions.{Commit, Acknowledge, Receive, Confirm, Rewind, Clone, Wipe, Accept, Cease, End, Create, Renew, Expire, Release, OtherWrite, SendSnapshot, Decide, Lose, AnswerRace, Start, Kill, Note, Input, with_machine, with_log, send, machine_after, fresh_agent, is_none, is_as_read, is_granted, failsafe_revision_if, with_decision, decide_at}
-use Rattle.commit_actions.specs.Past.{Setup, Past, past_after, past_over, VolatileState, log_found, front_to, need_of, position_in, position_of, machine_of, state_of, Query, renew_query, lease_grant_of, LeaseQuery, SyncQuery, OtherQuery, leader_revision, claim_request, publish_request, create_request, revision_in, grant_in_flight_of, snapshot_of, race_answer_of, is_keyless, is_leaderless, key_holder, failsafe_revision_of}
+use Rattle.commit_actions.specs.Past.{Setup, Past, past_after, past_over, VolatileState, log_found, front_to, confirmers_of, position_in, position_of, machine_of, state_of, Query, renew_query, lease_grant_of, LeaseQuery, SyncQuery, OtherQuery, leader_revision, claim_request, publish_request, create_request, revision_in, grant_in_flight_of, snapshot_of, race_answer_of, is_keyless, is_leaderless, key_holder, failsafe_revision_of}
 use Rattle.commit_book.specs.Books.{IsShown}
 use Rattle.lease_law.specs.Showing.{granted_events, refused_events, read_events}
 use Rattle.commit_book.specs.Showing.{event_at, decided_events, IsOwn, AreOwn, with_server_down, carries_set, IsOtherTxn, IsIdle, AreIdle}
@@ -71,7 +71,7 @@ changed-there items k f n other = changed-at-there items k f (slice_get items k)
 pub members-shown : (past past' : Past) (volatile_states volatile_states' : ℕ → VolatileState) (k : ℕ) (y : Machine) → machine_of past' (volatile_states' k) k ≡ y → ((n : ℕ) → (n ≡ k → ⊥) → machine_of past' (volatile_states' n) n ≡ machine_of past (volatile_states n) n) → ◌≡◌ {A = ℕ → Machine} (λ n. machine_of past' (volatile_states' n) n) (put_at (λ n. machine_of past (volatile_states n) n) k y)
 members-shown past past' volatile_states volatile_states' k y here there = fun_ext (λ n. put-all (λ n. machine_of past (volatile_states n) n) k y (λ n z. machine_of past' (volatile_states' n) n ≡ z) here there n)
 
-machine-eq : (live live' writes writes' : Bool) (required required' : Need) (confirmed confirmed' : ℕ → Option ℕ) (log log' : Option (List Entry)) (agent agent' : Option Agent) (runs runs' : ℕ) → live ≡ live' → writes ≡ writes' → required ≡ required' → confirmed ≡ confirmed' → log ≡ log' → agent ≡ agent' → runs ≡ runs' →
+machine-eq : (live live' writes writes' : Bool) (required required' : Confirmers) (confirmed confirmed' : ℕ → Option ℕ) (log log' : Option (List Entry)) (agent agent' : Option Agent) (runs runs' : ℕ) → live ≡ live' → writes ≡ writes' → required ≡ required' → confirmed ≡ confirmed' → log ≡ log' → agent ≡ agent' → runs ≡ runs' →
     ◌≡◌ {A = Machine} (record { live = live; writes = writes; required = required; confirmed = confirmed; log = log; agent = agent; runs = runs }) (record { live = live'; writes = writes'; required = required'; confirmed = confirmed'; log = log'; agent = agent'; runs = runs' })
 machine-eq live live' writes writes' required required' confirmed confirmed' log log' agent agent' runs runs' a b c d e f g = cc
 
@@ -430,7 +430,7 @@ state-eq member_count creates_compare sync sync' leader leader' holder holder' h
 pub input-shown : (setup : Setup) (past : Past) (volatile_states : ℕ → VolatileState) (m : ℕ) (heard : Option ℕ) (agent : Agent) (live : Bool) (sends : Option Sending) (events : List Event) → AreOwn m events →
     ((i : ℕ) → (past_over past events).flight i ≡ send sends (forget heard past.flight) i) →
     IsShown setup past volatile_states (record {
-      action = Input m (record { heard = heard; agent = agent; live = live; required = need_of (slice_get (past_over past events).required m); sends = sends; holder_was_live = (past_over past events).holder_was_live });
+      action = Input m (record { heard = heard; agent = agent; live = live; required = confirmers_of (slice_get (past_over past events).required m); sends = sends; holder_was_live = (past_over past events).holder_was_live });
       events = events;
       volatile_states = put_at volatile_states m (record { live = live; agent = Some agent });
     })
@@ -438,17 +438,17 @@ input-shown setup past volatile_states m heard agent live sends events own fligh
     let past' : Past = past_over past events in
     let f : Frame m past past' = frame-all m past events own in
     let volatile_state : VolatileState = record { live = live; agent = Some agent } in
-    let input : AgentInput = record { heard = heard; agent = agent; live = live; required = need_of (slice_get past'.required m); sends = sends; holder_was_live = past'.holder_was_live } in
+    let input : AgentInput = record { heard = heard; agent = agent; live = live; required = confirmers_of (slice_get past'.required m); sends = sends; holder_was_live = past'.holder_was_live } in
     state-eq setup.member_count setup.creates_compare past'.sync past.sync (leader_revision past'.leader) (leader_revision past.leader) (key_holder past'.leader) (key_holder past.leader) past'.holder_was_live (failsafe_revision_of past'.failsafe) (failsafe_revision_of past.failsafe) past'.revision past.revision past'.flight (send sends (forget heard past.flight))
     (λ n. machine_of past' (put_at volatile_states m volatile_state n) n) (put_at (λ n. machine_of past (volatile_states n) n) m (machine_after (machine_of past (volatile_states m) m) input)) past'.acknowledged_log past.acknowledged_log past'.acknowledged past.acknowledged
     f.sync (ap leader_revision f.leader) (ap key_holder f.leader) (ap failsafe_revision_of f.failsafe) f.revision (fun_ext flight)
     (members-shown past past' volatile_states (put_at volatile_states m volatile_state) m (machine_after (machine_of past (volatile_states m) m) input)
     (ap (λ (x : VolatileState). machine_of past' x m) (put-here volatile_states m volatile_state)
-    ∙ machine-eq live live (past'.writes m) (past.writes m) (need_of (slice_get past'.required m)) (need_of (slice_get past'.required m)) (position_of (slice_get past'.confirmed m)) (position_of (slice_get past.confirmed m)) (log_found (slice_get past'.logs m)) (log_found (slice_get past.logs m)) (Some agent) (Some agent) (past'.runs m) (past.runs m)
+    ∙ machine-eq live live (past'.writes m) (past.writes m) (confirmers_of (slice_get past'.required m)) (confirmers_of (slice_get past'.required m)) (position_of (slice_get past'.confirmed m)) (position_of (slice_get past.confirmed m)) (log_found (slice_get past'.logs m)) (log_found (slice_get past.logs m)) (Some agent) (Some agent) (past'.runs m) (past.runs m)
     refl (ap (λ (w : ℕ → Bool). w m) f.writes) refl (ap (λ (c : List (List (Option Lsn))). position_of (slice_get c m)) f.confirmed) (ap (λ (l : Logs). log_found (slice_get l m)) f.logs) refl (ap (λ (r : ℕ → ℕ). r m) f.runs))
     (λ n other. ap (λ (x : VolatileState). machine_of past' x n) (put-there volatile_states m volatile_state n other)
-    ∙ machine-eq (volatile_states n).live (volatile_states n).live (past'.writes n) (past.writes n) (need_of (slice_get past'.required n)) (need_of (slice_get past.required n)) (position_of (slice_get past'.confirmed n)) (position_of (slice_get past.confirmed n)) (log_found (slice_get past'.logs n)) (log_found (slice_get past.logs n)) (volatile_states n).agent (volatile_states n).agent (past'.runs n) (past.runs n)
-    refl (ap (λ (w : ℕ → Bool). w n) f.writes) (ap need_of (f.required n other)) (ap (λ (c : List (List (Option Lsn))). position_of (slice_get c n)) f.confirmed) (ap (λ (l : Logs). log_found (slice_get l n)) f.logs) refl (ap (λ (r : ℕ → ℕ). r n) f.runs)))
+    ∙ machine-eq (volatile_states n).live (volatile_states n).live (past'.writes n) (past.writes n) (confirmers_of (slice_get past'.required n)) (confirmers_of (slice_get past.required n)) (position_of (slice_get past'.confirmed n)) (position_of (slice_get past.confirmed n)) (log_found (slice_get past'.logs n)) (log_found (slice_get past.logs n)) (volatile_states n).agent (volatile_states n).agent (past'.runs n) (past.runs n)
+    refl (ap (λ (w : ℕ → Bool). w n) f.writes) (ap confirmers_of (f.required n other)) (ap (λ (c : List (List (Option Lsn))). position_of (slice_get c n)) f.confirmed) (ap (λ (l : Logs). log_found (slice_get l n)) f.logs) refl (ap (λ (r : ℕ → ℕ). r n) f.runs)))
     f.acknowledged_log f.acknowledged
 
 -- ---- all else

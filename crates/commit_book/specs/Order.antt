@@ -3,12 +3,12 @@
 use Rattle.std.specs.Prelude.{ℕ, ◌≡◌, Bool, true, List, Option, Some, slice_get}
 use Rattle.pat_base.specs.declared.server_state.Required.{Required}
 use Rattle.commit_actions.specs.Carried.{IsLed}
-use Rattle.commit_actions.specs.Keys.{Need, All, SyncKey}
-use Rattle.commit_actions.specs.Past.{Past, need_of}
+use Rattle.commit_actions.specs.Keys.{Confirmers, All, SyncKey}
+use Rattle.commit_actions.specs.Past.{Past, confirmers_of}
 use Rattle.commit_actions.specs.Keys.{IsStrict}
 
 -- commits wait for this member
-abbrev pub Awaits : Need → ℕ → Type 0
+abbrev pub Awaits : Confirmers → ℕ → Type 0
 Awaits (All members) n = members n ≡ true
 Awaits _ n = ⊥
 
@@ -17,7 +17,7 @@ pub record AreInOrder (writes : ℕ → Bool) (required : List Required) (sync :
   -- the sync key names it as the leader
   pub led : (server : ℕ) → writes server ≡ true → IsLed sync server
   -- its commits wait for each standby in the sync key
-  pub awaited : (server : ℕ) (key : SyncKey) → writes server ≡ true → sync ≡ Some key → (standby : ℕ) → key.standbys standby ≡ true → Awaits (need_of (slice_get required server)) standby
+  pub awaited : (server : ℕ) (key : SyncKey) → writes server ≡ true → sync ≡ Some key → (standby : ℕ) → key.standbys standby ≡ true → Awaits (confirmers_of (slice_get required server)) standby
 
 -- the same of what a book determines
 abbrev pub IsInOrder : Past → Type 0

@@ -2,7 +2,7 @@
 use Rattle.std.specs.Prelude.{ℕ, ◌≡◌, Bool, true, false, Some, slice_get}
 use Rattle.commit_actions.specs.Flights.{SyncRequest}
 use Rattle.commit_actions.specs.Keys.{SyncKey}
-use Rattle.commit_actions.specs.Past.{Past, need_of, position_of}
+use Rattle.commit_actions.specs.Past.{Past, confirmers_of, position_of}
 use Rattle.commit_actions.specs.States.{Reaches}
 use Rattle.commit_book.specs.Order.{Awaits}
 
@@ -12,6 +12,6 @@ pub record PublishesInOrder (past : Past) (leader noted : ℕ) (request : SyncRe
   pub key : SyncKey
   pub is : past.sync ≡ Some key
   pub compares : request.sync ≡ Some key.revision
-  pub awaited : (standby : ℕ) → standbys standby ≡ true → Awaits (need_of (slice_get past.required leader)) standby
+  pub awaited : (standby : ℕ) → standbys standby ≡ true → Awaits (confirmers_of (slice_get past.required leader)) standby
   pub confirmed : (standby : ℕ) → standbys standby ≡ true → key.standbys standby ≡ false → Reaches noted (position_of (slice_get past.confirmed leader) standby)
   pub since : (standby : ℕ) → standbys standby ≡ true → key.standbys standby ≡ false → Reaches (past.grown leader) (position_of (slice_get past.confirmed leader) standby)

@@ -35,7 +35,7 @@ use Rattle.commit_actions.specs.Flights.{SyncRequest, Requested}
 use Rattle.commit_actions.specs.States.{Agent}
 use Rattle.commit_actions.specs.Inputs.{Sending}
 use Rattle.commit_actions.specs.Actions.{Commit, Acknowledge, Receive, Confirm, Rewind, Clone, Wipe, Accept, Cease, End, Create, Renew, Expire, Release, OtherWrite, SendSnapshot, Decide, Lose, AnswerRace, Start, Kill, Note, Input, send, fresh_agent, is_as_read, is_granted}
-use Rattle.commit_actions.specs.Past.{Setup, Past, past_over, renew_query, VolatileState, log_found, front_to, need_of, LeaseQuery, SyncQuery, OtherQuery, leader_revision, claim_request, publish_request, create_request, revision_in, is_keyless, is_leaderless}
+use Rattle.commit_actions.specs.Past.{Setup, Past, past_over, renew_query, VolatileState, log_found, front_to, confirmers_of, LeaseQuery, SyncQuery, OtherQuery, leader_revision, claim_request, publish_request, create_request, revision_in, is_keyless, is_leaderless}
 use Rattle.commit_book.specs.Books.{IsShown}
 use Rattle.lease_law.specs.Showing.{granted_events, refused_events, read_events}
 use Rattle.commit_book.specs.Showing.{event_at, decided_events, AreOwn, with_server_down, carries_set, IsOtherTxn, AreIdle}
@@ -75,5 +75,5 @@ pub record ActionsAreShown : Type 0 where
   pub shown : (setup : Setup) (past : Past) (volatile_states : ℕ → VolatileState) (tick : Ticks) (i j : ℕ) (by : Member) (run sequence : ℕ) → past.flight i ≡ None → IsShown setup past volatile_states (record { action = SendSnapshot (is_keyless past.leader past.failsafe) (is_leaderless past.leader) j; events = read_events tick i j by run sequence; volatile_states = volatile_states })
   -- an answer in a race, an input, and all else
   pub replied : (setup : Setup) (past : Past) (volatile_states : ℕ → VolatileState) (tick : Ticks) (j : ℕ) (by member : Member) (run sequence : ℕ) (answer : PeerAnswer) (end : Lsn) → answer.end ≡ Some end → end.position ≡ end_of (entries_of (log_found (slice_get past.logs by.id.number))) → IsShown setup past volatile_states (record { action = AnswerRace by.id.number member.id.number run sequence j; events = event_at tick (kinds.Message (messages.Sent j (record { from = ends.Member by; to = ends.Member member; run = run; sequence = sequence; body = bodies.Answer answer }))); volatile_states = volatile_states })
-  pub input : (setup : Setup) (past : Past) (volatile_states : ℕ → VolatileState) (m : ℕ) (heard : Option ℕ) (agent : Agent) (live : Bool) (sends : Option Sending) (events : List Event) → AreOwn m events → ((i : ℕ) → (past_over past events).flight i ≡ send sends (forget heard past.flight) i) → IsShown setup past volatile_states (record { action = Input m (record { heard = heard; agent = agent; live = live; required = need_of (slice_get (past_over past events).required m); sends = sends; holder_was_live = (past_over past events).holder_was_live }); events = events; volatile_states = put_at volatile_states m (record { live = live; agent = Some agent }) })
+  pub input : (setup : Setup) (past : Past) (volatile_states : ℕ → VolatileState) (m : ℕ) (heard : Option ℕ) (agent : Agent) (live : Bool) (sends : Option Sending) (events : List Event) → AreOwn m events → ((i : ℕ) → (past_over past events).flight i ≡ send sends (forget heard past.flight) i) → IsShown setup past volatile_states (record { action = Input m (record { heard = heard; agent = agent; live = live; required = confirmers_of (slice_get (past_over past events).required m); sends = sends; holder_was_live = (past_over past events).holder_was_live }); events = events; volatile_states = put_at volatile_states m (record { live = live; agent = Some agent }) })
   pub idle : (setup : Setup) (past : Past) (volatile_states : ℕ → VolatileState) (events : List Event) → AreIdle events → IsShown setup past volatile_states (record { action = Note; events = events; volatile_states = volatile_states })

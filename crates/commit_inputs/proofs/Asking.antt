@@ -30,7 +30,7 @@ use Rattle.agent_model.specs.declared.output.Output.{Output}
 use Rattle.agent_model.specs.declared.output.Output.TheVariants as outputs
 use Rattle.agent_model.specs.declared.output.Target.TheVariants as targets
 use Rattle.agent_model.specs.Agents.{AgentFacts, Outcome, made}
-use Rattle.agent_commit_law.specs.Committing.{AsksOn, FollowsOn}
+use Rattle.agent_commit_law.specs.Committing.{AsksInSynchronousMode, FollowsSynchronousMode}
 use Rattle.agent_model.specs.Decisions.{asks_sync}
 use Rattle.agent_model.specs.Table.{step}
 use Rattle.cluster_model.specs.declared.heard_message.HeardMessage.{HeardMessage}
@@ -78,7 +78,7 @@ OldOrNew member run clock outs named asked i q query = ((named i ≡ Some q) × 
 abbrev IsPut : Member → ℕ → ℕ → Question → Body → Type 0
 IsPut member run sequence question body = (request : SyncRequest) × (query_sent (ends.Member member) run sequence body ≡ SyncQuery request) × IsWriteOf question request
 
-put-by : (member : Member) (run sequence : ℕ) (on : Bool) (question : Question) (txn : Txn) → IsPutBy question txn → FollowsOn on question → IsPut member run sequence question (bodies.Request txn)
+put-by : (member : Member) (run sequence : ℕ) (on : Bool) (question : Question) (txn : Txn) → IsPutBy question txn → FollowsSynchronousMode on question → IsPut member run sequence question (bodies.Request txn)
 put-by member run sequence on Claiming (txns.Claim revision sync) puts follows =
     (claim_request member.id.number run sequence revision sync, refl, record { writes = refl; standbys = λ r n. refl })
 put-by member run sequence on (Syncing Stays) (txns.SetSync revision sync standbys) puts follows =
@@ -88,7 +88,7 @@ put-by member run sequence on (Syncing (Lists set)) (txns.SetSync revision sync 
 put-by member run sequence on (Syncing Empties) txn puts follows = absurd follows
 put-by member run sequence on _ _ puts follows = absurd puts
 
-put-body : (member : Member) (run sequence : ℕ) (on : Bool) (question : Question) (body : Body) → IsPutByBody question body → FollowsOn on question → IsPut member run sequence question body
+put-body : (member : Member) (run sequence : ℕ) (on : Bool) (question : Question) (body : Body) → IsPutByBody question body → FollowsSynchronousMode on question → IsPut member run sequence question body
 put-body member run sequence on question (bodies.Request txn) puts follows = put-by member run sequence on question txn puts follows
 put-body member run sequence on question _ puts follows = absurd puts
 
@@ -111,7 +111,7 @@ module _ (member : Member) (clock : ℕ) (now : Ticks) (agent : AgentFacts) (out
   ]
 
   -- it waits for a write that it asks
-  new-write : AsksOn outcome.knows → (waited : Waited) → outcome.knows.waited ≡ Some waited → agent.knows.sequence < waited.sequence → All (AsksFor waited) outcome.outputs → asks_sync waited.question ≡ true
+  new-write : AsksInSynchronousMode outcome.knows → (waited : Waited) → outcome.knows.waited ≡ Some waited → agent.knows.sequence < waited.sequence → All (AsksFor waited) outcome.outputs → asks_sync waited.question ≡ true
       → IsWriteAsked later after M outcome.knows.run waited
   new-write on waited is above asks writes i q e by run sequence = elim (questions i q e) [
     | inl was ↦ absurd (omega (arith, sound.last i q was.0 by (run ∙ anew.run), sequence, above))
@@ -121,7 +121,7 @@ module _ (member : Member) (clock : ℕ) (now : Ticks) (agent : AgentFacts) (out
         (put.0, new.asks ∙ put.1, put.2)
   ]
 
-  writes-by : AsksOn outcome.knows → IsAgentSynchronous named asked M agent → WaitsOn now agent.knows outcome.knows outcome.outputs
+  writes-by : AsksInSynchronousMode outcome.knows → IsAgentSynchronous named asked M agent → WaitsOn now agent.knows outcome.knows outcome.outputs
       → (waited : Waited) → outcome.knows.waited ≡ Some waited → asks_sync waited.question ≡ true → IsWriteAsked later after M outcome.knows.run waited
   writes-by on old (Same is) waited e writes = same-write waited (sym is ∙ e) (old.writes waited (sym is ∙ e) writes)
   writes-by on old (Nothing is) waited e writes = absurd (none-some waited (sym is ∙ e))
@@ -129,7 +129,7 @@ module _ (member : Member) (clock : ℕ) (now : Ticks) (agent : AgentFacts) (out
       let same : one ≡ waited = some-is one waited (sym is ∙ e) in
       new-write on waited e (subst (λ (w : Waited). agent.knows.sequence < w.sequence) same above) (subst (λ (w : Waited). All (AsksFor w) outcome.outputs) same asks) writes
 
-  agent-synchronous : AsksOn outcome.knows → IsAgentSynchronous named asked M agent → IsAgentSynchronous later after M (record { role = outcome.role; knows = outcome.knows })
+  agent-synchronous : AsksInSynchronousMode outcome.knows → IsAgentSynchronous named asked M agent → IsAgentSynchronous later after M (record { role = outcome.role; knows = outcome.knows })
   agent-synchronous on old = record { on = on; writes = writes-by on old anew.waits }
 
   -- an agent of another member waits as it did
@@ -146,7 +146,7 @@ module _ (member : Member) (clock : ℕ) (now : Ticks) (agent : AgentFacts) (out
 pub agents-synchronous : (count : ℕ) (member : Member) (clock : ℕ) (now : Ticks) (agent : AgentFacts) (outcome : Outcome) (named later : ℕ → Option Asked) (asked after : ℕ → Query) (known : List (Option AgentFacts))
     → slice_get known member.id.number ≡ Some (Some agent) → member.id.number < count
     → ((i : ℕ) (q : Asked) → later i ≡ Some q → OldOrNew member agent.knows.run clock outcome.outputs named asked i q (after i))
-    → AsksAnew now agent.knows outcome.knows outcome.outputs → IsAgentSound named member.id.number agent → AsksOn outcome.knows
+    → AsksAnew now agent.knows outcome.knows outcome.outputs → IsAgentSound named member.id.number agent → AsksInSynchronousMode outcome.knows
     → AreAgentsSynchronous count named asked known
     → AreAgentsSynchronous count later after (with_changed known member.id.number (agent_after (Some outcome)))
 agents-synchronous count member clock now agent outcome named later asked after known here small questions anew sound on old = record {
@@ -270,7 +270,7 @@ module _ (head : HeadText) (book : List Event) (cluster : Cluster) (good : Commi
   P = past_of head book
 
   -- it leaves all agents as synchronous mode has them
-  pub agents-behind : agent_facts_after cluster opening ≡ with_changed cluster.agents member.id.number (agent_after (Some After)) → AsksOn After.knows
+  pub agents-behind : agent_facts_after cluster opening ≡ with_changed cluster.agents member.id.number (agent_after (Some After)) → AsksInSynchronousMode After.knows
       → AreAgentsSynchronous (member_count head) (lease_past.past_over Named Events).asked (past_over P Events).asked (cluster_over cluster Events).agents
   agents-behind acts on =
       let new = anew head book cluster good.lease member agent machine found here heard hn message opening opens numbered low in

@@ -19,7 +19,7 @@ use Rattle.cluster_model.specs.Parts.{each, events_of}
 use Rattle.cluster_model.specs.State.{Cluster}
 use Rattle.commit_actions.specs.Flights.{Flying, SyncRequest}
 use Rattle.commit_actions.specs.Inputs.{IsGivenByLease, Sending}
-use Rattle.commit_actions.specs.Past.{Past, Setup, VolatileState, need_in, need_of, past_over}
+use Rattle.commit_actions.specs.Past.{Past, Setup, VolatileState, confirmers_in, confirmers_of, past_over}
 use Rattle.commit_book.proofs.Fronts.{past-append}
 use Rattle.commit_servers.specs.Acting.{Fits}
 use Rattle.commit_servers.specs.Matching.{live_in}
@@ -148,8 +148,8 @@ module _ (head : HeadText) (book : List Event) (cluster : Cluster) (good : Commi
         ∙ ap (λ (l : List Output). (machine_after_outputs (moment_of cluster) a.machine l).replication.required) (sym whole) ∙ required-set (moment_of cluster) a.machine front required behind none
 
     module _ (sent : SendsInside head book cluster good a None) (s : ServerFacts) (found : slice_get cluster.facts.servers M ≡ Some s) where
-      grows : GrowsByConnected (Before head book cluster good a) ((state_of_run head book cluster).members M).required (need_in required)
-      grows = subst (λ (r : Required). GrowsByConnected (Before head book cluster good a) ((state_of_run head book cluster).members M).required (need_in r)) required-is
+      grows : GrowsByConnected (Before head book cluster good a) ((state_of_run head book cluster).members M).required (confirmers_in required)
+      grows = subst (λ (r : Required). GrowsByConnected (Before head book cluster good a) ((state_of_run head book cluster).members M).required (confirmers_in r)) required-is
           (grows-by (moment_of cluster) a.heard (Before head book cluster good a) (state_of_run head book cluster) M (Theirs head book cluster good a None) (Lawful None sent).lawful.was (Lawful None sent).lawful.does (Lawful None sent).does)
 
       pub waits : WaitsForMembers required
@@ -187,7 +187,7 @@ module _ (head : HeadText) (book : List Event) (cluster : Cluster) (good : Commi
         once = once-behind Up Set_ (front-aside head book cluster good a front (carried front covered) of_table) now-set.once;
         flight = λ i. ap (λ (p : Past). p.flight i) past-both ∙ ap (λ (f : ℕ → Option Flying). f i) now-set.flight ∙ front-flight head book cluster good a front (carried front covered) of_table i;
         live = ap (λ (p : Past). p.holder_was_live) past-both ∙ now-set.live ∙ front-live head book cluster good a front (carried front covered) of_table;
-        needs = ap (λ (p : Past). need_of (slice_get p.required M)) past-both ∙ now-set.needs ∙ ap need_in (sym required-is);
+        needs = ap (λ (p : Past). confirmers_of (slice_get p.required M)) past-both ∙ now-set.needs ∙ ap confirmers_in (sym required-is);
         acted = ap (λ (c : Cluster). c.agents) reached-both ∙ now-set.agents_same ∙ front-acted head book cluster good a front (carried front covered) of_table;
         lives = λ n. ap (λ (c : Cluster). live_in c.facts.servers n) reached-both ∙ now-set.lives n ∙ front-lives head book cluster good a front (carried front covered) of_table n;
         fits = λ states lives.

@@ -45,7 +45,7 @@ use Rattle.commit_actions.specs.Flights.{Flying, Requested, SyncRequest}
 use Rattle.commit_actions.specs.Functions.{forget}
 use Rattle.commit_actions.specs.Inputs.{IsGivenByLease, Sending}
 use Rattle.commit_actions.specs.States.{Reaches}
-use Rattle.commit_actions.specs.Past.{position_of, publish_request, LeaseQuery, CarryQuery, OtherQuery, Past, Query, Setup, SyncQuery, need_of, past_after, past_over, query_in_flight_of, query_of, request_in_flight_of, was_live_by_message, was_live_by_txn}
+use Rattle.commit_actions.specs.Past.{position_of, publish_request, LeaseQuery, CarryQuery, OtherQuery, Past, Query, Setup, SyncQuery, confirmers_of, past_after, past_over, query_in_flight_of, query_of, request_in_flight_of, was_live_by_message, was_live_by_txn}
 use Rattle.commit_book.proofs.Fronts.{past-append}
 use Rattle.commit_servers.specs.Acting.{Fits}
 use Rattle.commit_servers.specs.Matching.{live_in}
@@ -243,7 +243,7 @@ module _ (head : HeadText) (book : List Event) (cluster : Cluster) (good : Commi
     once = once-none Covered asked-aside;
     flight = λ i. ap (λ (p : Past). p.flight i) past-both ∙ flight-now i;
     live = ap (λ (p : Past). p.holder_was_live) past-both ∙ live-body (past_over P Upto).holder_was_live (past_over P Upto).leader a.member (member_count head) body synchronous ∙ front-live head book cluster good a front all of_table;
-    needs = ap (λ (p : Past). need_of (slice_get p.required M)) past-both ∙ front-needs head book cluster good a front all of_table requires-none;
+    needs = ap (λ (p : Past). confirmers_of (slice_get p.required M)) past-both ∙ front-needs head book cluster good a front all of_table requires-none;
     acted = ap (λ (c : Cluster). c.agents) reached-both ∙ front-acted head book cluster good a front all of_table;
     lives = λ n. ap (λ (c : Cluster). live_in c.facts.servers n) reached-both ∙ front-lives head book cluster good a front all of_table n;
     fits = λ states lives.
@@ -284,7 +284,7 @@ module _ (head : HeadText) (book : List Event) (cluster : Cluster) (good : Commi
         is = ap (λ (seen : Seen). seen.sync) seen-same ∙ at-first.is;
         compares = at-first.compares;
         awaited = λ standby named.
-            subst (λ (required : List Required). Awaits (need_of (slice_get required M)) standby) (sym (ap (λ (seen : Seen). seen.required) seen-same)) (at-first.awaited standby named);
+            subst (λ (required : List Required). Awaits (confirmers_of (slice_get required M)) standby) (sym (ap (λ (seen : Seen). seen.required) seen-same)) (at-first.awaited standby named);
         confirmed = λ standby named added.
             subst (λ (noted : ℕ). Reaches noted (position_of (slice_get (past_over P Upto).confirmed M) standby)) (sym (ap noted_by here-behind))
             (subst (λ (told : Told). Reaches (noted_position (After head book cluster good a).knows.noted) (position_of (slice_get told.confirmed M) standby)) (sym (front-told head book cluster good a front all of_table))

@@ -15,11 +15,11 @@ use Rattle.script_model.specs.Script.{HeadText}
 use Rattle.agent_model.specs.declared.machine.Machine.{Machine}
 use Rattle.agent_model.specs.declared.machine.Replication.{Replication}
 use Rattle.agent_model.specs.Agents.{AgentFacts, made}
-use Rattle.agent_commit_law.specs.Committing.{GrowsByConnected, NeedsOne}
+use Rattle.agent_commit_law.specs.Committing.{GrowsByConnected, ListsMember}
 use Rattle.cluster_model.specs.Machines.{connected_end, connected_ends, is_connected, machine_from, machine_of, nothing_confirmed, replication_of}
 use Rattle.cluster_model.specs.State.{Cluster}
 use Rattle.lease_law.proofs.Tools.{none-some}
-use Rattle.commit_actions.specs.Past.{need_in, need_of}
+use Rattle.commit_actions.specs.Past.{confirmers_in, confirmers_of}
 use Rattle.commit_servers.specs.Sound.{WaitsForMembers}
 use Rattle.commit_servers.proofs.Acting.{required-at}
 use Rattle.run_promise.specs.Members.{member_count}
@@ -67,21 +67,21 @@ module _ (head : HeadText) (book : List Event) (cluster : Cluster) (good : Commi
   is-one : (k : ℕ) → (k == 1) ≡ true → k ≡ 1
   is-one k e = grind (arith, nat_tests)
 
-  needs-few : (required : Required) → WaitsForMembers required → (n : ℕ) → NeedsOne (need_in required) n → n < MOST_MEMBERS
+  needs-few : (required : Required) → WaitsForMembers required → (n : ℕ) → ListsMember (confirmers_in required) n → n < MOST_MEMBERS
   needs-few requireds.Nobody waits n needs = absurd needs
   needs-few requireds.AnyOne waits n needs = absurd needs
   needs-few (requireds.All set) waits n needs = waits n (is-one (bit_at set.bits n) needs)
 
   module _ (agent : AgentFacts) (s : ServerFacts) (found : slice_get cluster.facts.servers member.id.number ≡ Some s) where
-    grown-few : (required : Required) → GrowsByConnected (made agent.role agent.knows machine []) ((state_of_run head book cluster).members member.id.number).required (need_in required) → (n : ℕ) → NeedsOne (need_in required) n → n < MOST_MEMBERS
+    grown-few : (required : Required) → GrowsByConnected (made agent.role agent.knows machine []) ((state_of_run head book cluster).members member.id.number).required (confirmers_in required) → (n : ℕ) → ListsMember (confirmers_in required) n → n < MOST_MEMBERS
     grown-few required grows n needs = elim (grows n needs) [
       | inl before ↦ needs-few s.required (good.fits.servers.sound.each member.id.number s found).required n
-          (subst (λ need. NeedsOne need n) (ap need_of (required-at (past_of head book) cluster.facts good.fits.servers.same member.id.number s found)) before)
+          (subst (λ confirmers. ListsMember confirmers n) (ap confirmers_of (required-at (past_of head book) cluster.facts good.fits.servers.same member.id.number s found)) before)
       | inr connected ↦ below-few n (connected-member n connected.0 connected.1)
     ]
 
     -- the required list that grows by members to which the server is connected is one of members
-    pub grown-waits : (required : Required) → GrowsByConnected (made agent.role agent.knows machine []) ((state_of_run head book cluster).members member.id.number).required (need_in required) → WaitsForMembers required
+    pub grown-waits : (required : Required) → GrowsByConnected (made agent.role agent.knows machine []) ((state_of_run head book cluster).members member.id.number).required (confirmers_in required) → WaitsForMembers required
     grown-waits requireds.Nobody grows = tt
     grown-waits requireds.AnyOne grows = tt
     grown-waits (requireds.All set) grows = λ n on. grown-few (requireds.All set) grows n (one-is (bit_at set.bits n) on)

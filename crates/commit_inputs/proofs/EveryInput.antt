@@ -20,7 +20,7 @@ use Rattle.agent_model.specs.declared.machine.Machine.{Machine}
 use Rattle.lease_store.specs.declared.action.OperatorAction.{OperatorAction}
 use Rattle.lease_store.specs.declared.granted.Granted.{Granted}
 use Rattle.agent_model.specs.Agents.{AgentFacts, Outcome, made}
-use Rattle.agent_commit_law.specs.Committing.{HearsBelow, HearsOn, HearsToCommit}
+use Rattle.agent_commit_law.specs.Committing.{HearsBelow, HearsSynchronousMode, HearsToCommit}
 use Rattle.agent_lease_law.specs.Lawful.{Hears}
 use Rattle.cluster_model.specs.declared.delivery.Delivery.TheVariants as deliveries
 use Rattle.cluster_model.specs.Cluster.{agent_facts_by, agent_facts_with, cluster_after}
@@ -103,7 +103,7 @@ record IsByItself (head : HeadText) (book : List Event) (cluster : Cluster) (mem
   idle : IsIdle (kinds.Agent happening)
   acts : agent_facts_by cluster happening ≡ agent_facts_with cluster.agents member (outcome_of cluster member heard)
   hears : (agent : AgentFacts) (machine : Machine) (input : AgentInput) → HearsToCommit (state_of_run head book cluster) member.id.number input heard (made agent.role agent.knows machine [])
-  on : HearsOn heard
+  on : HearsSynchronousMode heard
   below : HearsBelow (member_count head) heard
   hears_lease : (agent : AgentFacts) (machine : Machine)
       → Hears (lease_past.state_of (declared_of head) (lease_past.past_of book) (run_volatile.volatile_of cluster)) member.id.number None (moment_of cluster) heard (made agent.role agent.knows machine [])

@@ -30,7 +30,7 @@ use Rattle.agent_model.specs.declared.heard.Heard.TheVariants as heards
 use Rattle.agent_model.specs.declared.knowledge.Waited.{Waited}
 use Rattle.agent_model.specs.declared.machine.Machine.{Machine}
 use Rattle.agent_model.specs.Agents.{AgentFacts, made}
-use Rattle.agent_commit_law.specs.Committing.{HearsBelow, HearsGranted, HearsLease, HearsOn, HearsToCommit, HearsWrite, IsAskedBy, sync_seen}
+use Rattle.agent_commit_law.specs.Committing.{HearsBelow, HearsGranted, HearsLease, HearsSynchronousMode, HearsToCommit, HearsWrite, IsAskedBy, sync_seen}
 use Rattle.agent_model.specs.Decisions.{asks_sync, is_sync_decision}
 use Rattle.agent_model.specs.Synchronous.{sync_read_by, sync_read_in, sync_read_of_entry}
 use Rattle.agent_commit_law.proofs.CommitTools.{no-members}
@@ -57,7 +57,7 @@ use Rattle.lease_parts.specs.Waiting.{IsAddressed, IsAnswer, IsPeerBody}
 use Rattle.lease_inputs.proofs.InputHears.{message-is, unpaused-told}
 use Rattle.commit_book.specs.Order.{NamesMembers}
 use Rattle.commit_parts.specs.Bridged.{CommitsBridged}
-use Rattle.commit_parts.specs.Modes.{IsOnHeld, IsOnTold, IsOnValue}
+use Rattle.commit_parts.specs.Modes.{IsSynchronousEntry, IsSynchronousTold, IsSynchronousValue}
 use Rattle.commit_parts.specs.Reading.{past_of, state_of_run}
 
 -- ---- the keys of a snapshot, as agents and as commits see them
@@ -69,11 +69,11 @@ sync-is : (found : Option KeyEntry) → sync_seen (sync_read_of_entry found) ≡
 sync-is None = refl
 sync-is (Some found) = sync-by found.revision found.value
 
-on-by : (value : Value) → IsOnValue value → (settings_by default_config value).synchronous_mode ≡ true
+on-by : (value : Value) → IsSynchronousValue value → (settings_by default_config value).synchronous_mode ≡ true
 on-by (values.Config config) on = on
 on-by _ on = absurd on
 
-on-is : (found : Option KeyEntry) → IsOnHeld found → (settings_of_entry default_config found).synchronous_mode ≡ true
+on-is : (found : Option KeyEntry) → IsSynchronousEntry found → (settings_of_entry default_config found).synchronous_mode ≡ true
 on-is None on = absurd on
 on-is (Some found) on = on-by found.value on
 
@@ -226,14 +226,14 @@ module _ (head : HeadText) (book : List Event) (cluster : Cluster) (good : Commi
       carried.message.body refl heard is
 
   -- synchronous mode is on in the snapshot that comes with it, and no pause
-  pub hears-on : (heard : Heard) → heard_from cluster carried ≡ Some heard → HearsOn heard
+  pub hears-on : (heard : Heard) → heard_from cluster carried ≡ Some heard → HearsSynchronousMode heard
   hears-on heard is =
       let told = good.fits.mode.flight number carried there in
       let found : Option KeyEntry = find key_cmp keys.Config carried.snapshot in
       let calm = unpaused-told cluster number carried good.lease.matched.unpaused there in
-      heard-all cluster carried HearsOn
-      (λ body. record { synchronous = on-is found (subst (λ (b : Body). IsOnTold b carried.snapshot) body told); unpaused = calm })
-      (λ request leased grant body given. record { synchronous = on-is found (subst (λ (b : Body). IsOnTold b carried.snapshot) body told); unpaused = calm })
+      heard-all cluster carried HearsSynchronousMode
+      (λ body. record { synchronous = on-is found (subst (λ (b : Body). IsSynchronousTold b carried.snapshot) body told); unpaused = calm })
+      (λ request leased grant body given. record { synchronous = on-is found (subst (λ (b : Body). IsSynchronousTold b carried.snapshot) body told); unpaused = calm })
       (λ key expected. tt) (λ from. tt) (λ answer. tt) carried.message.body refl heard is
 
   -- and its sync key names members

@@ -16,7 +16,7 @@ use Rattle.agent_model.specs.declared.machine.Machine.{Machine}
 use Rattle.agent_model.specs.declared.machine.Replication.{Replication}
 use Rattle.agent_model.specs.declared.output.Output.{Output}
 use Rattle.agent_model.specs.Agents.{AgentFacts, Outcome, made}
-use Rattle.agent_commit_law.specs.Committing.{AsksOn, CommitsFrom, DoesAs, GrowsByConnected, HearsBelow, HearsOn, HearsToCommit, IsLawfulAs, IsSent, NeedsOne, StandsToCommit, StaysOn, committer_seen, is_begin, is_passing, live_shown, requests_of}
+use Rattle.agent_commit_law.specs.Committing.{AsksInSynchronousMode, CommitsFrom, DoesAs, GrowsByConnected, HearsBelow, HearsSynchronousMode, HearsToCommit, IsLawfulAs, IsSent, ListsMember, StandsToCommit, StaysInSynchronousMode, committer_seen, is_begin, is_passing, live_shown, requests_of}
 use Rattle.agent_lease_law.specs.Lawful.{Hears}
 use Rattle.agent_model.specs.Pausing.{is_paused}
 use Rattle.agent_roles.proofs.Knowing.{tells_pause, told_by}
@@ -38,8 +38,8 @@ use Rattle.commit_actions.specs.Actions.{Input, send}
 use Rattle.commit_book.specs.Books.{AllLeaveCommits, ChangeOnce, IsShown}
 use Rattle.commit_actions.specs.Functions.{forget}
 use Rattle.commit_actions.specs.Inputs.{AgentInput, Arming, ChangingRequired, CreatingLeader, Does, HearingAnswer, Idling, IsGivenByLease, Promoting, Publishing, Racing, Sending, SettlingRequired, TakingOver, WinningRace}
-use Rattle.commit_actions.specs.Keys.{Need, Nobody}
-use Rattle.commit_actions.specs.Past.{Past, VolatileState, need_in, need_of, past_after, past_over}
+use Rattle.commit_actions.specs.Keys.{Confirmers, Nobody}
+use Rattle.commit_actions.specs.Past.{Past, VolatileState, confirmers_in, confirmers_of, past_after, past_over}
 use Rattle.commit_book.specs.Showing.{AreOwn}
 use Rattle.commit_actions.specs.States.{Agent, State}
 use Rattle.commit_book.proofs.Showing.{input-shown}
@@ -76,11 +76,11 @@ given-unless now heard o s m input was (Promoting promotes) none as-it = tt
 given-unless now heard o s m input was (SettlingRequired settles) none as-it = tt
 
 -- ---- whom commits come to wait for
-same-grows : (o : Outcome) (before after : Need) → after ≡ before → GrowsByConnected o before after
-same-grows o before after same n needs = inl (subst (λ (need : Need). NeedsOne need n) same needs)
+same-grows : (o : Outcome) (before after : Confirmers) → after ≡ before → GrowsByConnected o before after
+same-grows o before after same n needs = inl (subst (λ (confirmers : Confirmers). ListsMember confirmers n) same needs)
 
-nobody-grows : (o : Outcome) (before after : Need) → after ≡ Nobody → GrowsByConnected o before after
-nobody-grows o before after none n needs = absurd (subst (λ (need : Need). NeedsOne need n) none needs)
+nobody-grows : (o : Outcome) (before after : Confirmers) → after ≡ Nobody → GrowsByConnected o before after
+nobody-grows o before after none n needs = absurd (subst (λ (confirmers : Confirmers). ListsMember confirmers n) none needs)
 
 pub grows-by : (now : Ticks) (heard : Heard) (o : Outcome) (s : State) (m : ℕ) (input : AgentInput) (was : Agent) (does : Does s m input was) → DoesAs now heard o s m input was does → GrowsByConnected o (s.members m).required input.required
 grows-by now heard o s m input was (Idling idles) as-it = same-grows o (s.members m).required input.required idles.keeps.server.required
@@ -95,7 +95,7 @@ grows-by now heard o s m input was (Publishing publishes) as-it = same-grows o (
 grows-by now heard o s m input was (Promoting promotes) as-it = nobody-grows o (s.members m).required input.required promotes.required
 grows-by now heard o s m input was (SettlingRequired settles) as-it = as-it
 
-input-is : (heard : Option ℕ) (agent : Agent) (live : Bool) (required required' : Need) (sends : Option Sending) (was was' : Bool) → required ≡ required' → was ≡ was'
+input-is : (heard : Option ℕ) (agent : Agent) (live : Bool) (required required' : Confirmers) (sends : Option Sending) (was was' : Bool) → required ≡ required' → was ≡ was'
     → ◌≡◌ {A = AgentInput} (record { heard = heard; agent = agent; live = live; required = required; sends = sends; holder_was_live = was }) (record { heard = heard; agent = agent; live = live; required = required'; sends = sends; holder_was_live = was' })
 input-is heard agent live required required' sends was was' a b = cc
 
@@ -130,7 +130,7 @@ pub record Acting (head : HeadText) (book : List Event) (cluster : Cluster) : Ty
   pub opening_is : IsOpening number opening
   pub acts : agent_facts_after cluster opening ≡ with_changed cluster.agents member.id.number (agent_after (Some (outcome_by cluster member agent machine heard)))
   pub hears : (input : AgentInput) → input.heard ≡ number → HearsToCommit (state_of_run head book cluster) member.id.number input heard (made agent.role agent.knows machine [])
-  pub on : HearsOn heard
+  pub on : HearsSynchronousMode heard
   pub below : HearsBelow (member_count head) heard
   -- the law of the lease hears it too, where watchdogs work
   pub hears_lease : ((m : ℕ) → works_of head m ≡ true) → Hears (lease_past.state_of (declared_of head) (lease_past.past_of book) (run_volatile.volatile_of cluster)) member.id.number number (moment_of cluster) heard (made agent.role agent.knows machine [])
@@ -138,7 +138,7 @@ pub record Acting (head : HeadText) (book : List Event) (cluster : Cluster) : Ty
   pub numbered : (n : ℕ) → number ≡ Some n → (message.number ≡ n) × (n ≤ cluster.facts.sent)
   pub low : message.number ≤ cluster.facts.sent
 
-calm-on : (heard : Heard) → HearsOn heard → tells_pause (told_by heard) ≡ false
+calm-on : (heard : Heard) → HearsSynchronousMode heard → tells_pause (told_by heard) ≡ false
 calm-on (heards.Got sequence snapshot) on = on.unpaused
 calm-on (heards.Granted sequence grant snapshot) on = on.unpaused
 calm-on heards.Wake on = refl
@@ -197,13 +197,13 @@ module _ (head : HeadText) (book : List Event) (cluster : Cluster) (good : Commi
   commits : CommitsFrom Now a.heard Before After
   commits = input-commits-as Now (points_of cluster a.member) a.heard a.agent.role a.agent.knows a.machine [] After refl refl
 
-  asks-on : AsksOn a.agent.knows
+  asks-on : AsksInSynchronousMode a.agent.knows
   asks-on = (good.fits.agents.each M a.agent a.here).on
 
   unpaused : is_paused a.agent.knows ≡ false
   unpaused = (good.lease.matched.agents M a.agent a.here).unpaused
 
-  pub stays-on : StaysOn a.heard Before After
+  pub stays-on : StaysInSynchronousMode a.heard Before After
   stays-on = commits.stays unpaused asks-on a.on
 
   -- what it hears tells of no pause
@@ -215,7 +215,7 @@ module _ (head : HeadText) (book : List Event) (cluster : Cluster) (good : Commi
 
   -- the law's input that stands for it
   abbrev pub Theirs : Option Sending → AgentInput
-  Theirs sends = record { heard = a.number; agent = Seen; live = live_shown Before After; required = need_in After.machine.replication.required; sends = sends; holder_was_live = S.holder_was_live }
+  Theirs sends = record { heard = a.number; agent = Seen; live = live_shown Before After; required = confirmers_in After.machine.replication.required; sends = sends; holder_was_live = S.holder_was_live }
 
   -- the input sends that, and its member takes no leader key past the sync key
   pub record SendsInside (sends : Option Sending) : Type 0 where
@@ -232,7 +232,7 @@ module _ (head : HeadText) (book : List Event) (cluster : Cluster) (good : Commi
     pub once : ChangeOrderOnce events
     pub flight : (i : ℕ) → (past_over P events).flight i ≡ send sends (forget a.number P.flight) i
     pub live : (past_over P events).holder_was_live ≡ P.holder_was_live
-    pub needs : need_of (slice_get (past_over P events).required M) ≡ need_in After.machine.replication.required
+    pub needs : confirmers_of (slice_get (past_over P events).required M) ≡ confirmers_in After.machine.replication.required
     -- behind them
     pub acted : (cluster_over cluster events).agents ≡ with_changed cluster.agents M (agent_after (Some After))
     pub lives : (n : ℕ) → live_in (cluster_over cluster events).facts.servers n ≡ live_in cluster.facts.servers n
@@ -248,7 +248,7 @@ module _ (head : HeadText) (book : List Event) (cluster : Cluster) (good : Commi
 
     pub page-shown : IsShown (setup_of head) P States (record { action = Input M (Theirs sends); events = events; volatile_states = Ahead })
     page-shown = subst (λ (input : AgentInput). IsShown (setup_of head) P States (record { action = Input M input; events = events; volatile_states = Ahead }))
-        (input-is a.number Seen (live_shown Before After) (need_of (slice_get (past_over P events).required M)) (need_in After.machine.replication.required) sends (past_over P events).holder_was_live P.holder_was_live page.needs page.live)
+        (input-is a.number Seen (live_shown Before After) (confirmers_of (slice_get (past_over P events).required M)) (confirmers_in After.machine.replication.required) sends (past_over P events).holder_was_live P.holder_was_live page.needs page.live)
         (input-shown (setup_of head) P States M a.number Seen (live_shown Before After) sends events page.own page.flight)
 
     -- who acts behind them
@@ -334,8 +334,8 @@ module _ (head : HeadText) (book : List Event) (cluster : Cluster) (good : Commi
         (ap (λ (h : Held). h.acknowledged) fronts.held ∙ opened.acknowledged) (λ n. lives n) good.fits.servers
 
     -- where no output sets it, commits wait for the same
-    pub front-needs : All RequiresNone After.outputs → need_of (slice_get (past_over P Page).required M) ≡ need_in After.machine.replication.required
+    pub front-needs : All RequiresNone After.outputs → confirmers_of (slice_get (past_over P Page).required M) ≡ confirmers_in After.machine.replication.required
     front-needs none =
-        ap (λ (t : Told). need_of (slice_get t.required M)) front-told ∙ stands.required
-        ∙ ap (λ (r : Replication). need_in r.required)
+        ap (λ (t : Told). confirmers_of (slice_get t.required M)) front-told ∙ stands.required
+        ∙ ap (λ (r : Replication). confirmers_in r.required)
         (sym (ap (λ (m : Machine). m.replication) carried-out.machine_is ∙ required-stays Now a.machine After.outputs none))

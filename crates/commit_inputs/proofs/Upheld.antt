@@ -79,7 +79,7 @@ use Rattle.commit_inputs.proofs.Inputs.{Acting, After, Before, Events, First, Pa
 use Rattle.commit_inputs.proofs.Opening.{opening-ordered}
 use Rattle.commit_parts.proofs.Moving.{upheld-moves}
 use Rattle.commit_parts.specs.Moving.{Moves}
-use Rattle.commit_parts.proofs.Over.{AskAsOn, AsksAsOn}
+use Rattle.commit_parts.proofs.Over.{AskSynchronously, AsksSynchronously}
 use Rattle.commit_parts.proofs.Starting.{runs-now}
 use Rattle.commit_parts.proofs.Transitions.{order-behind, past-more, state_behind, mode-back}
 use Rattle.commit_parts.specs.Ordered.{AllInOrder}
@@ -159,7 +159,7 @@ opening-runs heard past (kinds.Agent (agents.Operated by action)) is = refl
 opening-runs heard past (kinds.Message (Delivered number)) is = refl
 opening-runs heard past _ is = absurd is
 
-opening-asks : (s : State) (count : ℕ) (heard : Option ℕ) (kind : EventKind) → IsOpening heard kind → AsksAsOn s count kind
+opening-asks : (s : State) (count : ℕ) (heard : Option ℕ) (kind : EventKind) → IsOpening heard kind → AsksSynchronously s count kind
 opening-asks s count heard (kinds.Agent (agents.Woken by)) is = tt
 opening-asks s count heard (kinds.Agent (agents.Operated by action)) is = tt
 opening-asks s count heard (kinds.Message (Delivered number)) is = tt
@@ -249,18 +249,18 @@ module _ (head : HeadText) (book : List Event) (cluster : Cluster) (good : Commi
   message-on message (AsksPeer peer id sequence is from) = subst (λ (x : Message). IsSynchronousBody (member_count head) x.body × IsAskNumbered Behind x.from x.run x.sequence x.body) (sym is) (tt, ask-numbered sequence from.1.1)
   message-on message (AnswersPeer peer id asked sequence answer is from) = subst (λ (x : Message). IsSynchronousBody (member_count head) x.body × IsAskNumbered Behind x.from x.run x.sequence x.body) (sym is) (tt, tt)
 
-  kind-on : (kind : EventKind) → IsOfInput a.member a.agent.knows.run a.message.number Q kind → AsksAsOn Behind (member_count head) kind
+  kind-on : (kind : EventKind) → IsOfInput a.member a.agent.knows.run a.message.number Q kind → AsksSynchronously Behind (member_count head) kind
   kind-on (kinds.Message (Sent number message)) is = message-on message is
   kind-on (kinds.Message (Delivered number)) is = absurd is
   kind-on (kinds.Message (Lost number)) is = tt
   kind-on (kinds.Store happening) is = absurd is
   kind-on _ is = tt
 
-  all-on : (events : List Event) → AllAre (IsOfInput a.member a.agent.knows.run a.message.number Q) events → AskAsOn Behind (member_count head) events
+  all-on : (events : List Event) → AllAre (IsOfInput a.member a.agent.knows.run a.message.number Q) events → AskSynchronously Behind (member_count head) events
   all-on [] all = tt
   all-on (event ∷ events) all = (kind-on event.kind all.0, all-on events all.1)
 
-  asks : AskAsOn Behind (member_count head) All_
+  asks : AskSynchronously Behind (member_count head) All_
   asks = (opening-asks Behind (member_count head) a.number a.opening a.opening_is, all-on Rest all-mine)
 
   -- ---- it happens in order

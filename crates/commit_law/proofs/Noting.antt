@@ -5,7 +5,7 @@ use Rattle.wal_model.specs.Log.{end_of}
 use Rattle.pg_model.specs.Facts.{entries_of}
 use Rattle.event_book.specs.Functions.{put_at}
 use Rattle.lease_law.proofs.Tools.{both, none-some, not-false, put-all, some-is}
-use Rattle.commit_actions.specs.Keys.{Need, Nobody, All, AtLeast, Narrows}
+use Rattle.commit_actions.specs.Keys.{Confirmers, Nobody, All, AtLeast, Narrows}
 use Rattle.commit_actions.specs.States.{Agent, Machine, State}
 use Rattle.commit_actions.specs.Inputs.{AgentInput, Does, IsLawful, KeepsRole, KeepsServer, Idling, Racing, HearingAnswer, WinningRace, CreatingLeader, Arming, TakingOver, ChangingRequired, Publishing, Promoting, SettlingRequired}
 use Rattle.commit_actions.specs.Actions.{Action, Accept, Cease, Clone, Commit, Confirm, Decide, End, Input, Kill, Receive, Rewind, Start, Wipe, IsAllowed, act, fresh_agent, machine_after}
@@ -27,17 +27,17 @@ nobody-by x y old new noted (Shrinks same some) nobody = absurd (some nobody)
 nobody-by x y old new noted (Grows more some is) nobody = absurd (some nobody)
 
 -- a list that names nobody new
-unless-grown : (before after : Need) (log later : Option (List Entry)) (old new bound : ℕ) → ((n : ℕ) → lists after n ≡ true → lists before n ≡ true) → old ≤ bound → Follows before after log later old new → new ≤ bound
+unless-grown : (before after : Confirmers) (log later : Option (List Entry)) (old new bound : ℕ) → ((n : ℕ) → lists after n ≡ true → lists before n ≡ true) → old ≤ bound → Follows before after log later old new → new ≤ bound
 unless-grown before after log later old new bound inside below (Stays same list) = same-below new old bound same below
 unless-grown before after log later old new bound inside below (Empties is) = from-none new bound is
 unless-grown before after log later old new bound inside below (Shrinks same some) = same-below new old bound same below
 unless-grown before after log later old new bound inside below (Grows more some is) = absurd (more inside)
 
-same-lists : (before after : Need) → after ≡ before → (n : ℕ) → lists after n ≡ true → lists before n ≡ true
-same-lists before after same n listed = subst (λ (need : Need). lists need n ≡ true) same listed
+same-lists : (before after : Confirmers) → after ≡ before → (n : ℕ) → lists after n ≡ true → lists before n ≡ true
+same-lists before after same n listed = subst (λ (confirmers : Confirmers). lists confirmers n ≡ true) same listed
 
 -- while the log stays, nothing is past its end
-within-log : (before after : Need) (log : Option (List Entry)) (old new : ℕ) → old ≤ end_of (entries_of log) → Follows before after log log old new → new ≤ end_of (entries_of log)
+within-log : (before after : Confirmers) (log : Option (List Entry)) (old new : ℕ) → old ≤ end_of (entries_of log) → Follows before after log log old new → new ≤ end_of (entries_of log)
 within-log before after log old new below (Stays same list) = same-below new old (end_of (entries_of log)) same below
 within-log before after log old new below (Empties is) = from-none new (end_of (entries_of log)) is
 within-log before after log old new below (Shrinks same some) = same-below new old (end_of (entries_of log)) same below
@@ -84,7 +84,7 @@ record Owes (x : Machine) (was : Agent) (input : AgentInput) : Type 0 where
   lives : input.live ≡ true → x.live ≡ true
   notes : x.live ≡ true → input.agent.leads ≡ true → (input.agent.noted ≡ end_of (entries_of x.log)) ⊎ Holds x was input
 
-narrow-lists : (before after : Need) → Narrows before after → (n : ℕ) → lists after n ≡ true → lists before n ≡ true
+narrow-lists : (before after : Confirmers) → Narrows before after → (n : ℕ) → lists after n ≡ true → lists before n ≡ true
 narrow-lists before Nobody narrows n listed = absurd (both listed)
 narrow-lists (All before) (All after) narrows n listed = narrows n listed
 narrow-lists Nobody (All after) narrows n listed = absurd narrows

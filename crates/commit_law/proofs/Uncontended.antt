@@ -2,7 +2,7 @@
 use Rattle.std.proofs.Common.{◌≡◌, ◌⊎◌, ℕ, ◌≤◌, ◌<◌, Bool, true, false, List, Option, Some, None, refl, ◌∙◌, sym, subst, arith, inl, inr}
 use Rattle.wal_model.specs.declared.entry.Entry.{Entry}
 use Rattle.event_book.specs.Functions.{put_at}
-use Rattle.commit_actions.specs.Keys.{SyncKey, Need, Meets, Overlaps}
+use Rattle.commit_actions.specs.Keys.{SyncKey, Confirmers, Meets, Overlaps}
 use Rattle.commit_actions.specs.Flights.{Aim, ClaimSync, PublishStandbys, Flying, CreateLeader}
 use Rattle.commit_actions.specs.States.{Agent, Machine, State, is_ready, Acts, Includes, HasLog, IsUndiverged, IsBehind, HaveBytes, Waits}
 use Rattle.commit_actions.specs.Inputs.{IsUnled}
@@ -90,7 +90,7 @@ aim-uncontended member_count acknowledged_log members members' sync m ClaimSync 
     not_live : (b : Bool) → (members' m).live ≡ b → (members' m).live ≡ false
     not_live true e = absurd (not-false (members m).live c.0 ((uncontended m).live e))
     not_live false e = e
-aim-uncontended member_count acknowledged_log members members' sync m (PublishStandbys standbys quorum) uncontended behind c = (c.0, but-sub member_count standbys quorum (IsComplete acknowledged_log members) (IsComplete acknowledged_log members') (λ n. (uncontended n).complete) c.1, λ live. subst (λ (r : Need). Overlaps member_count standbys quorum r) (uncontended m).required (c.2 ((uncontended m).live live)), undiverged-uncontended acknowledged_log members members' m standbys uncontended behind c.3)
+aim-uncontended member_count acknowledged_log members members' sync m (PublishStandbys standbys quorum) uncontended behind c = (c.0, but-sub member_count standbys quorum (IsComplete acknowledged_log members) (IsComplete acknowledged_log members') (λ n. (uncontended n).complete) c.1, λ live. subst (λ (r : Confirmers). Overlaps member_count standbys quorum r) (uncontended m).required (c.2 ((uncontended m).live live)), undiverged-uncontended acknowledged_log members members' m standbys uncontended behind c.3)
 
 parted-at : (x y : Machine) (b : Bool) → y.live ≡ b → (y.live ≡ true → x.live ≡ true) → x.live ≡ false → y.live ≡ false
 parted-at x y true e live p = absurd (not-false x.live p (live e))
@@ -105,7 +105,7 @@ inv-uncontended s members uncontended confirmed behind inv = record {
     key = key-sub s.member_count s.acknowledged_log s.acknowledged_log s.members members s.sync (λ n. (uncontended n).complete) (λ n. (uncontended n).live) inv.servers.key;
     led = λ m live. inv.servers.led m ((uncontended m).live live);
     log = λ m live. (uncontended m).log live;
-    overlaps = λ m key live is. subst (λ (r : Need). Overlaps s.member_count key.standbys key.quorum r) (uncontended m).required (inv.servers.overlaps m key ((uncontended m).live live) is);
+    overlaps = λ m key live is. subst (λ (r : Confirmers). Overlaps s.member_count key.standbys key.quorum r) (uncontended m).required (inv.servers.overlaps m key ((uncontended m).live live) is);
     lives = λ m w. (uncontended m).lives w;
     undiverged = λ key is. undiverged-uncontended s.acknowledged_log s.members members key.leader key.standbys uncontended behind (inv.servers.undiverged key is);
     acknowledged_bytes = inv.servers.acknowledged_bytes;
@@ -159,7 +159,7 @@ inv-uncontended s members uncontended confirmed behind inv = record {
       turn_kept = turn-uncontended s.member_count s.acknowledged_log s.sync s.flight s.members members m g uncontended old.turn_kept;
       noted = λ leads live. elim (old.noted leads ((uncontended m).live live)) [
         | inl le ↦ inl le
-        | inr met ↦ inr (subst (λ (r : Need). Meets s.member_count r (IsComplete s.acknowledged_log members)) (uncontended m).required (meets-sub s.member_count (s.members m).required (IsComplete s.acknowledged_log s.members) (IsComplete s.acknowledged_log members) (λ n. (uncontended n).complete) met))
+        | inr met ↦ inr (subst (λ (r : Confirmers). Meets s.member_count r (IsComplete s.acknowledged_log members)) (uncontended m).required (meets-sub s.member_count (s.members m).required (IsComplete s.acknowledged_log s.members) (IsComplete s.acknowledged_log members) (λ n. (uncontended n).complete) met))
       ];
     }
     | inr p ↦ record {

@@ -3,11 +3,11 @@ use Rattle.std.specs.Prelude.{ℕ, ◌≡◌, ◌⊎◌, ◌≤◌, Bool, true, 
 use Rattle.wal_model.specs.declared.entry.Entry.{Entry}
 use Rattle.wal_model.specs.Log.{end_of}
 use Rattle.pg_model.specs.Facts.{entries_of}
-use Rattle.commit_actions.specs.Keys.{Need, Nobody, All}
+use Rattle.commit_actions.specs.Keys.{Confirmers, Nobody, All}
 use Rattle.commit_actions.specs.States.{Agent, Machine}
 
 -- commits wait for this member by name, and for each other one that is so
-abbrev pub lists : Need → ℕ → Bool
+abbrev pub lists : Confirmers → ℕ → Bool
 lists (All members) n = members n
 lists _ n = false
 
@@ -23,7 +23,7 @@ abbrev pub AreNoted : (ℕ → Machine) → (ℕ → ℕ) → Type 0
 AreNoted members grown = (m : ℕ) → IsNoted (members m) (grown m)
 
 -- how that position follows a required list, and a log, from the first to the second: the list stays, names nobody, names nobody new, or grows
-pub data Follows (before after : Need) (log later : Option (List Entry)) (old new : ℕ) : Type 0 where
+pub data Follows (before after : Confirmers) (log later : Option (List Entry)) (old new : ℕ) : Type 0 where
   Stays : (same : new ≡ old) → (list : after ≡ before) → Follows before after log later old new
   Empties : (is : new ≡ 0) → Follows before after log later old new
   Shrinks : (same : new ≡ old) → (some : after ≡ Nobody → ⊥) → Follows before after log later old new

@@ -27,7 +27,7 @@ use Rattle.cluster_model.specs.Orders.{is_same_required, require_of, required_na
 use Rattle.cluster_model.specs.Parts.{event_of, events_of}
 use Rattle.cluster_model.specs.State.{Cluster}
 use Rattle.lease_law.proofs.Tools.{both}
-use Rattle.commit_actions.specs.Past.{Past, VolatileState, need_in, need_of, past_after, past_over}
+use Rattle.commit_actions.specs.Past.{Past, VolatileState, confirmers_in, confirmers_of, past_after, past_over}
 use Rattle.commit_book.specs.Flights.{IsSameFlight, flying_if}
 use Rattle.commit_servers.specs.Acting.{Fits}
 use Rattle.commit_servers.specs.Matching.{live_in}
@@ -172,7 +172,7 @@ module _ (past : Past) (cluster : Cluster) (member : Member) (states : ℕ → V
     pub flight : (past_over past events).flight ≡ past.flight
     pub live : (past_over past events).holder_was_live ≡ past.holder_was_live
     pub fits_behind : Fits (past_over past events) (cluster_over cluster events).facts states
-    pub needs : need_of (slice_get (past_over past events).required M) ≡ need_in required
+    pub needs : confirmers_of (slice_get (past_over past events).required M) ≡ confirmers_in required
     pub agents_same : (cluster_over cluster events).agents ≡ cluster.agents
     pub lives : (n : ℕ) → live_in (cluster_over cluster events).facts.servers n ≡ live_in cluster.facts.servers n
     pub server : ServerFacts
@@ -186,32 +186,32 @@ module _ (past : Past) (cluster : Cluster) (member : Member) (states : ℕ → V
     sound = sound-by cluster.facts Setting waits fits.sound;
   }
 
-  set-need : need_of (slice_get (past_after past Setting).required M) ≡ need_in required
-  set-need = ap need_of (get-here past.required M (λ before. required) ∙ ap (option_map (λ (before : Required). required)) (required-at past cluster.facts fits.same M s found))
+  set-confirmers : confirmers_of (slice_get (past_after past Setting).required M) ≡ confirmers_in required
+  set-confirmers = ap confirmers_of (get-here past.required M (λ before. required) ∙ ap (option_map (λ (before : Required). required)) (required-at past cluster.facts fits.same M s found))
 
   sets-new : Sets (event_of cluster Setting)
-  sets-new = record { own = (refl, tt); leaves = (tt, tt); once = inr tt; flight = refl; live = refl; fits_behind = set-fits; needs = set-need; agents_same = refl; lives = λ n. others-by cluster.facts Setting (n + 1) n tt (apart n); server = requiring required s; server_is = get-here cluster.facts.servers M (requiring required) ∙ ap (option_map (requiring required)) found; state_same = refl }
+  sets-new = record { own = (refl, tt); leaves = (tt, tt); once = inr tt; flight = refl; live = refl; fits_behind = set-fits; needs = set-confirmers; agents_same = refl; lives = λ n. others-by cluster.facts Setting (n + 1) n tt (apart n); server = requiring required s; server_is = get-here cluster.facts.servers M (requiring required) ∙ ap (option_map (requiring required)) found; state_same = refl }
 
-  sets-old : need_in s.required ≡ need_in required → Sets []
-  sets-old same = record { own = tt; leaves = tt; once = tt; flight = refl; live = refl; fits_behind = fits; needs = ap need_of (required-at past cluster.facts fits.same M s found) ∙ same; agents_same = refl; lives = λ n. refl; server = s; server_is = found; state_same = refl }
+  sets-old : confirmers_in s.required ≡ confirmers_in required → Sets []
+  sets-old same = record { own = tt; leaves = tt; once = tt; flight = refl; live = refl; fits_behind = fits; needs = ap confirmers_of (required-at past cluster.facts fits.same M s found) ∙ same; agents_same = refl; lives = λ n. refl; server = s; server_is = found; state_same = refl }
 
-  sets-by : (same : Bool) → (same ≡ true → need_in s.required ≡ need_in required) → Sets (events_of cluster (kinds_of (if same then None else Some Setting)))
+  sets-by : (same : Bool) → (same ≡ true → confirmers_in s.required ≡ confirmers_in required) → Sets (events_of cluster (kinds_of (if same then None else Some Setting)))
   sets-by true is = sets-old (is refl)
   sets-by false is = sets-new
 
   same-bits : (a b : _) → (a == b) ≡ true → a ≡ b
   same-bits a b e = grind (arith, nat_tests)
 
-  same-need : (a b : Required) → is_same_required a b ≡ true → need_in a ≡ need_in b
-  same-need requireds.Nobody requireds.Nobody e = refl
-  same-need requireds.AnyOne requireds.AnyOne e = refl
-  same-need (requireds.All first) (requireds.All second) e = ap (λ (bits : ℕ). let set : MemberSet = record { bits = bits } in need_in (requireds.All set)) (same-bits first.bits second.bits e)
-  same-need requireds.Nobody requireds.AnyOne e = absurd (both e)
-  same-need requireds.Nobody (requireds.All second) e = absurd (both e)
-  same-need requireds.AnyOne requireds.Nobody e = absurd (both e)
-  same-need requireds.AnyOne (requireds.All second) e = absurd (both e)
-  same-need (requireds.All first) requireds.Nobody e = absurd (both e)
-  same-need (requireds.All first) requireds.AnyOne e = absurd (both e)
+  same-confirmers : (a b : Required) → is_same_required a b ≡ true → confirmers_in a ≡ confirmers_in b
+  same-confirmers requireds.Nobody requireds.Nobody e = refl
+  same-confirmers requireds.AnyOne requireds.AnyOne e = refl
+  same-confirmers (requireds.All first) (requireds.All second) e = ap (λ (bits : ℕ). let set : MemberSet = record { bits = bits } in confirmers_in (requireds.All set)) (same-bits first.bits second.bits e)
+  same-confirmers requireds.Nobody requireds.AnyOne e = absurd (both e)
+  same-confirmers requireds.Nobody (requireds.All second) e = absurd (both e)
+  same-confirmers requireds.AnyOne requireds.Nobody e = absurd (both e)
+  same-confirmers requireds.AnyOne (requireds.All second) e = absurd (both e)
+  same-confirmers (requireds.All first) requireds.Nobody e = absurd (both e)
+  same-confirmers (requireds.All first) requireds.AnyOne e = absurd (both e)
 
   pub sets : Sets Set
-  sets = sets-by (is_same_required s.required required) (same-need s.required required)
+  sets = sets-by (is_same_required s.required required) (same-confirmers s.required required)

@@ -53,7 +53,7 @@ use Rattle.commit_parts.specs.Reading.{agent_now, past_of, setup_of, state_of_ru
 use Rattle.commit_parts.proofs.Commands.{goes-loss}
 use Rattle.commit_parts.proofs.Given.{numbered-request, snapshot-allowed}
 use Rattle.commit_parts.proofs.Going.{Goes, GoesFrom, goes-after, goes-none, upheld-gone}
-use Rattle.commit_parts.proofs.Over.{AskAsOn}
+use Rattle.commit_parts.proofs.Over.{AskSynchronously}
 use Rattle.commit_parts.specs.Moving.{volatile_last}
 use Rattle.commit_parts.specs.Ordered.{AllInOrder, HappensInOrder}
 use Rattle.event_book.specs.declared.event.StoreEvent.TheVariants as stores
@@ -80,7 +80,7 @@ record LeavesAsked (count : ℕ) (named : lease_past.Past) (past : Past) (cluste
   named_same : (lease_past.past_over named events).asked ≡ named.asked
   asked : (i : ℕ) → i < number → (past_over past events).asked i ≡ past.asked i
   asides : AllAre IsAside events
-  asks : (s : State) → AskAsOn s count events
+  asks : (s : State) → AskSynchronously s count events
   ordered : AllInOrder past cluster events
   once : EachChangesOnce transitions
 

@@ -22,7 +22,7 @@ use Rattle.commit_parts.specs.Reading.{past_of, setup_of, volatile_of}
 use Rattle.commit_parts.proofs.Moving.{OnlyLeave, agents-leave, leave-then, moves-none, moves-then, upheld-moves}
 use Rattle.commit_parts.specs.Moving.{Moves}
 use Rattle.commit_parts.proofs.Ordering.{order-then}
-use Rattle.commit_parts.proofs.Over.{AskAsOn}
+use Rattle.commit_parts.proofs.Over.{AskSynchronously}
 use Rattle.commit_parts.proofs.Servers.{LeaveAgents, leave-follow, moves-follow}
 use Rattle.commit_parts.proofs.Still.{IsStill}
 use Rattle.commit_parts.proofs.Transitions.{state_behind}
@@ -40,7 +40,7 @@ causal-then : (past : Past) (cluster : Cluster) (xs ys : List Event) → AreCaus
 causal-then past cluster [] ys first second = second
 causal-then past cluster (x ∷ xs) ys first second = (first.0, (first.1.0, causal-then (past_after past x.kind) (cluster_after cluster x.kind) xs ys first.1.1 second))
 
-asks-then : (s : State) (count : ℕ) (xs ys : List Event) → AskAsOn s count xs → AskAsOn s count ys → AskAsOn s count (xs ++ ys)
+asks-then : (s : State) (count : ℕ) (xs ys : List Event) → AskSynchronously s count xs → AskSynchronously s count ys → AskSynchronously s count (xs ++ ys)
 asks-then s count [] ys first second = second
 asks-then s count (x ∷ xs) ys first second = (first.0, asks-then s count xs ys first.1 second)
 

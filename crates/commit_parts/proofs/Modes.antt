@@ -29,38 +29,38 @@ use Rattle.lease_law.proofs.Configurations.{SetsConfig, config-after}
 use Rattle.lease_law.proofs.Tools.{none-some}
 use Rattle.lease_book.specs.Flights.{Rises}
 use Rattle.summary_model.specs.Claims.{HasMode, KeepsMode}
-use Rattle.commit_parts.specs.Modes.{IsOnHeld, IsOnIn, IsOnTold, IsSynchronous}
+use Rattle.commit_parts.specs.Modes.{IsSynchronousEntry, IsSynchronousIn, IsSynchronousTold, IsSynchronous}
 use Rattle.commit_parts.proofs.Flights.{HoldsAsSent, all-after}
 
 pub synchronous-first : (first : Settings) (names : List Name) (base : ℕ) → first.config.synchronous_mode ≡ true → IsSynchronous (start_of first names base)
 synchronous-first first names base on = record { kept = kept_first first; store = on; flight = λ i carried e. absurd (none-some carried e) }
 
 -- what is there for good is present at each moment
-lasting-present : (now : ℕ) (found : Option KeyEntry) → IsLasting found → IsOnHeld found → IsOnHeld (present now found)
+lasting-present : (now : ℕ) (found : Option KeyEntry) → IsLasting found → IsSynchronousEntry found → IsSynchronousEntry (present now found)
 lasting-present now None lasting on = absurd lasting
-lasting-present now (Some stored) lasting on = subst (λ (o : Option KeyEntry). IsOnHeld o) (sym (ap (λ expiry. present now (Some (record stored { expiry = expiry }))) lasting)) on
+lasting-present now (Some stored) lasting on = subst (λ (o : Option KeyEntry). IsSynchronousEntry o) (sym (ap (λ expiry. present now (Some (record stored { expiry = expiry }))) lasting)) on
 
-on-present : (now : ℕ) (pairs : List (Key × KeyEntry)) → IsKept pairs → IsOnIn pairs → IsOnIn (present_pairs now pairs)
-on-present now pairs kept on = subst (λ (o : Option KeyEntry). IsOnHeld o) (sym (find_present now keys.Config pairs kept.order)) (lasting-present now (find key_cmp keys.Config pairs) kept.config on)
+on-present : (now : ℕ) (pairs : List (Key × KeyEntry)) → IsKept pairs → IsSynchronousIn pairs → IsSynchronousIn (present_pairs now pairs)
+on-present now pairs kept on = subst (λ (o : Option KeyEntry). IsSynchronousEntry o) (sym (find_present now keys.Config pairs kept.order)) (lasting-present now (find key_cmp keys.Config pairs) kept.config on)
 
-on-set : (revision now : ℕ) (by : MemberId) (txn : Txn) (found : Option KeyEntry) → HasMode true txn → SetsConfig IsOnHeld revision now by found txn
+on-set : (revision now : ℕ) (by : MemberId) (txn : Txn) (found : Option KeyEntry) → HasMode true txn → SetsConfig IsSynchronousEntry revision now by found txn
 on-set revision now by (txns.SetConfig compared config) found is = is
 on-set revision now by _ found is = tt
 
-on-granted : (store : Keys) (now : ℕ) (by : MemberId) (txn : Txn) → HasMode true txn → IsOnIn store.pairs → IsOnIn (keys_after_grant store now by txn).pairs
+on-granted : (store : Keys) (now : ℕ) (by : MemberId) (txn : Txn) → HasMode true txn → IsSynchronousIn store.pairs → IsSynchronousIn (keys_after_grant store now by txn).pairs
 on-granted store now by txn is old =
     let found = find key_cmp keys.Config store.pairs in
-    subst (λ (o : Option KeyEntry). IsOnHeld o) (sym (find_all_written (store.revision + 1) now keys.Config store.pairs (writes_of by txn)))
-    (config-after IsOnHeld (store.revision + 1) now by txn found (on-set (store.revision + 1) now by txn found is) old)
+    subst (λ (o : Option KeyEntry). IsSynchronousEntry o) (sym (find_all_written (store.revision + 1) now keys.Config store.pairs (writes_of by txn)))
+    (config-after IsSynchronousEntry (store.revision + 1) now by txn found (on-set (store.revision + 1) now by txn found is) old)
 
-on-told : (body : Body) (pairs : List (Key × KeyEntry)) → IsOnIn pairs → IsOnTold body (snapshot_for body pairs)
+on-told : (body : Body) (pairs : List (Key × KeyEntry)) → IsSynchronousIn pairs → IsSynchronousTold body (snapshot_for body pairs)
 on-told bodies.Snapshot pairs on = on
 on-told (bodies.Granted request leased) pairs on = on
 on-told _ pairs on = tt
 
 -- a message in flight tells the mode
 abbrev TellsOn : InFlightFacts → Type 0
-TellsOn carried = IsOnTold carried.message.body carried.snapshot
+TellsOn carried = IsSynchronousTold carried.message.body carried.snapshot
 
 told-as-sent : (facts : Facts) (kind : EventKind) → IsSynchronous facts → HoldsAsSent TellsOn facts kind
 told-as-sent facts (kinds.Message (Sent number message)) old = on-told message.body (present_pairs facts.clock facts.keys.pairs) (on-present facts.clock facts.keys.pairs old.kept old.store)

@@ -33,7 +33,7 @@ use Rattle.commit_parts.specs.Agents.{AreAgentsSynchronous}
 use Rattle.commit_parts.specs.Bridged.{CommitsBridged, FitsBy, kept_commits}
 use Rattle.commit_parts.specs.Reading.{past_of, setup_of, state_of_run, volatile_of}
 use Rattle.commit_parts.proofs.Numbers.{StayNumbered, ask-numbered, numbered-last}
-use Rattle.commit_parts.proofs.Over.{AskAsOn, StoreFits, store-over, strict-front}
+use Rattle.commit_parts.proofs.Over.{AskSynchronously, StoreFits, store-over, strict-front}
 use Rattle.commit_parts.specs.Ordered.{AllInOrder}
 use Rattle.commit_book.specs.Changes.{EachChangesOnce}
 use Rattle.commit_parts.proofs.Transitions.{FitsBehind, past-more, state_behind, upheld-by}
@@ -139,7 +139,7 @@ agents-leave count named past cluster named' past' cluster' leave all = record {
 -- such events uphold commits, where they keep the law of one writer, and agents know behind them what they wait for
 pub upheld-moves : (head : HeadText) (book : List Event) (cluster : Cluster) (events : List Event) → CommitsBridged head book cluster
     → Moves (setup_of head) (past_of head book) cluster events → IsKept head book cluster events
-    → AreCausal (past_of head book) cluster.facts events → AskAsOn (state_behind head book cluster events) (member_count head) events
+    → AreCausal (past_of head book) cluster.facts events → AskSynchronously (state_behind head book cluster events) (member_count head) events
     → AllInOrder (past_of head book) cluster events
     → AreAgentsSynchronous (member_count head) (lease_past.past_over (lease_past.past_of book) events).asked (past_over (past_of head book) events).asked (cluster_over cluster events).agents
     → Upholds (kept_commits head) book cluster events

@@ -38,16 +38,16 @@ use Rattle.commit_parts.proofs.Modes.{synchronous-by}
 
 -- what is sent, or granted, is asked as synchronous mode has it; and what one member asks another has a run and a number that its agents
 -- have given in this state
-abbrev pub AsksAsOn : State → ℕ → EventKind → Type 0
-AsksAsOn s count (kinds.Message (Sent number message)) = IsSynchronousBody count message.body × IsAskNumbered s message.from message.run message.sequence message.body
-AsksAsOn s count (kinds.Store (stores.Granted number by txn standbys)) = IsSynchronousTxn count txn
-AsksAsOn s count _ = Unit {0}
+abbrev pub AsksSynchronously : State → ℕ → EventKind → Type 0
+AsksSynchronously s count (kinds.Message (Sent number message)) = IsSynchronousBody count message.body × IsAskNumbered s message.from message.run message.sequence message.body
+AsksSynchronously s count (kinds.Store (stores.Granted number by txn standbys)) = IsSynchronousTxn count txn
+AsksSynchronously s count _ = Unit {0}
 
 -- what each of these events sends, or grants, is asked as synchronous mode has it; and what one member asks another has a run and a number
 -- that its agents have given in this state
-abbrev pub AskAsOn : State → ℕ → List Event → Type 0
-AskAsOn s count [] = Unit {0}
-AskAsOn s count (event ∷ events) = AsksAsOn s count event.kind × AskAsOn s count events
+abbrev pub AskSynchronously : State → ℕ → List Event → Type 0
+AskSynchronously s count [] = Unit {0}
+AskSynchronously s count (event ∷ events) = AsksSynchronously s count event.kind × AskSynchronously s count events
 
 -- what the store keeps of synchronous mode, and the messages in flight, of which questions to members are numbered in this state
 pub record StoreFits (s : State) (count : ℕ) (past : Past) (cluster : Cluster) : Type 0 where
@@ -58,7 +58,7 @@ pub record StoreFits (s : State) (count : ℕ) (past : Past) (cluster : Cluster)
   pub requests : AreSynchronous count cluster.facts.flight
   pub asks : AsksAreNumbered s cluster.facts.flight
 
-requests-sent : (s : State) (count : ℕ) (facts : Facts) (kind : EventKind) → AsksAsOn s count kind → HoldsAsSent (λ (carried : InFlightFacts). IsSynchronousBody count carried.message.body) facts kind
+requests-sent : (s : State) (count : ℕ) (facts : Facts) (kind : EventKind) → AsksSynchronously s count kind → HoldsAsSent (λ (carried : InFlightFacts). IsSynchronousBody count carried.message.body) facts kind
 requests-sent s count facts (kinds.Message (Sent number message)) asks = asks.0
 requests-sent s count facts (kinds.Message (Delivered number)) asks = tt
 requests-sent s count facts (kinds.Message (Lost number)) asks = tt
@@ -68,7 +68,7 @@ requests-sent s count facts _ asks = tt
 abbrev AsksNumbered : State → InFlightFacts → Type 0
 AsksNumbered s carried = IsAskNumbered s carried.message.from carried.message.run carried.message.sequence carried.message.body
 
-asks-sent : (s : State) (count : ℕ) (facts : Facts) (kind : EventKind) → AsksAsOn s count kind → HoldsAsSent (AsksNumbered s) facts kind
+asks-sent : (s : State) (count : ℕ) (facts : Facts) (kind : EventKind) → AsksSynchronously s count kind → HoldsAsSent (AsksNumbered s) facts kind
 asks-sent s count facts (kinds.Message (Sent number message)) asks = asks.1
 asks-sent s count facts (kinds.Message (Delivered number)) asks = tt
 asks-sent s count facts (kinds.Message (Lost number)) asks = tt
@@ -82,17 +82,17 @@ strict-granted count by revision sync (txns.SetSync leader expected standbys) on
 strict-granted count by revision sync (txns.DropSync leader expected) on old = absurd on
 strict-granted count by revision sync _ on old = old
 
-strict-by : (s : State) (count : ℕ) (past : Past) (kind : EventKind) → AsksAsOn s count kind → NamesMembers count past.sync → NamesMembers count (past_after past kind).sync
+strict-by : (s : State) (count : ℕ) (past : Past) (kind : EventKind) → AsksSynchronously s count kind → NamesMembers count past.sync → NamesMembers count (past_after past kind).sync
 strict-by s count past (kinds.Store (stores.Granted number by txn standbys)) on old = strict-granted count by.id.number (past.revision + 1) past.sync txn on old
 strict-by s count past _ on old = old
 
 -- so each front of what is asked so leaves it
-pub strict-front : (s : State) (count : ℕ) (past : Past) (front back events : List Event) → front ++ back ≡ events → AskAsOn s count events → NamesMembers count past.sync → NamesMembers count (past_over past front).sync
+pub strict-front : (s : State) (count : ℕ) (past : Past) (front back events : List Event) → front ++ back ≡ events → AskSynchronously s count events → NamesMembers count past.sync → NamesMembers count (past_over past front).sync
 strict-front s count past [] back events e asks old = old
 strict-front s count past (x ∷ front) back [] e asks old = absurd (no-cons x (front ++ back) e)
 strict-front s count past (x ∷ front) back (y ∷ events) e asks old =
     strict-front s count (past_after past x.kind) front back events (tail-is x y (front ++ back) events e) asks.1
-    (strict-by s count past x.kind (subst (λ (z : Event). AsksAsOn s count z.kind) (sym (head-is x y (front ++ back) events e)) asks.0) old)
+    (strict-by s count past x.kind (subst (λ (z : Event). AsksSynchronously s count z.kind) (sym (head-is x y (front ++ back) events e)) asks.0) old)
 
 -- a message in flight tells a sync key that names members, or none
 abbrev TellsNames : ℕ → InFlightFacts → Type 0
@@ -111,7 +111,7 @@ told-sent count past facts (kinds.Message (Sent number message)) same strict =
     snapshot-names count message.body present (subst (λ (o : Option SyncKey). NamesMembers count o) told strict)
 told-sent count past facts _ same strict = tt
 
-pub store-over : (s : State) (count : ℕ) (past : Past) (cluster : Cluster) (events : List Event) → AreCausal past cluster.facts events → KeepMode true events → AskAsOn s count events → StoreFits s count past cluster
+pub store-over : (s : State) (count : ℕ) (past : Past) (cluster : Cluster) (events : List Event) → AreCausal past cluster.facts events → KeepMode true events → AskSynchronously s count events → StoreFits s count past cluster
     → StoreFits s count (past_over past events) (cluster_over cluster events)
 store-over s count past cluster [] causal mode asks fits = fits
 store-over s count past cluster (event ∷ events) causal mode asks fits =

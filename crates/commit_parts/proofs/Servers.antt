@@ -45,7 +45,7 @@ use Rattle.commit_parts.specs.Ordered.{AllInOrder}
 use Rattle.commit_parts.specs.Reading.{past_of, setup_of, volatile_of}
 use Rattle.commit_parts.proofs.Moving.{OnlyLeave, agents-leave, leave-then, moves-none, moves-then, upheld-moves}
 use Rattle.commit_parts.specs.Moving.{Moves}
-use Rattle.commit_parts.proofs.Over.{AskAsOn}
+use Rattle.commit_parts.proofs.Over.{AskSynchronously}
 use Rattle.commit_parts.proofs.Still.{IsStill, leaves-still, moves-still}
 use Rattle.commit_parts.proofs.Transitions.{composable, state_behind}
 use Rattle.pat_base.specs.declared.member_id.TheConstants.{MOST_MEMBERS}
@@ -62,7 +62,7 @@ module _ (setup : Setup) where
 pub record LeaveAgents (count : ℕ) (named : lease_past.Past) (past : Past) (cluster : Cluster) (events : List Event) : Type 0 where
   pub leave : OnlyLeave named past cluster (lease_past.past_over named events) (past_over past events) (cluster_over cluster events)
   pub causal : AreCausal past cluster.facts events
-  pub asks : (s : State) → AskAsOn s count events
+  pub asks : (s : State) → AskSynchronously s count events
   pub ordered : AllInOrder past cluster events
 
 pub leave-follow : (count : ℕ) (named : lease_past.Past) (past : Past) (cluster : Cluster) (events : List Event) → AllAre IsStill events → MayFollow cluster.facts events → LeaveAgents count named past cluster events

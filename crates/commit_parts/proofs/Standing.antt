@@ -23,7 +23,7 @@ use Rattle.script_model.specs.Script.{HeadText}
 use Rattle.cluster_model.specs.Machines.{connected_end, connected_ends, is_connected, machine_from, machine_of, nothing_confirmed, replication_of}
 use Rattle.cluster_model.specs.State.{Cluster}
 use Rattle.lease_law.proofs.Tools.{none-some, some-is}
-use Rattle.commit_actions.specs.Past.{Past, log_found, need_in, need_of, position_in, position_of}
+use Rattle.commit_actions.specs.Past.{Past, log_found, confirmers_in, confirmers_of, position_in, position_of}
 use Rattle.commit_actions.specs.States.{HasLog}
 use Rattle.commit_servers.specs.Matching.{live_now}
 use Rattle.commit_servers.specs.Sound.{IsServerSound}
@@ -104,7 +104,7 @@ module _ (head : HeadText) (book : List Event) (cluster : Cluster) (good : Commi
       record {
         agent = ap agent_now there;
         live = ap live_now found ∙ ap live (sym made_is.state);
-        required = ap need_of (required-at past cluster.facts same k s found) ∙ ap (λ (r : Replication). need_in r.required) (sym made_is.replication_is);
+        required = ap confirmers_of (required-at past cluster.facts same k s found) ∙ ap (λ (r : Replication). confirmers_in r.required) (sym made_is.replication_is);
         end = subst (λ (e : Option Lsn). IsEndOf e (log_found (slice_get past.logs k))) (sym made_is.end) (subst (λ (l : Option (List Entry)). IsEndOf (end_in s.log) l) (sym log) (end-is s.log sound.end));
         has_log = λ with_data. subst HasLog (sym log) (sound.log (ap has_data (sym made_is.state) ∙ with_data));
         connected = λ n end is.

@@ -26,7 +26,7 @@ use Rattle.commit_parts.specs.Ordered.{AllInOrder}
 use Rattle.commit_parts.specs.Reading.{agent_now, volatile_of}
 use Rattle.commit_parts.proofs.Moving.{OnlyLeave}
 use Rattle.commit_parts.specs.Moving.{Moves}
-use Rattle.commit_parts.proofs.Over.{AskAsOn}
+use Rattle.commit_parts.proofs.Over.{AskSynchronously}
 
 -- an event at which no agent starts, ends or acts
 abbrev pub IsStill : EventKind → Type 0
@@ -44,7 +44,7 @@ pub record LeavesAgents (named : lease_past.Past) (past : Past) (cluster : Clust
   pub agents : agent_facts_after cluster kind ≡ cluster.agents
   pub leave : OnlyLeave named past cluster (lease_past.past_after named kind) (past_after past kind) (cluster_after cluster kind)
   pub causal : AreCausal past cluster.facts (event_of cluster kind)
-  pub asks : (s : State) (count : ℕ) → AskAsOn s count (event_of cluster kind)
+  pub asks : (s : State) (count : ℕ) → AskSynchronously s count (event_of cluster kind)
   pub ordered : AllInOrder past cluster (event_of cluster kind)
 
 pub leaves-still : (named : lease_past.Past) (past : Past) (cluster : Cluster) (kind : EventKind) → IsStill kind → MayHappen cluster.facts kind → LeavesAgents named past cluster kind

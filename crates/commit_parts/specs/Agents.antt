@@ -13,7 +13,7 @@ use Rattle.event_book.specs.Flight.{Flight, InFlightFacts, in_flight}
 use Rattle.agent_model.specs.declared.knowledge.Question.{Question}
 use Rattle.agent_model.specs.declared.knowledge.Waited.{Waited}
 use Rattle.agent_model.specs.Agents.{AgentFacts}
-use Rattle.agent_commit_law.specs.Committing.{AsksOn, IsAskedBy, IsSynchronousBody}
+use Rattle.agent_commit_law.specs.Committing.{AsksInSynchronousMode, IsAskedBy, IsSynchronousBody}
 use Rattle.agent_model.specs.Decisions.{asks_sync}
 use Rattle.commit_actions.specs.Actions.{IsNumbered, sync_key_by}
 use Rattle.commit_actions.specs.Flights.{SyncRequest}
@@ -39,7 +39,7 @@ IsWriteAsked named asked m run waited = (i : ℕ) (question : Asked) → named i
 
 -- what an agent of this member waits for it asked with the mode on; and so it was asked, if it asks for a write of the sync key
 pub record IsAgentSynchronous (named : ℕ → Option Asked) (asked : ℕ → Query) (m : ℕ) (agent : AgentFacts) : Type 0 where
-  pub on : AsksOn agent.knows
+  pub on : AsksInSynchronousMode agent.knows
   pub writes : ForSome agent.knows.waited (λ waited. asks_sync waited.question ≡ true → IsWriteAsked named asked m agent.knows.run waited)
 
 -- each agent that is there is such, and each question was asked by one of so many members

@@ -14,27 +14,27 @@ use Rattle.event_book.specs.Facts.{Facts}
 use Rattle.event_book.specs.Flight.{InFlightFacts, in_flight}
 
 -- this value is a configuration with the mode on
-abbrev pub IsOnValue : Value → Type 0
-IsOnValue (values.Config config) = config.config.synchronous_mode ≡ true
-IsOnValue _ = ⊥
+abbrev pub IsSynchronousValue : Value → Type 0
+IsSynchronousValue (values.Config config) = config.config.synchronous_mode ≡ true
+IsSynchronousValue _ = ⊥
 
 -- this key is there, and holds one
-abbrev pub IsOnHeld : Option KeyEntry → Type 0
-IsOnHeld None = ⊥
-IsOnHeld (Some found_key) = IsOnValue found_key.value
+abbrev pub IsSynchronousEntry : Option KeyEntry → Type 0
+IsSynchronousEntry None = ⊥
+IsSynchronousEntry (Some found_key) = IsSynchronousValue found_key.value
 
 -- the configuration among these pairs is there, with the mode on
-abbrev pub IsOnIn : List (Key × KeyEntry) → Type 0
-IsOnIn pairs = IsOnHeld (find key_cmp keys.Config pairs)
+abbrev pub IsSynchronousIn : List (Key × KeyEntry) → Type 0
+IsSynchronousIn pairs = IsSynchronousEntry (find key_cmp keys.Config pairs)
 
 -- so it is in a message that tells a snapshot: the answer to a read, or to a request that was granted
-abbrev pub IsOnTold : Body → List (Key × KeyEntry) → Type 0
-IsOnTold bodies.Snapshot pairs = IsOnIn pairs
-IsOnTold (bodies.Granted request leased) pairs = IsOnIn pairs
-IsOnTold _ pairs = Unit {0}
+abbrev pub IsSynchronousTold : Body → List (Key × KeyEntry) → Type 0
+IsSynchronousTold bodies.Snapshot pairs = IsSynchronousIn pairs
+IsSynchronousTold (bodies.Granted request leased) pairs = IsSynchronousIn pairs
+IsSynchronousTold _ pairs = Unit {0}
 
 -- the mode is on in the key store, and in each snapshot in flight
 pub record IsSynchronous (facts : Facts) : Type 0 where
   pub kept : IsKept facts.keys.pairs
-  pub store : IsOnIn facts.keys.pairs
-  pub flight : (i : ℕ) (carried : InFlightFacts) → in_flight facts.flight i ≡ Some carried → IsOnTold carried.message.body carried.snapshot
+  pub store : IsSynchronousIn facts.keys.pairs
+  pub flight : (i : ℕ) (carried : InFlightFacts) → in_flight facts.flight i ≡ Some carried → IsSynchronousTold carried.message.body carried.snapshot

@@ -30,7 +30,7 @@ use Rattle.cluster_model.specs.Starting.{cluster_of}
 use Rattle.cluster_model.specs.State.{Cluster}
 use Rattle.commit_actions.specs.Carried.{IsLed, NamesMember as NamesOne}
 use Rattle.commit_actions.specs.Keys.{SyncKey}
-use Rattle.commit_actions.specs.Past.{Past, need_of, past_after, past_over, position_in, position_of, publish_request, revision_in}
+use Rattle.commit_actions.specs.Past.{Past, confirmers_of, past_after, past_over, position_in, position_of, publish_request, revision_in}
 use Rattle.commit_actions.specs.States.{Reaches as ReachesSeen}
 use Rattle.commit_book.specs.Keys.{sync_key_of, sync_value}
 use Rattle.commit_book.specs.Order.{Awaits as AwaitsSeen, IsInOrder as IsInOrderSeen}
@@ -104,7 +104,7 @@ module _ (head : HeadText) (book : List Event) where
   named-by n named key revision holds = named-as P.sync n key revision (reads key revision holds) named
 
 -- ---- what is awaited, and confirmed
-awaits-by : (required : Option Required) (n : ℕ) → AwaitsSeen (need_of required) n → Awaits required n
+awaits-by : (required : Option Required) (n : ℕ) → AwaitsSeen (confirmers_of required) n → Awaits required n
 awaits-by None n awaited = awaited
 awaits-by (Some requireds.Nobody) n awaited = awaited
 awaits-by (Some requireds.AnyOne) n awaited = awaited

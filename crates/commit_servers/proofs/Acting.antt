@@ -36,7 +36,7 @@ use Rattle.event_book.specs.Writers.{writes_now, BeginsKind}
 use Rattle.lease_law.proofs.Tools.{some-is, both}
 use Rattle.commit_actions.specs.Actions.{Commit, Acknowledge, Receive, Confirm, Rewind, Clone, Wipe, Accept, End, Note, CopiesFrom, MayAcknowledge}
 use Rattle.commit_actions.specs.Keys.{Meets}
-use Rattle.commit_actions.specs.Past.{Setup, Past, VolatileState, front_to, log_found, need_in, need_of, position_in, position_of, past_after, state_of}
+use Rattle.commit_actions.specs.Past.{Setup, Past, VolatileState, front_to, log_found, confirmers_in, confirmers_of, position_in, position_of, past_after, state_of}
 use Rattle.commit_book.specs.Showing.{IsIdle}
 use Rattle.commit_actions.specs.States.{HasLog, HasEntryOf, Reaches}
 use Rattle.commit_book.proofs.Showing.{commit-shown, receive-shown, rewind-shown, clone-shown, wipe-shown, acknowledge-shown, confirm-shown, accept-shown, ended-shown, crashed-shown, reset-shown, idle-shown}
@@ -82,7 +82,7 @@ reached end position None is reaches = absurd reaches
 reached end position (Some confirmed) is reaches = omega (arith, is, reaches)
 
 met-by : (member_count : ℕ) (required : Required) (end : Lsn) (position : ℕ) (confirmed : List (Option Lsn)) → length confirmed ≡ MOST_MEMBERS → WaitsForMembers required → position ≡ end.position → is_met required end confirmed ≡ true
-    → Meets member_count (need_in required) (λ n. Reaches position (position_in (slice_get confirmed n)))
+    → Meets member_count (confirmers_in required) (λ n. Reaches position (position_in (slice_get confirmed n)))
 met-by member_count requireds.Nobody end position confirmed long members is met = tt
 met-by member_count requireds.AnyOne end position confirmed long members is met = tt
 met-by member_count (requireds.All set) end position confirmed long members is met = λ n within.
@@ -93,14 +93,14 @@ met-by member_count (requireds.All set) end position confirmed long members is m
 
 -- in a book's words
 pub met-in : (member_count : ℕ) (required : Required) (end : Lsn) (confirmed : List (Option Lsn)) → length confirmed ≡ MOST_MEMBERS → WaitsForMembers required → is_met required end confirmed ≡ true
-    → Meets member_count (need_in required) (λ n. Reaches end.position (position_of (Some confirmed) n))
+    → Meets member_count (confirmers_in required) (λ n. Reaches end.position (position_of (Some confirmed) n))
 met-in member_count required end confirmed long members met = met-by member_count required end end.position confirmed long members refl met
 
 reached-end : (end : Lsn) (found : Option Lsn) → Reaches end.position (position_in (Some found)) → ReachesEnd end found
 reached-end end None reaches = absurd reaches
 reached-end end (Some confirmed) reaches = reaches
 
-pub met-from : (member_count : ℕ) (set : MemberSet) (end : Lsn) (confirmed : List (Option Lsn)) → Meets member_count (need_in (requireds.All set)) (λ n. Reaches end.position (position_of (Some confirmed) n))
+pub met-from : (member_count : ℕ) (set : MemberSet) (end : Lsn) (confirmed : List (Option Lsn)) → Meets member_count (confirmers_in (requireds.All set)) (λ n. Reaches end.position (position_of (Some confirmed) n))
     → is_met (requireds.All set) end confirmed ≡ true
 met-from member_count set end confirmed meets =
     is_met-from (requireds.All set) end confirmed (λ k few bit. reached-end end (get_or confirmed k None)
@@ -214,8 +214,8 @@ module _ (setup : Setup) (past : Past) (facts : Facts) (volatile_states : ℕ �
         mine_is = is_log;
         prefix = front-prefix commit log;
         entry = subst (λ (n : ℕ). HasEntryOf n (front_to n log)) (sym may.commit_is) (front-entry may.first.serial log stands.entry);
-        met = subst (λ (r : Option Required). Meets setup.member_count (need_of r) (λ n. Reaches (end_of (front_to commit log)) (position_of (slice_get past.confirmed m) n))) (sym (required-at past facts fits.same m s may.is))
-            (subst (λ (c : Option (List (Option Lsn))). Meets setup.member_count (need_in s.required) (λ n. Reaches (end_of (front_to commit log)) (position_of c n))) (sym (confirmed-at past facts fits.same m s may.is))
+        met = subst (λ (r : Option Required). Meets setup.member_count (confirmers_of r) (λ n. Reaches (end_of (front_to commit log)) (position_of (slice_get past.confirmed m) n))) (sym (required-at past facts fits.same m s may.is))
+            (subst (λ (c : Option (List (Option Lsn))). Meets setup.member_count (confirmers_in s.required) (λ n. Reaches (end_of (front_to commit log)) (position_of c n))) (sym (confirmed-at past facts fits.same m s may.is))
             (met-by setup.member_count s.required may.first.end (end_of (front_to commit log)) s.confirmed sound.places sound.required end may.met));
       })
 

@@ -21,8 +21,8 @@ use Rattle.lease_law.proofs.Tools.{both, put-all}
 use Rattle.cluster_model.proofs.Places.{get-elsewhere, get-here}
 use Rattle.sync_order.specs.Grown.{grown_after, grown_of, grown_to, is_within, listed}
 use Rattle.commit_actions.specs.Actions.{IsAllowed, act}
-use Rattle.commit_actions.specs.Keys.{Need, Nobody, All}
-use Rattle.commit_actions.specs.Past.{Past, Setup, VolatileState, log_found, need_in, need_of, past_after, past_over, state_of}
+use Rattle.commit_actions.specs.Keys.{Confirmers, Nobody, All}
+use Rattle.commit_actions.specs.Past.{Past, Setup, VolatileState, log_found, confirmers_in, confirmers_of, past_after, past_over, state_of}
 use Rattle.commit_actions.specs.States.{State}
 use Rattle.commit_law.specs.Noted.{AllFollow, AreNoted, Empties, Follows, Grows, Shrinks, Stays, lists}
 use Rattle.commit_law.proofs.Noting.{noted-by}
@@ -58,7 +58,7 @@ within-is one other inside =
     (both_within one.bits other.bits (λ k. at-most (bit_at one.bits k) (bit_at other.bits k) (bit-small one.bits k) (inside k)))
 
 -- whom a list names, the law has it name
-listed-is : (before : Required) (members : MemberSet) → ((n : ℕ) → set_members members n ≡ true → lists (need_in before) n ≡ true) → (n : ℕ) → set_members members n ≡ true → set_members (listed before) n ≡ true
+listed-is : (before : Required) (members : MemberSet) → ((n : ℕ) → set_members members n ≡ true → lists (confirmers_in before) n ≡ true) → (n : ℕ) → set_members members n ≡ true → set_members (listed before) n ≡ true
 listed-is requireds.Nobody members inside n is = absurd (both (inside n is))
 listed-is requireds.AnyOne members inside n is = absurd (both (inside n is))
 listed-is (requireds.All before) members inside n is = inside n is
@@ -67,13 +67,13 @@ not-nobody : (members : ℕ → Bool) → All members ≡ Nobody → ⊥
 not-nobody members e = cc
 
 names-by : (before : Required) (members : MemberSet) (log later : Option (List Entry)) (end was : ℕ) (within : Bool) → end ≡ end_of (entries_of log) → is_within members (listed before) ≡ within
-    → Follows (need_in before) (All (set_members members)) log later was (if within then was else end)
+    → Follows (confirmers_in before) (All (set_members members)) log later was (if within then was else end)
 names-by before members log later end was true is e = Shrinks refl (not-nobody (set_members members))
 names-by before members log later end was false is e =
     Grows (λ inside. both (sym e ∙ within-is members (listed before) (listed-is before members inside))) (not-nobody (set_members members)) (inl is)
 
 sets-by : (found : Option Required) (required : Required) (log later : Option (List Entry)) (end was : ℕ) → end ≡ end_of (entries_of log)
-    → Follows (need_of found) (need_of (option_map (λ (before : Required). required) found)) log later was (grown_of end was found required)
+    → Follows (confirmers_of found) (confirmers_of (option_map (λ (before : Required). required) found)) log later was (grown_of end was found required)
 sets-by None required log later end was is = Empties refl
 sets-by (Some before) requireds.Nobody log later end was is = Empties refl
 sets-by (Some before) requireds.AnyOne log later end was is = Empties refl
@@ -84,27 +84,27 @@ entries-same None = refl
 entries-same (Some log) = refl
 
 -- ---- an event
-abbrev Need_ : Past → ℕ → Need
-Need_ past m = need_of (slice_get past.required m)
+abbrev Required_ : Past → ℕ → Confirmers
+Required_ past m = confirmers_of (slice_get past.required m)
 
 abbrev Log_ : Past → ℕ → Option (List Entry)
 Log_ past m = log_found (slice_get past.logs m)
 
-event-follows : (past : Past) (kind : EventKind) (later : ℕ → Option (List Entry)) (m : ℕ) → Follows (Need_ past m) (Need_ (past_after past kind) m) (Log_ past m) (later m) (past.grown m) ((past_after past kind).grown m)
+event-follows : (past : Past) (kind : EventKind) (later : ℕ → Option (List Entry)) (m : ℕ) → Follows (Required_ past m) (Required_ (past_after past kind) m) (Log_ past m) (later m) (past.grown m) ((past_after past kind).grown m)
 event-follows past (kinds.Replication (replications.RequiredSet server required names)) later m =
     let k : ℕ = server.id.number in
     put-all past.grown k (grown_of (end_of (entries_found (slice_get past.logs k))) (past.grown k) (slice_get past.required k) required)
-    (λ n new. Follows (Need_ past n) (need_of (slice_get (with_changed past.required k (λ (before : Required). required)) n)) (Log_ past n) (later n) (past.grown n) new)
-    (subst (λ (o : Option Required). Follows (Need_ past k) (need_of o) (Log_ past k) (later k) (past.grown k) (grown_of (end_of (entries_found (slice_get past.logs k))) (past.grown k) (slice_get past.required k) required))
+    (λ n new. Follows (Required_ past n) (confirmers_of (slice_get (with_changed past.required k (λ (before : Required). required)) n)) (Log_ past n) (later n) (past.grown n) new)
+    (subst (λ (o : Option Required). Follows (Required_ past k) (confirmers_of o) (Log_ past k) (later k) (past.grown k) (grown_of (end_of (entries_found (slice_get past.logs k))) (past.grown k) (slice_get past.required k) required))
     (sym (get-here past.required k (λ (before : Required). required)))
     (sets-by (slice_get past.required k) required (Log_ past k) (later k) (end_of (entries_found (slice_get past.logs k))) (past.grown k) (ap end_of (entries-same (slice_get past.logs k)))))
-    (λ n other. Stays refl (ap need_of (get-elsewhere past.required k n (λ (before : Required). required) other))) m
+    (λ n other. Stays refl (ap confirmers_of (get-elsewhere past.required k n (λ (before : Required). required) other))) m
 event-follows past (kinds.Replication _) later m = Stays refl refl
 event-follows past _ later m = Stays refl refl
 
 -- ---- the events of an action
 -- from another log to begin with, that is the log behind
-from-other : (before after : Need) (log other later : Option (List Entry)) (old new : ℕ) → other ≡ later → Follows before after other later old new → Follows before after log later old new
+from-other : (before after : Confirmers) (log other later : Option (List Entry)) (old new : ℕ) → other ≡ later → Follows before after other later old new → Follows before after log later old new
 from-other before after log other later old new same (Stays e list) = Stays e list
 from-other before after log other later old new same (Empties is) = Empties is
 from-other before after log other later old new same (Shrinks e some) = Shrinks e some
@@ -116,32 +116,32 @@ once-of [] leave = tt
 once-of (event ∷ events) leave = inr leave.1
 
 -- behind an event that leaves lists as they were
-behind-aside : (past next : Past) (after : ℕ → Need) (log later : Option (List Entry)) (m new : ℕ) → seen_of next ≡ seen_of past
-    → Follows (Need_ next m) (after m) log later (next.grown m) new → Follows (Need_ past m) (after m) log later (past.grown m) new
+behind-aside : (past next : Past) (after : ℕ → Confirmers) (log later : Option (List Entry)) (m new : ℕ) → seen_of next ≡ seen_of past
+    → Follows (Required_ next m) (after m) log later (next.grown m) new → Follows (Required_ past m) (after m) log later (past.grown m) new
 behind-aside past next after log later m new same follows =
-    subst (λ (seen : Seen). Follows (need_of (slice_get seen.required m)) (after m) log later (seen.grown m) new) same follows
+    subst (λ (seen : Seen). Follows (confirmers_of (slice_get seen.required m)) (after m) log later (seen.grown m) new) same follows
 
 pub events-follow : (past : Past) (events : List Event) → ChangeOrderOnce events → ChangeOnce events → (m : ℕ)
-    → Follows (Need_ past m) (Need_ (past_over past events) m) (Log_ past m) (Log_ (past_over past events) m) (past.grown m) ((past_over past events).grown m)
+    → Follows (Required_ past m) (Required_ (past_over past events) m) (Log_ past m) (Log_ (past_over past events) m) (past.grown m) ((past_over past events).grown m)
 events-follow past [] order once m = Stays refl refl
 events-follow past (event ∷ events) (inl order) once m =
     let next : Past = past_after past event.kind in
     let later : Past = past_over next events in
     elim once [
       | inl commits ↦
-          behind-aside past next (Need_ later) (Log_ past m) (Log_ later m) m (later.grown m) (aside-seen past event.kind order.0)
-          (subst (λ (l : Logs). Follows (Need_ next m) (Need_ later m) (log_found (slice_get l m)) (Log_ later m) (next.grown m) (later.grown m)) (aside-logs past.logs event.kind commits.0)
+          behind-aside past next (Required_ later) (Log_ past m) (Log_ later m) m (later.grown m) (aside-seen past event.kind order.0)
+          (subst (λ (l : Logs). Follows (Required_ next m) (Required_ later m) (log_found (slice_get l m)) (Log_ later m) (next.grown m) (later.grown m)) (aside-logs past.logs event.kind commits.0)
           (events-follow next events order.1 commits.1 m))
       | inr leave ↦
-          behind-aside past next (Need_ later) (Log_ past m) (Log_ later m) m (later.grown m) (aside-seen past event.kind order.0)
-          (from-other (Need_ next m) (Need_ later m) (Log_ past m) (Log_ next m) (Log_ later m) (next.grown m) (later.grown m)
+          behind-aside past next (Required_ later) (Log_ past m) (Log_ later m) m (later.grown m) (aside-seen past event.kind order.0)
+          (from-other (Required_ next m) (Required_ later m) (Log_ past m) (Log_ next m) (Log_ later m) (next.grown m) (later.grown m)
           (ap (λ (l : Logs). log_found (slice_get l m)) (sym (all-logs-aside next events leave)))
           (events-follow next events order.1 (once-of events leave) m))
     ]
 events-follow past (event ∷ events) (inr leave) once m =
     let next : Past = past_after past event.kind in
     let later : Past = past_over next events in
-    subst (λ (seen : Seen). Follows (Need_ past m) (need_of (slice_get seen.required m)) (Log_ past m) (Log_ later m) (past.grown m) (seen.grown m)) (sym (all-aside next events leave))
+    subst (λ (seen : Seen). Follows (Required_ past m) (confirmers_of (slice_get seen.required m)) (Log_ past m) (Log_ later m) (past.grown m) (seen.grown m)) (sym (all-aside next events leave))
     (event-follows past event.kind (Log_ later) m)
 
 -- what leaders noted reaches that behind each action

@@ -22,7 +22,7 @@ ghost use Rattle.commit_actions.specs.Actions.{Kill, IsAllowed};
 ghost use Rattle.commit_book.specs.Books.{AllHaveBytes, ChangeOnce, IsShown, KeepsNow, first_volatile_states};
 ghost use Rattle.commit_actions.specs.Carried.{IsSound};
 ghost use Rattle.commit_actions.specs.Keys.{Meets};
-ghost use Rattle.commit_actions.specs.Past.{Setup, Past, VolatileState, first_past, need_in, past_after, past_over, position_of, state_of};
+ghost use Rattle.commit_actions.specs.Past.{Setup, Past, VolatileState, first_past, confirmers_in, past_after, past_over, position_of, state_of};
 ghost use Rattle.commit_book.specs.Showing.{event_at};
 ghost use Rattle.commit_actions.specs.States.{Agent, HasLog, Reaches};
 ghost use Rattle.commit_servers.specs.Matching.{IsSameServers, live_in, volatile_after, volatile_over};
@@ -60,9 +60,9 @@ pub fn servers_are_sound()
 /// in the law's words; where it waits for any one, the law counts nobody.
 pub fn required_is_met()
     ensures met { (member_count : ℕ) (required : Required) (end : Lsn) (confirmed : List (Option Lsn)) → length confirmed ≡ MOST_MEMBERS → WaitsForMembers required
-        → is_met required end confirmed ≡ true → Meets member_count (need_in required) (λ n. Reaches end.position (position_of (Some confirmed) n)) }
+        → is_met required end confirmed ≡ true → Meets member_count (confirmers_in required) (λ n. Reaches end.position (position_of (Some confirmed) n)) }
     ensures sets { (member_count : ℕ) (set : MemberSet) (end : Lsn) (confirmed : List (Option Lsn))
-        → Meets member_count (need_in (requireds.All set)) (λ n. Reaches end.position (position_of (Some confirmed) n)) → is_met (requireds.All set) end confirmed ≡ true }
+        → Meets member_count (confirmers_in (requireds.All set)) (λ n. Reaches end.position (position_of (Some confirmed) n)) → is_met (requireds.All set) end confirmed ≡ true }
 {}
 
 /// All fits before the first event, and behind each event that changes no server but those whose start or stop is complete with a tick.

@@ -3,7 +3,7 @@
 use Rattle.std.proofs.Common.{◌≡◌, ◌⊎◌, ℕ, ◌≤◌, ◌<◌, ◌==◌, Bool, true, false, List, [], ◌∷◌, Option, Some, None, refl, ◌∙◌, ap, sym, subst, arith, inl, inr}
 use Rattle.wal_model.specs.declared.entry.Entry.{Entry}
 use Rattle.event_book.specs.Functions.{put_at}
-use Rattle.commit_actions.specs.Keys.{SyncKey, Need, Nobody, All, Added}
+use Rattle.commit_actions.specs.Keys.{SyncKey, Confirmers, Nobody, All, Added}
 use Rattle.commit_actions.specs.Flights.{ClaimSync, PublishStandbys, SyncRequest}
 use Rattle.commit_actions.specs.States.{Agent, Machine, State, Acts, Reaches}
 use Rattle.commit_actions.specs.Inputs.{AgentInput, KeepsTurn, Idling, Arming, ChangingRequired, Publishing, Promoting}
@@ -29,10 +29,10 @@ idle last waits = record (fresh_agent 1) { last = last; waits = waits }
 abbrev pub leading : ℕ → Option ℕ → ℕ → Agent
 leading last waits noted = record (fresh_agent 1) { last = last; waits = waits; leads = true; noted = noted }
 
-abbrev pub resting : Agent → Bool → Need → Option ℕ → AgentInput
+abbrev pub resting : Agent → Bool → Confirmers → Option ℕ → AgentInput
 resting agent live required heard = record { heard = heard; agent = agent; live = live; required = required; sends = None; holder_was_live = false }
 
-abbrev pub sending : Agent → Bool → Need → ℕ → ℕ → SyncRequest → AgentInput
+abbrev pub sending : Agent → Bool → Confirmers → ℕ → ℕ → SyncRequest → AgentInput
 sending agent live required heard number request = record { heard = Some heard; agent = agent; live = live; required = required; sends = Some (record { number = number; request = request }); holder_was_live = false }
 
 abbrev pub asks : AgentInput

@@ -22,7 +22,7 @@ pub record KeepsPromises (played : Played) : Type 0 where
   pub kept_commits : KeepsCommitsIn played.head (run_of played)
   -- At each of these moments the sync key names who accepts writes as the leader, and its commits wait for each standby in that key. Each
   -- claim of that key was granted where there was none, or one that named its sender; and who asked to add a standby to it had commits wait
-  -- for that one, which had confirmed the end of the log that its leader noted (Patroni, "Replication modes").
+  -- for that one, which had confirmed where its leader's log ended when its required list last grew (Patroni, "Replication modes").
   pub sync_order : KeepsOrderIn played.head (run_of played)
   -- Each answer of the closing summary is so of the book: when the premises were first broken, and why; when synchronous mode was; since when
   -- two servers accepted writes, and which do at the end; how many commits were acknowledged; since when one is lost.
