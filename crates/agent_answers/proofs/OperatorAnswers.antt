@@ -23,7 +23,7 @@ use Rattle.operator_keys.specs.Statuses.{service_unavailable, ok}
 use Rattle.event_book.specs.declared.message.Body.TheVariants as bodies
 use Rattle.lease_law.proofs.Tools.{some-is, none-some}
 use Rattle.agent_model.specs.declared.heard.Heard.{Heard}
-use Rattle.agent_model.specs.declared.heard.Heard.TheVariants.{Wake, Got, Granted as HeardGranted, Mismatch, Asked, Answered, Operated as HearsOperator}
+use Rattle.agent_model.specs.declared.heard.Heard.TheVariants.{Wake, ReadAnswered, Granted as HeardGranted, Mismatch, Asked, Answered, Operated as HearsOperator}
 use Rattle.agent_model.specs.declared.knowledge.Knowledge.{Knowledge}
 use Rattle.agent_model.specs.declared.machine.Machine.{Machine}
 use Rattle.agent_model.specs.declared.operating.Operating.{Operating}
@@ -34,17 +34,17 @@ use Rattle.agent_model.specs.declared.operating.Told.TheVariants as tolds
 use Rattle.agent_model.specs.declared.output.Output.{Output}
 use Rattle.agent_model.specs.declared.output.Output.TheVariants as outputs
 use Rattle.agent_model.specs.declared.output.Target.TheVariants as targets
-use Rattle.agent_model.specs.declared.knowledge.Waited.{Waited}
+use Rattle.agent_model.specs.declared.knowledge.PendingQuestion.{PendingQuestion}
 use Rattle.agent_model.specs.declared.who.Who.{Who}
 use Rattle.agent_model.specs.declared.why.Why.{Why}
 use Rattle.agent_model.specs.declared.why.Why.TheVariants.{HandOver, Lost}
-use Rattle.agent_model.specs.Agents.{RoleFacts, Outcome, made}
-use Rattle.agent_model.specs.Before.{before, has_ended}
+use Rattle.agent_model.specs.Agents.{RoleFacts, Outcome, outcome_from}
+use Rattle.agent_model.specs.Reconciling.{reconciled, has_ended}
 use Rattle.agent_model.specs.Decisions.{granted, is_write_of, refused}
 use Rattle.agent_answers.specs.OperatorAnswers.{told_in, HasNewLeader, HasOldLeader, IsResultBy, IsReason, AnswersWaiting, IsDoneIn, AnswersAtOnce, AnswersOneAtMost, IsWish, IsAskedFor, WaitsAsAsked, AwaitsResult, IsOverdue, IsRefused, IsRefusedWrite, IsRefusedFailover, IsUnheard, HasCause, HaveCauses, AwaitsDecision, TellsDecision}
 use Rattle.agent_model.specs.Operators.{awaits_number, answering, answering_if, operating, config_revision, operated, done_by, failed_by, done_text, failed_text, holder_in, holder_if, name_in, is_same_member, result_as, looked_by, uses_read, looked, operator_until, late_answer, given_up_by, given_up, learned, granted_as, is_asked_for, operates, grants_operator, operator_granted, refusal_of, operator_refused}
 use Rattle.agent_model.specs.Acting.{lease_span}
-use Rattle.agent_model.specs.Outputs.{listed}
+use Rattle.agent_model.specs.Outputs.{with_output}
 use Rattle.agent_model.specs.Table.{step}
 use Rattle.agent_model.specs.Wake.{woken}
 use Rattle.agent_roles.proofs.Granting.{both-true}
@@ -129,13 +129,13 @@ shown (FailingOver kind) was snapshot told is = if-cases (λ (result : Option To
 shown Configuring was snapshot told is = absurd (none-some told is)
 
 -- the answer to a read
-result-shown : (now : Ticks) (sequence : ℕ) (snapshot : SnapshotFacts) (o : Outcome) (waiting : Operating) (result : Option Told) → Untold o (before now o) → (before now o).knows.operating ≡ Some waiting
-    → uses_read sequence (before now o) ≡ true → result_as waiting.operation waiting.leader snapshot ≡ result → Owed now (Got sequence snapshot) o (answering_if waiting.request result (before now o))
+result-shown : (now : Ticks) (sequence : ℕ) (snapshot : SnapshotFacts) (o : Outcome) (waiting : Operating) (result : Option Told) → Untold o (reconciled now o) → (reconciled now o).knows.operating ≡ Some waiting
+    → uses_read sequence (reconciled now o) ≡ true → result_as waiting.operation waiting.leader snapshot ≡ result → Owed now (ReadAnswered sequence snapshot) o (answering_if waiting.request result (reconciled now o))
 result-shown now sequence snapshot o waiting None untold is used result = Owed.Silent untold
-result-shown now sequence snapshot o waiting (Some told) untold is used result = tells now (Got sequence snapshot) o (before now o) waiting told untold is (used, shown waiting.operation waiting.leader snapshot told result)
+result-shown now sequence snapshot o waiting (Some told) untold is used result = tells now (ReadAnswered sequence snapshot) o (reconciled now o) waiting told untold is (used, shown waiting.operation waiting.leader snapshot told result)
 
-looked-as : (now : Ticks) (sequence : ℕ) (snapshot : SnapshotFacts) (o : Outcome) (waiting : Option Operating) → Untold o (before now o) → (before now o).knows.operating ≡ waiting
-    → uses_read sequence (before now o) ≡ true → Owed now (Got sequence snapshot) o (looked_by waiting snapshot (before now o))
+looked-as : (now : Ticks) (sequence : ℕ) (snapshot : SnapshotFacts) (o : Outcome) (waiting : Option Operating) → Untold o (reconciled now o) → (reconciled now o).knows.operating ≡ waiting
+    → uses_read sequence (reconciled now o) ≡ true → Owed now (ReadAnswered sequence snapshot) o (looked_by waiting snapshot (reconciled now o))
 looked-as now sequence snapshot o None untold is used = Owed.Silent untold
 looked-as now sequence snapshot o (Some waiting) untold is used = result-shown now sequence snapshot o waiting (result_as waiting.operation waiting.leader snapshot) untold is used refl
 
@@ -169,10 +169,10 @@ asks-store now action o b operation txn untold seen wish = let after : Outcome =
   waits = λ waiting is. inr (subst (IsAskedFor now action o after) (some-is _ waiting is) (record { request = refl; since = refl; leader = ap (λ (x : Option SnapshotFacts). holder_if x) seen; txn = txn; wish = wish; sent = Contains-push b.outputs _ }));
 }
 
-done-at-once : (now : Ticks) (action : OperatorAction) (o b x : Outcome) (output : Output) (told : Told) → Untold o b → told_in (listed output b.outputs) ≡ told_in b.outputs → x.knows.operating ≡ b.knows.operating
-    → x.outputs ≡ listed (outputs.Told action.request told) (listed output b.outputs) → IsDoneIn x.outputs action.asked told → IsRight now (HearsOperator action) o x
+done-at-once : (now : Ticks) (action : OperatorAction) (o b x : Outcome) (output : Output) (told : Told) → Untold o b → told_in (with_output output b.outputs) ≡ told_in b.outputs → x.knows.operating ≡ b.knows.operating
+    → x.outputs ≡ with_output (outputs.Told action.request told) (with_output output b.outputs) → IsDoneIn x.outputs action.asked told → IsRight now (HearsOperator action) o x
 done-at-once now action o b x output told untold silent waits outs done = record {
-  answers = subst (AnswersOneAtMost now (HearsOperator action) o x) (sym (ap (λ (l : List Output). told_in l) outs ∙ (told-more (listed output b.outputs) (outputs.Told action.request told) ∙ ap (λ (l : List (ℕ × Told)). l ++ (action.request, told) ∷ []) (silent ∙ untold.0)))) (inr (refl, done));
+  answers = subst (AnswersOneAtMost now (HearsOperator action) o x) (sym (ap (λ (l : List Output). told_in l) outs ∙ (told-more (with_output output b.outputs) (outputs.Told action.request told) ∙ ap (λ (l : List (ℕ × Told)). l ++ (action.request, told) ∷ []) (silent ∙ untold.0)))) (inr (refl, done));
   waits = λ waiting is. inl (sym untold.1 ∙ (sym waits ∙ is));
 }
 
@@ -184,14 +184,14 @@ does now action requests.Restart o b untold seen is = let output : Output = outp
 does now action requests.Reinit o b untold seen is = done-at-once now action o b (operated now action.request requests.Reinit b) outputs.Wipe (tolds.Text ok texts.ReinitializeStarted) untold (told-same b.outputs outputs.Wipe tt) refl refl
     (rw is (Contains-append_left _ _ outputs.Wipe (Contains-push b.outputs outputs.Wipe), refl))
 
-pub step-right : (now : Ticks) (points : List HistoryPoint) (heard : Heard) (role : RoleFacts) (knows : Knowledge) (machine : Machine) → IsRight now heard (made role knows machine []) (step now points heard (made role knows machine []))
+pub step-right : (now : Ticks) (points : List HistoryPoint) (heard : Heard) (role : RoleFacts) (knows : Knowledge) (machine : Machine) → IsRight now heard (outcome_from role knows machine []) (step now points heard (outcome_from role knows machine []))
 step-right now points heard role knows machine = by heard
   where
     o : Outcome
-    o = made role knows machine []
+    o = outcome_from role knows machine []
 
     b : Outcome
-    b = before now o
+    b = reconciled now o
 
     first : Quiet o b
     first = before-quiet o now o (as-said o)
@@ -205,9 +205,9 @@ step-right now points heard role knows machine = by heard
     by : (heard : Heard) → IsRight now heard o (step now points heard o)
     by Wake = let late : Outcome = given_up now b in
         right-of now Wake o (woken now o) (wake-by (Owed now Wake o) now o (Owed.Silent untold) (owed-on now Wake o late _ (roused-quiet late now late (as-said late)) (given-up-as now o b b.knows.operating untold refl (before-read now o).0)))
-    by (Got sequence snapshot) = let seen : Outcome = looked sequence snapshot b in
-        goes (Got sequence snapshot) seen (step now points (Got sequence snapshot) o)
-        (if-cases (Owed now (Got sequence snapshot) o) (uses_read sequence b) (looked_by b.knows.operating snapshot b) b (λ used. looked-as now sequence snapshot o b.knows.operating untold refl used) (λ _. Owed.Silent untold)) (got-quiet seen now points sequence snapshot seen (as-said seen))
+    by (ReadAnswered sequence snapshot) = let seen : Outcome = looked sequence snapshot b in
+        goes (ReadAnswered sequence snapshot) seen (step now points (ReadAnswered sequence snapshot) o)
+        (if-cases (Owed now (ReadAnswered sequence snapshot) o) (uses_read sequence b) (looked_by b.knows.operating snapshot b) b (λ used. looked-as now sequence snapshot o b.knows.operating untold refl used) (λ _. Owed.Silent untold)) (got-quiet seen now points sequence snapshot seen (as-said seen))
     by (HeardGranted sequence grant snapshot) = right-of now (HeardGranted sequence grant snapshot) o _
         (if-cases (Owed now (HeardGranted sequence grant snapshot) o) (grants_operator sequence grant b.knows) (operator_granted snapshot b.knows.operating b) (granted now sequence grant snapshot b)
         (λ grants. let both : (operates b.knows sequence ≡ true) × (is_write_of b.knows.who.me grant ≡ true) = both-true (operates b.knows sequence) (is_write_of b.knows.who.me grant) grants in
@@ -218,7 +218,7 @@ step-right now points heard role knows machine = by heard
         (λ is. operator-refused-as now (Mismatch sequence key found) o b b.knows.operating untold refl (λ waiting waits. (asked-number b.knows.operating sequence waiting (operates-asked b.knows sequence is) waits, refl)))
         (λ _. owed-on now (Mismatch sequence key found) o b _ (refused-quiet b now sequence b (as-said b)) (Owed.Silent untold)))
     by (HearsOperator action) = does now action action.asked o b untold (before-read now o).1 refl
-    by (Asked from run sequence) = right-of now (Asked from run sequence) o _ (Owed.Silent (told-more b.outputs _ ∙ (append-nil (told_in b.outputs) ∙ untold.0), untold.1))
+    by (Asked from incarnation sequence) = right-of now (Asked from incarnation sequence) o _ (Owed.Silent (told-more b.outputs _ ∙ (append-nil (told_in b.outputs) ∙ untold.0), untold.1))
     by (Answered sequence answer) = goes (Answered sequence answer) b _ (Owed.Silent untold) (answered-quiet b now sequence answer b (as-said b))
 
 -- ---- words that tell of want of time, or of a refusal, have their cause
@@ -247,11 +247,11 @@ result-free now heard knows request Configuring was snapshot told never = absurd
 
 reason-cause : (now : Ticks) (heard : Heard) (o : Outcome) (request : ℕ) (told : Told) (waiting : Operating) → o.knows.operating ≡ Some waiting → request ≡ waiting.request → IsReason now heard o waiting told → HasCause now heard o.knows (request, told)
 reason-cause now Wake o request told waiting is number reason = subst (λ (t : Told). HasCause now Wake o.knows (request, t)) (sym reason.1) (late-cause now o.knows request waiting waiting.operation is number refl reason.0)
-reason-cause now (Got sequence snapshot) o request told waiting is number reason = result-free now (Got sequence snapshot) o.knows request waiting.operation waiting.leader snapshot told reason.1
+reason-cause now (ReadAnswered sequence snapshot) o request told waiting is number reason = result-free now (ReadAnswered sequence snapshot) o.knows request waiting.operation waiting.leader snapshot told reason.1
 reason-cause now (HeardGranted sequence grant snapshot) o request told waiting is number reason = subst (λ (t : Told). HasCause now (HeardGranted sequence grant snapshot) o.knows (request, t)) (sym reason.3) tt
 reason-cause now (Mismatch sequence key found) o request told waiting is number reason = subst (λ (t : Told). HasCause now (Mismatch sequence key found) o.knows (request, t)) (sym reason.1)
     (refusal-cause now (Mismatch sequence key found) o.knows request waiting waiting.operation is number refl (record { key = key; found = found; hears = ap (λ (s : ℕ). Mismatch s key found) (sym reason.0) }))
-reason-cause now (Asked from run sequence) o request told waiting is number never = absurd never
+reason-cause now (Asked from incarnation sequence) o request told waiting is number never = absurd never
 reason-cause now (Answered sequence answer) o request told waiting is number never = absurd never
 reason-cause now (HearsOperator action) o request told waiting is number never = absurd never
 
@@ -264,10 +264,10 @@ done-cause now heard knows outs request (requests.Configuration config) told nev
 at-once-cause : (now : Ticks) (heard : Heard) (knows : Knowledge) (after : Outcome) (answer : ℕ × Told) → AnswersAtOnce heard after answer → HasCause now heard knows answer
 at-once-cause now (HearsOperator action) knows after answer done = done-cause now (HearsOperator action) knows after.outputs answer.0 action.asked answer.1 done.1
 at-once-cause now Wake knows after answer never = absurd never
-at-once-cause now (Got sequence snapshot) knows after answer never = absurd never
+at-once-cause now (ReadAnswered sequence snapshot) knows after answer never = absurd never
 at-once-cause now (HeardGranted sequence grant snapshot) knows after answer never = absurd never
 at-once-cause now (Mismatch sequence key found) knows after answer never = absurd never
-at-once-cause now (Asked from run sequence) knows after answer never = absurd never
+at-once-cause now (Asked from incarnation sequence) knows after answer never = absurd never
 at-once-cause now (Answered sequence told) knows after answer never = absurd never
 
 -- each answer has its cause
@@ -282,19 +282,19 @@ pub right-causes : (now : Ticks) (heard : Heard) (o after : Outcome) → IsRight
 right-causes now heard o after right = told-causes now heard o after (told_in after.outputs) right.answers
 
 -- whatever is the outcome of the table, behind no outputs
-pub input-right-as : (now : Ticks) (points : List HistoryPoint) (heard : Heard) (role : RoleFacts) (knows : Knowledge) (machine : Machine) (outs : List Output) (after : Outcome) → after ≡ step now points heard (made role knows machine outs)
-    → outs ≡ [] → IsRight now heard (made role knows machine []) after
-input-right-as now points heard role knows machine outs after is none = let same : after ≡ step now points heard (made role knows machine []) = is ∙ ap (λ (l : List Output). step now points heard (made role knows machine l)) none in
-    subst (λ (x : Outcome). IsRight now heard (made role knows machine []) x) (sym same) (step-right now points heard role knows machine)
+pub input-right-as : (now : Ticks) (points : List HistoryPoint) (heard : Heard) (role : RoleFacts) (knows : Knowledge) (machine : Machine) (outs : List Output) (after : Outcome) → after ≡ step now points heard (outcome_from role knows machine outs)
+    → outs ≡ [] → IsRight now heard (outcome_from role knows machine []) after
+input-right-as now points heard role knows machine outs after is none = let same : after ≡ step now points heard (outcome_from role knows machine []) = is ∙ ap (λ (l : List Output). step now points heard (outcome_from role knows machine l)) none in
+    subst (λ (x : Outcome). IsRight now heard (outcome_from role knows machine []) x) (sym same) (step-right now points heard role knows machine)
 
 -- ---- what the key store decided on the request that waits is told at once
 ended-waited : (why : Why) (held : ℕ) (o : Outcome) → (has_ended why held o).knows.waited ≡ o.knows.waited
 ended-waited HandOver held o = refl
 ended-waited Lost held o = refl
 
-before-waited : (now : Ticks) (o : Outcome) → (before now o).knows.waited ≡ o.knows.waited
+before-waited : (now : Ticks) (o : Outcome) → (reconciled now o).knows.waited ≡ o.knows.waited
 before-waited now o = before-by (λ (x : Outcome). x.knows.waited ≡ o.knows.waited) now o
-    (record { kept = λ _. refl; leader = λ _ _ _. refl; ending = λ held why _ _. ended-waited why held o; follower = λ _ _. refl; holder = λ _ _ _. refl; ready = λ _ _ _. refl; stray = λ _ _. refl })
+    (record { kept = λ _. refl; leader = λ _ _ _. refl; ending = λ held why _ _. ended-waited why held o; follower = λ _ _. refl; holder = λ _ _ _. refl; ready = λ _ _ _. refl; unleased = λ _ _. refl })
 
 asked-so : (operating : Option Operating) (sequence : ℕ) (waiting : Operating) → operating ≡ Some waiting → waiting.sequence ≡ sequence → is_asked_for operating sequence ≡ true
 asked-so None sequence waiting is number = absurd (none-some waiting is)
@@ -310,10 +310,10 @@ both-so true true a b = refl
 both-so true false a b = absurd (no-way b)
 both-so false b a is = absurd (no-way a)
 
-before-operates : (now : Ticks) (sequence : ℕ) (waiting : Operating) (o : Outcome) → AwaitsDecision sequence waiting o.knows → Untold o (before now o) → operates (before now o).knows sequence ≡ true
-before-operates now sequence waiting o awaits untold = let b : Outcome = before now o in
+before-operates : (now : Ticks) (sequence : ℕ) (waiting : Operating) (o : Outcome) → AwaitsDecision sequence waiting o.knows → Untold o (reconciled now o) → operates (reconciled now o).knows sequence ≡ true
+before-operates now sequence waiting o awaits untold = let b : Outcome = reconciled now o in
     operates-so (is_asked_for b.knows.operating sequence) (awaits_number b.knows.waited sequence) (asked-so b.knows.operating sequence waiting (untold.1 ∙ awaits.waits) awaits.number)
-    (ap (λ (w : Option Waited). awaits_number w sequence) (before-waited now o) ∙ awaits.alone)
+    (ap (λ (w : Option PendingQuestion). awaits_number w sequence) (before-waited now o) ∙ awaits.alone)
 
 tells-one : (o b : Outcome) (request : ℕ) (told : Told) → Untold o b → told_in (answering request told b).outputs ≡ (request, told) ∷ []
 tells-one o b request told untold = told-more b.outputs (outputs.Told request told) ∙ ap (λ (l : List (ℕ × Told)). l ++ (request, told) ∷ []) untold.0
@@ -326,14 +326,14 @@ written-told : (snapshot : SnapshotFacts) (o b : Outcome) (waiting : Operating) 
 written-told snapshot o b waiting untold is configuring = ap (λ (w : Option Operating). told_in (operator_granted snapshot w b).outputs) is
     ∙ ap (λ (operation : Operation). told_in (granted_as operation waiting.request (learned snapshot b)).outputs) configuring ∙ tells-one o (learned snapshot b) waiting.request tolds.Written untold
 
-pub step-decides : (now : Ticks) (points : List HistoryPoint) (heard : Heard) (role : RoleFacts) (knows : Knowledge) (machine : Machine) → TellsDecision heard knows (step now points heard (made role knows machine [])).outputs
+pub step-decides : (now : Ticks) (points : List HistoryPoint) (heard : Heard) (role : RoleFacts) (knows : Knowledge) (machine : Machine) → TellsDecision heard knows (step now points heard (outcome_from role knows machine [])).outputs
 step-decides now points heard role knows machine = by heard
   where
     o : Outcome
-    o = made role knows machine []
+    o = outcome_from role knows machine []
 
     b : Outcome
-    b = before now o
+    b = reconciled now o
 
     untold : Untold o b
     untold = let first : Quiet o b = before-quiet o now o (as-said o) in (first.told, first.waits)
@@ -345,12 +345,12 @@ step-decides now points heard role knows machine = by heard
         (both-so (operates b.knows sequence) (is_write_of b.knows.who.me grant) (before-operates now sequence waiting o awaits untold) (subst (λ (w : Who). is_write_of w.me grant ≡ true) (sym (before-onward None now o).who) own)))
         ∙ written-told snapshot o b waiting untold (untold.1 ∙ awaits.waits) configuring
     by Wake = tt
-    by (Got sequence snapshot) = tt
-    by (Asked from run sequence) = tt
+    by (ReadAnswered sequence snapshot) = tt
+    by (Asked from incarnation sequence) = tt
     by (Answered sequence answer) = tt
     by (HearsOperator action) = tt
 
-pub input-decides-as : (now : Ticks) (points : List HistoryPoint) (heard : Heard) (role : RoleFacts) (knows : Knowledge) (machine : Machine) (outs : List Output) (after : Outcome) → after ≡ step now points heard (made role knows machine outs)
+pub input-decides-as : (now : Ticks) (points : List HistoryPoint) (heard : Heard) (role : RoleFacts) (knows : Knowledge) (machine : Machine) (outs : List Output) (after : Outcome) → after ≡ step now points heard (outcome_from role knows machine outs)
     → outs ≡ [] → TellsDecision heard knows after.outputs
-input-decides-as now points heard role knows machine outs after is none = let same : after ≡ step now points heard (made role knows machine []) = is ∙ ap (λ (l : List Output). step now points heard (made role knows machine l)) none in
+input-decides-as now points heard role knows machine outs after is none = let same : after ≡ step now points heard (outcome_from role knows machine []) = is ∙ ap (λ (l : List Output). step now points heard (outcome_from role knows machine l)) none in
     subst (λ (x : Outcome). TellsDecision heard knows x.outputs) (sym same) (step-decides now points heard role knows machine)

@@ -11,7 +11,7 @@ use Rattle.cluster_config.specs.Snapshots.{SnapshotFacts}
 use Rattle.pg_model.specs.Running.{is_primary}
 use Rattle.event_book.specs.declared.message.Body.TheVariants as bodies
 use Rattle.agent_model.specs.declared.heard.Heard.{Heard}
-use Rattle.agent_model.specs.declared.heard.Heard.TheVariants.{Wake, Got, Granted as HeardGranted, Mismatch, Asked, Answered, Operated as HearsOperator}
+use Rattle.agent_model.specs.declared.heard.Heard.TheVariants.{Wake, ReadAnswered, Granted as HeardGranted, Mismatch, Asked, Answered, Operated as HearsOperator}
 use Rattle.agent_model.specs.declared.knowledge.Knowledge.{Knowledge}
 use Rattle.agent_model.specs.declared.machine.Machine.{Machine}
 use Rattle.agent_model.specs.declared.operating.Operating.{Operating}
@@ -23,35 +23,35 @@ use Rattle.agent_model.specs.declared.why.Why.{Why}
 use Rattle.agent_model.specs.declared.why.Why.TheVariants.{HandOver, Lost}
 use Rattle.agent_model.specs.declared.who.Who.{Who}
 use Rattle.agent_model.specs.Acting.{arming, waiting_no_more, armed, fed_until, disarmed, deadline_after, is_refusing, touching}
-use Rattle.agent_model.specs.Agents.{RoleFacts, Follower, Outcome, made}
+use Rattle.agent_model.specs.Agents.{RoleFacts, Follower, Outcome, outcome_from}
 use Rattle.agent_model.specs.Answers.{is_other, asking_one, asking_first}
 use Rattle.pat_base.specs.declared.member_id.TheConstants.{MOST_MEMBERS}
-use Rattle.agent_model.specs.Before.{has_ended, before}
+use Rattle.agent_model.specs.Reconciling.{has_ended, reconciled}
 use Rattle.agent_model.specs.Claiming.{begins, begins_or_claims, passing, postpones}
-use Rattle.agent_model.specs.Decisions.{leader_renewed, takes_over, stray_renewed, may_take, gives_back, arms, takes_key, granted, refused}
+use Rattle.agent_model.specs.Decisions.{leader_renewed, takes_over, unleased_renewed, may_take, gives_back, arms, takes_key, granted, refused}
 use Rattle.agent_answers.specs.OperatorAnswers.{told_by, told_in}
-use Rattle.agent_model.specs.Outputs.{listed}
+use Rattle.agent_model.specs.Outputs.{with_output}
 use Rattle.agent_model.specs.Peers.{keeping, answered}
 use Rattle.agent_model.specs.HandingOver.{asking_whom}
 use Rattle.agent_model.specs.Operators.{looked, given_up, learned}
 use Rattle.agent_model.specs.Racing.{judged, unheard, finds_free}
 use Rattle.agent_model.specs.Repairs.{repair_of}
 use Rattle.agent_answers.specs.Replies.{RepliesTo}
-use Rattle.agent_model.specs.Snapshots.{follow_row, follows, read_noted, got, informed, led_by_another}
+use Rattle.agent_model.specs.Snapshots.{follow_row, follows, read_noted, read_answered, informed, led_by_another}
 use Rattle.agent_model.specs.Table.{step}
 use Rattle.agent_model.specs.Wake.{overdue, turned, woken}
 use Rattle.agent_model.proofs.Rows.{HandoverRows, ReplyRows, ActRows, looked-by, given-up-by, granted-any-by, refused-any-by, operated-by, led_on, if-cases, renewed-by, passing-by, begins-or-claims-by, before-by, overdue-by, turn-by, wake-by, got-by, refused-by, follow-by, repaired-by, free-by, granted-by, judged-by, answered-by, DutyRows, duties-of, rested_on, takes-in-pause-by}
-use Rattle.agent_model.specs.Pausing.{may_start_behind, rest_told, resting}
+use Rattle.agent_model.specs.Pausing.{may_start_behind, disabling_told, disabling_watchdog}
 
 -- an output that answers neither a member nor an operator
 abbrev pub NoReply : Output → Type 0
-NoReply (outputs.Answer to run sequence answer) = ⊥
+NoReply (outputs.Answer to incarnation sequence answer) = ⊥
 NoReply (outputs.Told request told) = ⊥
 NoReply _ = Unit {0}
 
 -- an output that answers no member
 abbrev pub NoAnswer : Output → Type 0
-NoAnswer (outputs.Answer to run sequence answer) = ⊥
+NoAnswer (outputs.Answer to incarnation sequence answer) = ⊥
 NoAnswer _ = Unit {0}
 
 -- no member is answered that this outcome doesn't answer, operators are told what it tells them, and the same request waits
@@ -64,7 +64,7 @@ abbrev pub Quiet : Outcome → Outcome → Type 0
 Quiet f o = Says f o.outputs o.knows.operating
 
 no-answer : (output : Output) → NoReply output → NoAnswer output
-no-answer (outputs.Answer to run sequence answer) none = none
+no-answer (outputs.Answer to incarnation sequence answer) none = none
 no-answer _ none = tt
 
 none-told : (output : Output) → NoReply output → told_by output ≡ []
@@ -72,14 +72,14 @@ none-told (outputs.Told request told) none = absurd none
 none-told _ none = refl
 
 -- what one more output tells operators is told behind what the others do
-pub told-more : (outs : List Output) (output : Output) → told_in (listed output outs) ≡ told_in outs ++ told_by output
+pub told-more : (outs : List Output) (output : Output) → told_in (with_output output outs) ≡ told_in outs ++ told_by output
 told-more [] output = append-nil (told_by output)
 told-more (first ∷ later) output = ap (λ (l : List (ℕ × Told)). told_by first ++ l) (told-more later output) ∙ sym (append_assoc (told_by first) (told_in later) (told_by output))
 
-pub told-same : (outs : List Output) (output : Output) → NoReply output → told_in (listed output outs) ≡ told_in outs
+pub told-same : (outs : List Output) (output : Output) → NoReply output → told_in (with_output output outs) ≡ told_in outs
 told-same outs output none = told-more outs output ∙ (ap (λ (l : List (ℕ × Told)). told_in outs ++ l) (none-told output none) ∙ append-nil (told_in outs))
 
-said : {f : Outcome} {w : Option Operating} (outs : List Output) (output : Output) → NoReply output → Says f outs w → Says f (listed output outs) w
+said : {f : Outcome} {w : Option Operating} (outs : List Output) (output : Output) → NoReply output → Says f outs w → Says f (with_output output outs) w
 said outs output none says = record { all = λ before-it. All-push NoAnswer outs output (says.all before-it) (no-answer output none); told = told-same outs output none ∙ says.told; waits = says.waits }
 
 -- an outcome says what it says
@@ -102,9 +102,9 @@ ended-quiet : (f : Outcome) (why : Why) (held : ℕ) (o : Outcome) → Quiet f o
 ended-quiet f HandOver held o all = said _ _ tt (disarmed-quiet f o.machine.watchdog.deadline o.outputs all)
 ended-quiet f Lost held o all = disarmed-quiet f o.machine.watchdog.deadline o.outputs all
 
-pub before-quiet : (f : Outcome) (now : Ticks) (o : Outcome) → Quiet f o → Quiet f (before now o)
+pub before-quiet : (f : Outcome) (now : Ticks) (o : Outcome) → Quiet f o → Quiet f (reconciled now o)
 before-quiet f now o all = let gone : Says f (disarmed o.machine.watchdog.deadline o.outputs) o.knows.operating = disarmed-quiet f o.machine.watchdog.deadline o.outputs all in
-    before-by (Quiet f) now o (record { kept = λ _. all; leader = λ _ _ _. gone; ending = λ held why _ _. ended-quiet f why held o all; follower = λ _ _. all; holder = λ _ _ _. all; ready = λ _ _ _. gone; stray = λ _ _. gone })
+    before-by (Quiet f) now o (record { kept = λ _. all; leader = λ _ _ _. gone; ending = λ held why _ _. ended-quiet f why held o all; follower = λ _ _. all; holder = λ _ _ _. all; ready = λ _ _ _. gone; unleased = λ _ _. gone })
 
 judged-quiet : (f : Outcome) (now : Ticks) (o : Outcome) → Quiet f o → Quiet f (judged now o)
 judged-quiet f now o all = judged-by (Quiet f) now o (said o.outputs _ tt all) (λ bar. said _ _ tt (said o.outputs (outputs.DoesNotRace bar) tt all))
@@ -112,7 +112,7 @@ judged-quiet f now o all = judged-by (Quiet f) now o (said o.outputs _ tt all) (
 ask-quiet : (f : Outcome) (w : Option Operating) (who : Who) (sequence : ℕ) (member : Option MemberId) (outs : List Output) → Says f outs w → Says f (asking_one who sequence member outs) w
 ask-quiet f w who sequence None outs all = all
 ask-quiet f w who sequence (Some member) outs all =
-    if-cases (λ (l : List Output). Says f l w) (is_other who member) (listed (outputs.Send (targets.Member member) sequence bodies.Ask) outs) outs (λ _. said outs (outputs.Send (targets.Member member) sequence bodies.Ask) tt all) (λ _. all)
+    if-cases (λ (l : List Output). Says f l w) (is_other who member) (with_output (outputs.Send (targets.Member member) sequence bodies.Ask) outs) outs (λ _. said outs (outputs.Send (targets.Member member) sequence bodies.Ask) tt all) (λ _. all)
 
 asks-quiet : (f : Outcome) (w : Option Operating) (who : Who) (sequence count : ℕ) (outs : List Output) → Says f outs w → Says f (asking_first who sequence count outs) w
 asks-quiet f w who sequence zero outs all = all
@@ -126,14 +126,14 @@ handover-quiet : (f : Outcome) (now : Ticks) (revision : ℕ) (o : Outcome) → 
 handover-quiet f now revision o all = record {
   kept = all;
   clears = λ compared. said o.outputs _ tt all;
-  hands = λ candidate. said (listed (outputs.HandsOver candidate) o.outputs) outputs.ShutDown tt (said o.outputs (outputs.HandsOver candidate) tt all);
+  hands = λ candidate. said (with_output (outputs.HandsOver candidate) o.outputs) outputs.ShutDown tt (said o.outputs (outputs.HandsOver candidate) tt all);
 }
 
 postpones-quiet : (f : Outcome) (held : ℕ) (o : Outcome) → Quiet f o → Quiet f (postpones held o)
 postpones-quiet f held o all = said (disarmed o.machine.watchdog.deadline o.outputs) outputs.PostponesPromotion tt (disarmed-quiet f o.machine.watchdog.deadline o.outputs all)
 
 overdue-quiet : (f : Outcome) (now : Ticks) (o : Outcome) → Quiet f o → Quiet f (overdue now o)
-overdue-quiet f now o all = overdue-by (Quiet f) now o (record { kept = all; quiet = all; leader = λ _ _. said o.outputs _ tt all; stray = λ _. said o.outputs _ tt all; judges = λ _. judged-quiet f now o all; ready = λ held _. postpones-quiet f held (waiting_no_more o) all; checks = λ held _. handover-quiet f now held o all })
+overdue-quiet f now o all = overdue-by (Quiet f) now o (record { kept = all; quiet = all; leader = λ _ _. said o.outputs _ tt all; unleased = λ _. said o.outputs _ tt all; judges = λ _. judged-quiet f now o all; ready = λ held _. postpones-quiet f held (waiting_no_more o) all; checks = λ held _. handover-quiet f now held o all })
 
 turn-quiet : (f : Outcome) (now : Ticks) (o : Outcome) → Quiet f o → Quiet f (turned now o)
 turn-quiet f now o all = turn-by (Quiet f) now o (record { kept = all; quiet = all; reads = λ _. said o.outputs _ tt all })
@@ -159,14 +159,14 @@ free-quiet f now o all = let x : Outcome = record o { role = Follower } in free-
   asks = asks-quiet f o.knows.operating o.knows.who (o.knows.sequence + 1) MOST_MEMBERS o.outputs all;
 })
 
-pub got-quiet : (f : Outcome) (now : Ticks) (points : List HistoryPoint) (sequence : ℕ) (snapshot : SnapshotFacts) (o : Outcome) → Quiet f o → Quiet f (got now points sequence snapshot o)
+pub got-quiet : (f : Outcome) (now : Ticks) (points : List HistoryPoint) (sequence : ℕ) (snapshot : SnapshotFacts) (o : Outcome) → Quiet f o → Quiet f (read_answered now points sequence snapshot o)
 got-quiet f now points sequence snapshot o all = let read : Outcome = record o { knows = read_noted now snapshot o.knows } in
     got-by (Quiet f) now points sequence snapshot o (record {
       kept = all;
       quiet = all;
       other = all;
       leader = λ _ _. said o.outputs _ tt all;
-      stray = λ _. said o.outputs _ tt all;
+      unleased = λ _. said o.outputs _ tt all;
       renews = λ _ _ _ _. said o.outputs _ tt all;
       touches = said o.outputs _ tt all;
       follows = λ leader _ _. follow-quiet f now leader.holder read all;
@@ -176,7 +176,7 @@ got-quiet f now points sequence snapshot o all = let read : Outcome = record o {
     })
 
 pub refused-quiet : (f : Outcome) (now : Ticks) (sequence : ℕ) (o : Outcome) → Quiet f o → Quiet f (refused now sequence o)
-refused-quiet f now sequence o all = refused-by (Quiet f) now sequence o (record { kept = all; quiet = all; leader = λ _ _. said o.outputs _ tt all; stray = λ _. said o.outputs _ tt all; follower = λ _ _. all; ready = λ held _. postpones-quiet f held (waiting_no_more o) all; runs_on = λ _. said o.outputs outputs.RunsWithoutKey tt all })
+refused-quiet f now sequence o all = refused-by (Quiet f) now sequence o (record { kept = all; quiet = all; leader = λ _ _. said o.outputs _ tt all; unleased = λ _. said o.outputs _ tt all; follower = λ _ _. all; ready = λ held _. postpones-quiet f held (waiting_no_more o) all; runs_on = λ _. said o.outputs outputs.RunsWithoutKey tt all })
 
 duty-quiet : (f : Outcome) (now : Ticks) (revision : ℕ) (led : Outcome) → Quiet f led → DutyRows (Quiet f) now revision led
 duty-quiet f now revision led told = record {
@@ -195,20 +195,20 @@ renewed-quiet : (f : Outcome) (now ttl : Ticks) (revision : ℕ) (o : Outcome) �
 renewed-quiet f now ttl revision o all = let led : Outcome = led_on now ttl revision o in let told : Quiet f led = fed-quiet f (deadline_after now ttl o.machine.watchdog) o.outputs all in
     renewed-by (Quiet f) now ttl revision o (said led.outputs _ tt told) (duty-quiet f now revision led told)
 
-rest-quiet : (f : Outcome) (renews : Bool) (deadline : Option Ticks) {w : Option Operating} (outs : List Output) → Says f outs w → Says f (rest_told renews deadline outs) w
+rest-quiet : (f : Outcome) (renews : Bool) (deadline : Option Ticks) {w : Option Operating} (outs : List Output) → Says f outs w → Says f (disabling_told renews deadline outs) w
 rest-quiet f renews None outs all = all
 rest-quiet f true (Some deadline) outs all = said _ outputs.DisablesWatchdog tt (said outs outputs.Disarmed tt all)
 rest-quiet f false (Some deadline) outs all = said outs outputs.Disarmed tt all
 
-stray-quiet : (f : Outcome) (now ttl : Ticks) (revision : ℕ) (o : Outcome) → Quiet f o → Quiet f (stray_renewed now ttl revision o)
-stray-quiet f now ttl revision o all = if-cases (Quiet f) (is_refusing o.machine.watchdog.mode o.machine.watchdog.works) _ (takes_over now revision (arming now ttl o))
+unleased-quiet : (f : Outcome) (now ttl : Ticks) (revision : ℕ) (o : Outcome) → Quiet f o → Quiet f (unleased_renewed now ttl revision o)
+unleased-quiet f now ttl revision o all = if-cases (Quiet f) (is_refusing o.machine.watchdog.mode o.machine.watchdog.works) _ (takes_over now revision (arming now ttl o))
     (λ _. said o.outputs _ tt all) (λ _. armed-quiet f (deadline_after now ttl o.machine.watchdog) o.outputs all)
 
 begins-quiet : (f : Outcome) (now : Ticks) (revision : ℕ) (o : Outcome) → Quiet f o → Quiet f (begins now revision o)
 begins-quiet f now revision o all = said _ outputs.Begin tt (said o.outputs _ tt all)
 
 passing-quiet : (f o : Outcome) → Quiet f o → Quiet f (passing o)
-passing-quiet f o all = passing-by (λ (outs : List Output). Says f outs o.knows.operating) o all (said o.outputs outputs.Passes tt all)
+passing-quiet f o all = passing-by (λ (outs : List Output). Says f outs o.knows.operating) o all (said o.outputs outputs.ClaimsOutsideSync tt all)
 
 arms-quiet : (f : Outcome) (now ttl : Ticks) (revision : ℕ) (o : Outcome) → Quiet f o → Quiet f (arms now ttl revision o)
 arms-quiet f now ttl revision o all = if-cases (Quiet f) (is_refusing o.machine.watchdog.mode o.machine.watchdog.works) _ (begins_or_claims now revision (arming now ttl o))
@@ -223,11 +223,11 @@ granted-quiet f now sequence grant snapshot o all = let told : Outcome = record 
     granted-by (Quiet f) now sequence grant snapshot o all all (λ waited _ _. record {
       other = all;
       leader = λ _ _. renewed-quiet f now waited.ttl grant.revision told all;
-      stray = λ _. stray-quiet f now waited.ttl grant.revision told all;
+      unleased = λ _. unleased-quiet f now waited.ttl grant.revision told all;
       takes = λ _. takes-quiet f now waited.ttl grant.revision told all;
       rests = λ renews _ _ _. let led : Outcome = rested_on renews grant.revision told in duties-of (Quiet f) now grant.revision led (duty-quiet f now grant.revision led (rest-quiet f renews o.machine.watchdog.deadline o.outputs all));
-      stray_rests = λ renews _ _. rest-quiet f renews o.machine.watchdog.deadline o.outputs all;
-      takes_resting = λ renews _ _. let rest : Outcome = resting renews told in let rested : Quiet f rest = rest-quiet f renews o.machine.watchdog.deadline o.outputs all in
+      unleased_rests = λ renews _ _. rest-quiet f renews o.machine.watchdog.deadline o.outputs all;
+      takes_resting = λ renews _ _. let rest : Outcome = disabling_watchdog renews told in let rested : Quiet f rest = rest-quiet f renews o.machine.watchdog.deadline o.outputs all in
           takes-in-pause-by (Quiet f) now renews grant.revision told (said o.outputs _ tt all) (begins-quiet f now grant.revision rest rested) (said _ _ tt (passing-quiet f rest rested));
     })
     (record { other = all; begins = λ revision _. begins-quiet f now revision told all; postpones = λ revision _. postpones-quiet f revision told all; settles = λ required _. said o.outputs (outputs.Require required) tt all })
@@ -255,20 +255,20 @@ acts-none now request o all = record {
 }
 
 no-reply : (heard : Heard) (output : Output) → NoAnswer output → RepliesTo heard output
-no-reply heard (outputs.Answer to run sequence answer) none = absurd none
+no-reply heard (outputs.Answer to incarnation sequence answer) none = absurd none
 no-reply heard _ none = tt
 
 none-replies : (heard : Heard) (o : Outcome) → NoneAnswered o → All (RepliesTo heard) o.outputs
 none-replies heard o all = All-weaker NoAnswer (RepliesTo heard) (no-reply heard) o.outputs all
 
-pub step-replies : (now : Ticks) (points : List HistoryPoint) (heard : Heard) (role : RoleFacts) (knows : Knowledge) (machine : Machine) → All (RepliesTo heard) (step now points heard (made role knows machine [])).outputs
+pub step-replies : (now : Ticks) (points : List HistoryPoint) (heard : Heard) (role : RoleFacts) (knows : Knowledge) (machine : Machine) → All (RepliesTo heard) (step now points heard (outcome_from role knows machine [])).outputs
 step-replies now points heard role knows machine = by heard
   where
     o : Outcome
-    o = made role knows machine []
+    o = outcome_from role knows machine []
 
     b : Outcome
-    b = before now o
+    b = reconciled now o
 
     none : NoneAnswered b
     none = (before-quiet o now o (as-said o)).all (All-nil NoAnswer)
@@ -279,11 +279,11 @@ step-replies now points heard role knows machine = by heard
     by : (heard : Heard) → All (RepliesTo heard) (step now points heard o).outputs
     by Wake = let late : Outcome = given_up now b in
         none-replies Wake (woken now o) (wake-by NoneAnswered now o none ((roused-quiet late now late (as-said late)).all (given-up-by NoneAnswered now b told)))
-    by (Got sequence snapshot) = let shown : Outcome = looked sequence snapshot b in
-        none-replies (Got sequence snapshot) (step now points (Got sequence snapshot) o) ((got-quiet shown now points sequence snapshot shown (as-said shown)).all (looked-by NoneAnswered sequence snapshot b told))
+    by (ReadAnswered sequence snapshot) = let shown : Outcome = looked sequence snapshot b in
+        none-replies (ReadAnswered sequence snapshot) (step now points (ReadAnswered sequence snapshot) o) ((got-quiet shown now points sequence snapshot shown (as-said shown)).all (looked-by NoneAnswered sequence snapshot b told))
     by (HeardGranted sequence grant snapshot) = none-replies (HeardGranted sequence grant snapshot) (step now points (HeardGranted sequence grant snapshot) o)
         (granted-any-by NoneAnswered now sequence grant snapshot b none (told-none (learned snapshot b) none) ((granted-quiet b now sequence grant snapshot b (as-said b)).all none))
     by (Mismatch sequence key found) = none-replies (Mismatch sequence key found) (step now points (Mismatch sequence key found) o) (refused-any-by NoneAnswered now sequence b told ((refused-quiet b now sequence b (as-said b)).all none))
     by (HearsOperator action) = none-replies (HearsOperator action) (step now points (HearsOperator action) o) (operated-by NoneAnswered now action.request action.asked b (acts-none now action.request b none))
-    by (Asked from run sequence) = All-push (RepliesTo (Asked from run sequence)) b.outputs _ (none-replies (Asked from run sequence) b none) (refl, refl, refl)
+    by (Asked from incarnation sequence) = All-push (RepliesTo (Asked from incarnation sequence)) b.outputs _ (none-replies (Asked from incarnation sequence) b none) (refl, refl, refl)
     by (Answered sequence answer) = none-replies (Answered sequence answer) (answered now sequence answer b) ((answered-quiet b now sequence answer b (as-said b)).all none)

@@ -20,7 +20,7 @@ use Rattle.operator_keys.specs.declared.answer_text.Text.TheVariants as texts
 use Rattle.operator_keys.specs.Statuses.{service_unavailable, conflict, ok}
 use Rattle.event_book.specs.declared.message.Body.TheVariants as bodies
 use Rattle.agent_model.specs.declared.heard.Heard.{Heard}
-use Rattle.agent_model.specs.declared.heard.Heard.TheVariants.{Wake, Got, Granted, Mismatch, Operated}
+use Rattle.agent_model.specs.declared.heard.Heard.TheVariants.{Wake, ReadAnswered, Granted, Mismatch, Operated}
 use Rattle.agent_model.specs.declared.knowledge.Knowledge.{Knowledge}
 use Rattle.agent_model.specs.declared.operating.Operating.{Operating}
 use Rattle.agent_model.specs.declared.operating.Operation.{Operation}
@@ -31,7 +31,7 @@ use Rattle.agent_model.specs.declared.output.Output.{Output}
 use Rattle.agent_model.specs.declared.output.Output.TheVariants as outputs
 use Rattle.agent_model.specs.declared.output.Target.TheVariants as targets
 use Rattle.agent_model.specs.Agents.{Outcome}
-use Rattle.agent_model.specs.Before.{before}
+use Rattle.agent_model.specs.Reconciling.{reconciled}
 use Rattle.agent_model.specs.Decisions.{is_write_of}
 use Rattle.agent_model.specs.Operators.{awaits_number, done_text, failed_text, holder_in, holder_if, name_in, is_same_member, most_operator_ticks, uses_read, operator_until, late_answer, refusal_of}
 
@@ -70,7 +70,7 @@ IsResultBy Configuring was snapshot answer = ⊥
 -- answers the question that was asked for it, by the grant of the configuration or by a refusal
 abbrev pub IsReason : Ticks → Heard → Outcome → Operating → Told → Type 0
 IsReason now Wake o waiting answer = ((operator_until o.knows.settings waiting.operation waiting.since).0 ≤ now.0) × (answer ≡ late_answer waiting.operation)
-IsReason now (Got sequence snapshot) o waiting answer = (uses_read sequence (before now o) ≡ true) × IsResultBy waiting.operation waiting.leader snapshot answer
+IsReason now (ReadAnswered sequence snapshot) o waiting answer = (uses_read sequence (reconciled now o) ≡ true) × IsResultBy waiting.operation waiting.leader snapshot answer
 IsReason now (Granted sequence grant snapshot) o waiting answer = (waiting.sequence ≡ sequence) × (is_write_of o.knows.who.me grant ≡ true) × (waiting.operation ≡ Configuring) × (answer ≡ tolds.Written)
 IsReason now (Mismatch sequence key found) o waiting answer = (waiting.sequence ≡ sequence) × (answer ≡ refusal_of waiting.operation)
 IsReason now _ o waiting answer = ⊥

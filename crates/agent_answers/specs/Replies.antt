@@ -8,10 +8,10 @@ use Rattle.agent_model.specs.declared.output.Output.TheVariants as outputs
 
 -- this member asked, under this number of that run of its agent
 abbrev pub IsAskOf : MemberId → ℕ → ℕ → Heard → Type 0
-IsAskOf member run sequence (Asked from asked number) = (member ≡ from) × (run ≡ asked) × (sequence ≡ number)
-IsAskOf member run sequence _ = ⊥
+IsAskOf member incarnation sequence (Asked from asked number) = (member ≡ from) × (incarnation ≡ asked) × (sequence ≡ number)
+IsAskOf member incarnation sequence _ = ⊥
 
--- an answer goes to the member that asks, under the run and the number of its ask
+-- an answer goes to the member that asks, under the incarnation and the number of its ask
 abbrev pub RepliesTo : Heard → Output → Type 0
-RepliesTo heard (outputs.Answer to run sequence answer) = IsAskOf to run sequence heard
+RepliesTo heard (outputs.Answer to incarnation sequence answer) = IsAskOf to incarnation sequence heard
 RepliesTo heard _ = Unit {0}

@@ -17,14 +17,14 @@ use Rattle.cluster_config.specs.Snapshots.{SnapshotFacts, entry_in, settings_by,
 use Rattle.lease_law.proofs.Tools.{some-is, none-some}
 use Rattle.agent_model.specs.declared.knowledge.Knowledge.{Knowledge}
 use Rattle.agent_model.specs.declared.knowledge.Question.{Question}
-use Rattle.agent_model.specs.declared.knowledge.Question.TheVariants.{Reading, Asking, Creating, Renewing, Claiming, Syncing, Checking}
-use Rattle.agent_model.specs.declared.knowledge.Waited.{Waited}
+use Rattle.agent_model.specs.declared.knowledge.Question.TheVariants.{Reading, ComparingPositions, Creating, Renewing, Claiming, Syncing, FindingCandidate}
+use Rattle.agent_model.specs.declared.knowledge.PendingQuestion.{PendingQuestion}
 use Rattle.agent_model.specs.declared.operating.Operating.{Operating}
 use Rattle.agent_model.specs.declared.why.Why.{Why}
 use Rattle.agent_model.specs.declared.why.Why.TheVariants.{HandOver, Lost}
 use Rattle.agent_model.specs.Acting.{touching, waiting_no_more}
-use Rattle.agent_model.specs.Agents.{RoleFacts, Follower, Holder, Ready, Leader, Ending, Stray, Outcome}
-use Rattle.agent_model.specs.Before.{has_ended, before}
+use Rattle.agent_model.specs.Agents.{RoleFacts, Follower, Holder, Ready, Leader, Ending, Unleased, Outcome}
+use Rattle.agent_model.specs.Reconciling.{has_ended, reconciled}
 use Rattle.agent_model.specs.Claiming.{claim_fails_as}
 use Rattle.agent_commit_law.specs.Committing.{IsSynchronousSnapshot, FollowsSynchronousMode, AsksInSynchronousMode}
 use Rattle.agent_model.specs.Decisions.{asks_lease, may_create, refused}
@@ -35,7 +35,7 @@ use Rattle.agent_model.specs.Peers.{is_asking, awaits_answer, awaits_check, judg
 use Rattle.agent_roles.specs.Powers.{IsAwaitedLease}
 use Rattle.agent_model.specs.Racing.{judged, finds_free, unheard}
 use Rattle.agent_model.specs.Repairs.{repair_of, repairing}
-use Rattle.agent_model.specs.Snapshots.{follow_row, follows, read_noted, got, led_by_another}
+use Rattle.agent_model.specs.Snapshots.{follow_row, follows, read_noted, read_answered, led_by_another}
 use Rattle.agent_model.specs.Table.{refused_any}
 use Rattle.agent_model.specs.Wake.{out_of_reach_as, unanswered, overdue_for, overdue, turned, woken, out_of_reach}
 use Rattle.agent_roles.proofs.Granting.{both-true}
@@ -48,14 +48,14 @@ asks-nothing : (knows : Knowledge) → knows.waited ≡ None → AsksInSynchrono
 asks-nothing knows none waited is = absurd (none-some waited (sym none ∙ is))
 
 -- this question is waited for
-pub asks-it : (on : Bool) (asked : Waited) → FollowsSynchronousMode on asked.question → (waited : Waited) → ◌≡◌ {A = Option Waited} (Some asked) (Some waited) → FollowsSynchronousMode on waited.question
-asks-it on asked follows waited is = subst (λ (w : Waited). FollowsSynchronousMode on w.question) (some-is asked waited is) follows
+pub asks-it : (on : Bool) (asked : PendingQuestion) → FollowsSynchronousMode on asked.question → (waited : PendingQuestion) → ◌≡◌ {A = Option PendingQuestion} (Some asked) (Some waited) → FollowsSynchronousMode on waited.question
+asks-it on asked follows waited is = subst (λ (w : PendingQuestion). FollowsSynchronousMode on w.question) (some-is asked waited is) follows
 
 ended-asks : (why : Why) (held : ℕ) (o : Outcome) → AsksInSynchronousMode o.knows → AsksInSynchronousMode (has_ended why held o).knows
 ended-asks HandOver held o on = on
 ended-asks Lost held o on = on
 
-pub before-asks : (now : Ticks) (o : Outcome) → AsksInSynchronousMode o.knows → AsksInSynchronousMode (before now o).knows
+pub before-asks : (now : Ticks) (o : Outcome) → AsksInSynchronousMode o.knows → AsksInSynchronousMode (reconciled now o).knows
 before-asks now o on = before-by (λ (x : Outcome). AsksInSynchronousMode x.knows) now o (record {
   kept = λ _. on;
   leader = λ held _ _. on;
@@ -63,7 +63,7 @@ before-asks now o on = before-by (λ (x : Outcome). AsksInSynchronousMode x.know
   follower = λ _ _. on;
   holder = λ held _ _. on;
   ready = λ held _ _. on;
-  stray = λ _ _. on;
+  unleased = λ _ _. on;
 })
 
 -- a race that is judged with the mode on asks for the leader key, or for nothing
@@ -72,7 +72,7 @@ judged-asks now o on = judged-by (λ (x : Outcome). AsksInSynchronousMode x.know
 
 reach-asks : (now : Ticks) (role : RoleFacts) (o : Outcome) → AsksInSynchronousMode (out_of_reach_as now role (waiting_no_more o)).knows
 reach-asks now (Leader held) o = (λ waited is-it. absurd (none-some waited is-it))
-reach-asks now Stray o = (λ waited is-it. absurd (none-some waited is-it))
+reach-asks now Unleased o = (λ waited is-it. absurd (none-some waited is-it))
 reach-asks now Follower o = (λ waited is-it. absurd (none-some waited is-it))
 reach-asks now (Holder held) o = (λ waited is-it. absurd (none-some waited is-it))
 reach-asks now (Ready held) o = (λ waited is-it. absurd (none-some waited is-it))
@@ -87,7 +87,7 @@ claim-asks Follower o = (λ waited is-it. absurd (none-some waited is-it))
 claim-asks (Holder held) o = (λ waited is-it. absurd (none-some waited is-it))
 claim-asks (Leader held) o = (λ waited is-it. absurd (none-some waited is-it))
 claim-asks (Ending held why) o = (λ waited is-it. absurd (none-some waited is-it))
-claim-asks Stray o = (λ waited is-it. absurd (none-some waited is-it))
+claim-asks Unleased o = (λ waited is-it. absurd (none-some waited is-it))
 
 -- a handover that is judged asks for nothing that is waited for
 handover-asks : (now : Ticks) (held : ℕ) (o : Outcome) → AsksInSynchronousMode (handover_judged now held o).knows
@@ -100,7 +100,7 @@ leading-asks now Follower o = (λ waited is-it. absurd (none-some waited is-it))
 leading-asks now (Holder held) o = (λ waited is-it. absurd (none-some waited is-it))
 leading-asks now (Ready held) o = (λ waited is-it. absurd (none-some waited is-it))
 leading-asks now (Ending held why) o = (λ waited is-it. absurd (none-some waited is-it))
-leading-asks now Stray o = (λ waited is-it. absurd (none-some waited is-it))
+leading-asks now Unleased o = (λ waited is-it. absurd (none-some waited is-it))
 
 unanswered-asks : (now : Ticks) (question : Question) (o : Outcome) → FollowsSynchronousMode o.knows.turn_settings.synchronous_mode question → AsksInSynchronousMode (unanswered now question o).knows
 unanswered-asks now Reading o on = unreached-asks now o
@@ -108,10 +108,10 @@ unanswered-asks now Renewing o on = unreached-asks now o
 unanswered-asks now Creating o on = (λ waited is-it. absurd (none-some waited is-it))
 unanswered-asks now Claiming o on = claim-asks o.role o
 unanswered-asks now (Syncing settling) o on = (λ waited is-it. absurd (none-some waited is-it))
-unanswered-asks now Checking o on = leading-asks now o.role o
-unanswered-asks now Asking o on = if-cases (λ (x : Outcome). AsksInSynchronousMode x.knows) (may_create o.role) (judged now o) (waiting_no_more o) (λ _. judged-asks now o on) (λ _. (λ waited is-it. absurd (none-some waited is-it)))
+unanswered-asks now FindingCandidate o on = leading-asks now o.role o
+unanswered-asks now ComparingPositions o on = if-cases (λ (x : Outcome). AsksInSynchronousMode x.knows) (may_create o.role) (judged now o) (waiting_no_more o) (λ _. judged-asks now o on) (λ _. (λ waited is-it. absurd (none-some waited is-it)))
 
-overdue-asks : (now : Ticks) (waited : Option Waited) (o : Outcome) → o.knows.waited ≡ waited → AsksInSynchronousMode o.knows → AsksInSynchronousMode (overdue_for now waited o).knows
+overdue-asks : (now : Ticks) (waited : Option PendingQuestion) (o : Outcome) → o.knows.waited ≡ waited → AsksInSynchronousMode o.knows → AsksInSynchronousMode (overdue_for now waited o).knows
 overdue-asks now None o is on = on
 overdue-asks now (Some waited) o is on = if-cases (λ (x : Outcome). AsksInSynchronousMode x.knows) (nat_le waited.until.0 now.0) (unanswered now waited.question o) o (λ _. unanswered-asks now waited.question o (on waited is)) (λ _. on)
 
@@ -135,8 +135,8 @@ pub operated-asks : (now : Ticks) (request : ℕ) (asked : OperatorRequest) (o :
 operated-asks now request asked o on = operated-by (λ (x : Outcome). AsksInSynchronousMode x.knows) now request asked o (record { asks = λ operation txn is. on; restarts = λ answer. on; wipes = λ answer. on })
 
 pub wake-asks : (now : Ticks) (o : Outcome) → AsksInSynchronousMode o.knows → AsksInSynchronousMode (woken now o).knows
-wake-asks now o on = let x : Outcome = given_up now (before now o) in
-    wake-by (λ (y : Outcome). AsksInSynchronousMode y.knows) now o (before-asks now o on) (turn-asks now (overdue now x) (overdue-asks now x.knows.waited x refl (given-up-asks now (before now o) (before-asks now o on))))
+wake-asks now o on = let x : Outcome = given_up now (reconciled now o) in
+    wake-by (λ (y : Outcome). AsksInSynchronousMode y.knows) now o (before-asks now o on) (turn-asks now (overdue now x) (overdue-asks now x.knows.waited x refl (given-up-asks now (reconciled now o) (before-asks now o on))))
 
 -- the settings of a snapshot that has the mode on have it on
 value-on : (settings : Config) (value : Value) → (settings_by default_config value).synchronous_mode ≡ true → (settings_by settings value).synchronous_mode ≡ true
@@ -170,7 +170,7 @@ free-asks now o none on = let x : Outcome = record o { role = Follower } in free
   asks = asks-it o.knows.turn_settings.synchronous_mode _ on;
 })
 
-pub got-asks : (now : Ticks) (points : List HistoryPoint) (sequence : ℕ) (snapshot : SnapshotFacts) (o : Outcome) → IsSynchronousSnapshot snapshot → AsksInSynchronousMode o.knows → AsksInSynchronousMode (got now points sequence snapshot o).knows
+pub got-asks : (now : Ticks) (points : List HistoryPoint) (sequence : ℕ) (snapshot : SnapshotFacts) (o : Outcome) → IsSynchronousSnapshot snapshot → AsksInSynchronousMode o.knows → AsksInSynchronousMode (read_answered now points sequence snapshot o).knows
 got-asks now points sequence snapshot o is on = let read : Outcome = record o { knows = read_noted now snapshot o.knows } in
     let mode : read.knows.turn_settings.synchronous_mode ≡ true = settings-on o.knows.settings snapshot is in
     got-by (λ (x : Outcome). AsksInSynchronousMode x.knows) now points sequence snapshot o (record {
@@ -178,7 +178,7 @@ got-asks now points sequence snapshot o is on = let read : Outcome = record o { 
       quiet = (λ waited is-it. absurd (none-some waited is-it));
       other = (λ waited is-it. absurd (none-some waited is-it));
       leader = λ held _. (λ waited is-it. absurd (none-some waited is-it));
-      stray = λ _. (λ waited is-it. absurd (none-some waited is-it));
+      unleased = λ _. (λ waited is-it. absurd (none-some waited is-it));
       renews = λ _ leader _ _. asks-it read.knows.turn_settings.synchronous_mode _ mode;
       touches = (λ waited is-it. absurd (none-some waited is-it));
       follows = λ leader _ _. follow-asks now leader.holder read refl;
@@ -192,7 +192,7 @@ refused-asks now sequence o on = refused-by (λ (x : Outcome). AsksInSynchronous
   kept = on;
   quiet = (λ waited is-it. absurd (none-some waited is-it));
   leader = λ held _. (λ waited is-it. absurd (none-some waited is-it));
-  stray = λ _. (λ waited is-it. absurd (none-some waited is-it));
+  unleased = λ _. (λ waited is-it. absurd (none-some waited is-it));
   follower = λ held _. (λ waited is-it. absurd (none-some waited is-it));
   ready = λ held _. (λ waited is-it. absurd (none-some waited is-it));
   runs_on = λ _. (λ waited is-it. absurd (none-some waited is-it));
@@ -202,13 +202,13 @@ pub any-refused-asks : (now : Ticks) (sequence : ℕ) (o : Outcome) → AsksInSy
 any-refused-asks now sequence o on = refused-any-by (λ (x : Outcome). AsksInSynchronousMode x.knows) now sequence o (replies-asks o on) (refused-asks now sequence o on)
 
 asking-on : (question : Question) (on : Bool) → is_asking question ≡ true → FollowsSynchronousMode on question → on ≡ true
-asking-on Asking on asks follows = follows
+asking-on ComparingPositions on asks follows = follows
 asking-on Reading on asks follows = absurd (no-way asks)
 asking-on Creating on asks follows = absurd (no-way asks)
 asking-on Renewing on asks follows = absurd (no-way asks)
 asking-on Claiming on asks follows = absurd (no-way asks)
 asking-on (Syncing settling) on asks follows = absurd (no-way asks)
-asking-on Checking on asks follows = absurd (no-way asks)
+asking-on FindingCandidate on asks follows = absurd (no-way asks)
 
 -- an answer in a race with the mode on
 accepted-asks : (now : Ticks) (answer : PeerAnswer) (o : Outcome) → AsksInSynchronousMode o.knows → o.knows.turn_settings.synchronous_mode ≡ true → AsksInSynchronousMode (accepted_answer now answer o).knows
@@ -226,9 +226,9 @@ check-asks now answer Follower o on = (λ waited is-it. absurd (none-some waited
 check-asks now answer (Holder held) o on = (λ waited is-it. absurd (none-some waited is-it))
 check-asks now answer (Ready held) o on = (λ waited is-it. absurd (none-some waited is-it))
 check-asks now answer (Ending held why) o on = (λ waited is-it. absurd (none-some waited is-it))
-check-asks now answer Stray o on = (λ waited is-it. absurd (none-some waited is-it))
+check-asks now answer Unleased o on = (λ waited is-it. absurd (none-some waited is-it))
 
-answered-on : (now : Ticks) (sequence : ℕ) (answer : PeerAnswer) (waited : Option Waited) (o : Outcome) → o.knows.waited ≡ waited → AsksInSynchronousMode o.knows → AsksInSynchronousMode (answered_for now sequence answer waited o).knows
+answered-on : (now : Ticks) (sequence : ℕ) (answer : PeerAnswer) (waited : Option PendingQuestion) (o : Outcome) → o.knows.waited ≡ waited → AsksInSynchronousMode o.knows → AsksInSynchronousMode (answered_for now sequence answer waited o).knows
 answered-on now sequence answer None o is on = on
 answered-on now sequence answer (Some waited) o is on = let P : Outcome → Type 0 = λ x. AsksInSynchronousMode x.knows in
     if-cases P (awaits_answer waited sequence) (accepted_answer now answer o) (if awaits_check waited sequence then check_answered now answer o.role o else o)
@@ -241,11 +241,11 @@ answered-asks now sequence answer o on = answered-on now sequence answer o.knows
 lease-on : (question : Question) (on : Bool) → asks_lease question ≡ true → FollowsSynchronousMode on question → on ≡ true
 lease-on Creating on asks follows = follows
 lease-on Renewing on asks follows = follows
-lease-on Asking on asks follows = absurd (no-way asks)
+lease-on ComparingPositions on asks follows = absurd (no-way asks)
 lease-on Reading on asks follows = absurd (no-way asks)
 lease-on Claiming on asks follows = absurd (no-way asks)
 lease-on (Syncing settling) on asks follows = absurd (no-way asks)
-lease-on Checking on asks follows = absurd (no-way asks)
+lease-on FindingCandidate on asks follows = absurd (no-way asks)
 
 -- whoever waits for a lease asked for it with the mode on
 pub leases-on : (sequence : ℕ) (grant : Granted) (knows : Knowledge) → AsksInSynchronousMode knows → IsAwaitedLease sequence grant knows → knows.turn_settings.synchronous_mode ≡ true

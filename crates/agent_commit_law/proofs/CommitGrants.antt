@@ -100,7 +100,7 @@ changes-lawful now sequence grant snapshot s m input o b x ground leased led lea
       grant = lease_granted_as m sequence grant.revision snapshot o;
       hears = hears-lease s m sequence grant snapshot input o leased.hears leased.awaited;
       live = keeps-live s m input o x ground.stands is (asks-unbegun x.outputs changes.unasking);
-      sends = sends-nothing s m input o x is (asks-none m o.knows.run x.outputs changes.unasking);
+      sends = sends-nothing s m input o x is (asks-none m o.knows.incarnation x.outputs changes.unasking);
       ready = keeps-ready s m input o x is (λ e. absurd (no-way (sym changes.ready ∙ e)));
       leads = λ _. ground.behind.idle.leads leads;
       turn = keeps-turn s m input o x is changes.turn;
@@ -119,7 +119,7 @@ settles-lawful now sequence grant snapshot s m input o b x ground awaited hears 
       sync_grant = write_granted_as m sequence hears.key o;
       hears = hears-write s m sequence grant input o awaited hears;
       live = keeps-live s m input o x ground.stands is (asks-unbegun x.outputs changes.unasking);
-      sends = sends-nothing s m input o x is (asks-none m o.knows.run x.outputs changes.unasking);
+      sends = sends-nothing s m input o x is (asks-none m o.knows.incarnation x.outputs changes.unasking);
       ready = keeps-ready s m input o x is (λ e. absurd (no-way (sym changes.ready ∙ e)));
       leads = λ _. ground.behind.idle.leads leads;
       turn = keeps-turn s m input o x is changes.turn;
@@ -129,14 +129,14 @@ settles-lawful now sequence grant snapshot s m input o b x ground awaited hears 
 
 -- a leader that asks for standbys that are required, and are published already or have confirmed the noted position
 pub publishes-lawful : (now ttl : Ticks) (sequence : ℕ) (grant : Granted) (snapshot : SnapshotFacts) (s : State) (m : ℕ) (input : AgentInput) (o b : Outcome) → Ground s m o b → Leased s m sequence grant snapshot input o → IsLedBy s m snapshot o → is_leader b.role ≡ true → (settling : Settling) (set : MemberSet)
-    → IsWithin (set_members set) (set_members (required_members o.machine.replication.required)) → ((n : ℕ) → set_members set n ≡ true → (set_members (published_in snapshot) n ≡ true) ⊎ HasReached o.machine.replication.connected (noted_position o.knows.noted) n)
+    → IsWithin (set_members set) (set_members (required_members o.machine.replication.required)) → ((n : ℕ) → set_members set n ≡ true → (set_members (published_in snapshot) n ≡ true) ⊎ HasReached o.machine.replication.confirmed_positions (noted_position o.knows.noted) n)
     → Lawful now sequence grant snapshot s m input o (naming now grant.revision settling set (led_on now ttl grant.revision (Told snapshot b)))
 publishes-lawful now ttl sequence grant snapshot s m input o b ground leased led leads settling set required each onward is =
     let fed : Outcome = led_on now ttl grant.revision (Told snapshot b) in
     let x : Outcome = naming now grant.revision settling set fed in
     let fed-quiet : All IsQuiet fed.outputs = quiet-fed (deadline_after now ttl b.machine.watchdog) b.outputs (ground.behind.idle.quiet ground.quiet) in
     let output : Output = outputs.Send targets.Store (b.knows.sequence + 1) (bodies.Request (txns.SetSync grant.revision (expected_of (sync_read_in snapshot)) set)) in
-    let request : SyncRequest = publish_request m o.knows.run (b.knows.sequence + 1) grant.revision (expected_of (sync_read_in snapshot)) set in
+    let request : SyncRequest = publish_request m o.knows.incarnation (b.knows.sequence + 1) grant.revision (expected_of (sync_read_in snapshot)) set in
     let lives : (s.members m).live ≡ true = leads-live s m o b ground.stands ground.behind leads in
     let was-published : (n : ℕ) → set_members (published_in snapshot) n ≡ true → led.key.standbys n ≡ true = λ n e. ap (λ (f : ℕ → Bool). f n) led.standbys ∙ e in
     lawful-as now (HeardGranted sequence grant snapshot) (Some snapshot) s m input o x ground.stands is onward (waits-new o x _ refl (omega (arith, ground.behind.last)))
@@ -152,7 +152,7 @@ publishes-lawful now ttl sequence grant snapshot s m input o b ground leased led
       key = led.key;
       key_is = led.seen;
       request = request;
-      sends = sends-one s m input o x request is (last-request m o.knows.run fed.outputs output fed-quiet) refl refl (omega (arith, ground.behind.last)) (omega arith) refl;
+      sends = sends-one s m input o x request is (last-request m o.knows.incarnation fed.outputs output fed-quiet) refl refl (omega (arith, ground.behind.last)) (omega arith) refl;
       leader = refl;
       sync = compared-as (sync_read_in snapshot) ∙ ap sync_revision_of led.seen;
       standbys = set_members set;

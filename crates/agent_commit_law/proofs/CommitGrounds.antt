@@ -29,12 +29,12 @@ use Rattle.commit_actions.specs.Carried.{IsSound, IsLed}
 use Rattle.commit_actions.specs.Past.{confirmers_in, revision_in}
 use Rattle.agent_model.specs.declared.knowledge.Knowledge.{Knowledge}
 use Rattle.agent_model.specs.declared.knowledge.SyncRead.{SyncRead}
-use Rattle.agent_model.specs.declared.knowledge.Waited.{Waited}
+use Rattle.agent_model.specs.declared.knowledge.PendingQuestion.{PendingQuestion}
 use Rattle.agent_model.specs.declared.why.Why.{Why}
 use Rattle.agent_model.specs.declared.why.Why.TheVariants.{HandOver, Lost}
 use Rattle.agent_model.specs.declared.who.Who.{Who}
 use Rattle.agent_model.specs.Agents.{RoleFacts, Leader, Outcome, Ready, is_leader, is_ready}
-use Rattle.agent_model.specs.Before.{before, before_as, finds_live, has_ended}
+use Rattle.agent_model.specs.Reconciling.{reconciled, before_as, finds_live, has_ended}
 use Rattle.agent_commit_law.specs.Committing.{sync_seen, number_waited, IsConnected, IsEndOf, StandsToCommit, IsAwaitedWrite, HearsLease, HearsWrite}
 use Rattle.agent_model.specs.Decisions.{asks_lease, asks_sync, is_lease_of, is_write_of, may_create}
 use Rattle.agent_model.specs.Fits.{Fits}
@@ -54,7 +54,7 @@ use Rattle.agent_model.specs.Acting.{disarming}
 -- what stands after what comes before an input
 pub record IsBehind (o b : Outcome) : Type 0 where
   pub who : b.knows.who ≡ o.knows.who
-  pub run : b.knows.run ≡ o.knows.run
+  pub incarnation : b.knows.incarnation ≡ o.knows.incarnation
   pub last : o.knows.sequence ≤ b.knows.sequence
   pub waited : b.knows.waited ≡ o.knows.waited
   pub turn : b.knows.turn_sync ≡ o.knows.turn_sync
@@ -68,7 +68,7 @@ ended-machine : (why : Why) (held : ℕ) (o : Outcome) → ((has_ended why held 
 ended-machine HandOver held o = (refl, refl)
 ended-machine Lost held o = (refl, refl)
 
-before-machine : (now : Ticks) (o : Outcome) → ((before now o).machine.server ≡ o.machine.server) × ((before now o).machine.replication ≡ o.machine.replication)
+before-machine : (now : Ticks) (o : Outcome) → ((reconciled now o).machine.server ≡ o.machine.server) × ((reconciled now o).machine.replication ≡ o.machine.replication)
 before-machine now o = before-by (λ (x : Outcome). (x.machine.server ≡ o.machine.server) × (x.machine.replication ≡ o.machine.replication)) now o (record {
   kept = λ _. (refl, refl);
   leader = λ _ _ _. (refl, refl);
@@ -76,20 +76,20 @@ before-machine now o = before-by (λ (x : Outcome). (x.machine.server ≡ o.mach
   follower = λ _ _. (refl, refl);
   holder = λ _ _ _. (refl, refl);
   ready = λ _ _ _. (refl, refl);
-  stray = λ _ _. (refl, refl);
+  unleased = λ _ _. (refl, refl);
 })
 
 untold : (o b : Outcome) → TurnsOn None o b → b.knows.turn_sync ≡ o.knows.turn_sync
 untold o b (inl same) = same
 untold o b (inr read) = absurd (none-some read.0 read.1)
 
-pub before-behind : (now : Ticks) (o : Outcome) → IsBehind o (before now o)
-before-behind now o = let onward : Onward None o (before now o) = before-onward None now o in let idle : Idle None o (before now o) = before-idle None now o in record {
+pub before-behind : (now : Ticks) (o : Outcome) → IsBehind o (reconciled now o)
+before-behind now o = let onward : Onward None o (reconciled now o) = before-onward None now o in let idle : Idle None o (reconciled now o) = before-idle None now o in record {
   who = onward.who;
-  run = onward.run;
+  incarnation = onward.incarnation;
   last = onward.last;
   waited = before-waits now o;
-  turn = untold o (before now o) idle.turn;
+  turn = untold o (reconciled now o) idle.turn;
   server = (before-machine now o).0;
   replication = (before-machine now o).1;
   hold = onward.hold;
@@ -120,19 +120,19 @@ number-sync false true number sequence e = ap some_of (eq-from number sequence e
 number-sync lease false number sequence e = absurd (no-way e)
 
 lease-number : (sequence : ℕ) (grant : Granted) (knows : Knowledge) → IsAwaitedLease sequence grant knows → number_waited knows.waited ≡ Some sequence
-lease-number sequence grant knows awaited = ap (λ (w : Option Waited). number_waited w) awaited.is
+lease-number sequence grant knows awaited = ap (λ (w : Option PendingQuestion). number_waited w) awaited.is
     ∙ number-lease (asks_lease awaited.waited.question) (asks_sync awaited.waited.question) awaited.waited.sequence sequence awaited.decision
 
 write-number : (sequence : ℕ) (grant : Granted) (knows : Knowledge) → IsAwaitedWrite sequence grant knows → number_waited knows.waited ≡ Some sequence
-write-number sequence grant knows awaited = ap (λ (w : Option Waited). number_waited w) awaited.is
+write-number sequence grant knows awaited = ap (λ (w : Option PendingQuestion). number_waited w) awaited.is
     ∙ number-sync (asks_lease awaited.waited.question) (asks_sync awaited.waited.question) awaited.waited.sequence sequence awaited.decision
 
 -- the grants that the law sees
 abbrev pub lease_granted_as : ℕ → ℕ → ℕ → SnapshotFacts → Outcome → LeaseGrant
-lease_granted_as m sequence revision snapshot o = record { member = m; run = o.knows.run; sequence = sequence; revision = revision; sync = sync_seen (sync_read_in snapshot) }
+lease_granted_as m sequence revision snapshot o = record { member = m; incarnation = o.knows.incarnation; sequence = sequence; revision = revision; sync = sync_seen (sync_read_in snapshot) }
 
 abbrev pub write_granted_as : ℕ → ℕ → SyncKey → Outcome → SyncGrant
-write_granted_as m sequence key o = record { member = m; run = o.knows.run; sequence = sequence; key = key }
+write_granted_as m sequence key o = record { member = m; incarnation = o.knows.incarnation; sequence = sequence; key = key }
 
 pub hears-lease : (s : State) (m sequence : ℕ) (grant : Granted) (snapshot : SnapshotFacts) (input : AgentInput) (o : Outcome) → HearsLease s m input.heard sequence grant.revision snapshot o.knows → IsAwaitedLease sequence grant o.knows
     → HearsLeaseGrant s m input (was_of o) (lease_granted_as m sequence grant.revision snapshot o)
@@ -141,7 +141,7 @@ hears-lease s m sequence grant snapshot input o hears awaited = record {
   heard = hears.heard_is;
   is = hears.is;
   member = refl;
-  run = refl;
+  incarnation = refl;
   waits = lease-number sequence grant o.knows awaited;
 }
 
@@ -152,11 +152,11 @@ hears-write s m sequence grant input o awaited hears = record {
   heard = hears.heard_is;
   is = hears.is;
   member = refl;
-  run = refl;
+  incarnation = refl;
   waits = write-number sequence grant o.knows awaited;
 }
 
-waits-for : (s : State) (m sequence : ℕ) (o : Outcome) → StandsToCommit s m o → number_waited o.knows.waited ≡ Some sequence → Waits (s.members m) o.knows.run sequence
+waits-for : (s : State) (m sequence : ℕ) (o : Outcome) → StandsToCommit s m o → number_waited o.knows.waited ≡ Some sequence → Waits (s.members m) o.knows.incarnation sequence
 waits-for s m sequence o stands number = record { agent = was_of o; is = stands.agent; run_is = refl; waits = number }
 
 leader-lives : (role : RoleFacts) (lives : Bool) → is_leader role ≡ true → Fits role lives → lives ≡ true
@@ -235,7 +235,7 @@ wins-named me m (Some read) is named = elim (or-cases (read.key.leader.number ==
 ]
 
 -- a connected member that reached a position has confirmed it, to a server that accepts writes
-pub has-confirmed : (s : State) (m : ℕ) (o : Outcome) (position n : ℕ) → StandsToCommit s m o → HasReached o.machine.replication.connected position n → HasConfirmed (s.members m) position n
+pub has-confirmed : (s : State) (m : ℕ) (o : Outcome) (position n : ℕ) → StandsToCommit s m o → HasReached o.machine.replication.confirmed_positions position n → HasConfirmed (s.members m) position n
 has-confirmed s m o position n stands reached = let connected : IsConnected s m n reached.end = stands.connected n reached.end reached.is in
     (connected.writes, subst (λ (p : Option ℕ). Reaches position p) (sym connected.confirmed) reached.reached)
 
@@ -265,5 +265,5 @@ unready-as now (Ready held) o is creates =
     no-way e = cc
 unready-as now _ o is creates = refl
 
-pub before-unready : (now : Ticks) (o : Outcome) → may_create (before now o).role ≡ true → is_ready o.role ≡ false
+pub before-unready : (now : Ticks) (o : Outcome) → may_create (reconciled now o).role ≡ true → is_ready o.role ≡ false
 before-unready now o creates = unready-as now o.role o refl creates

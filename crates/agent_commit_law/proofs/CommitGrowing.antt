@@ -74,9 +74,9 @@ few-wanted view seen n is =
     ]
 
 -- a wanted member is a candidate, so it is connected
-pub wanted-connected : (view : LeaderView) (seen : SnapshotFacts) (n : ℕ) → set_members (wanted_in view seen) n ≡ true → IsConnectedIn view.connected n
+pub wanted-connected : (view : LeaderView) (seen : SnapshotFacts) (n : ℕ) → set_members (wanted_in view seen) n ≡ true → IsConnectedIn view.confirmed_positions n
 wanted-connected view seen n is =
     let member : MemberId = record { number = n; below = few-wanted view seen n is } in
     let there = end-where (may_sync member seen) (is_one_of member (published_in seen)) (connected_end member view) (name_in member seen)
     (wanted-candidate view seen member (is-one (bit_at (wanted_in view seen).bits n) is)) in
-    (there.0, end-in view.connected n there.0 there.1)
+    (there.0, end-in view.confirmed_positions n there.0 there.1)

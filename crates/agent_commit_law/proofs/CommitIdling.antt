@@ -12,7 +12,7 @@ use Rattle.lease_store.specs.declared.action.OperatorRequest.{OperatorRequest}
 use Rattle.lease_store.specs.declared.txn.Txn.{Txn}
 use Rattle.lease_store.specs.declared.txn.Txn.TheVariants as txns
 use Rattle.lease_law.proofs.Tools.{some-is, none-some}
-use Rattle.agent_model.specs.declared.knowledge.Waited.{Waited}
+use Rattle.agent_model.specs.declared.knowledge.PendingQuestion.{PendingQuestion}
 use Rattle.agent_model.specs.declared.operating.Operating.{Operating}
 use Rattle.agent_model.specs.declared.operating.Told.{Told}
 use Rattle.agent_model.specs.declared.output.Output.TheVariants as outputs
@@ -22,20 +22,20 @@ use Rattle.agent_model.specs.declared.why.Why.TheVariants.{HandOver, Lost}
 use Rattle.agent_model.specs.Acting.{disarming, disarmed, ending_server, shutting_down, touching, starting_replica, following_server, waiting_no_more}
 use Rattle.agent_model.specs.Agents.{RoleFacts, Follower, Outcome, is_ready, is_leader}
 use Rattle.pat_base.specs.declared.member_id.TheConstants.{MOST_MEMBERS}
-use Rattle.agent_model.specs.Before.{leader_finds_ended, has_ended, finds_live, stray_finds_ended, before}
+use Rattle.agent_model.specs.Reconciling.{leader_finds_ended, has_ended, finds_live, unleased_finds_ended, reconciled}
 use Rattle.agent_model.specs.Claiming.{postpones}
 use Rattle.agent_commit_law.specs.Committing.{IsQuietTxn}
 use Rattle.agent_model.specs.Decisions.{refused}
 use Rattle.agent_model.specs.HandingOver.{checking, hands_over}
 use Rattle.agent_model.specs.Operators.{telling, answering, operating, restarting, wiping, operated, looked, given_up, learned, operator_granted}
-use Rattle.agent_model.specs.Outputs.{listed}
+use Rattle.agent_model.specs.Outputs.{with_output}
 use Rattle.agent_model.specs.Peers.{asked, keeping, answered}
 use Rattle.agent_model.specs.Racing.{creating, barred, finds_free, judged, asking_others, unheard}
 use Rattle.agent_model.specs.Repairs.{repair_of}
-use Rattle.agent_model.specs.Snapshots.{renewing, follow_row, follows, leader_loses_key, stray_loses_key, read_noted, got, asks_as_stray, led_by_another}
+use Rattle.agent_model.specs.Snapshots.{renewing, follow_row, follows, leader_loses_key, unleased_loses_key, read_noted, read_answered, asks_as_unleased, led_by_another}
 use Rattle.agent_model.specs.Synchronous.{sync_read_in}
 use Rattle.agent_model.specs.Table.{refused_any}
-use Rattle.agent_model.specs.Wake.{reading, turn_noted, leader_out_of_reach, stray_out_of_reach, overdue, turned, woken}
+use Rattle.agent_model.specs.Wake.{reading, turn_noted, leader_out_of_reach, unleased_out_of_reach, overdue, turned, woken}
 use Rattle.agent_commit_law.proofs.CommitQuiet.{IsQuiet, quietly, quiet-disarmed, asks-quiet, whom-quiet}
 use Rattle.agent_roles.proofs.Knowing.{before-onward, given-up-onward, overdue-onward}
 use Rattle.agent_roles.proofs.Living.{no-way}
@@ -44,7 +44,7 @@ use Rattle.agent_model.specs.Pausing.{may_start_behind, running_without_key}
 
 -- what is waited for was waited for before, or has a new number
 abbrev pub WaitsOn : Outcome → Outcome → Type 0
-WaitsOn o after = (waited : Waited) → after.knows.waited ≡ Some waited → (o.knows.waited ≡ Some waited) ⊎ (o.knows.sequence < waited.sequence)
+WaitsOn o after = (waited : PendingQuestion) → after.knows.waited ≡ Some waited → (o.knows.waited ≡ Some waited) ⊎ (o.knows.sequence < waited.sequence)
 
 pub waits-nothing : (o after : Outcome) → after.knows.waited ≡ None → WaitsOn o after
 waits-nothing o after none waited is = absurd (none-some waited (sym none ∙ is))
@@ -52,8 +52,8 @@ waits-nothing o after none waited is = absurd (none-some waited (sym none ∙ is
 pub waits-same : (o after : Outcome) → after.knows.waited ≡ o.knows.waited → WaitsOn o after
 waits-same o after same waited is = inl (sym same ∙ is)
 
-pub waits-new : (o after : Outcome) (asked : Waited) → after.knows.waited ≡ Some asked → o.knows.sequence < asked.sequence → WaitsOn o after
-waits-new o after asked is later waited waits = inr (subst (λ (w : Waited). o.knows.sequence < w.sequence) (some-is asked waited (sym is ∙ waits)) later)
+pub waits-new : (o after : Outcome) (asked : PendingQuestion) → after.knows.waited ≡ Some asked → o.knows.sequence < asked.sequence → WaitsOn o after
+waits-new o after asked is later waited waits = inr (subst (λ (w : PendingQuestion). o.knows.sequence < w.sequence) (some-is asked waited (sym is ∙ waits)) later)
 
 -- its turn's sync key stays, or is that of the snapshot that was told
 abbrev pub TurnsOn : Option SnapshotFacts → Outcome → Outcome → Type 0
@@ -130,7 +130,7 @@ ended-idle told HandOver held o = falls told o (has_ended HandOver held o) refl 
     (λ q. quietly (disarmed o.machine.watchdog.deadline o.outputs) (outputs.Send targets.Store (o.knows.sequence + 1) (bodies.Request (txns.Release held))) (quiet-disarmed o.machine.watchdog.deadline o.outputs q) tt)
 ended-idle told Lost held o = falls told o (has_ended Lost held o) refl refl refl refl refl (waits-same o (has_ended Lost held o) refl) (λ q. quiet-disarmed o.machine.watchdog.deadline o.outputs q)
 
-pub before-idle : (told : Option SnapshotFacts) (now : Ticks) (o : Outcome) → Idle told o (before now o)
+pub before-idle : (told : Option SnapshotFacts) (now : Ticks) (o : Outcome) → Idle told o (reconciled now o)
 before-idle told now o = before-by (Idle told o) now o (record {
   kept = λ _. same-idle told o;
   leader = λ held _ _. falls told o (leader_finds_ended now held o) refl refl refl refl refl (waits-same o (leader_finds_ended now held o) refl) (λ q. quiet-disarmed o.machine.watchdog.deadline o.outputs q);
@@ -138,7 +138,7 @@ before-idle told now o = before-by (Idle told o) now o (record {
   follower = λ _ _. falls told o (finds_live o) refl refl refl refl refl (waits-same o (finds_live o) refl) (λ q. q);
   holder = λ held _ _. falls told o (finds_live o) refl refl refl refl refl (waits-same o (finds_live o) refl) (λ q. q);
   ready = λ held _ _. falls told o (finds_live (disarming o)) refl refl refl refl refl (waits-same o (finds_live (disarming o)) refl) (λ q. quiet-disarmed o.machine.watchdog.deadline o.outputs q);
-  stray = λ _ _. falls told o (stray_finds_ended o) refl refl refl refl refl (waits-same o (stray_finds_ended o) refl) (λ q. quiet-disarmed o.machine.watchdog.deadline o.outputs q);
+  unleased = λ _ _. falls told o (unleased_finds_ended o) refl refl refl refl refl (waits-same o (unleased_finds_ended o) refl) (λ q. quiet-disarmed o.machine.watchdog.deadline o.outputs q);
 })
 
 pub postpones-idle : (told : Option SnapshotFacts) (held : ℕ) (o : Outcome) → Idle told o (postpones held o)
@@ -149,7 +149,7 @@ touching-idle : (told : Option SnapshotFacts) (o : Outcome) → Idle told o (tou
 touching-idle told o = stays told o (touching o) refl refl refl refl (waits-same o (touching o) refl) (λ q. quietly o.outputs _ q tt)
 
 barred-idle : (told : Option SnapshotFacts) (o : Outcome) → (bar : _) → Idle told o (barred bar o)
-barred-idle told o bar = stays told o (barred bar o) refl refl refl refl (waits-same o (barred bar o) refl) (λ q. quietly (listed (outputs.DoesNotRace bar) o.outputs) _ (quietly o.outputs (outputs.DoesNotRace bar) q tt) tt)
+barred-idle told o bar = stays told o (barred bar o) refl refl refl refl (waits-same o (barred bar o) refl) (λ q. quietly (with_output (outputs.DoesNotRace bar) o.outputs) _ (quietly o.outputs (outputs.DoesNotRace bar) q tt) tt)
 
 judged-idle : (told : Option SnapshotFacts) (now : Ticks) (o : Outcome) → Idle told o (judged now o)
 judged-idle told now o = judged-by (Idle told o) now o
@@ -164,7 +164,7 @@ dropping-idle told compared o = stays told o (dropping compared o) refl refl ref
 
 hands-over-idle : (told : Option SnapshotFacts) (now : Ticks) (held : ℕ) (candidate : MemberId) (o : Outcome) → Idle told o (hands_over now held candidate o)
 hands-over-idle told now held candidate o = falls told o (hands_over now held candidate o) refl refl refl refl refl (waits-same o (hands_over now held candidate o) refl)
-    (λ q. quietly (listed (outputs.HandsOver candidate) o.outputs) outputs.ShutDown (quietly o.outputs (outputs.HandsOver candidate) q tt) tt)
+    (λ q. quietly (with_output (outputs.HandsOver candidate) o.outputs) outputs.ShutDown (quietly o.outputs (outputs.HandsOver candidate) q tt) tt)
 
 -- a handover is judged behind another step
 handover-idle : (told : Option SnapshotFacts) (now : Ticks) (held : ℕ) (o x : Outcome) → Idle told o x → o.knows.sequence ≤ x.knows.sequence → HandoverRows (Idle told o) now held x
@@ -192,7 +192,7 @@ overdue-idle told now o = let w : Outcome = waiting_no_more o in overdue-by (Idl
   kept = same-idle told o;
   quiet = quiet-idle told o;
   leader = λ held _. falls told o (leader_out_of_reach now held w) refl refl refl refl refl (waits-nothing o (leader_out_of_reach now held w) refl) (λ q. quietly o.outputs (outputs.Stop StoreOutOfReach) q tt);
-  stray = λ _. idle-then told o w (stray_out_of_reach now w) (quiet-idle told o) (stop-idle told now StoreOutOfReach w) (omega arith);
+  unleased = λ _. idle-then told o w (unleased_out_of_reach now w) (quiet-idle told o) (stop-idle told now StoreOutOfReach w) (omega arith);
   judges = λ _. judged-idle told now o;
   ready = λ held _. idle-then told o w (postpones held w) (quiet-idle told o) (postpones-idle told held w) (omega arith);
   checks = λ held _. handover-idle told now held o o (same-idle told o) (omega arith);
@@ -241,7 +241,7 @@ operated-idle told now request asked o = operated-by (Idle told o) now request a
 })
 
 pub wake-idle : (told : Option SnapshotFacts) (now : Ticks) (o : Outcome) → Idle told o (woken now o)
-wake-idle told now o = let b : Outcome = before now o in let x : Outcome = given_up now b in let due : Outcome = overdue now x in
+wake-idle told now o = let b : Outcome = reconciled now o in let x : Outcome = given_up now b in let due : Outcome = overdue now x in
     let last : o.knows.sequence ≤ x.knows.sequence = (given-up-onward None now o).last in
     let first : Idle told o x = idle-then told o b x (before-idle told now o) (given-up-idle told now b) (before-onward None now o).last in
     let second : Idle told o due = idle-then told o x due first (overdue-idle told now x) last in
@@ -299,7 +299,7 @@ renewing-idle told now points revision o = stays told o (renewing now points rev
 runs-idle : (told : Option SnapshotFacts) (o : Outcome) → Idle told o (running_without_key o)
 runs-idle told o = falls told o (running_without_key o) refl refl refl refl refl (waits-same o (running_without_key o) refl) (λ q. quietly o.outputs outputs.RunsWithoutKey q tt)
 
-pub got-idle : (now : Ticks) (points : List HistoryPoint) (sequence : ℕ) (snapshot : SnapshotFacts) (o : Outcome) → Idle (Some snapshot) o (got now points sequence snapshot o)
+pub got-idle : (now : Ticks) (points : List HistoryPoint) (sequence : ℕ) (snapshot : SnapshotFacts) (o : Outcome) → Idle (Some snapshot) o (read_answered now points sequence snapshot o)
 got-idle now points sequence snapshot o = let read : Outcome = record o { knows = read_noted now snapshot o.knows } in
     let told : Option SnapshotFacts = Some snapshot in
     let first : Idle told o read = read-idle now snapshot o in
@@ -309,14 +309,14 @@ got-idle now points sequence snapshot o = let read : Outcome = record o { knows 
       quiet = quiet-idle told o;
       other = first;
       leader = λ held _. let lost : Outcome = leader_loses_key now held read in behind lost (falls told read lost refl refl refl refl refl (waits-same read lost refl) (λ q. quietly o.outputs (outputs.Stop LeaderKeyLost) q tt));
-      stray = λ _. behind (stray_loses_key now read) (stop-idle told now LeaderKeyLost read);
+      unleased = λ _. behind (unleased_loses_key now read) (stop-idle told now LeaderKeyLost read);
       renews = λ _ leader _ _. behind (renewing now points leader.revision read) (renewing-idle told now points leader.revision read);
       touches = behind (touching read) (touching-idle told read);
       follows = λ leader _ _. behind (follows now leader.holder read) (follow-idle told now leader.holder read);
       free = λ _ _. behind (finds_free now read) (free-idle told now read);
       runs_on = λ _. behind (running_without_key read) (runs-idle told read);
-      asks_on = λ _. let asks : Outcome = asks_as_stray now read in
-          behind asks (falls told read asks refl refl refl refl refl (waits-new read asks _ refl (omega arith)) (λ q. quietly (listed outputs.RunsWithoutKey o.outputs) _ (quietly o.outputs outputs.RunsWithoutKey q tt) refl));
+      asks_on = λ _. let asks : Outcome = asks_as_unleased now read in
+          behind asks (falls told read asks refl refl refl refl refl (waits-new read asks _ refl (omega arith)) (λ q. quietly (with_output outputs.RunsWithoutKey o.outputs) _ (quietly o.outputs outputs.RunsWithoutKey q tt) refl));
     })
 
 refused-idle : (told : Option SnapshotFacts) (now : Ticks) (sequence : ℕ) (o : Outcome) → Idle told o (refused now sequence o)
@@ -324,7 +324,7 @@ refused-idle told now sequence o = let w : Outcome = waiting_no_more o in refuse
   kept = same-idle told o;
   quiet = quiet-idle told o;
   leader = λ held _. falls told o (leader_loses_key now held w) refl refl refl refl refl (waits-nothing o (leader_loses_key now held w) refl) (λ q. quietly o.outputs (outputs.Stop LeaderKeyLost) q tt);
-  stray = λ _. idle-then told o w (stray_loses_key now w) (quiet-idle told o) (stop-idle told now LeaderKeyLost w) (omega arith);
+  unleased = λ _. idle-then told o w (unleased_loses_key now w) (quiet-idle told o) (stop-idle told now LeaderKeyLost w) (omega arith);
   follower = λ held _. falls told o (record w { role = Follower }) refl refl refl refl refl (waits-nothing o (record w { role = Follower }) refl) (λ q. q);
   ready = λ held _. idle-then told o w (postpones held w) (quiet-idle told o) (postpones-idle told held w) (omega arith);
   runs_on = λ _. idle-then told o w (running_without_key w) (quiet-idle told o) (runs-idle told w) (omega arith);
@@ -343,5 +343,5 @@ answered-idle told now sequence answer o = let kept : Idle told o (keeping answe
       checks = λ held _. handover-idle told now held o (keeping answer o) kept (omega arith);
     })
 
-pub asked-idle : (told : Option SnapshotFacts) (from : MemberId) (run sequence : ℕ) (o : Outcome) → Idle told o (asked from run sequence o)
-asked-idle told from run sequence o = stays told o (asked from run sequence o) refl refl refl refl (waits-same o (asked from run sequence o) refl) (λ q. quietly o.outputs _ q tt)
+pub asked-idle : (told : Option SnapshotFacts) (from : MemberId) (incarnation sequence : ℕ) (o : Outcome) → Idle told o (asked from incarnation sequence o)
+asked-idle told from incarnation sequence o = stays told o (asked from incarnation sequence o) refl refl refl refl (waits-same o (asked from incarnation sequence o) refl) (λ q. quietly o.outputs _ q tt)

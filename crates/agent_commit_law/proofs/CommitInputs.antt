@@ -24,14 +24,14 @@ use Rattle.commit_actions.specs.Actions.{fresh_agent}
 use Rattle.commit_actions.specs.States.{Agent, State}
 use Rattle.commit_actions.specs.Inputs.{AgentInput, HearsSnapshot, Does, Idling, Racing, HearingAnswer, WinningRace, CreatingLeader, Arming, TakingOver, ChangingRequired, Publishing, Promoting, SettlingRequired, ArmsAlone, IsGivenByLease}
 use Rattle.agent_model.specs.declared.heard.Heard.{Heard}
-use Rattle.agent_model.specs.declared.heard.Heard.TheVariants.{Wake, Got, Granted as HeardGranted, Mismatch, Asked, Answered, Operated as HearsOperator}
+use Rattle.agent_model.specs.declared.heard.Heard.TheVariants.{Wake, ReadAnswered, Granted as HeardGranted, Mismatch, Asked, Answered, Operated as HearsOperator}
 use Rattle.agent_model.specs.declared.knowledge.Knowledge.{Knowledge}
 use Rattle.agent_model.specs.declared.knowledge.Question.{Question}
 use Rattle.agent_model.specs.declared.knowledge.Question.TheVariants.{Syncing}
 use Rattle.agent_model.specs.declared.knowledge.Settling.{Settling}
 use Rattle.agent_model.specs.declared.knowledge.Settling.TheVariants as settlings
-use Rattle.agent_model.specs.declared.knowledge.Settling.TheVariants.{Lists}
-use Rattle.agent_model.specs.declared.knowledge.Waited.{Waited}
+use Rattle.agent_model.specs.declared.knowledge.Settling.TheVariants.{NamesStandbys}
+use Rattle.agent_model.specs.declared.knowledge.PendingQuestion.{PendingQuestion}
 use Rattle.agent_model.specs.declared.machine.Machine.{Machine}
 use Rattle.agent_model.specs.declared.machine.Replication.{Replication}
 use Rattle.agent_model.specs.declared.output.Output.{Output}
@@ -41,18 +41,18 @@ use Rattle.agent_model.specs.declared.why.Why.{Why}
 use Rattle.agent_model.specs.declared.why.Why.TheVariants.{HandOver, Lost}
 use Rattle.agent_model.specs.declared.who.Who.{Who}
 use Rattle.agent_model.specs.Acting.{deadline_after, disarmed, ending_server, arming, requiring, waiting_no_more}
-use Rattle.agent_model.specs.Agents.{RoleFacts, Follower, Ending, Outcome, is_leader, made, fresh_knowledge}
-use Rattle.agent_model.specs.Before.{before, has_ended}
+use Rattle.agent_model.specs.Agents.{RoleFacts, Follower, Ending, Outcome, is_leader, outcome_from, fresh_knowledge}
+use Rattle.agent_model.specs.Reconciling.{reconciled, has_ended}
 use Rattle.agent_model.specs.Claiming.{begins, can_begin_on_claim, claims, passing, postpones}
-use Rattle.agent_commit_law.specs.Committing.{sync_seen, committer_seen, ArmsOn, DoesAs, IsSynchronousSnapshot, HearsSynchronousMode, HearsToCommit, KnowsBelow, AsksInSynchronousMode, FollowsSynchronousMode, requests_of, is_begin, IsOneAtMost, IsCovered, IsSynchronousBody, IsSynchronousOutput, HasForm, Apart, Asks, Passes, Requires, Begins, StaysInSynchronousMode, CommitsFrom}
+use Rattle.agent_commit_law.specs.Committing.{sync_seen, committer_seen, ArmsOn, DoesAs, IsSynchronousSnapshot, HearsSynchronousMode, HearsToCommit, KnowsBelow, AsksInSynchronousMode, FollowsSynchronousMode, requests_of, is_begin, IsOneAtMost, IsCovered, IsSynchronousBody, IsSynchronousOutput, HasForm, Apart, Asks, ClaimsOutsideSync, Requires, Begins, StaysInSynchronousMode, CommitsFrom}
 use Rattle.agent_model.specs.Decisions.{takes_over, gives_back, granted}
 use Rattle.agent_model.specs.HandingOver.{checking, hands_over}
 use Rattle.agent_model.specs.Operators.{grants_operator, looked, operated, operator_granted}
-use Rattle.agent_model.specs.Outputs.{has_one, listed}
+use Rattle.agent_model.specs.Outputs.{has_one, with_output}
 use Rattle.agent_model.specs.Peers.{asked, answered}
 use Rattle.agent_model.specs.Planning.{leader_view, naming, noting}
 use Rattle.agent_model.specs.Racing.{unheard}
-use Rattle.agent_model.specs.Snapshots.{got, informed}
+use Rattle.agent_model.specs.Snapshots.{read_answered, informed}
 use Rattle.agent_model.specs.Synchronous.{expected_of, sync_read_in, unnamed, waiting_for}
 use Rattle.agent_model.specs.Table.{granted_any, refused_any, step}
 use Rattle.agent_model.specs.Wake.{woken}
@@ -71,7 +71,7 @@ use Rattle.agent_model.specs.Pausing.{is_paused}
 use Rattle.agent_roles.proofs.Staying.{stays-unpaused}
 
 -- what comes before an input is covered by it
-pub before-covered : (now : Ticks) (o : Outcome) → All IsCovered o.outputs → All IsCovered (before now o).outputs
+pub before-covered : (now : Ticks) (o : Outcome) → All IsCovered o.outputs → All IsCovered (reconciled now o).outputs
 before-covered now o all = before-by (λ (x : Outcome). All IsCovered x.outputs) now o (record {
   kept = λ _. all;
   leader = λ held _ _. disarms;
@@ -79,7 +79,7 @@ before-covered now o all = before-by (λ (x : Outcome). All IsCovered x.outputs)
   follower = λ _ _. all;
   holder = λ held _ _. all;
   ready = λ held _ _. disarms;
-  stray = λ _ _. disarms;
+  unleased = λ _ _. disarms;
 })
   where
     disarms : All IsCovered (disarmed o.machine.watchdog.deadline o.outputs)
@@ -93,39 +93,39 @@ before-covered now o all = before-by (λ (x : Outcome). All IsCovered x.outputs)
 quiet-stays : (heard : Heard) (o x : Outcome) → AsksInSynchronousMode x.knows → All IsQuiet x.outputs → StaysInSynchronousMode heard o x
 quiet-stays heard o x asks quiet = record {
   asks = asks;
-  one = quiet-one o.knows.who.me.number o.knows.run x.outputs quiet;
+  one = quiet-one o.knows.who.me.number o.knows.incarnation x.outputs quiet;
   sends = λ count below. keeps-mode count x.outputs (unasking x.outputs quiet);
   form = Apart (alone x.outputs quiet);
   begins = λ e. absurd (not-false (has_one is_begin x.outputs) (quiet-unbegun x.outputs quiet) e);
 }
 
 -- with one more output behind those that send no other request
-last-stays : (heard : Heard) (o x : Outcome) (outs : List Output) (output : Output) → AsksInSynchronousMode x.knows → x.outputs ≡ listed output outs → is_begin output ≡ false → All IsUnasking outs → HasForm x.outputs → ((count : ℕ) → KnowsBelow count heard o → IsSynchronousOutput count output) → StaysInSynchronousMode heard o x
+last-stays : (heard : Heard) (o x : Outcome) (outs : List Output) (output : Output) → AsksInSynchronousMode x.knows → x.outputs ≡ with_output output outs → is_begin output ≡ false → All IsUnasking outs → HasForm x.outputs → ((count : ℕ) → KnowsBelow count heard o → IsSynchronousOutput count output) → StaysInSynchronousMode heard o x
 last-stays heard o x outs output asks is unbegun still form sends =
     record {
       asks = asks;
-      one = subst (λ (l : List Output). IsOneAtMost (requests_of o.knows.who.me.number o.knows.run l)) (sym is) (last-one o.knows.who.me.number o.knows.run outs output still);
+      one = subst (λ (l : List Output). IsOneAtMost (requests_of o.knows.who.me.number o.knows.incarnation l)) (sym is) (last-one o.knows.who.me.number o.knows.incarnation outs output still);
       sends = λ count below. subst (λ (l : List Output). All (IsSynchronousOutput count) l) (sym is) (All-push (IsSynchronousOutput count) outs output (keeps-mode count outs still) (sends count below));
       form = form;
       begins = λ e. absurd (not-false (has_one is_begin x.outputs) (ap (has_one is_begin) is ∙ last-unbegun outs output still unbegun) e);
     }
 
 -- a question to the key store is the last output
-asks-stays : (heard : Heard) (o x : Outcome) (outs : List Output) (sequence : ℕ) (body : Body) → AsksInSynchronousMode x.knows → x.outputs ≡ listed (outputs.Send targets.Store sequence body) outs → All IsCovered outs → ((count : ℕ) → KnowsBelow count heard o → IsSynchronousBody count body) → StaysInSynchronousMode heard o x
+asks-stays : (heard : Heard) (o x : Outcome) (outs : List Output) (sequence : ℕ) (body : Body) → AsksInSynchronousMode x.knows → x.outputs ≡ with_output (outputs.Send targets.Store sequence body) outs → All IsCovered outs → ((count : ℕ) → KnowsBelow count heard o → IsSynchronousBody count body) → StaysInSynchronousMode heard o x
 asks-stays heard o x outs sequence body asks is all sends = last-stays heard o x outs (outputs.Send targets.Store sequence body) asks is refl (unasking outs (covered outs all)) (Asks outs sequence body all (sym is)) sends
 
 -- so is a claim, behind the note that the sync key doesn't name the member, if that is so
-claims-form : (o : Outcome) (sequence revision : ℕ) (sync : Expected) → All IsCovered o.outputs → HasForm (listed (outputs.Send targets.Store sequence (bodies.Request (txns.Claim revision sync))) (passing o).outputs)
+claims-form : (o : Outcome) (sequence revision : ℕ) (sync : Expected) → All IsCovered o.outputs → HasForm (with_output (outputs.Send targets.Store sequence (bodies.Request (txns.Claim revision sync))) (passing o).outputs)
 claims-form o sequence revision sync all = let claim : Output = outputs.Send targets.Store sequence (bodies.Request (txns.Claim revision sync)) in
-    passing-by (λ (outs : List Output). HasForm (listed claim outs)) o (Asks o.outputs sequence (bodies.Request (txns.Claim revision sync)) all refl)
-    (Passes o.outputs sequence revision sync all (sym (append_assoc o.outputs (outputs.Passes ∷ []) (claim ∷ []))))
+    passing-by (λ (outs : List Output). HasForm (with_output claim outs)) o (Asks o.outputs sequence (bodies.Request (txns.Claim revision sync)) all refl)
+    (ClaimsOutsideSync o.outputs sequence revision sync all (sym (append_assoc o.outputs (outputs.ClaimsOutsideSync ∷ []) (claim ∷ []))))
 
 -- nothing is waited for, or this question
 rest : (knows : Knowledge) → knows.waited ≡ None → AsksInSynchronousMode knows
 rest knows none waited is = absurd (none-some waited (sym none ∙ is))
 
-asks-this : (knows : Knowledge) (asked : Waited) → knows.waited ≡ Some asked → FollowsSynchronousMode knows.turn_settings.synchronous_mode asked.question → AsksInSynchronousMode knows
-asks-this knows asked is follows waited waits = subst (λ (w : Waited). FollowsSynchronousMode knows.turn_settings.synchronous_mode w.question) (some-is asked waited (sym is ∙ waits)) follows
+asks-this : (knows : Knowledge) (asked : PendingQuestion) → knows.waited ≡ Some asked → FollowsSynchronousMode knows.turn_settings.synchronous_mode asked.question → AsksInSynchronousMode knows
+asks-this knows asked is follows waited waits = subst (λ (w : PendingQuestion). FollowsSynchronousMode knows.turn_settings.synchronous_mode w.question) (some-is asked waited (sym is ∙ waits)) follows
 
 requires-stays : (heard : Heard) (o y : Outcome) (required : Required) → y.knows.waited ≡ None → All IsCovered y.outputs → StaysInSynchronousMode heard o (requiring required y)
 requires-stays heard o y required none all =
@@ -160,10 +160,10 @@ module _ (now : Ticks) (sequence : ℕ) (grant : Granted) (snapshot : SnapshotFa
       let still : All IsCovered fed.outputs = all-fed IsCovered b.outputs all (deadline_after now ttl b.machine.watchdog) (λ until. tt) in
       let published : MemberSet = published_in snapshot in let wanted : MemberSet = wanted_at now snapshot fed in record {
         kept = quiet-stays Hears o fed (rest fed.knows refl) (covered fed.outputs still);
-        mark = λ _. names-stays ttl (Lists nobody) nobody (λ on. tt) (λ count _. nobody-below count);
-        withdraws = names-stays ttl (Lists (both published wanted)) (both published wanted) (λ on. tt) (λ count below n is. below.published n (both-first published wanted n is));
+        mark = λ _. names-stays ttl (NamesStandbys nobody) nobody (λ on. tt) (λ count _. nobody-below count);
+        withdraws = names-stays ttl (NamesStandbys (both published wanted)) (both published wanted) (λ on. tt) (λ count below n is. below.published n (both-first published wanted n is));
         adds = requires-stays Hears o (noting fed) (requireds.All (either (required_at fed) wanted)) refl still;
-        publishes = λ _ confirmed. names-stays ttl settlings.Stays wanted (λ on. tt) (λ count below n is.
+        publishes = λ _ confirmed. names-stays ttl settlings.KeepsList wanted (λ on. tt) (λ count below n is.
             let reached = confirmed-reached (leader_view now fed.knows fed.machine) n (within-set wanted (confirmed_at now fed) confirmed n is) in
             below.connected n reached.end (subst (λ (r : Replication). slice_get r.connected n ≡ Some (Some reached.end)) behind.replication reached.is));
         drops = λ _. requires-stays Hears o fed (waiting_for fed.knows.settings (either published wanted)) refl still;
@@ -199,7 +199,7 @@ module _ (now : Ticks) (sequence : ℕ) (grant : Granted) (snapshot : SnapshotFa
       let stopped : Outcome = ending_server now WatchdogNotArmed told in
       let over : Outcome = takes_over now revision arm in
       let back : Outcome = gives_back revision told in
-      let refused-it : Outcome = gives_back revision (record told { outputs = listed outputs.CannotArm b.outputs }) in
+      let refused-it : Outcome = gives_back revision (record told { outputs = with_output outputs.CannotArm b.outputs }) in
       let claimed : Outcome = claims now revision (passing arm) in
       let read : Expected = expected_of b.knows.turn_sync in record {
         other = quiet-stays Hears o told (rest told.knows refl) quiet;
@@ -209,7 +209,7 @@ module _ (now : Ticks) (sequence : ℕ) (grant : Granted) (snapshot : SnapshotFa
         stops = λ _. quiet-stays Hears o stopped (rest stopped.knows refl) (quietly b.outputs (outputs.Stop WatchdogNotArmed) quiet tt);
         takes_over = λ _. quiet-stays Hears o over (rest over.knows refl) (covered arm.outputs armed);
         returns = quiet-stays Hears o back (rest back.knows refl) (quietly b.outputs _ quiet tt);
-        refuses = quiet-stays Hears o refused-it (rest refused-it.knows refl) (quietly (listed outputs.CannotArm b.outputs) _ (quietly b.outputs outputs.CannotArm quiet tt) tt);
+        refuses = quiet-stays Hears o refused-it (rest refused-it.knows refl) (quietly (with_output outputs.CannotArm b.outputs) _ (quietly b.outputs outputs.CannotArm quiet tt) tt);
         claims = λ _. last-stays Hears o claimed (passing arm).outputs (outputs.Send targets.Store (b.knows.sequence + 1) (bodies.Request (txns.Claim revision read))) (asks-this claimed.knows _ refl tt) refl refl
             (passing-unasked arm (covered arm.outputs armed)) (claims-form arm (b.knows.sequence + 1) revision read armed) (λ count below. tt);
       }
@@ -219,11 +219,11 @@ module _ (now : Ticks) (sequence : ℕ) (grant : Granted) (snapshot : SnapshotFa
       let x : Outcome = begins now revision (Told snapshot b) in
       let list : Required = unnamed b.knows.turn_settings in
       let required : Output = outputs.Require list in
-      let asking-none : All IsUnasking (listed required b.outputs) = unasked b.outputs list quiet in
+      let asking-none : All IsUnasking (with_output required b.outputs) = unasked b.outputs list quiet in
       record {
         asks = rest x.knows refl;
-        one = last-one o.knows.who.me.number o.knows.run (listed required b.outputs) outputs.Begin asking-none;
-        sends = λ count below. All-push (IsSynchronousOutput count) (listed required b.outputs) outputs.Begin (keeps-mode count (listed required b.outputs) asking-none) tt;
+        one = last-one o.knows.who.me.number o.knows.incarnation (with_output required b.outputs) outputs.Begin asking-none;
+        sends = λ count below. All-push (IsSynchronousOutput count) (with_output required b.outputs) outputs.Begin (keeps-mode count (with_output required b.outputs) asking-none) tt;
         form = Begins b.outputs list all (sym (append_assoc b.outputs (required ∷ []) (outputs.Begin ∷ [])));
         begins = λ _. subst (λ (server : ServerStatus). can_begin_on_claim server.was_primary server.state ≡ true) behind.server can;
       }
@@ -263,22 +263,22 @@ told-is : (told snapshot : SnapshotFacts) → ◌≡◌ {A = Option SnapshotFact
 told-is told snapshot e = cc
 
 -- so does one that hears no snapshot, behind what comes before an input
-behind-commits : (now : Ticks) (heard : Heard) (o x : Outcome) → All IsQuiet o.outputs → Onward None (before now o) x → Idle None (before now o) x → (AsksInSynchronousMode (before now o).knows → AsksInSynchronousMode x.knows) → CommitsFrom now heard o x
-behind-commits now heard o x quiet onward idle asks = let b : Outcome = before now o in
+behind-commits : (now : Ticks) (heard : Heard) (o x : Outcome) → All IsQuiet o.outputs → Onward None (reconciled now o) x → Idle None (reconciled now o) x → (AsksInSynchronousMode (reconciled now o).knows → AsksInSynchronousMode x.knows) → CommitsFrom now heard o x
+behind-commits now heard o x quiet onward idle asks = let b : Outcome = reconciled now o in
     rests now heard None None o x quiet (onward-then None o b x (before-onward None now o) onward) (idle-then None o b x (before-idle None now o) idle (before-onward None now o).last)
     (λ on _. asks (before-asks now o on)) (λ s m input _ snapshot e. absurd (none-told snapshot e))
 
 -- whatever is heard, what stands for it is lawful
 step-commits : (now : Ticks) (points : List HistoryPoint) (heard : Heard) (o : Outcome) → All IsCovered o.outputs → CommitsFrom now heard o (step now points heard o)
 step-commits now points Wake o all = rests now Wake None None o (woken now o) (covered o.outputs all) (wake-onward None now o) (wake-idle None now o) (λ on _. wake-asks now o on) (λ s m input _ snapshot e. absurd (none-told snapshot e))
-step-commits now points (Got sequence snapshot) o all = let told : Option SnapshotFacts = Some snapshot in
-    let b : Outcome = before now o in let l : Outcome = looked sequence snapshot b in let x : Outcome = got now points sequence snapshot l in
+step-commits now points (ReadAnswered sequence snapshot) o all = let told : Option SnapshotFacts = Some snapshot in
+    let b : Outcome = reconciled now o in let l : Outcome = looked sequence snapshot b in let x : Outcome = read_answered now points sequence snapshot l in
     let first : Onward told o l = looked-onward told now sequence snapshot o in
-    rests now (Got sequence snapshot) told told o x (covered o.outputs all) (onward-then told o l x first (got-onward now points sequence snapshot l))
+    rests now (ReadAnswered sequence snapshot) told told o x (covered o.outputs all) (onward-then told o l x first (got-onward now points sequence snapshot l))
     (idle-then told o l x (idle-then told o b l (before-idle told now o) (looked-idle told sequence snapshot b) (before-onward None now o).last) (got-idle now points sequence snapshot l) first.last)
     (λ on is. got-asks now points sequence snapshot l is (looked-asks sequence snapshot b (before-asks now o on)))
     (λ s m input hears other e. subst (λ (y : SnapshotFacts). HearsSnapshot s input (sync_seen (sync_read_in y))) (told-is snapshot other e) hears)
-step-commits now points (HeardGranted sequence grant snapshot) o all = let told : Option SnapshotFacts = Some snapshot in let b : Outcome = before now o in
+step-commits now points (HeardGranted sequence grant snapshot) o all = let told : Option SnapshotFacts = Some snapshot in let b : Outcome = reconciled now o in
     if-cases (λ (x : Outcome). Onward told o x → CommitsFrom now (HeardGranted sequence grant snapshot) o x) (grants_operator sequence grant b.knows) (operator_granted snapshot b.knows.operating b) (granted now sequence grant snapshot b)
     (λ _ onward. let x : Outcome = operator_granted snapshot b.knows.operating b in
     rests now (HeardGranted sequence grant snapshot) None told o x (covered o.outputs all) onward
@@ -289,28 +289,28 @@ step-commits now points (HeardGranted sequence grant snapshot) o all = let told 
       lawful = λ was on is s m input sound stands hears input-is. grant-commits now sequence grant snapshot s m input o sound stands (covered o.outputs all) was on is hears input-is;
     })
     (onward-then told o b (granted_any now sequence grant snapshot b) (before-onward told now o) (any-granted-onward now sequence grant snapshot b))
-step-commits now points (Mismatch sequence key found) o all = let b : Outcome = before now o in
+step-commits now points (Mismatch sequence key found) o all = let b : Outcome = reconciled now o in
     behind-commits now (Mismatch sequence key found) o (refused_any now sequence b) (covered o.outputs all) (any-refused-onward now sequence b) (any-refused-idle None now sequence b) (λ on. any-refused-asks now sequence b on)
-step-commits now points (Asked from run sequence) o all = let b : Outcome = before now o in
-    behind-commits now (Asked from run sequence) o (asked from run sequence b) (covered o.outputs all) (asked-onward None from run sequence b) (asked-idle None from run sequence b) (λ on. on)
-step-commits now points (Answered sequence answer) o all = let b : Outcome = before now o in
+step-commits now points (Asked from incarnation sequence) o all = let b : Outcome = reconciled now o in
+    behind-commits now (Asked from incarnation sequence) o (asked from incarnation sequence b) (covered o.outputs all) (asked-onward None from incarnation sequence b) (asked-idle None from incarnation sequence b) (λ on. on)
+step-commits now points (Answered sequence answer) o all = let b : Outcome = reconciled now o in
     behind-commits now (Answered sequence answer) o (answered now sequence answer b) (covered o.outputs all) (answered-onward None now sequence answer b) (answered-idle None now sequence answer b) (λ on. answered-asks now sequence answer b on)
-step-commits now points (HearsOperator action) o all = let b : Outcome = before now o in
+step-commits now points (HearsOperator action) o all = let b : Outcome = reconciled now o in
     behind-commits now (HearsOperator action) o (operated now action.request action.asked b) (covered o.outputs all) (operated-onward now action b) (operated-idle None now action.request action.asked b)
     (λ on. operated-asks now action.request action.asked b on)
 
 -- the same of what is made of an input, where no output stood before
-pub input-commits-as : (now : Ticks) (points : List HistoryPoint) (heard : Heard) (role : RoleFacts) (knows : Knowledge) (machine : Machine) (outs : List Output) (after : Outcome) → after ≡ step now points heard (made role knows machine outs)
-    → outs ≡ [] → CommitsFrom now heard (made role knows machine []) after
-input-commits-as now points heard role knows machine outs after is none = let same : after ≡ step now points heard (made role knows machine []) = is ∙ ap (λ (l : List Output). step now points heard (made role knows machine l)) none in
-    subst (λ (x : Outcome). CommitsFrom now heard (made role knows machine []) x) (sym same) (step-commits now points heard (made role knows machine []) (All-nil IsCovered))
+pub input-commits-as : (now : Ticks) (points : List HistoryPoint) (heard : Heard) (role : RoleFacts) (knows : Knowledge) (machine : Machine) (outs : List Output) (after : Outcome) → after ≡ step now points heard (outcome_from role knows machine outs)
+    → outs ≡ [] → CommitsFrom now heard (outcome_from role knows machine []) after
+input-commits-as now points heard role knows machine outs after is none = let same : after ≡ step now points heard (outcome_from role knows machine []) = is ∙ ap (λ (l : List Output). step now points heard (outcome_from role knows machine l)) none in
+    subst (λ (x : Outcome). CommitsFrom now heard (outcome_from role knows machine []) x) (sym same) (step-commits now points heard (outcome_from role knows machine []) (All-nil IsCovered))
 
 -- an agent that starts waits for nothing, and is to the law one that starts
-pub fresh-asks : (who : Who) (first : Ticks) (run : ℕ) → AsksInSynchronousMode (fresh_knowledge who first run)
-fresh-asks who first run waited is = absurd (none-some waited is)
+pub fresh-asks : (who : Who) (first : Ticks) (incarnation : ℕ) → AsksInSynchronousMode (fresh_knowledge who first incarnation)
+fresh-asks who first incarnation waited is = absurd (none-some waited is)
 
-pub fresh-seen : (who : Who) (first : Ticks) (run : ℕ) → committer_seen Follower (fresh_knowledge who first run) ≡ fresh_agent run
-fresh-seen who first run = refl
+pub fresh-seen : (who : Who) (first : Ticks) (incarnation : ℕ) → committer_seen Follower (fresh_knowledge who first incarnation) ≡ fresh_agent incarnation
+fresh-seen who first incarnation = refl
 
 -- what the timed lease gives to an input: to one that arms, that it hears the present leader key and that nobody else acts
 pub given-by-lease : (now : Ticks) (heard : Heard) (o : Outcome) (s : State) (m : ℕ) (input : AgentInput) (was : Agent) (does : Does s m input was) → DoesAs now heard o s m input was does

@@ -13,7 +13,7 @@ use Rattle.commit_actions.specs.States.{Agent, State}
 use Rattle.commit_actions.specs.Inputs.{AgentInput, HearsSnapshot, KeepsTurn, BeginsTurn, KeepsServer, Sends, Does, Idling}
 use Rattle.commit_actions.specs.Past.{confirmers_in}
 use Rattle.agent_model.specs.declared.heard.Heard.{Heard}
-use Rattle.agent_model.specs.declared.knowledge.Waited.{Waited}
+use Rattle.agent_model.specs.declared.knowledge.PendingQuestion.{PendingQuestion}
 use Rattle.agent_model.specs.Agents.{Outcome}
 use Rattle.agent_commit_law.specs.Committing.{sync_seen, number_waited, committer_seen, StandsToCommit, requests_of, IsSent, is_begin, IsCommitInputOf, DoesAs, IsLawfulAs}
 use Rattle.agent_model.specs.Decisions.{asks_lease, asks_sync}
@@ -32,10 +32,10 @@ number-of : (asks : Bool) (number sequence : ℕ) → ◌≡◌ {A = Option ℕ}
 number-of true number sequence e = some-is number sequence e
 number-of false number sequence e = absurd (none-some sequence e)
 
-number-waits : (was after : Option Waited) (last sequence : ℕ) → ((waited : Waited) → after ≡ Some waited → (was ≡ Some waited) ⊎ (last < waited.sequence)) → number_waited after ≡ Some sequence → (number_waited was ≡ Some sequence) ⊎ (last < sequence)
+number-waits : (was after : Option PendingQuestion) (last sequence : ℕ) → ((waited : PendingQuestion) → after ≡ Some waited → (was ≡ Some waited) ⊎ (last < waited.sequence)) → number_waited after ≡ Some sequence → (number_waited was ≡ Some sequence) ⊎ (last < sequence)
 number-waits was None last sequence waits e = absurd (none-some sequence e)
 number-waits was (Some waited) last sequence waits e = elim (waits waited refl) [
-  | inl same ↦ inl (ap (λ (w : Option Waited). number_waited w) same ∙ e)
+  | inl same ↦ inl (ap (λ (w : Option PendingQuestion). number_waited w) same ∙ e)
   | inr later ↦ inr (subst (λ (n : ℕ). last < n) (number-of (asks_lease waited.question || asks_sync waited.question) waited.sequence sequence e) later)
 ]
 
@@ -46,7 +46,7 @@ lawful-as now heard told s m input o after stands is onward waits does as-it = r
   lawful = record {
     was = was_of o;
     was_is = stands.agent;
-    run = ap (λ (a : Agent). a.run) is.agent ∙ onward.run;
+    incarnation = ap (λ (a : Agent). a.incarnation) is.agent ∙ onward.incarnation;
     last = subst (λ (a : Agent). o.knows.sequence ≤ a.last) (sym is.agent) onward.last;
     waits = λ sequence e. number-waits o.knows.waited after.knows.waited o.knows.sequence sequence waits (sym (ap (λ (a : Agent). a.waits) is.agent) ∙ e);
     holder_was_live = inl is.holder_was_live;
@@ -96,17 +96,17 @@ pub keeps-noted : (s : State) (m : ℕ) (input : AgentInput) (o after : Outcome)
 keeps-noted s m input o after is same = ap (λ (a : Agent). a.noted) is.agent ∙ ap (λ (n : Option Lsn). noted_position n) same
 
 -- what is sent, where none of the requests is among the outputs, or this one alone
-pub sends-nothing : (s : State) (m : ℕ) (input : AgentInput) (o after : Outcome) → IsCommitInputOf s m o after input → requests_of m o.knows.run after.outputs ≡ [] → input.sends ≡ None
+pub sends-nothing : (s : State) (m : ℕ) (input : AgentInput) (o after : Outcome) → IsCommitInputOf s m o after input → requests_of m o.knows.incarnation after.outputs ≡ [] → input.sends ≡ None
 sends-nothing s m input o after is none = subst (λ (l : List SyncRequest). IsSent l input.sends) none is.sends
 
-pub sends-one : (s : State) (m : ℕ) (input : AgentInput) (o after : Outcome) (request : SyncRequest) → IsCommitInputOf s m o after input → requests_of m o.knows.run after.outputs ≡ request ∷ []
-    → request.member ≡ m → request.run ≡ o.knows.run → o.knows.sequence < request.sequence → request.sequence ≤ after.knows.sequence → number_waited after.knows.waited ≡ Some request.sequence → Sends m input (was_of o) request
-sends-one s m input o after request is one member run later counted waits =
+pub sends-one : (s : State) (m : ℕ) (input : AgentInput) (o after : Outcome) (request : SyncRequest) → IsCommitInputOf s m o after input → requests_of m o.knows.incarnation after.outputs ≡ request ∷ []
+    → request.member ≡ m → request.incarnation ≡ o.knows.incarnation → o.knows.sequence < request.sequence → request.sequence ≤ after.knows.sequence → number_waited after.knows.waited ≡ Some request.sequence → Sends m input (was_of o) request
+sends-one s m input o after request is one member incarnation later counted waits =
     let sent : (number : ℕ) × (input.sends ≡ Some (record { number = number; request = request })) = subst (λ (l : List SyncRequest). IsSent l input.sends) one is.sends in record {
       number = sent.0;
       is = sent.1;
       member = member;
-      run = run;
+      incarnation = incarnation;
       later = later;
       counted = subst (λ (a : Agent). request.sequence ≤ a.last) (sym is.agent) counted;
       waits = ap (λ (a : Agent). a.waits) is.agent ∙ waits;
@@ -125,6 +125,6 @@ idle-lawful now heard told onto s m input o after stands is onward idle quiet he
         leads = keeps-leads s m input o after is idle.leads;
         noted = keeps-noted s m input o after is idle.noted;
       };
-      sends = sends-nothing s m input o after is (quiet-none m o.knows.run after.outputs still);
+      sends = sends-nothing s m input o after is (quiet-none m o.knows.incarnation after.outputs still);
       turn = elim idle.turn [ inl same ↦ inl (keeps-turn s m input o after is same) | inr read ↦ inr (begins-turn s m input o after read.0 is read.2 (hears read.0 read.1)) ];
     })) tt

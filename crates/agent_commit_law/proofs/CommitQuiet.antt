@@ -29,7 +29,7 @@ use Rattle.pat_base.specs.declared.member_id.TheConstants.{MOST_MEMBERS}
 use Rattle.agent_model.specs.Claiming.{passing}
 use Rattle.agent_commit_law.specs.Committing.{request_in, request_of_body, request_of, requests_of, IsOneAtMost, IsQuietTxn, IsQuietBody, IsCovered, StandsAlone, IsSynchronousTxn, IsSynchronousBody, IsSynchronousOutput, is_begin}
 use Rattle.agent_model.specs.HandingOver.{asking_whom}
-use Rattle.agent_model.specs.Outputs.{listed, has_one}
+use Rattle.agent_model.specs.Outputs.{with_output, has_one}
 use Rattle.agent_model.proofs.Rows.{if-cases, passing-by}
 
 -- an output that sends no other request, and by which no server comes to accept writes: one that starts again is live before it
@@ -42,14 +42,14 @@ IsUnasking _ = Unit {0}
 abbrev pub IsQuiet : Output → Type 0
 IsQuiet (outputs.Send to sequence body) = IsQuietBody body
 IsQuiet outputs.Begin = ⊥
-IsQuiet outputs.Passes = ⊥
+IsQuiet outputs.ClaimsOutsideSync = ⊥
 IsQuiet (outputs.Require required) = ⊥
 IsQuiet _ = Unit {0}
 
 quiet-unasking : (output : Output) → IsQuiet output → IsUnasking output
 quiet-unasking (outputs.Send to sequence body) quiet = quiet
 quiet-unasking outputs.Begin quiet = quiet
-quiet-unasking outputs.Passes quiet = absurd quiet
+quiet-unasking outputs.ClaimsOutsideSync quiet = absurd quiet
 quiet-unasking _ quiet = tt
 
 pub unasking : (outs : List Output) → All IsQuiet outs → All IsUnasking outs
@@ -60,7 +60,7 @@ covered-quiet : (output : Output) → IsCovered output → IsQuiet output
 covered-quiet (outputs.Send to sequence body) covered = covered
 covered-quiet outputs.Begin covered = covered
 covered-quiet (outputs.Require required) covered = covered
-covered-quiet outputs.Passes covered = covered
+covered-quiet outputs.ClaimsOutsideSync covered = covered
 covered-quiet _ covered = tt
 
 pub covered : (outs : List Output) → All IsCovered outs → All IsQuiet outs
@@ -71,62 +71,62 @@ quiet-alone : (output : Output) → IsQuiet output → StandsAlone output
 quiet-alone (outputs.Send to sequence body) quiet = quiet
 quiet-alone (outputs.Require required) quiet = quiet
 quiet-alone outputs.Begin quiet = quiet
-quiet-alone outputs.Passes quiet = quiet
+quiet-alone outputs.ClaimsOutsideSync quiet = quiet
 quiet-alone _ quiet = tt
 
 pub alone : (outs : List Output) → All IsQuiet outs → All StandsAlone outs
 alone outs quiet = All-weaker IsQuiet StandsAlone quiet-alone outs quiet
 
-create-none : (m run sequence : ℕ) (sync : Option Expected) → sync ≡ None → request_in (create_query m run sequence sync) ≡ None
-create-none m run sequence sync is = ap (λ (e : Option Expected). request_in (create_query m run sequence e)) is
+create-none : (m incarnation sequence : ℕ) (sync : Option Expected) → sync ≡ None → request_in (create_query m incarnation sequence sync) ≡ None
+create-none m incarnation sequence sync is = ap (λ (e : Option Expected). request_in (create_query m incarnation sequence e)) is
 
 renew-none : (m revision : ℕ) (failsafe : Option MemberSet) → request_in (renew_query m revision failsafe) ≡ None
 renew-none m revision None = refl
 renew-none m revision (Some members) = refl
 
-txn-none : (m run sequence : ℕ) (txn : Txn) → IsQuietTxn txn → request_in (query_of m run sequence txn) ≡ None
-txn-none m run sequence (txns.Create info ttl failsafe sync) quiet = create-none m run sequence sync quiet
-txn-none m run sequence (txns.Renew revision info ttl status row failsafe) quiet = renew-none m revision failsafe
-txn-none m run sequence (txns.Claim revision sync) quiet = absurd quiet
-txn-none m run sequence (txns.SetSync revision sync standbys) quiet = absurd quiet
-txn-none m run sequence _ quiet = refl
+txn-none : (m incarnation sequence : ℕ) (txn : Txn) → IsQuietTxn txn → request_in (query_of m incarnation sequence txn) ≡ None
+txn-none m incarnation sequence (txns.Create info ttl failsafe sync) quiet = create-none m incarnation sequence sync quiet
+txn-none m incarnation sequence (txns.Renew revision info ttl status row failsafe) quiet = renew-none m revision failsafe
+txn-none m incarnation sequence (txns.Claim revision sync) quiet = absurd quiet
+txn-none m incarnation sequence (txns.SetSync revision sync standbys) quiet = absurd quiet
+txn-none m incarnation sequence _ quiet = refl
 
-body-none : (m run sequence : ℕ) (body : Body) → IsQuietBody body → request_of_body m run sequence body ≡ None
-body-none m run sequence (bodies.Request txn) quiet = txn-none m run sequence txn quiet
-body-none m run sequence _ quiet = refl
+body-none : (m incarnation sequence : ℕ) (body : Body) → IsQuietBody body → request_of_body m incarnation sequence body ≡ None
+body-none m incarnation sequence (bodies.Request txn) quiet = txn-none m incarnation sequence txn quiet
+body-none m incarnation sequence _ quiet = refl
 
-output-none : (m run : ℕ) (output : Output) → IsUnasking output → request_of m run output ≡ None
-output-none m run (outputs.Send targets.Store sequence body) quiet = body-none m run sequence body quiet
-output-none m run (outputs.Send (targets.Member member) sequence body) quiet = refl
-output-none m run _ quiet = refl
+output-none : (m incarnation : ℕ) (output : Output) → IsUnasking output → request_of m incarnation output ≡ None
+output-none m incarnation (outputs.Send targets.Store sequence body) quiet = body-none m incarnation sequence body quiet
+output-none m incarnation (outputs.Send (targets.Member member) sequence body) quiet = refl
+output-none m incarnation _ quiet = refl
 
 -- no request is among such outputs
-pub asks-none : (m run : ℕ) (outs : List Output) → All IsUnasking outs → requests_of m run outs ≡ []
-asks-none m run [] all = refl
-asks-none m run (output ∷ outs) all =
-    ap (λ (r : Option SyncRequest). cons_option r (requests_of m run outs)) (output-none m run output (All-head IsUnasking output outs all)) ∙ asks-none m run outs (All-tail IsUnasking output outs all)
+pub asks-none : (m incarnation : ℕ) (outs : List Output) → All IsUnasking outs → requests_of m incarnation outs ≡ []
+asks-none m incarnation [] all = refl
+asks-none m incarnation (output ∷ outs) all =
+    ap (λ (r : Option SyncRequest). cons_option r (requests_of m incarnation outs)) (output-none m incarnation output (All-head IsUnasking output outs all)) ∙ asks-none m incarnation outs (All-tail IsUnasking output outs all)
 
-pub quiet-none : (m run : ℕ) (outs : List Output) → All IsQuiet outs → requests_of m run outs ≡ []
-quiet-none m run outs quiet = asks-none m run outs (unasking outs quiet)
+pub quiet-none : (m incarnation : ℕ) (outs : List Output) → All IsQuiet outs → requests_of m incarnation outs ≡ []
+quiet-none m incarnation outs quiet = asks-none m incarnation outs (unasking outs quiet)
 
 -- behind them there is only that of the last one
-pub asks-last : (m run : ℕ) (outs : List Output) (output : Output) → All IsUnasking outs → requests_of m run (listed output outs) ≡ cons_option (request_of m run output) []
-asks-last m run [] output all = refl
-asks-last m run (one ∷ outs) output all =
-    ap (λ (r : Option SyncRequest). cons_option r (requests_of m run (listed output outs))) (output-none m run one (All-head IsUnasking one outs all)) ∙ asks-last m run outs output (All-tail IsUnasking one outs all)
+pub asks-last : (m incarnation : ℕ) (outs : List Output) (output : Output) → All IsUnasking outs → requests_of m incarnation (with_output output outs) ≡ cons_option (request_of m incarnation output) []
+asks-last m incarnation [] output all = refl
+asks-last m incarnation (one ∷ outs) output all =
+    ap (λ (r : Option SyncRequest). cons_option r (requests_of m incarnation (with_output output outs))) (output-none m incarnation one (All-head IsUnasking one outs all)) ∙ asks-last m incarnation outs output (All-tail IsUnasking one outs all)
 
-pub last-request : (m run : ℕ) (outs : List Output) (output : Output) → All IsQuiet outs → requests_of m run (listed output outs) ≡ cons_option (request_of m run output) []
-last-request m run outs output quiet = asks-last m run outs output (unasking outs quiet)
+pub last-request : (m incarnation : ℕ) (outs : List Output) (output : Output) → All IsQuiet outs → requests_of m incarnation (with_output output outs) ≡ cons_option (request_of m incarnation output) []
+last-request m incarnation outs output quiet = asks-last m incarnation outs output (unasking outs quiet)
 
 one-of : (request : Option SyncRequest) → IsOneAtMost (cons_option request [])
 one-of None = tt
 one-of (Some request) = tt
 
-pub quiet-one : (m run : ℕ) (outs : List Output) → All IsQuiet outs → IsOneAtMost (requests_of m run outs)
-quiet-one m run outs quiet = subst IsOneAtMost (sym (quiet-none m run outs quiet)) tt
+pub quiet-one : (m incarnation : ℕ) (outs : List Output) → All IsQuiet outs → IsOneAtMost (requests_of m incarnation outs)
+quiet-one m incarnation outs quiet = subst IsOneAtMost (sym (quiet-none m incarnation outs quiet)) tt
 
-pub last-one : (m run : ℕ) (outs : List Output) (output : Output) → All IsUnasking outs → IsOneAtMost (requests_of m run (listed output outs))
-last-one m run outs output all = subst IsOneAtMost (sym (asks-last m run outs output all)) (one-of (request_of m run output))
+pub last-one : (m incarnation : ℕ) (outs : List Output) (output : Output) → All IsUnasking outs → IsOneAtMost (requests_of m incarnation (with_output output outs))
+last-one m incarnation outs output all = subst IsOneAtMost (sym (asks-last m incarnation outs output all)) (one-of (request_of m incarnation output))
 
 -- nobody begins by them
 unbegun : (output : Output) → IsUnasking output → is_begin output ≡ false
@@ -140,10 +140,10 @@ asks-unbegun (output ∷ outs) all = ap (λ (b : Bool). b || has_one is_begin ou
 pub quiet-unbegun : (outs : List Output) → All IsQuiet outs → has_one is_begin outs ≡ false
 quiet-unbegun outs quiet = asks-unbegun outs (unasking outs quiet)
 
-pub last-unbegun : (outs : List Output) (output : Output) → All IsUnasking outs → is_begin output ≡ false → has_one is_begin (listed output outs) ≡ false
+pub last-unbegun : (outs : List Output) (output : Output) → All IsUnasking outs → is_begin output ≡ false → has_one is_begin (with_output output outs) ≡ false
 last-unbegun [] output all is = ap (λ (b : Bool). b || false) is
 last-unbegun (one ∷ outs) output all is =
-    ap (λ (b : Bool). b || has_one is_begin (listed output outs)) (unbegun one (All-head IsUnasking one outs all)) ∙ last-unbegun outs output (All-tail IsUnasking one outs all) is
+    ap (λ (b : Bool). b || has_one is_begin (with_output output outs)) (unbegun one (All-head IsUnasking one outs all)) ∙ last-unbegun outs output (All-tail IsUnasking one outs all) is
 
 -- and each is as synchronous mode has it
 create-kept : (count : ℕ) (info : MemberInfo) (ttl : Ticks) (failsafe : Option Expected) (sync : Option Expected) → sync ≡ None → IsSynchronousTxn count (txns.Create info ttl failsafe sync)
@@ -172,15 +172,15 @@ kept-output count _ all = tt
 pub keeps-mode : (count : ℕ) (outs : List Output) → All IsUnasking outs → All (IsSynchronousOutput count) outs
 keeps-mode count outs all = All-weaker IsUnasking (IsSynchronousOutput count) (kept-output count) outs all
 
-pub quietly : (outs : List Output) (output : Output) → All IsQuiet outs → IsQuiet output → All IsQuiet (listed output outs)
+pub quietly : (outs : List Output) (output : Output) → All IsQuiet outs → IsQuiet output → All IsQuiet (with_output output outs)
 quietly outs output quiet more = All-push IsQuiet outs output quiet more
 
 -- so it is with a note of the sync key behind them
 pub passing-unasked : (o : Outcome) → All IsQuiet o.outputs → All IsUnasking (passing o).outputs
-passing-unasked o quiet = let all : All IsUnasking o.outputs = unasking o.outputs quiet in passing-by (All IsUnasking) o all (All-push IsUnasking o.outputs outputs.Passes all tt)
+passing-unasked o quiet = let all : All IsUnasking o.outputs = unasking o.outputs quiet in passing-by (All IsUnasking) o all (All-push IsUnasking o.outputs outputs.ClaimsOutsideSync all tt)
 
 -- whom commits wait for is told behind them
-pub unasked : (outs : List Output) (required : Required) → All IsQuiet outs → All IsUnasking (listed (outputs.Require required) outs)
+pub unasked : (outs : List Output) (required : Required) → All IsQuiet outs → All IsUnasking (with_output (outputs.Require required) outs)
 unasked outs required quiet = All-push IsUnasking outs (outputs.Require required) (unasking outs quiet) tt
 
 -- what is told of the watchdog has a property with all before it
@@ -210,7 +210,7 @@ quiet-fed deadline outs quiet = all-fed IsQuiet outs quiet deadline (λ until. t
 ask-quiet : (who : Who) (sequence : ℕ) (member : Option MemberId) (outs : List Output) → All IsQuiet outs → All IsQuiet (asking_one who sequence member outs)
 ask-quiet who sequence None outs quiet = quiet
 ask-quiet who sequence (Some member) outs quiet =
-    if-cases (All IsQuiet) (is_other who member) (listed (outputs.Send (targets.Member member) sequence bodies.Ask) outs) outs
+    if-cases (All IsQuiet) (is_other who member) (with_output (outputs.Send (targets.Member member) sequence bodies.Ask) outs) outs
     (λ _. quietly outs (outputs.Send (targets.Member member) sequence bodies.Ask) quiet tt) (λ _. quiet)
 
 pub asks-quiet : (who : Who) (sequence count : ℕ) (outs : List Output) → All IsQuiet outs → All IsQuiet (asking_first who sequence count outs)

@@ -30,7 +30,7 @@ use Rattle.commit_actions.specs.Past.{confirmers_in, claim_request}
 use Rattle.agent_model.specs.declared.heard.Heard.TheVariants.{Granted as HeardGranted}
 use Rattle.agent_model.specs.declared.knowledge.Question.{Question}
 use Rattle.agent_model.specs.declared.knowledge.Question.TheVariants.{Claiming, Syncing}
-use Rattle.agent_model.specs.declared.knowledge.Settling.TheVariants.{Stays, Lists}
+use Rattle.agent_model.specs.declared.knowledge.Settling.TheVariants.{KeepsList, NamesStandbys}
 use Rattle.agent_model.specs.declared.knowledge.SyncRead.{SyncRead}
 use Rattle.agent_model.specs.declared.machine.Replication.{Replication}
 use Rattle.agent_model.specs.declared.output.Output.{Output}
@@ -40,12 +40,12 @@ use Rattle.agent_model.specs.declared.why.Why.TheVariants.{HandOver}
 use Rattle.agent_model.specs.declared.who.Who.{Who}
 use Rattle.agent_model.specs.Acting.{deadline_after, ending_server, arming, requiring, waiting_no_more}
 use Rattle.agent_model.specs.Agents.{Ready, Ending, Outcome, is_leader, is_ready}
-use Rattle.agent_model.specs.Before.{before}
+use Rattle.agent_model.specs.Reconciling.{reconciled}
 use Rattle.agent_model.specs.Claiming.{begins, claims, passing, postpones, can_begin_on_claim, told_passing}
-use Rattle.agent_commit_law.specs.Committing.{sync_seen, StandsToCommit, IsAwaitedWrite, IsAskedBy, HearsWrite, HearsGranted, IsSynchronousSnapshot, FollowsSynchronousMode, AsksInSynchronousMode, ListsMember, IsCommitInputOf, is_passing, IsLawfulAs}
+use Rattle.agent_commit_law.specs.Committing.{sync_seen, StandsToCommit, IsAwaitedWrite, IsAskedBy, HearsWrite, HearsGranted, IsSynchronousSnapshot, FollowsSynchronousMode, AsksInSynchronousMode, ListsMember, IsCommitInputOf, is_claim_outside_sync, IsLawfulAs}
 use Rattle.agent_model.specs.Decisions.{takes_over, gives_back, may_create, granted}
 use Rattle.agent_model.specs.HandingOver.{checking, hands_over}
-use Rattle.agent_model.specs.Outputs.{has_one, listed}
+use Rattle.agent_model.specs.Outputs.{has_one, with_output}
 use Rattle.agent_model.specs.Planning.{leader_view, noting}
 use Rattle.agent_roles.specs.Powers.{IsAwaitedLease}
 use Rattle.agent_model.specs.Racing.{unheard}
@@ -68,10 +68,10 @@ use Rattle.agent_model.specs.Pausing.{is_paused}
 use Rattle.agent_roles.proofs.Staying.{stays-unpaused}
 
 -- where nobody passes the sync key, that names who claims it
-inside-named : (named : Bool) (outs : List Output) (claim : Output) → has_one is_passing (listed claim (told_passing named outs)) ≡ false → named ≡ true
+inside-named : (named : Bool) (outs : List Output) (claim : Output) → has_one is_claim_outside_sync (with_output claim (told_passing named outs)) ≡ false → named ≡ true
 inside-named true outs claim inside = refl
-inside-named false outs claim inside = absurd (not-false (has_one is_passing (listed claim (told_passing false outs))) inside
-    (one-before is_passing (listed outputs.Passes outs) claim (one-last is_passing outs outputs.Passes refl)))
+inside-named false outs claim inside = absurd (not-false (has_one is_claim_outside_sync (with_output claim (told_passing false outs))) inside
+    (one-before is_claim_outside_sync (with_output outputs.ClaimsOutsideSync outs) claim (one-last is_claim_outside_sync outs outputs.ClaimsOutsideSync refl)))
 
 -- a member that takes the key claims the sync key that its turn read, which names it
 arms-lawful : (now ttl : Ticks) (sequence : ℕ) (grant : Granted) (snapshot : SnapshotFacts) (s : State) (m : ℕ) (input : AgentInput) (o b : Outcome) → Ground s m o b → Leased s m sequence grant snapshot input o → may_create b.role ≡ true → is_ready o.role ≡ false
@@ -83,7 +83,7 @@ arms-lawful now ttl sequence grant snapshot s m input o b ground leased creates 
     let x : Outcome = claims now grant.revision noted in
     let still : All IsUnasking noted.outputs = passing-unasked arm (quiet-armed (deadline_after now ttl b.machine.watchdog) b.outputs (behind.idle.quiet ground.quiet)) in
     let output : Output = outputs.Send targets.Store (b.knows.sequence + 1) (bodies.Request (txns.Claim grant.revision (expected_of b.knows.turn_sync))) in
-    let request : SyncRequest = claim_request m o.knows.run (b.knows.sequence + 1) grant.revision (expected_of b.knows.turn_sync) in
+    let request : SyncRequest = claim_request m o.knows.incarnation (b.knows.sequence + 1) grant.revision (expected_of b.knows.turn_sync) in
     let named : WinsByName (sync_seen b.knows.turn_sync) m = wins-named b.knows.who.me m b.knows.turn_sync (ap (λ (w : Who). w.me.number) behind.who ∙ ground.stands.me)
     (inside-named (is_named_if b.knows.who.me b.knows.turn_sync) arm.outputs output is.inside) in
     lawful-as now (HeardGranted sequence grant snapshot) (Some snapshot) s m input o x ground.stands is onward (waits-new o x _ refl (omega (arith, behind.last)))
@@ -94,7 +94,7 @@ arms-lawful now ttl sequence grant snapshot s m input o b ground leased creates 
       not_live = ground.stands.live ∙ (sym (ap (λ (y : ServerStatus). live y.state) behind.server) ∙ ended-for b.role (live b.machine.server.state) creates behind.fits);
       turn = keeps-turn s m input o x is behind.turn;
       request = request;
-      sends = sends-one s m input o x request is (asks-last m o.knows.run noted.outputs output still) refl refl (omega (arith, behind.last)) (omega arith) refl;
+      sends = sends-one s m input o x request is (asks-last m o.knows.incarnation noted.outputs output still) refl refl (omega (arith, behind.last)) (omega arith) refl;
       aim = refl;
       leader = refl;
       sync = compared-as b.knows.turn_sync ∙ ap (λ (r : Option SyncRead). sync_revision_of (sync_seen r)) behind.turn;
@@ -111,7 +111,7 @@ takes-over-lawful now ttl sequence grant snapshot s m input o b ground onward is
     lawful-as now (HeardGranted sequence grant snapshot) (Some snapshot) s m input o x ground.stands is onward (waits-nothing o x refl)
     (TakingOver (record {
       keeps = keeps-server s m input o x ground.stands is (quiet-unbegun x.outputs quiet) (ap (λ (r : Replication). r.required) behind.replication);
-      sends = sends-nothing s m input o x is (quiet-none m o.knows.run x.outputs quiet);
+      sends = sends-nothing s m input o x is (quiet-none m o.knows.incarnation x.outputs quiet);
       ready = keeps-ready s m input o x is (λ e. absurd (no-way e));
       noted = ap (λ (a : Agent). a.noted) is.agent ∙ noted-end s m o b ground.stands behind;
       turn = keeps-turn s m input o x is behind.turn;
@@ -133,7 +133,7 @@ promotes-lawful now sequence revision grant snapshot s m input o b ground awaite
     let behind : IsBehind o b = ground.behind in
     let x : Outcome = begins now revision (Told snapshot b) in
     let required : Output = outputs.Require (unnamed b.knows.turn_settings) in
-    let all : All IsUnasking (listed required b.outputs) = unasked b.outputs (unnamed b.knows.turn_settings) (behind.idle.quiet ground.quiet) in
+    let all : All IsUnasking (with_output required b.outputs) = unasked b.outputs (unnamed b.knows.turn_settings) (behind.idle.quiet ground.quiet) in
     let asked : (n : ℕ) → hears.key.standbys n ≡ false = subst (λ (q : Question). IsAskedBy q hears.key) question hears.asked in
     lawful-as now (HeardGranted sequence grant snapshot) (Some snapshot) s m input o x ground.stands is onward (waits-nothing o x refl)
     (Promoting (record {
@@ -142,7 +142,7 @@ promotes-lawful now sequence revision grant snapshot s m input o b ground awaite
       was_ready = behind.idle.ready (rw role refl);
       ready = ap (λ (a : Agent). a.ready) is.agent;
       required = is.required ∙ unnamed-confirmers b.knows.turn_settings;
-      sends = sends-nothing s m input o x is (asks-last m o.knows.run (listed required b.outputs) outputs.Begin all);
+      sends = sends-nothing s m input o x is (asks-last m o.knows.incarnation (with_output required b.outputs) outputs.Begin all);
       turn = keeps-turn s m input o x is behind.turn;
       log = ground.stands.has_log (ap (λ (y : ServerStatus). has_data y.state) (sym behind.server) ∙ begins-data b.machine.server.was_primary b.machine.server.state can);
       claim = asked;
@@ -150,7 +150,7 @@ promotes-lawful now sequence revision grant snapshot s m input o b ground awaite
 
 -- a withdrawal is granted: the required list shrinks to the standbys that it left
 withdrawn-lawful : (now : Ticks) (sequence : ℕ) (grant : Granted) (snapshot : SnapshotFacts) (s : State) (m : ℕ) (input : AgentInput) (o b : Outcome) → Ground s m o b → (awaited : IsAwaitedWrite sequence grant o.knows) → (hears : HearsWrite s m input.heard sequence awaited.waited.question o.knows)
-    → (set : MemberSet) → awaited.waited.question ≡ Syncing (Lists set) → is_leader b.role ≡ true → Lawful now sequence grant snapshot s m input o (requiring (waiting_for (Told snapshot b).knows.settings set) (Told snapshot b))
+    → (set : MemberSet) → awaited.waited.question ≡ Syncing (NamesStandbys set) → is_leader b.role ≡ true → Lawful now sequence grant snapshot s m input o (requiring (waiting_for (Told snapshot b).knows.settings set) (Told snapshot b))
 withdrawn-lawful now sequence grant snapshot s m input o b ground awaited hears set question leads =
     let behind : IsBehind o b = ground.behind in
     let required : Required = waiting_for (Told snapshot b).knows.settings set in
@@ -188,9 +188,9 @@ told-idle snapshot b = stays None b (Told snapshot b) refl refl refl refl (waits
 required-before : (o b : Outcome) → IsBehind o b → set_members (required_at b) ≡ set_members (required_at o)
 required-before o b behind = ap (λ (r : Replication). set_members (required_members r.required)) behind.replication
 
-reached-before : (o b : Outcome) (n : ℕ) → IsBehind o b → HasReached b.machine.replication.connected (noted_position b.knows.noted) n → HasReached o.machine.replication.connected (noted_position o.knows.noted) n
+reached-before : (o b : Outcome) (n : ℕ) → IsBehind o b → HasReached b.machine.replication.confirmed_positions (noted_position b.knows.noted) n → HasReached o.machine.replication.confirmed_positions (noted_position o.knows.noted) n
 reached-before o b n behind reached = subst (λ (r : Replication). HasReached r.connected (noted_position o.knows.noted) n) behind.replication
-    (subst (λ (l : Option Lsn). HasReached b.machine.replication.connected (noted_position l) n) behind.idle.noted reached)
+    (subst (λ (l : Option Lsn). HasReached b.machine.replication.confirmed_positions (noted_position l) n) behind.idle.noted reached)
 
 -- a leader's step with its standbys
 plan-lawful : (now ttl : Ticks) (sequence : ℕ) (grant : Granted) (snapshot : SnapshotFacts) (s : State) (m : ℕ) (input : AgentInput) (o b : Outcome) → Ground s m o b → Leased s m sequence grant snapshot input o → is_leader b.role ≡ true
@@ -207,7 +207,7 @@ plan-lawful now ttl sequence grant snapshot s m input o b ground leased leads =
     record {
       kept = rests now sequence grant snapshot s m input o b fed ground (led-idle now ttl grant.revision snapshot b leads);
       mark = λ foreign. absurd (led.named (subst (λ (w : Who). IsForeign w.me.number (sync_in snapshot)) behind.who foreign));
-      withdraws = publishes-lawful now ttl sequence grant snapshot s m input o b ground leased led leads (Lists (both published wanted)) (both published wanted)
+      withdraws = publishes-lawful now ttl sequence grant snapshot s m input o b ground leased led leads (NamesStandbys (both published wanted)) (both published wanted)
           (λ n e. led.covers n (both-first published wanted n e)) (λ n e. inl (both-first published wanted n e));
       adds = let set : MemberSet = either (required_at b) wanted in
           changes-lawful now sequence grant snapshot s m input o b (requiring (requireds.All set) (noting fed)) ground leased led leads (record {
@@ -221,7 +221,7 @@ plan-lawful now ttl sequence grant snapshot s m input o b ground leased leads =
             | inl before-it ↦ inl (subst (λ (confirmers : Confirmers). ListsMember confirmers n) (sym ground.stands.required) (required-needs o.machine.replication.required n (subst (λ (f : ℕ → Bool). f n ≡ true) (required-before o b behind) before-it)))
             | inr new ↦ let there = wanted-connected (leader_view now fed.knows fed.machine) snapshot n new in inr (there.0, subst (λ (r : Replication). slice_get r.connected n ≡ Some (Some there.0)) behind.replication there.1)
           ]);
-      publishes = λ covered confirmed. publishes-lawful now ttl sequence grant snapshot s m input o b ground leased led leads Stays wanted (within covered)
+      publishes = λ covered confirmed. publishes-lawful now ttl sequence grant snapshot s m input o b ground leased led leads KeepsList wanted (within covered)
           (λ n e. inr (reached-before o b n behind (confirmed-reached (leader_view now fed.knows fed.machine) n (within-set wanted (confirmed_at now fed) confirmed n e))));
       drops = λ covered. let set : MemberSet = either published wanted in let list : Required = waiting_for fed.knows.settings set in
           let narrows : Narrows (s.members m).required (confirmers_in list) =
@@ -264,7 +264,7 @@ lease-lawful now ttl sequence grant snapshot s m input o b ground leased unready
     let ended : Outcome = record (ending_server now StartTooLong fed) { role = Ending grant.revision HandOver } in
     let stopped : Outcome = ending_server now WatchdogNotArmed told in
     let back : Outcome = gives_back grant.revision told in
-    let refused : Outcome = gives_back grant.revision (record told { outputs = listed outputs.CannotArm b.outputs }) in
+    let refused : Outcome = gives_back grant.revision (record told { outputs = with_output outputs.CannotArm b.outputs }) in
     let still : (x : Outcome) → Idle None b x → Lawful now sequence grant snapshot s m input o x = λ x idle. rests now sequence grant snapshot s m input o b x ground idle in
     record {
       other = still told (told-idle snapshot b);
@@ -274,7 +274,7 @@ lease-lawful now ttl sequence grant snapshot s m input o b ground leased unready
       stops = λ _. still stopped (stays None b stopped refl refl refl refl (waits-nothing b stopped refl) (λ q. quietly b.outputs (outputs.Stop WatchdogNotArmed) q tt));
       takes_over = λ _. takes-over-lawful now ttl sequence grant snapshot s m input o b ground;
       returns = still back (falls None b back refl refl refl refl refl (waits-nothing b back refl) (λ q. quietly b.outputs _ q tt));
-      refuses = still refused (falls None b refused refl refl refl refl refl (waits-nothing b refused refl) (λ q. quietly (listed outputs.CannotArm b.outputs) _ (quietly b.outputs outputs.CannotArm q tt) tt));
+      refuses = still refused (falls None b refused refl refl refl refl refl (waits-nothing b refused refl) (λ q. quietly (with_output outputs.CannotArm b.outputs) _ (quietly b.outputs outputs.CannotArm q tt) tt));
       claims = λ creates. arms-lawful now ttl sequence grant snapshot s m input o b ground leased creates (unready-before creates);
     }
 
@@ -292,9 +292,9 @@ write-lawful now sequence grant snapshot s m input o b ground awaited hears foll
 
 -- a granted request
 pub grant-commits : (now : Ticks) (sequence : ℕ) (grant : Granted) (snapshot : SnapshotFacts) (s : State) (m : ℕ) (input : AgentInput) (o : Outcome) → IsSound s → StandsToCommit s m o → All IsQuiet o.outputs → is_paused o.knows ≡ false → AsksInSynchronousMode o.knows → IsSynchronousSnapshot snapshot → HearsGranted s m input.heard sequence grant snapshot o.knows
-    → IsCommitInputOf s m o (granted now sequence grant snapshot (before now o)) input → IsLawfulAs now (HeardGranted sequence grant snapshot) o s m input
+    → IsCommitInputOf s m o (granted now sequence grant snapshot (reconciled now o)) input → IsLawfulAs now (HeardGranted sequence grant snapshot) o s m input
 grant-commits now sequence grant snapshot s m input o sound stands quiet was asks on hears is =
-    let b : Outcome = before now o in
+    let b : Outcome = reconciled now o in
     let behind : IsBehind o b = before-behind now o in
     let ground : Ground s m o b = record { sound = sound; stands = stands; behind = behind; quiet = quiet } in
     let mode : IsAwaitedLease sequence grant b.knows → b.knows.turn_settings.synchronous_mode ≡ true = λ awaited. leases-on sequence grant b.knows (before-asks now o asks) awaited in

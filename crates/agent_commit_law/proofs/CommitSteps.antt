@@ -19,19 +19,19 @@ use Rattle.sync_state.specs.Standbys.{standbys_in, required_members, confirmed_i
 use Rattle.sync_state.specs.declared.steps.Plan.{Plan}
 use Rattle.sync_state.specs.declared.steps.Plan.TheVariants as plans
 use Rattle.agent_model.specs.declared.knowledge.Question.{Question}
-use Rattle.agent_model.specs.declared.knowledge.Question.TheVariants.{Reading, Asking, Creating, Renewing, Claiming, Syncing, Checking}
+use Rattle.agent_model.specs.declared.knowledge.Question.TheVariants.{Reading, ComparingPositions, Creating, Renewing, Claiming, Syncing, FindingCandidate}
 use Rattle.agent_model.specs.declared.knowledge.Settling.{Settling}
-use Rattle.agent_model.specs.declared.knowledge.Settling.TheVariants.{Stays, Lists, Empties}
-use Rattle.agent_model.specs.declared.knowledge.Waited.{Waited}
+use Rattle.agent_model.specs.declared.knowledge.Settling.TheVariants.{KeepsList, NamesStandbys, ClearsList}
+use Rattle.agent_model.specs.declared.knowledge.PendingQuestion.{PendingQuestion}
 use Rattle.agent_model.specs.declared.output.Output.TheVariants as outputs
 use Rattle.agent_model.specs.declared.why.Why.TheVariants.{HandOver}
 use Rattle.agent_model.specs.Acting.{ending_server, arming, requiring, is_refusing, waiting_no_more}
-use Rattle.agent_model.specs.Agents.{RoleFacts, Follower, Holder, Ready, Leader, Ending, Stray, Outcome, is_leader}
+use Rattle.agent_model.specs.Agents.{RoleFacts, Follower, Holder, Ready, Leader, Ending, Unleased, Outcome, is_leader}
 use Rattle.agent_model.specs.Claiming.{begins, claims, begins_or_claims, passing, postpones, can_begin_on_claim, may_begin_on_claim}
 use Rattle.agent_commit_law.specs.Committing.{IsAwaitedWrite, IsSynchronousSnapshot}
-use Rattle.agent_model.specs.Decisions.{is_decision, is_sync_decision, is_lease_of, is_write_of, belongs, is_start_too_long, takes_over, stray_renewed, leader_renewed, may_create, may_take, gives_back, arms, takes_key, lease_granted, accepted_grant, sync_granted, accepted_sync, granted_write, granted_for, granted, asks_renewal, granted_in_pause, lease_used, uses_lease}
+use Rattle.agent_model.specs.Decisions.{is_decision, is_sync_decision, is_lease_of, is_write_of, belongs, is_start_too_long, takes_over, unleased_renewed, leader_renewed, may_create, may_take, gives_back, arms, takes_key, lease_granted, accepted_grant, sync_granted, accepted_sync, granted_write, granted_for, granted, asks_renewal, granted_in_pause, lease_used, uses_lease}
 use Rattle.agent_model.specs.HandingOver.{duties}
-use Rattle.agent_model.specs.Outputs.{listed}
+use Rattle.agent_model.specs.Outputs.{with_output}
 use Rattle.agent_model.specs.Planning.{leader_view, naming, noting, planned_as, planned_on, settled}
 use Rattle.agent_roles.specs.Powers.{IsAwaitedLease}
 use Rattle.agent_model.specs.Synchronous.{waiting_for}
@@ -58,10 +58,10 @@ IsForeign me sync = (key : SyncKey) → sync ≡ Some key → key.leader.number 
 -- a leader's step with its standbys
 pub record PlanSteps (P : Outcome → Type 0) (now : Ticks) (revision : ℕ) (snapshot : SnapshotFacts) (o : Outcome) : Type 0 where
   pub kept : P o
-  pub mark : IsForeign o.knows.who.me.number (sync_in snapshot) → P (naming now revision (Lists nobody) nobody o)
-  pub withdraws : P (naming now revision (Lists (both (published_in snapshot) (wanted_at now snapshot o))) (both (published_in snapshot) (wanted_at now snapshot o)) o)
+  pub mark : IsForeign o.knows.who.me.number (sync_in snapshot) → P (naming now revision (NamesStandbys nobody) nobody o)
+  pub withdraws : P (naming now revision (NamesStandbys (both (published_in snapshot) (wanted_at now snapshot o))) (both (published_in snapshot) (wanted_at now snapshot o)) o)
   pub adds : P (requiring (requireds.All (either (required_at o) (wanted_at now snapshot o))) (noting o))
-  pub publishes : is_within (wanted_at now snapshot o) (required_at o) ≡ true → is_within (wanted_at now snapshot o) (confirmed_at now o) ≡ true → P (naming now revision Stays (wanted_at now snapshot o) o)
+  pub publishes : is_within (wanted_at now snapshot o) (required_at o) ≡ true → is_within (wanted_at now snapshot o) (confirmed_at now o) ≡ true → P (naming now revision KeepsList (wanted_at now snapshot o) o)
   pub drops : is_within (wanted_at now snapshot o) (required_at o) ≡ true → P (requiring (waiting_for o.knows.settings (either (published_in snapshot) (wanted_at now snapshot o))) o)
 
 change-by : (P : Outcome → Type 0) (now : Ticks) (revision : ℕ) (snapshot : SnapshotFacts) (o : Outcome) → PlanSteps P now revision snapshot o → P (planned_as now revision (change_of (standbys_in (leader_view now o.knows o.machine) snapshot)) o)
@@ -101,10 +101,10 @@ pub record LeaseSteps (P : Outcome → Type 0) (now ttl : Ticks) (revision : ℕ
   pub ends : P (record (ending_server now StartTooLong (led_on now ttl revision (Told snapshot o))) { role = Ending revision HandOver })
   pub plans : (held : ℕ) → o.role ≡ Leader held → PlanSteps P now revision snapshot (led_on now ttl revision (Told snapshot o))
   pub fails_over : (held : ℕ) → o.role ≡ Leader held → FailoverRows P now revision (led_on now ttl revision (Told snapshot o))
-  pub stops : o.role ≡ Stray → P (ending_server now WatchdogNotArmed (Told snapshot o))
-  pub takes_over : o.role ≡ Stray → P (takes_over now revision (arming now ttl (Told snapshot o)))
+  pub stops : o.role ≡ Unleased → P (ending_server now WatchdogNotArmed (Told snapshot o))
+  pub takes_over : o.role ≡ Unleased → P (takes_over now revision (arming now ttl (Told snapshot o)))
   pub returns : P (gives_back revision (Told snapshot o))
-  pub refuses : P (gives_back revision (record (Told snapshot o) { outputs = listed outputs.CannotArm o.outputs }))
+  pub refuses : P (gives_back revision (record (Told snapshot o) { outputs = with_output outputs.CannotArm o.outputs }))
   pub claims : may_create o.role ≡ true → P (claims now revision (passing (arming now ttl (Told snapshot o))))
 
 renewed-steps : (P : Outcome → Type 0) (now ttl : Ticks) (revision : ℕ) (snapshot : SnapshotFacts) (o : Outcome) (held : ℕ) → o.role ≡ Leader held → IsSynchronousSnapshot snapshot → LeaseSteps P now ttl revision snapshot o → P (leader_renewed now ttl revision (Told snapshot o))
@@ -112,14 +112,14 @@ renewed-steps P now ttl revision snapshot o held is on rows = let led : Outcome 
     if-cases P (is_start_too_long now led.knows led.machine.server.state) (record (ending_server now StartTooLong led) { role = Ending revision HandOver }) (duties now revision led)
     (λ _. rows.ends) (λ _. duties-by P now revision led (planned-on-by P now revision snapshot led on (rows.plans held is)) (rows.fails_over held is))
 
-stray-steps : (P : Outcome → Type 0) (now ttl : Ticks) (revision : ℕ) (snapshot : SnapshotFacts) (o : Outcome) → o.role ≡ Stray → LeaseSteps P now ttl revision snapshot o → P (stray_renewed now ttl revision (Told snapshot o))
-stray-steps P now ttl revision snapshot o is rows =
+unleased-steps : (P : Outcome → Type 0) (now ttl : Ticks) (revision : ℕ) (snapshot : SnapshotFacts) (o : Outcome) → o.role ≡ Unleased → LeaseSteps P now ttl revision snapshot o → P (unleased_renewed now ttl revision (Told snapshot o))
+unleased-steps P now ttl revision snapshot o is rows =
     if-cases P (is_refusing o.machine.watchdog.mode o.machine.watchdog.works) (ending_server now WatchdogNotArmed (Told snapshot o)) (takes_over now revision (arming now ttl (Told snapshot o)))
     (λ _. rows.stops is) (λ _. rows.takes_over is)
 
 takes-steps : (P : Outcome → Type 0) (now ttl : Ticks) (revision : ℕ) (snapshot : SnapshotFacts) (o : Outcome) → may_create o.role ≡ true → o.knows.turn_settings.synchronous_mode ≡ true → LeaseSteps P now ttl revision snapshot o → P (takes_key now ttl revision (Told snapshot o))
 takes-steps P now ttl revision snapshot o creates mode rows = let told : Outcome = Told snapshot o in let arm : Outcome = arming now ttl told in
-    let refuses : Outcome = gives_back revision (record told { outputs = listed outputs.CannotArm o.outputs }) in
+    let refuses : Outcome = gives_back revision (record told { outputs = with_output outputs.CannotArm o.outputs }) in
     if-cases P (may_take now told.knows o.machine) (arms now ttl revision told) (gives_back revision told)
     (λ _. if-cases P (is_refusing o.machine.watchdog.mode o.machine.watchdog.works) refuses (begins_or_claims now revision arm) (λ _. rows.refuses)
     (λ _. if-cases P o.knows.turn_settings.synchronous_mode (claims now revision (passing arm)) (begins now revision arm) (λ _. rows.claims creates) (λ off. absurd (no-way (sym off ∙ mode)))))
@@ -127,7 +127,7 @@ takes-steps P now ttl revision snapshot o creates mode rows = let told : Outcome
 
 lease-steps : (P : Outcome → Type 0) (now ttl : Ticks) (revision : ℕ) (snapshot : SnapshotFacts) (role : RoleFacts) (o : Outcome) → o.role ≡ role → IsSynchronousSnapshot snapshot → o.knows.turn_settings.synchronous_mode ≡ true → LeaseSteps P now ttl revision snapshot o → P (lease_granted now ttl revision role (Told snapshot o))
 lease-steps P now ttl revision snapshot (Leader held) o is on mode rows = renewed-steps P now ttl revision snapshot o held is on rows
-lease-steps P now ttl revision snapshot Stray o is on mode rows = stray-steps P now ttl revision snapshot o is rows
+lease-steps P now ttl revision snapshot Unleased o is on mode rows = unleased-steps P now ttl revision snapshot o is rows
 lease-steps P now ttl revision snapshot Follower o is on mode rows = takes-steps P now ttl revision snapshot o (rw is refl) mode rows
 lease-steps P now ttl revision snapshot (Holder held) o is on mode rows = takes-steps P now ttl revision snapshot o (rw is refl) mode rows
 lease-steps P now ttl revision snapshot (Ready held) o is on mode rows = rows.other
@@ -138,13 +138,13 @@ pub record WriteSteps (P : Outcome → Type 0) (now : Ticks) (question : Questio
   pub other : P (Told snapshot o)
   pub begins : (revision : ℕ) → question ≡ Claiming → o.role ≡ Ready revision → can_begin_on_claim o.machine.server.was_primary o.machine.server.state ≡ true → P (begins now revision (Told snapshot o))
   pub postpones : (revision : ℕ) → P (postpones revision (Told snapshot o))
-  pub lists : (set : MemberSet) → question ≡ Syncing (Lists set) → is_leader o.role ≡ true → P (requiring (waiting_for (Told snapshot o).knows.settings set) (Told snapshot o))
-  pub empties : question ≡ Syncing Empties → P (requiring requireds.Nobody (Told snapshot o))
+  pub lists : (set : MemberSet) → question ≡ Syncing (NamesStandbys set) → is_leader o.role ≡ true → P (requiring (waiting_for (Told snapshot o).knows.settings set) (Told snapshot o))
+  pub empties : question ≡ Syncing ClearsList → P (requiring requireds.Nobody (Told snapshot o))
 
 settled-steps : (P : Outcome → Type 0) (now : Ticks) (question : Question) (snapshot : SnapshotFacts) (o : Outcome) (settling : Settling) → question ≡ Syncing settling → is_leader o.role ≡ true → WriteSteps P now question snapshot o → P (settled settling (Told snapshot o))
-settled-steps P now question snapshot o Stays is leads rows = rows.other
-settled-steps P now question snapshot o (Lists set) is leads rows = rows.lists set is leads
-settled-steps P now question snapshot o Empties is leads rows = rows.empties is
+settled-steps P now question snapshot o KeepsList is leads rows = rows.other
+settled-steps P now question snapshot o (NamesStandbys set) is leads rows = rows.lists set is leads
+settled-steps P now question snapshot o ClearsList is leads rows = rows.empties is
 
 -- outside a pause who begins on its claim still can
 begins-unpaused : (paused wanted can : Bool) → paused ≡ false → (if paused then wanted else can) ≡ true → can ≡ true
@@ -159,13 +159,13 @@ write-steps P now question Claiming snapshot Follower o unpaused is role fits ro
 write-steps P now question Claiming snapshot (Holder held) o unpaused is role fits rows = rows.other
 write-steps P now question Claiming snapshot (Leader held) o unpaused is role fits rows = rows.other
 write-steps P now question Claiming snapshot (Ending held why) o unpaused is role fits rows = rows.other
-write-steps P now question Claiming snapshot Stray o unpaused is role fits rows = rows.other
+write-steps P now question Claiming snapshot Unleased o unpaused is role fits rows = rows.other
 write-steps P now question (Syncing settling) snapshot role o unpaused is same fits rows = settled-steps P now question snapshot o settling is (ap is_leader same ∙ fits) rows
 write-steps P now question Reading snapshot role o unpaused is same fits rows = rows.other
-write-steps P now question Asking snapshot role o unpaused is same fits rows = rows.other
+write-steps P now question ComparingPositions snapshot role o unpaused is same fits rows = rows.other
 write-steps P now question Creating snapshot role o unpaused is same fits rows = rows.other
 write-steps P now question Renewing snapshot role o unpaused is same fits rows = rows.other
-write-steps P now question Checking snapshot role o unpaused is same fits rows = rows.other
+write-steps P now question FindingCandidate snapshot role o unpaused is same fits rows = rows.other
 
 -- a granted request
 pub record GrantSteps (P : Outcome → Type 0) (now : Ticks) (sequence : ℕ) (grant : Granted) (snapshot : SnapshotFacts) (o : Outcome) : Type 0 where
@@ -176,7 +176,7 @@ pub record GrantSteps (P : Outcome → Type 0) (now : Ticks) (sequence : ℕ) (g
   pub leases : (awaited : IsAwaitedLease sequence grant o.knows) → LeaseSteps P now awaited.waited.ttl grant.revision snapshot o
   pub writes : (awaited : IsAwaitedWrite sequence grant o.knows) → WriteSteps P now awaited.waited.question snapshot o
 
-granted-for-steps : (P : Outcome → Type 0) (now : Ticks) (sequence : ℕ) (grant : Granted) (snapshot : SnapshotFacts) (waited : Option Waited) (o : Outcome) → o.knows.waited ≡ waited → IsSynchronousSnapshot snapshot → GrantSteps P now sequence grant snapshot o → P (granted_for now sequence grant snapshot waited o)
+granted-for-steps : (P : Outcome → Type 0) (now : Ticks) (sequence : ℕ) (grant : Granted) (snapshot : SnapshotFacts) (waited : Option PendingQuestion) (o : Outcome) → o.knows.waited ≡ waited → IsSynchronousSnapshot snapshot → GrantSteps P now sequence grant snapshot o → P (granted_for now sequence grant snapshot waited o)
 granted-for-steps P now sequence grant snapshot None o is on rows = rows.kept
 granted-for-steps P now sequence grant snapshot (Some waited) o is on rows =
     if-cases P (is_decision waited sequence && is_lease_of o.knows.who.me grant) (accepted_grant now waited grant.revision snapshot o) (granted_write now sequence grant snapshot waited o)

@@ -157,6 +157,6 @@ found-in connected noted n e = elim (cases_lt n (length connected)) [
 ]
 
 -- who has confirmed the noted position is connected, and its position is past that
-pub confirmed-reached : (view : LeaderView) (n : ℕ) → set_members (confirmed_in view) n ≡ true → HasReached view.connected (noted_position view.noted) n
-confirmed-reached view n is = let chosen : List Bool = map (has_confirmed view.noted) view.connected in
-    found-in view.connected view.noted n (where-one (get_or chosen n false) (sym (bit-set_of chosen n) ∙ is-one (bit_at (set_of chosen).bits n) is))
+pub confirmed-reached : (view : LeaderView) (n : ℕ) → set_members (confirmed_in view) n ≡ true → HasReached view.confirmed_positions (noted_position view.noted) n
+confirmed-reached view n is = let chosen : List Bool = map (has_confirmed view.noted) view.confirmed_positions in
+    found-in view.confirmed_positions view.noted n (where-one (get_or chosen n false) (sym (bit-set_of chosen n) ∙ is-one (bit_at (set_of chosen).bits n) is))

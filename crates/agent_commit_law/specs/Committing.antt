@@ -30,10 +30,10 @@ use Rattle.agent_model.specs.declared.heard.Heard.{Heard}
 use Rattle.agent_model.specs.declared.heard.Heard.TheVariants as heards
 use Rattle.agent_model.specs.declared.knowledge.Knowledge.{Knowledge}
 use Rattle.agent_model.specs.declared.knowledge.Question.{Question}
-use Rattle.agent_model.specs.declared.knowledge.Question.TheVariants.{Asking, Creating, Renewing, Claiming, Syncing}
-use Rattle.agent_model.specs.declared.knowledge.Settling.TheVariants.{Lists, Empties}
+use Rattle.agent_model.specs.declared.knowledge.Question.TheVariants.{ComparingPositions, Creating, Renewing, Claiming, Syncing}
+use Rattle.agent_model.specs.declared.knowledge.Settling.TheVariants.{NamesStandbys, ClearsList}
 use Rattle.agent_model.specs.declared.knowledge.SyncRead.{SyncRead}
-use Rattle.agent_model.specs.declared.knowledge.Waited.{Waited}
+use Rattle.agent_model.specs.declared.knowledge.PendingQuestion.{PendingQuestion}
 use Rattle.agent_model.specs.declared.output.Output.{Output}
 use Rattle.agent_model.specs.declared.output.Output.TheVariants as outputs
 use Rattle.agent_model.specs.declared.output.Target.TheVariants as targets
@@ -51,14 +51,14 @@ sync_seen None = None
 sync_seen (Some read) = Some (record { leader = read.key.leader.number; standbys = set_members read.key.standbys; quorum = 0; revision = read.revision })
 
 -- the number of what is waited for, if that is a create, a renewal or a write of the sync key
-abbrev pub number_waited : Option Waited → Option ℕ
+abbrev pub number_waited : Option PendingQuestion → Option ℕ
 number_waited None = None
 number_waited (Some waited) = if asks_lease waited.question || asks_sync waited.question then Some waited.sequence else None
 
 -- what the law sees of an agent in this role. No race counts: in synchronous mode only whom the sync key names takes the leader key
 abbrev pub committer_seen : RoleFacts → Knowledge → Agent
 committer_seen role knows = record {
-  run = knows.run;
+  incarnation = knows.incarnation;
   last = knows.sequence;
   waits = number_waited knows.waited;
   turn = sync_seen knows.turn_sync;
@@ -87,14 +87,14 @@ pub record StandsToCommit (s : State) (m : ℕ) (o : Outcome) : Type 0 where
   pub required : (s.members m).required ≡ confirmers_in o.machine.replication.required
   pub end : IsEndOf o.machine.server.end (s.members m).log
   pub has_log : has_data o.machine.server.state ≡ true → HasLog (s.members m).log
-  pub connected : (n : ℕ) (end : Lsn) → slice_get o.machine.replication.connected n ≡ Some (Some end) → IsConnected s m n end
+  pub connected : (n : ℕ) (end : Lsn) → slice_get o.machine.replication.confirmed_positions n ≡ Some (Some end) → IsConnected s m n end
   pub me : o.knows.who.me.number ≡ m
   pub counts : m < s.member_count
   pub strict : (key : SyncKey) → s.sync ≡ Some key → IsStrict s.member_count key
 
 -- the answer of this number grants this member the write of the sync key that it waits for
 pub record IsAwaitedWrite (sequence : ℕ) (grant : Granted) (knows : Knowledge) : Type 0 where
-  pub waited : Waited
+  pub waited : PendingQuestion
   pub is : knows.waited ≡ Some waited
   pub decision : is_sync_decision waited sequence ≡ true
   pub mine : is_write_of knows.who.me grant ≡ true
@@ -103,13 +103,13 @@ pub record IsAwaitedWrite (sequence : ℕ) (grant : Granted) (knows : Knowledge)
 pub record HearsLease (s : State) (m : ℕ) (heard : Option ℕ) (sequence revision : ℕ) (snapshot : SnapshotFacts) (knows : Knowledge) : Type 0 where
   pub number : ℕ
   pub heard_is : heard ≡ Some number
-  pub is : s.flight number ≡ Some (LeaseGranted (record { member = m; run = knows.run; sequence = sequence; revision = revision; sync = sync_seen (sync_read_in snapshot) }))
+  pub is : s.flight number ≡ Some (LeaseGranted (record { member = m; incarnation = knows.incarnation; sequence = sequence; revision = revision; sync = sync_seen (sync_read_in snapshot) }))
 
 -- the standbys in a sync key are those that this question asked for: a claim names none, and a required list settles to those that it
 -- is asked for with
 abbrev pub IsAskedBy : Question → SyncKey → Type 0
 IsAskedBy Claiming key = (n : ℕ) → key.standbys n ≡ false
-IsAskedBy (Syncing (Lists standbys)) key = (n : ℕ) → key.standbys n ≡ set_members standbys n
+IsAskedBy (Syncing (NamesStandbys standbys)) key = (n : ℕ) → key.standbys n ≡ set_members standbys n
 IsAskedBy _ key = Unit {0}
 
 -- the message that it hears grants a write of the sync key of this number, which this question asked
@@ -117,7 +117,7 @@ pub record HearsWrite (s : State) (m : ℕ) (heard : Option ℕ) (sequence : ℕ
   pub number : ℕ
   pub key : SyncKey
   pub heard_is : heard ≡ Some number
-  pub is : s.flight number ≡ Some (SyncGranted (record { member = m; run = knows.run; sequence = sequence; key = key }))
+  pub is : s.flight number ≡ Some (SyncGranted (record { member = m; incarnation = knows.incarnation; sequence = sequence; key = key }))
   pub asked : IsAskedBy question key
 
 -- it hears the answer to a granted request: where that is waited for, the grant of a lease or of a write of the sync key
@@ -127,7 +127,7 @@ pub record HearsGranted (s : State) (m : ℕ) (heard : Option ℕ) (sequence : �
 
 -- what the law hears of what comes to an agent. Of a refusal, and of what other members ask and answer, it needs nothing
 abbrev pub HearsToCommit : State → ℕ → AgentInput → Heard → Outcome → Type 0
-HearsToCommit s m input (heards.Got sequence snapshot) o = HearsSnapshot s input (sync_seen (sync_read_in snapshot))
+HearsToCommit s m input (heards.ReadAnswered sequence snapshot) o = HearsSnapshot s input (sync_seen (sync_read_in snapshot))
 HearsToCommit s m input (heards.Granted sequence grant snapshot) o = HearsGranted s m input.heard sequence grant snapshot o.knows
 HearsToCommit s m input _ o = Unit {0}
 
@@ -138,16 +138,16 @@ pub record IsSynchronousSnapshot (snapshot : SnapshotFacts) : Type 0 where
 
 -- so it is in the snapshot that comes with what is heard, if one does
 abbrev pub HearsSynchronousMode : Heard → Type 0
-HearsSynchronousMode (heards.Got sequence snapshot) = IsSynchronousSnapshot snapshot
+HearsSynchronousMode (heards.ReadAnswered sequence snapshot) = IsSynchronousSnapshot snapshot
 HearsSynchronousMode (heards.Granted sequence grant snapshot) = IsSynchronousSnapshot snapshot
 HearsSynchronousMode _ = Unit {0}
 
 -- the mode is on, where this question follows what a turn read; and it isn't that the sync key be removed
 abbrev pub FollowsSynchronousMode : Bool → Question → Type 0
-FollowsSynchronousMode on Asking = on ≡ true
+FollowsSynchronousMode on ComparingPositions = on ≡ true
 FollowsSynchronousMode on Creating = on ≡ true
 FollowsSynchronousMode on Renewing = on ≡ true
-FollowsSynchronousMode on (Syncing Empties) = ⊥
+FollowsSynchronousMode on (Syncing ClearsList) = ⊥
 FollowsSynchronousMode on _ = Unit {0}
 
 -- what an agent waits for it asked with the synchronous mode on
@@ -159,19 +159,19 @@ abbrev pub request_in : Query → Option SyncRequest
 request_in (SyncQuery request) = Some request
 request_in _ = None
 
--- the same of a question of this member, in this run under this number
+-- the same of a question of this member, in this incarnation under this number
 abbrev pub request_of_body : ℕ → ℕ → ℕ → Body → Option SyncRequest
-request_of_body m run sequence (bodies.Request txn) = request_in (query_of m run sequence txn)
-request_of_body m run sequence _ = None
+request_of_body m incarnation sequence (bodies.Request txn) = request_in (query_of m incarnation sequence txn)
+request_of_body m incarnation sequence _ = None
 
 -- the same of an output
 abbrev pub request_of : ℕ → ℕ → Output → Option SyncRequest
-request_of m run (outputs.Send targets.Store sequence body) = request_of_body m run sequence body
-request_of m run _ = None
+request_of m incarnation (outputs.Send targets.Store sequence body) = request_of_body m incarnation sequence body
+request_of m incarnation _ = None
 
 -- the requests among these outputs that compare the sync key
 abbrev pub requests_of : ℕ → ℕ → List Output → List SyncRequest
-requests_of m run outs = filter_map (request_of m run) outs
+requests_of m incarnation outs = filter_map (request_of m incarnation) outs
 
 -- there is one at most
 abbrev pub IsOneAtMost : List SyncRequest → Type 0
@@ -210,14 +210,14 @@ PublishesBelow count snapshot = (n : ℕ) → set_members (published_in snapshot
 
 -- so they have in the snapshot that comes with what is heard, if one does
 abbrev pub HearsBelow : ℕ → Heard → Type 0
-HearsBelow count (heards.Got sequence snapshot) = PublishesBelow count snapshot
+HearsBelow count (heards.ReadAnswered sequence snapshot) = PublishesBelow count snapshot
 HearsBelow count (heards.Granted sequence grant snapshot) = PublishesBelow count snapshot
 HearsBelow count _ = Unit {0}
 
 -- and so have the members to which the server is connected
 pub record KnowsBelow (count : ℕ) (heard : Heard) (o : Outcome) : Type 0 where
   pub published : HearsBelow count heard
-  pub connected : (n : ℕ) (end : Lsn) → slice_get o.machine.replication.connected n ≡ Some (Some end) → n < count
+  pub connected : (n : ℕ) (end : Lsn) → slice_get o.machine.replication.confirmed_positions n ≡ Some (Some end) → n < count
 
 -- a request that neither compares the sync key nor writes it
 abbrev pub IsQuietTxn : Txn → Type 0
@@ -254,7 +254,7 @@ abbrev pub StandsAlone : Output → Type 0
 StandsAlone (outputs.Send to sequence body) = IsQuietBody body
 StandsAlone (outputs.Require required) = ⊥
 StandsAlone outputs.Begin = ⊥
-StandsAlone outputs.Passes = ⊥
+StandsAlone outputs.ClaimsOutsideSync = ⊥
 StandsAlone _ = Unit {0}
 
 -- the form of an input's outputs, in their order: each may be an action of its own; or the law's input covers all up to a question, or up to
@@ -263,15 +263,15 @@ StandsAlone _ = Unit {0}
 pub data HasForm (outs : List Output) : Type 0 where
   Apart : (alone : All StandsAlone outs) → HasForm outs
   Asks : (front : List Output) → (sequence : ℕ) → (body : Body) → (covered : All IsCovered front) → (whole : front ++ outputs.Send targets.Store sequence body ∷ [] ≡ outs) → HasForm outs
-  Passes : (front : List Output) → (sequence revision : ℕ) → (sync : Expected) → (covered : All IsCovered front)
-      → (whole : front ++ outputs.Passes ∷ outputs.Send targets.Store sequence (bodies.Request (txns.Claim revision sync)) ∷ [] ≡ outs) → HasForm outs
+  ClaimsOutsideSync : (front : List Output) → (sequence revision : ℕ) → (sync : Expected) → (covered : All IsCovered front)
+      → (whole : front ++ outputs.ClaimsOutsideSync ∷ outputs.Send targets.Store sequence (bodies.Request (txns.Claim revision sync)) ∷ [] ≡ outs) → HasForm outs
   Requires : (front : List Output) → (required : Required) → (covered : All IsCovered front) → (whole : front ++ outputs.Require required ∷ [] ≡ outs) → HasForm outs
   Begins : (front : List Output) → (required : Required) → (covered : All IsCovered front) → (whole : front ++ outputs.Require required ∷ outputs.Begin ∷ [] ≡ outs) → HasForm outs
 
 -- the member takes the leader key though the sync key doesn't name it
-abbrev pub is_passing : Output → Bool
-is_passing outputs.Passes = true
-is_passing _ = false
+abbrev pub is_claim_outside_sync : Output → Bool
+is_claim_outside_sync outputs.ClaimsOutsideSync = true
+is_claim_outside_sync _ = false
 
 -- the server comes to accept writes by this output, or will when its start is complete
 abbrev pub is_begin : Output → Bool
@@ -288,9 +288,9 @@ pub record IsCommitInputOf (s : State) (m : ℕ) (o after : Outcome) (input : Ag
   pub agent : input.agent ≡ committer_seen after.role after.knows
   pub live : input.live ≡ live_shown o after
   pub required : input.required ≡ confirmers_in after.machine.replication.required
-  pub sends : IsSent (requests_of m o.knows.run after.outputs) input.sends
+  pub sends : IsSent (requests_of m o.knows.incarnation after.outputs) input.sends
   pub holder_was_live : input.holder_was_live ≡ s.holder_was_live
-  pub inside : has_one is_passing after.outputs ≡ false
+  pub inside : has_one is_claim_outside_sync after.outputs ≡ false
 
 -- on a lease of this revision an agent claims the sync key: it hears the grant that it waits for, and wasn't about to begin
 abbrev pub ArmsOn : Ticks → Heard → Outcome → ℕ → Type 0
@@ -305,7 +305,7 @@ ListsMember (AtLeast number members) n = members n ≡ true
 
 -- the server is connected to this member
 abbrev pub IsConnectedTo : Outcome → ℕ → Type 0
-IsConnectedTo o n = (end : Lsn) × (slice_get o.machine.replication.connected n ≡ Some (Some end))
+IsConnectedTo o n = (end : Lsn) × (slice_get o.machine.replication.confirmed_positions n ≡ Some (Some end))
 
 -- whom commits come to wait for they waited for before, or the server is connected to it
 abbrev pub GrowsByConnected : Outcome → Confirmers → Confirmers → Type 0
@@ -333,7 +333,7 @@ pub record IsLawfulAs (now : Ticks) (heard : Heard) (o : Outcome) (s : State) (m
 -- only where it can
 pub record StaysInSynchronousMode (heard : Heard) (o after : Outcome) : Type 0 where
   pub asks : AsksInSynchronousMode after.knows
-  pub one : IsOneAtMost (requests_of o.knows.who.me.number o.knows.run after.outputs)
+  pub one : IsOneAtMost (requests_of o.knows.who.me.number o.knows.incarnation after.outputs)
   pub sends : (count : ℕ) → KnowsBelow count heard o → All (IsSynchronousOutput count) after.outputs
   pub form : HasForm after.outputs
   pub begins : has_one is_begin after.outputs ≡ true → can_begin_on_claim o.machine.server.was_primary o.machine.server.state ≡ true

@@ -13,29 +13,29 @@ use Rattle.event_book.specs.declared.reason.Reason.TheVariants.{StartTooLong, Wa
 use Rattle.lease_law.specs.Past.{query_of, lease_span as span_asked}
 use Rattle.lease_law.proofs.Tools.{some-is, none-some}
 use Rattle.agent_model.specs.declared.heard.Heard.{Heard}
-use Rattle.agent_model.specs.declared.heard.Heard.TheVariants.{Wake, Got, Granted as HeardGranted, Mismatch, Asked, Answered, Operated as HearsOperator}
+use Rattle.agent_model.specs.declared.heard.Heard.TheVariants.{Wake, ReadAnswered, Granted as HeardGranted, Mismatch, Asked, Answered, Operated as HearsOperator}
 use Rattle.agent_model.specs.declared.knowledge.Knowledge.{Knowledge}
-use Rattle.agent_model.specs.declared.knowledge.Waited.{Waited}
+use Rattle.agent_model.specs.declared.knowledge.PendingQuestion.{PendingQuestion}
 use Rattle.agent_model.specs.declared.machine.Machine.{Machine}
 use Rattle.agent_model.specs.declared.output.Output.{Output}
 use Rattle.agent_model.specs.declared.output.Output.TheVariants as outputs
 use Rattle.agent_model.specs.declared.output.Target.TheVariants as targets
 use Rattle.agent_model.specs.Acting.{requiring, touching, starting_replica, arming, ending_server, is_refusing, waiting_no_more}
-use Rattle.agent_model.specs.Agents.{RoleFacts, Follower, Ending, IsSoundAgent, Outcome, made}
+use Rattle.agent_model.specs.Agents.{RoleFacts, Follower, Ending, IsSoundAgent, Outcome, outcome_from}
 use Rattle.agent_lease_law.specs.Asking.{IsNumbered, IsAskedNow, AsksAsWaited}
-use Rattle.agent_model.specs.Before.{before}
+use Rattle.agent_model.specs.Reconciling.{reconciled}
 use Rattle.agent_model.specs.Claiming.{begins, claims, begins_or_claims, passing, postpones}
-use Rattle.agent_model.specs.Decisions.{asks_lease, leader_renewed, takes_over, stray_renewed, may_take, gives_back, arms, takes_key, granted, refused}
+use Rattle.agent_model.specs.Decisions.{asks_lease, leader_renewed, takes_over, unleased_renewed, may_take, gives_back, arms, takes_key, granted, refused}
 use Rattle.agent_model.specs.Planning.{writing_sync, noting}
-use Rattle.agent_model.specs.Outputs.{listed}
+use Rattle.agent_model.specs.Outputs.{with_output}
 use Rattle.agent_model.specs.Repairs.{repair_of}
-use Rattle.agent_model.specs.Snapshots.{renewing, follow_row, follows, leader_loses_key, stray_loses_key, read_noted, got, asks_as_stray, led_by_another}
+use Rattle.agent_model.specs.Snapshots.{renewing, follow_row, follows, leader_loses_key, unleased_loses_key, read_noted, read_answered, asks_as_unleased, led_by_another}
 use Rattle.agent_model.specs.Racing.{creating, barred, finds_free, judged, asking_others, unheard}
 use Rattle.agent_model.specs.Peers.{asked, keeping, answered}
 use Rattle.agent_model.specs.HandingOver.{checking, hands_over}
 use Rattle.agent_model.specs.Operators.{answering, given_up, learned, looked, operating, restarting, telling, wiping}
 use Rattle.agent_model.specs.Table.{step}
-use Rattle.agent_model.specs.Wake.{reading, turn_noted, leader_out_of_reach, stray_out_of_reach, overdue, turned, woken}
+use Rattle.agent_model.specs.Wake.{reading, turn_noted, leader_out_of_reach, unleased_out_of_reach, overdue, turned, woken}
 use Rattle.agent_model.specs.declared.why.Why.TheVariants.{HandOver}
 use Rattle.agent_roles.proofs.Granting.{Told}
 use Rattle.agent_roles.proofs.Knowing.{IsAlone, alone-of, before-onward, given-up-onward}
@@ -45,11 +45,11 @@ use Rattle.agent_model.proofs.Rows.{led_on, if-cases, renewed-by, begins-or-clai
 use Rattle.agent_lease_law.proofs.Sending.{IsSilent, silently, MayPut, AllMay, Fronts, before-fronts, got-none, wake-may, got-may, refused-may, granted-may, overdue-none, answered-none, answered-may, asked-may, operated-may, given-up-fronts, looked-fronts, looked-later}
 use Rattle.agent_lease_law.proofs.Sending.Fronts.{Silent, Released}
 use Rattle.agent_roles.proofs.Fitting.{before-fits}
-use Rattle.agent_model.specs.Pausing.{may_start_behind, resting, running_without_key}
+use Rattle.agent_model.specs.Pausing.{may_start_behind, disabling_watchdog, running_without_key}
 
 -- the create or the renewal that is waited for was waited for before, or is asked
 abbrev Holds : Ticks → Outcome → Outcome → Type 0
-Holds now o after = (waited : Waited) → after.knows.waited ≡ Some waited → asks_lease waited.question ≡ true → (o.knows.waited ≡ Some waited) ⊎ IsAskedNow now o after waited
+Holds now o after = (waited : PendingQuestion) → after.knows.waited ≡ Some waited → asks_lease waited.question ≡ true → (o.knows.waited ≡ Some waited) ⊎ IsAskedNow now o after waited
 
 nothing : (now : Ticks) (o after : Outcome) → after.knows.waited ≡ None → Holds now o after
 nothing now o after none waited is asks = absurd (none-some waited (sym none ∙ is))
@@ -58,9 +58,9 @@ as-before : (now : Ticks) (o after : Outcome) → after.knows.waited ≡ o.knows
 as-before now o after same waited is asks = inl (sym same ∙ is)
 
 -- a read, an ask of other members, and a write of the sync key is no request for a lease
-only-reads : (now : Ticks) (o after : Outcome) (read : Waited) → after.knows.waited ≡ Some read → asks_lease read.question ≡ false → Holds now o after
+only-reads : (now : Ticks) (o after : Outcome) (read : PendingQuestion) → after.knows.waited ≡ Some read → asks_lease read.question ≡ false → Holds now o after
 only-reads now o after read is no-lease waited waits asks = let same : read ≡ waited = some-is read waited (sym is ∙ waits) in
-    absurd (no-way (sym no-lease ∙ (ap (λ (w : Waited). asks_lease w.question) same ∙ asks)))
+    absurd (no-way (sym no-lease ∙ (ap (λ (w : PendingQuestion). asks_lease w.question) same ∙ asks)))
 
 -- a request under this number asks for leases of this span
 abbrev SpansAs : ℕ → ℕ → Output → Type 0
@@ -72,12 +72,12 @@ silent-spans number ttl (outputs.Send to sequence body) silent = absurd silent
 silent-spans number ttl _ silent = tt
 
 -- one more request behind silent outputs, that is waited for
-asked-now : (now : Ticks) (o after : Outcome) (outs : List Output) (asked : Waited) (txn : Txn) → All IsSilent outs → after.outputs ≡ listed (outputs.Send targets.Store asked.sequence (bodies.Request txn)) outs → after.knows.waited ≡ Some asked → asked.sent ≡ now
+asked-now : (now : Ticks) (o after : Outcome) (outs : List Output) (asked : PendingQuestion) (txn : Txn) → All IsSilent outs → after.outputs ≡ with_output (outputs.Send targets.Store asked.sequence (bodies.Request txn)) outs → after.knows.waited ≡ Some asked → asked.sent ≡ now
     → span_asked (query_of txn) ≡ asked.ttl.0 → o.knows.sequence < asked.sequence → Holds now o after
 asked-now now o after outs asked txn silent is waits sent span later waited waits-now asks = let same : asked ≡ waited = some-is asked waited (sym waits ∙ waits-now) in
     let all : All (SpansAs asked.sequence asked.ttl.0) after.outputs = subst (λ (l : List Output). All (SpansAs asked.sequence asked.ttl.0) l) (sym is)
     (All-push (SpansAs asked.sequence asked.ttl.0) outs (outputs.Send targets.Store asked.sequence (bodies.Request txn)) (All-weaker IsSilent (SpansAs asked.sequence asked.ttl.0) (silent-spans asked.sequence asked.ttl.0) outs silent) (λ _. span)) in
-    inr (subst (λ (w : Waited). IsAskedNow now o after w) same (record {
+    inr (subst (λ (w : PendingQuestion). IsAskedNow now o after w) same (record {
       later = later;
       sent = sent;
       ttl = λ request among. subst (λ (y : Output). SpansAs asked.sequence asked.ttl.0 y) among.2 (all among.0 (outputs.Send targets.Store asked.sequence (bodies.Request request)) among.1) refl;
@@ -103,7 +103,7 @@ overdue-silent now o b later same silent = overdue-by (Holds now o) now b (recor
   kept = as-before now o b same;
   quiet = nothing now o (waiting_no_more b) refl;
   leader = λ held _. nothing now o (leader_out_of_reach now held (waiting_no_more b)) refl;
-  stray = λ _. nothing now o (stray_out_of_reach now (waiting_no_more b)) refl;
+  unleased = λ _. nothing now o (unleased_out_of_reach now (waiting_no_more b)) refl;
   judges = λ _. judged-holds now o b later silent;
   ready = λ held _. nothing now o (postpones held (waiting_no_more b)) refl;
   checks = λ held _. handover-holds now held o b;
@@ -136,12 +136,12 @@ WaitsAs o x = x.knows.waited ≡ o.knows.waited
 told-holds : (now : Ticks) (o b : Outcome) → WaitsAs o b → ReplyRows (Holds now o) b
 told-holds now o b same = record { kept = as-before now o b same; answers = λ request told. as-before now o (answering request told b) same }
 
-before-holds : (now : Ticks) (o : Outcome) → Holds now o (before now o)
-before-holds now o = as-before now o (before now o) (before-waits now o)
+before-holds : (now : Ticks) (o : Outcome) → Holds now o (reconciled now o)
+before-holds now o = as-before now o (reconciled now o) (before-waits now o)
 
 wake-holds : (now : Ticks) (o : Outcome) → IsAlone o → All IsSilent o.outputs → Holds now o (woken now o)
-wake-holds now o alone silent = let told : Outcome = given_up now (before now o) in
-    let waits : told.knows.waited ≡ o.knows.waited = given-up-by (WaitsAs o) now (before now o) (record { kept = before-waits now o; answers = λ request answer. before-waits now o }) in
+wake-holds now o alone silent = let told : Outcome = given_up now (reconciled now o) in
+    let waits : told.knows.waited ≡ o.knows.waited = given-up-by (WaitsAs o) now (reconciled now o) (record { kept = before-waits now o; answers = λ request answer. before-waits now o }) in
     let holds : Holds now o (overdue now told) = overdue-holds now o told (given-up-onward None now o).last waits (given-up-fronts now o alone silent) in
     wake-by (Holds now o) now o (before-holds now o) (turn-holds now o (overdue now told) holds (λ x outs same. same-holds now o (overdue now told) x holds outs same))
 
@@ -167,30 +167,30 @@ follow-waits now leader o none = let x : Outcome = led_by_another o in
 follow-holds : (now : Ticks) (leader : MemberId) (o b : Outcome) → b.knows.waited ≡ None → Holds now o (follows now leader b)
 follow-holds now leader o b none = nothing now o (follows now leader b) (follow-waits now leader b none)
 
-got-silent : (now : Ticks) (points : List HistoryPoint) (sequence : ℕ) (snapshot : SnapshotFacts) (o b : Outcome) → o.knows.sequence ≤ b.knows.sequence → b.knows.waited ≡ o.knows.waited → All IsSilent b.outputs → Holds now o (got now points sequence snapshot b)
+got-silent : (now : Ticks) (points : List HistoryPoint) (sequence : ℕ) (snapshot : SnapshotFacts) (o b : Outcome) → o.knows.sequence ≤ b.knows.sequence → b.knows.waited ≡ o.knows.waited → All IsSilent b.outputs → Holds now o (read_answered now points sequence snapshot b)
 got-silent now points sequence snapshot o b later same silent = let read : Outcome = record b { knows = read_noted now snapshot b.knows } in
     got-by (Holds now o) now points sequence snapshot b (record {
       kept = as-before now o b same;
       quiet = nothing now o (waiting_no_more b) refl;
       other = nothing now o read refl;
       leader = λ held _. nothing now o (leader_loses_key now held read) refl;
-      stray = λ _. nothing now o (stray_loses_key now read) refl;
+      unleased = λ _. nothing now o (unleased_loses_key now read) refl;
       renews = λ _ leader some mine. asked-now now o (renewing now points leader.revision read) b.outputs _ _ silent refl refl refl refl (more-than o.knows.sequence b.knows.sequence later);
       touches = nothing now o (touching read) refl;
       follows = λ leader _ _. follow-holds now leader.holder o read refl;
       free = λ _ _. free-holds now o read later refl silent;
       runs_on = λ _. nothing now o (running_without_key read) refl;
-      asks_on = λ _. asked-now now o (asks_as_stray now read) (listed outputs.RunsWithoutKey b.outputs) _ _ (silently b.outputs outputs.RunsWithoutKey silent tt) refl refl refl refl (more-than o.knows.sequence b.knows.sequence later);
+      asks_on = λ _. asked-now now o (asks_as_unleased now read) (with_output outputs.RunsWithoutKey b.outputs) _ _ (silently b.outputs outputs.RunsWithoutKey silent tt) refl refl refl refl (more-than o.knows.sequence b.knows.sequence later);
     })
 
-got-fronts : (now : Ticks) (points : List HistoryPoint) (sequence : ℕ) (snapshot : SnapshotFacts) (o b : Outcome) → o.knows.sequence ≤ b.knows.sequence → b.knows.waited ≡ o.knows.waited → Fronts o b → Holds now o (got now points sequence snapshot b)
+got-fronts : (now : Ticks) (points : List HistoryPoint) (sequence : ℕ) (snapshot : SnapshotFacts) (o b : Outcome) → o.knows.sequence ≤ b.knows.sequence → b.knows.waited ≡ o.knows.waited → Fronts o b → Holds now o (read_answered now points sequence snapshot b)
 got-fronts now points sequence snapshot o b later same (Silent all) = got-silent now points sequence snapshot o b later same all
 got-fronts now points sequence snapshot o b later same (Released revision held alone role ended counted all) =
     subst (λ (z : Outcome). Holds now o z) (sym (got-none now points sequence snapshot b alone)) (as-before now o b same)
 
-got-holds : (now : Ticks) (points : List HistoryPoint) (sequence : ℕ) (snapshot : SnapshotFacts) (o : Outcome) → IsAlone o → All IsSilent o.outputs → Holds now o (got now points sequence snapshot (looked sequence snapshot (before now o)))
-got-holds now points sequence snapshot o alone silent = let told : Outcome = looked sequence snapshot (before now o) in
-    let waits : told.knows.waited ≡ o.knows.waited = looked-by (WaitsAs o) sequence snapshot (before now o) (record { kept = before-waits now o; answers = λ request answer. before-waits now o }) in
+got-holds : (now : Ticks) (points : List HistoryPoint) (sequence : ℕ) (snapshot : SnapshotFacts) (o : Outcome) → IsAlone o → All IsSilent o.outputs → Holds now o (read_answered now points sequence snapshot (looked sequence snapshot (reconciled now o)))
+got-holds now points sequence snapshot o alone silent = let told : Outcome = looked sequence snapshot (reconciled now o) in
+    let waits : told.knows.waited ≡ o.knows.waited = looked-by (WaitsAs o) sequence snapshot (reconciled now o) (record { kept = before-waits now o; answers = λ request answer. before-waits now o }) in
     got-fronts now points sequence snapshot o told (looked-later now sequence snapshot o) waits (looked-fronts now sequence snapshot o alone silent)
 
 refused-holds : (now : Ticks) (sequence : ℕ) (o b : Outcome) → b.knows.waited ≡ o.knows.waited → Holds now o (refused now sequence b)
@@ -198,7 +198,7 @@ refused-holds now sequence o b same = refused-by (Holds now o) now sequence b (r
   kept = as-before now o b same;
   quiet = nothing now o (waiting_no_more b) refl;
   leader = λ held _. nothing now o (leader_loses_key now held (waiting_no_more b)) refl;
-  stray = λ _. nothing now o (stray_loses_key now (waiting_no_more b)) refl;
+  unleased = λ _. nothing now o (unleased_loses_key now (waiting_no_more b)) refl;
   follower = λ held _. nothing now o (record (waiting_no_more b) { role = Follower }) refl;
   ready = λ held _. nothing now o (postpones held (waiting_no_more b)) refl;
   runs_on = λ _. nothing now o (running_without_key (waiting_no_more b)) refl;
@@ -222,12 +222,12 @@ renewed-holds : (now ttl : Ticks) (revision : ℕ) (o b : Outcome) → b.knows.w
 renewed-holds now ttl revision o b none = let led : Outcome = led_on now ttl revision b in
     renewed-by (Holds now o) now ttl revision b (nothing now o (record (ending_server now StartTooLong led) { role = Ending revision HandOver }) none) (duty-holds now revision o led none)
 
-stray-holds : (now ttl : Ticks) (revision : ℕ) (o b : Outcome) → b.knows.waited ≡ None → Holds now o (stray_renewed now ttl revision b)
-stray-holds now ttl revision o b none = let ended : Outcome = ending_server now WatchdogNotArmed b in let over : Outcome = takes_over now revision (arming now ttl b) in
+unleased-holds : (now ttl : Ticks) (revision : ℕ) (o b : Outcome) → b.knows.waited ≡ None → Holds now o (unleased_renewed now ttl revision b)
+unleased-holds now ttl revision o b none = let ended : Outcome = ending_server now WatchdogNotArmed b in let over : Outcome = takes_over now revision (arming now ttl b) in
     if-cases (Holds now o) (is_refusing b.machine.watchdog.mode b.machine.watchdog.works) ended over (λ _. nothing now o ended none) (λ _. nothing now o over none)
 
 takes-holds : (now ttl : Ticks) (revision : ℕ) (o b : Outcome) → b.knows.waited ≡ None → Holds now o (takes_key now ttl revision b)
-takes-holds now ttl revision o b none = let back : Outcome = gives_back revision (record b { outputs = listed outputs.CannotArm b.outputs }) in let arm : Outcome = arming now ttl b in
+takes-holds now ttl revision o b none = let back : Outcome = gives_back revision (record b { outputs = with_output outputs.CannotArm b.outputs }) in let arm : Outcome = arming now ttl b in
     if-cases (Holds now o) (may_take now b.knows b.machine) (arms now ttl revision b) (gives_back revision b)
     (λ _. if-cases (Holds now o) (is_refusing b.machine.watchdog.mode b.machine.watchdog.works) back (begins_or_claims now revision arm) (λ _. nothing now o back none)
     (λ _. begins-or-claims-by (Holds now o) now revision arm (nothing now o (begins now revision arm) none) (only-reads now o (claims now revision (passing arm)) _ refl refl)))
@@ -238,11 +238,11 @@ granted-holds now sequence grant snapshot o b same = granted-by (Holds now o) no
     (λ waited is decision. record {
       other = nothing now o (Told snapshot b) refl;
       leader = λ held _. renewed-holds now waited.ttl grant.revision o (Told snapshot b) refl;
-      stray = λ _. stray-holds now waited.ttl grant.revision o (Told snapshot b) refl;
+      unleased = λ _. unleased-holds now waited.ttl grant.revision o (Told snapshot b) refl;
       takes = λ _. takes-holds now waited.ttl grant.revision o (Told snapshot b) refl;
       rests = λ renews _ held _. let led : Outcome = rested_on renews grant.revision (Told snapshot b) in duties-of (Holds now o) now grant.revision led (duty-holds now grant.revision o led refl);
-      stray_rests = λ renews _ _. nothing now o (takes_over now grant.revision (resting renews (Told snapshot b))) refl;
-      takes_resting = λ renews _ _. let rest : Outcome = resting renews (Told snapshot b) in
+      unleased_rests = λ renews _ _. nothing now o (takes_over now grant.revision (disabling_watchdog renews (Told snapshot b))) refl;
+      takes_resting = λ renews _ _. let rest : Outcome = disabling_watchdog renews (Told snapshot b) in
           takes-in-pause-by (Holds now o) now renews grant.revision (Told snapshot b) (nothing now o (gives_back grant.revision (Told snapshot b)) refl) (nothing now o (begins now grant.revision rest) refl) (only-reads now o (claims now grant.revision (passing rest)) _ refl refl);
     })
     (record {
@@ -268,14 +268,14 @@ answered-holds now sequence answer o b later same (Released revision held alone 
 
 step-holds : (now : Ticks) (points : List HistoryPoint) (heard : Heard) (o : Outcome) → IsAlone o → All IsSilent o.outputs → Holds now o (step now points heard o)
 step-holds now points Wake o alone silent = wake-holds now o alone silent
-step-holds now points (Got sequence snapshot) o alone silent = got-holds now points sequence snapshot o alone silent
+step-holds now points (ReadAnswered sequence snapshot) o alone silent = got-holds now points sequence snapshot o alone silent
 step-holds now points (HeardGranted sequence grant snapshot) o alone silent =
-    granted-any-by (Holds now o) now sequence grant snapshot (before now o) (before-holds now o) (told-holds now o (learned snapshot (before now o)) (before-waits now o)) (granted-holds now sequence grant snapshot o (before now o) (before-waits now o))
+    granted-any-by (Holds now o) now sequence grant snapshot (reconciled now o) (before-holds now o) (told-holds now o (learned snapshot (reconciled now o)) (before-waits now o)) (granted-holds now sequence grant snapshot o (reconciled now o) (before-waits now o))
 step-holds now points (Mismatch sequence key found) o alone silent =
-    refused-any-by (Holds now o) now sequence (before now o) (told-holds now o (before now o) (before-waits now o)) (refused-holds now sequence o (before now o) (before-waits now o))
-step-holds now points (Asked from run sequence) o alone silent = as-before now o (asked from run sequence (before now o)) (before-waits now o)
-step-holds now points (Answered sequence answer) o alone silent = answered-holds now sequence answer o (before now o) (before-onward None now o).last (before-waits now o) (before-fronts now o alone silent)
-step-holds now points (HearsOperator action) o alone silent = let b : Outcome = before now o in
+    refused-any-by (Holds now o) now sequence (reconciled now o) (told-holds now o (reconciled now o) (before-waits now o)) (refused-holds now sequence o (reconciled now o) (before-waits now o))
+step-holds now points (Asked from incarnation sequence) o alone silent = as-before now o (asked from incarnation sequence (reconciled now o)) (before-waits now o)
+step-holds now points (Answered sequence answer) o alone silent = answered-holds now sequence answer o (reconciled now o) (before-onward None now o).last (before-waits now o) (before-fronts now o alone silent)
+step-holds now points (HearsOperator action) o alone silent = let b : Outcome = reconciled now o in
     operated-by (Holds now o) now action.request action.asked b (record {
       asks = λ operation txn _. as-before now o (operating now action.request operation (bodies.Request txn) b) (before-waits now o);
       restarts = λ told. as-before now o (telling action.request told (restarting now b)) (before-waits now o);
@@ -288,10 +288,10 @@ Any revision = Unit {0}
 
 step-sends : (now : Ticks) (points : List HistoryPoint) (heard : Heard) (o : Outcome) → IsAlone o → All IsSilent o.outputs → AllMay Any o (step now points heard o)
 step-sends now points Wake o alone silent = wake-may Any now o alone silent
-step-sends now points (Got sequence snapshot) o alone silent = got-may Any now points sequence snapshot o alone silent
+step-sends now points (ReadAnswered sequence snapshot) o alone silent = got-may Any now points sequence snapshot o alone silent
 step-sends now points (HeardGranted sequence grant snapshot) o alone silent = granted-may Any now sequence grant snapshot o alone (before-onward None now o).last (before-fits now o) (λ _. tt) (λ revision _. tt) silent
 step-sends now points (Mismatch sequence key found) o alone silent = refused-may Any now sequence o alone silent
-step-sends now points (Asked from run sequence) o alone silent = asked-may Any now from run sequence o alone silent
+step-sends now points (Asked from incarnation sequence) o alone silent = asked-may Any now from incarnation sequence o alone silent
 step-sends now points (Answered sequence answer) o alone silent = answered-may Any now sequence answer o alone (before-onward None now o).last silent
 step-sends now points (HearsOperator action) o alone silent = operated-may Any now action o alone silent
 
@@ -300,8 +300,8 @@ numbered o after (outputs.Send targets.Store sequence body) may = (may.later, ma
 numbered o after (outputs.Send (targets.Member member) sequence body) may = (may.0, may.1)
 numbered o after _ may = tt
 
-pub input-asks : (now : Ticks) (points : List HistoryPoint) (heard : Heard) (role : RoleFacts) (knows : Knowledge) (machine : Machine) → IsSoundAgent role knows → AsksAsWaited now (made role knows machine []) (step now points heard (made role knows machine []))
-input-asks now points heard role knows machine sound = let o : Outcome = made role knows machine [] in let alone : IsAlone o = alone-of o sound.ends in let after : Outcome = step now points heard o in record {
+pub input-asks : (now : Ticks) (points : List HistoryPoint) (heard : Heard) (role : RoleFacts) (knows : Knowledge) (machine : Machine) → IsSoundAgent role knows → AsksAsWaited now (outcome_from role knows machine []) (step now points heard (outcome_from role knows machine []))
+input-asks now points heard role knows machine sound = let o : Outcome = outcome_from role knows machine [] in let alone : IsAlone o = alone-of o sound.ends in let after : Outcome = step now points heard o in record {
   numbered = All-weaker (MayPut Any o after) (IsNumbered o.knows.sequence after.knows.sequence) (numbered o after) after.outputs (step-sends now points heard o alone (All-nil IsSilent));
   waits = step-holds now points heard o alone (All-nil IsSilent);
 }

@@ -15,10 +15,10 @@ use Rattle.agent_model.specs.declared.output.Output.TheVariants as outputs
 use Rattle.agent_model.specs.declared.output.Target.TheVariants as targets
 use Rattle.agent_model.specs.Acting.{armed, deadline_after, arming, ending_server, is_hold_active, is_refusing, waiting_no_more}
 use Rattle.agent_model.specs.Agents.{Outcome, is_ready}
-use Rattle.agent_model.specs.Before.{before}
+use Rattle.agent_model.specs.Reconciling.{reconciled}
 use Rattle.agent_model.specs.Claiming.{begins, begins_or_claims, passing, postpones}
 use Rattle.agent_model.specs.Decisions.{takes_over, can_begin, may_take, gives_back, arms, takes_key, granted}
-use Rattle.agent_model.specs.Outputs.{listed, is_arming, has_one, BeginsOnly, OutputsBeginBehind}
+use Rattle.agent_model.specs.Outputs.{with_output, is_arming, has_one, BeginsOnly, OutputsBeginBehind}
 use Rattle.agent_model.specs.Synchronous.{unnamed, may_lead_in_sync}
 use Rattle.agent_model.specs.Snapshots.{informed}
 use Rattle.agent_model.specs.HandingOver.{checking, hands_over}
@@ -48,7 +48,7 @@ unbegun o after _ may = tt
 all-begin : (P : List Output → Type 0) (Q : Type 0) → ((outs : List Output) → Q → P outs) → (before-it outs : List Output) → All (BeginsOnly Q) outs → OutputsBeginBehind P before-it outs
 all-begin P Q gives before-it [] all = tt
 all-begin P Q gives before-it (output ∷ outs) all =
-    (begins-one Q (P before-it) (gives before-it) output (All-head (BeginsOnly Q) output outs all), all-begin P Q gives (listed output before-it) outs (All-tail (BeginsOnly Q) output outs all))
+    (begins-one Q (P before-it) (gives before-it) output (All-head (BeginsOnly Q) output outs all), all-begin P Q gives (with_output output before-it) outs (All-tail (BeginsOnly Q) output outs all))
 
 never : (P : List Output → Type 0) (before-it outs : List Output) → All (BeginsOnly ⊥) outs → OutputsBeginBehind P before-it outs
 never P before-it outs all = all-begin P ⊥ (λ _ no. absurd no) before-it outs all
@@ -65,10 +65,10 @@ mild-begins : (P : List Output → Type 0) (low : ℕ) (x : Outcome) → AllMild
 mild-begins P low x mild = never P [] x.outputs (All-weaker (IsMild low x.knows.sequence) (BeginsOnly ⊥) (mild-never low x.knows.sequence) x.outputs mild)
 
 -- one more output, behind which P holds if a server comes to accept writes by it
-behind-push : (P : List Output → Type 0) (before-it outs : List Output) (output : Output) → OutputsBeginBehind P before-it outs → ((all : List Output) → all ≡ before-it ++ outs → BeginsOnly (P all) output) → OutputsBeginBehind P before-it (listed output outs)
+behind-push : (P : List Output → Type 0) (before-it outs : List Output) (output : Output) → OutputsBeginBehind P before-it outs → ((all : List Output) → all ≡ before-it ++ outs → BeginsOnly (P all) output) → OutputsBeginBehind P before-it (with_output output outs)
 behind-push P before-it [] output begin last = (last before-it (sym (append-nil before-it)), tt)
 behind-push P before-it (one ∷ outs) output begin last =
-    (begin.0, behind-push P (listed one before-it) outs output begin.1 (λ all is. last all (is ∙ append_assoc before-it (one ∷ []) outs)))
+    (begin.0, behind-push P (with_output one before-it) outs output begin.1 (λ all is. last all (is ∙ append_assoc before-it (one ∷ []) outs)))
 
 -- who may begin by this grant, behind these outputs: it was about to; or the leader key is granted, no hold is active, and the
 -- watchdog was armed
@@ -92,14 +92,14 @@ gives-back-begins : (P : List Output → Type 0) (revision : ℕ) (b : Outcome) 
 gives-back-begins P revision b silent = behind-push P [] b.outputs (outputs.Send targets.Store (b.knows.sequence + 1) (bodies.Request (txns.Release revision))) (silent-begins P b.outputs silent) (λ all is. tt)
 
 -- a member that begins does so behind silent outputs and the order of whom its commits wait for
-begins-begins : (P : List Output → Type 0) (now : Ticks) (revision : ℕ) (b : Outcome) → All IsSilent b.outputs → ((all : List Output) → all ≡ [] ++ listed (outputs.Require (unnamed b.knows.turn_settings)) b.outputs → P all) → OutputsBeginBehind P [] (begins now revision b).outputs
+begins-begins : (P : List Output → Type 0) (now : Ticks) (revision : ℕ) (b : Outcome) → All IsSilent b.outputs → ((all : List Output) → all ≡ [] ++ with_output (outputs.Require (unnamed b.knows.turn_settings)) b.outputs → P all) → OutputsBeginBehind P [] (begins now revision b).outputs
 begins-begins P now revision b silent last = let required : Output = outputs.Require (unnamed b.knows.turn_settings) in
-    behind-push P [] (listed required b.outputs) outputs.Begin (silent-begins P (listed required b.outputs) (silently b.outputs required silent tt)) last
+    behind-push P [] (with_output required b.outputs) outputs.Begin (silent-begins P (with_output required b.outputs) (silently b.outputs required silent tt)) last
 
 arms-begins : (now ttl : Ticks) (sequence : ℕ) (grant : Granted) (revision : ℕ) (o b : Outcome) → Decides sequence grant o → is_hold_active now o.machine.hold ≡ false → is_armable b.machine.watchdog.mode b.machine.watchdog.works ≡ true → All IsSilent b.outputs
     → OutputsBeginBehind (BeginsOn now sequence grant o) [] (arms now ttl revision b).outputs
 arms-begins now ttl sequence grant revision o b decides free armable silent =
-    let cannot : Outcome = record b { outputs = listed outputs.CannotArm b.outputs } in
+    let cannot : Outcome = record b { outputs = with_output outputs.CannotArm b.outputs } in
     let arm : Outcome = arming now ttl b in
     let told : has_one is_arming arm.outputs ≡ true = armed-first b.outputs _ (is_armable b.machine.watchdog.mode b.machine.watchdog.works) armable in
     let rest : All IsSilent arm.outputs = silent-armed (deadline_after now ttl b.machine.watchdog) b.outputs silent in
@@ -128,12 +128,12 @@ granted-begins now sequence grant snapshot b unpaused armable silent =
     let rest : All IsSilent led.outputs = silent-fed (deadline_after now waited.ttl b.machine.watchdog) b.outputs silent in record {
       other = silent-begins Mine b.outputs silent;
       leader = λ held _. renewed-by (λ (x : Outcome). OutputsBeginBehind Mine [] x.outputs) now waited.ttl grant.revision told
-          (silent-begins Mine (listed (outputs.Stop StartTooLong) led.outputs) (silently led.outputs (outputs.Stop StartTooLong) rest tt)) (record {
+          (silent-begins Mine (with_output (outputs.Stop StartTooLong) led.outputs) (silently led.outputs (outputs.Stop StartTooLong) rest tt)) (record {
             plan = record {
               kept = silent-begins Mine led.outputs rest;
               writes = λ settling txn _. behind-push Mine [] led.outputs _ (silent-begins Mine led.outputs rest) (λ all is. tt);
-              adds = λ required. silent-begins Mine (listed (outputs.Require required) led.outputs) (silently led.outputs (outputs.Require required) rest tt);
-              drops = λ required. silent-begins Mine (listed (outputs.Require required) led.outputs) (silently led.outputs (outputs.Require required) rest tt);
+              adds = λ required. silent-begins Mine (with_output (outputs.Require required) led.outputs) (silently led.outputs (outputs.Require required) rest tt);
+              drops = λ required. silent-begins Mine (with_output (outputs.Require required) led.outputs) (silently led.outputs (outputs.Require required) rest tt);
             };
             clears = λ compared. behind-push Mine [] led.outputs _ (silent-begins Mine led.outputs rest) (λ all is. tt);
             asks = λ candidate. mild-begins Mine b.knows.sequence (checking now candidate (unheard led)) (checking-mild b.knows.sequence now candidate (unheard led) (omega arith) rest);
@@ -143,19 +143,19 @@ granted-begins now sequence grant snapshot b unpaused armable silent =
               hands = λ candidate. mild-begins Mine b.knows.sequence (hands_over now grant.revision candidate (waiting_no_more (unheard led))) (rows.hands candidate);
             };
           });
-      stray = λ _. if-cases (λ (x : Outcome). OutputsBeginBehind Mine [] x.outputs) (is_refusing b.machine.watchdog.mode b.machine.watchdog.works) (ending_server now WatchdogNotArmed told) over
-          (λ _. silent-begins Mine (listed (outputs.Stop WatchdogNotArmed) b.outputs) (silently b.outputs (outputs.Stop WatchdogNotArmed) silent tt))
+      unleased = λ _. if-cases (λ (x : Outcome). OutputsBeginBehind Mine [] x.outputs) (is_refusing b.machine.watchdog.mode b.machine.watchdog.works) (ending_server now WatchdogNotArmed told) over
+          (λ _. silent-begins Mine (with_output (outputs.Stop WatchdogNotArmed) b.outputs) (silently b.outputs (outputs.Stop WatchdogNotArmed) silent tt))
           (λ _. silent-begins Mine over.outputs (silent-armed (deadline_after now waited.ttl b.machine.watchdog) b.outputs silent));
       takes = λ _. takes-begins now waited.ttl sequence grant grant.revision b told (waited, is, decision) refl (armable (waited, is, decision)) silent;
       rests = λ _ paused _ _. absurd (no-way (sym unpaused ∙ paused));
-      stray_rests = λ _ paused _. absurd (no-way (sym unpaused ∙ paused));
+      unleased_rests = λ _ paused _. absurd (no-way (sym unpaused ∙ paused));
       takes_resting = λ _ paused _. absurd (no-way (sym unpaused ∙ paused));
     })
     (record {
       other = silent-begins Mine b.outputs silent;
       begins = λ revision is. begins-begins Mine now revision told silent (λ all _. WasReady (ready-is b.role revision is));
       postpones = λ revision _. silent-begins Mine (postpones revision told).outputs (postpones-silent revision told silent);
-      settles = λ required _. silent-begins Mine (listed (outputs.Require required) b.outputs) (silently b.outputs (outputs.Require required) silent tt);
+      settles = λ required _. silent-begins Mine (with_output (outputs.Require required) b.outputs) (silently b.outputs (outputs.Require required) silent tt);
     })
 
 release-never : (sequence revision : ℕ) (output : Output) → IsReleaseOr sequence revision output → BeginsOnly ⊥ output
@@ -177,9 +177,9 @@ fronts-begin P o b (Released revision held alone role ended counted all) = never
 told-begins : (P : List Output → Type 0) (o b : Outcome) → Fronts o b → ReplyRows (λ (x : Outcome). OutputsBeginBehind P [] x.outputs) b
 told-begins P o b fronts = let rows : ReplyRows (Fronts o) b = told-fronts o b fronts in record { kept = fronts-begin P o b fronts; answers = λ request told. fronts-begin P o (answering request told b) (rows.answers request told) }
 
-pub grant-begins : (now : Ticks) (sequence : ℕ) (grant : Granted) (snapshot : SnapshotFacts) (o : Outcome) → IsAlone o → is_paused (informed snapshot (before now o).knows) ≡ false → (Decides sequence grant (before now o) → is_armable (before now o).machine.watchdog.mode (before now o).machine.watchdog.works ≡ true) → All IsSilent o.outputs
-    → OutputsBeginBehind (BeginsOn now sequence grant (before now o)) [] (granted_any now sequence grant snapshot (before now o)).outputs
-grant-begins now sequence grant snapshot o alone unpaused armable silent = let b : Outcome = before now o in
+pub grant-begins : (now : Ticks) (sequence : ℕ) (grant : Granted) (snapshot : SnapshotFacts) (o : Outcome) → IsAlone o → is_paused (informed snapshot (reconciled now o).knows) ≡ false → (Decides sequence grant (reconciled now o) → is_armable (reconciled now o).machine.watchdog.mode (reconciled now o).machine.watchdog.works ≡ true) → All IsSilent o.outputs
+    → OutputsBeginBehind (BeginsOn now sequence grant (reconciled now o)) [] (granted_any now sequence grant snapshot (reconciled now o)).outputs
+grant-begins now sequence grant snapshot o alone unpaused armable silent = let b : Outcome = reconciled now o in
     let fronts : Fronts o b = before-fronts now o alone silent in
     let Mine : List Output → Type 0 = BeginsOn now sequence grant b in
     granted-any-by (λ (x : Outcome). OutputsBeginBehind Mine [] x.outputs) now sequence grant snapshot b (fronts-begin Mine o b fronts) (told-begins Mine o (learned snapshot b) (learned-fronts snapshot o b fronts))
@@ -187,4 +187,4 @@ grant-begins now sequence grant snapshot o alone unpaused armable silent = let b
 
 pub begins-weaker : (P Q : List Output → Type 0) → ((outs : List Output) → P outs → Q outs) → (before-it outs : List Output) → OutputsBeginBehind P before-it outs → OutputsBeginBehind Q before-it outs
 begins-weaker P Q more before-it [] begin = tt
-begins-weaker P Q more before-it (output ∷ outs) begin = (begins-one (P before-it) (Q before-it) (more before-it) output begin.0, begins-weaker P Q more (listed output before-it) outs begin.1)
+begins-weaker P Q more before-it (output ∷ outs) begin = (begins-one (P before-it) (Q before-it) (more before-it) output begin.0, begins-weaker P Q more (with_output output before-it) outs begin.1)

@@ -67,12 +67,12 @@ body-query s m input G o after sequence off me acts owns _ query is may = absurd
 
 -- a message that the input sends
 sent-may : (s : State) (m : ℕ) (input : AgentInput) (G : ℕ → Type 0) (o after : Outcome) (flying : Flying) → s.declared.failsafe ≡ false → after.knows.who.me.number ≡ m → (LawActs input.machine → Acts after)
-    → ((revision : ℕ) → (lease_of o.role ≡ Some revision) ⊎ G revision → Owns s m input.heard (was_of o) revision) → AllMay G o after → IsSentBy m o.knows.run s.clock after.outputs flying → MaySend s m input (was_of o) (was_of after) flying
+    → ((revision : ℕ) → (lease_of o.role ≡ Some revision) ⊎ G revision → Owns s m input.heard (was_of o) revision) → AllMay G o after → IsSentBy m o.knows.incarnation s.clock after.outputs flying → MaySend s m input (was_of o) (was_of after) flying
 sent-may s m input G o after flying off me acts owns all sent =
     let output : Output = outputs.Send targets.Store sent.sequence sent.body in
     let may : SendsNew G o after sent.sequence sent.body = subst (λ (x : Output). MayPut G o after x) sent.among.2 (all sent.among.0 output sent.among.1) in
     subst (λ (x : Flying). MaySend s m input (was_of o) (was_of after) x) (sym sent.is)
-    (record { member = refl; run = refl; later = may.later; counted = may.counted; sent = refl; query = body-query s m input G o after sent.sequence off me acts owns sent.body sent.query sent.query_is may.asks })
+    (record { member = refl; incarnation = refl; later = may.later; counted = may.counted; sent = refl; query = body-query s m input G o after sent.sequence off me acts owns sent.body sent.query sent.query_is may.asks })
 
 -- what an input that goes on brings to be lawful
 pub record Proper (s : State) (m : ℕ) (input : AgentInput) (told : Option SnapshotFacts) (G : ℕ → Type 0) (o after : Outcome) : Type 1 where
@@ -100,7 +100,7 @@ lawful-of s m runs input now told G o after stands is p = record {
   agent = was_of after;
   agent_is = ap (λ (x : MachineSeen). x.agent) is.machine;
   runs = ap (λ (x : MachineSeen). x.runs) is.machine ∙ sym (ap (λ (x : MachineSeen). x.runs) stands.member);
-  run = p.onward.run;
+  incarnation = p.onward.incarnation;
   last = p.onward.last;
   watchdog = p.watchdog;
   hold = no-shorter o.machine.hold after.machine.hold (s.members m).hold input.machine.hold p.onward.hold (ap (λ (x : MachineSeen). x.hold) stands.member) (ap (λ (x : MachineSeen). x.hold) is.machine);

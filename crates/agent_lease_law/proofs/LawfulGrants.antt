@@ -14,7 +14,7 @@ use Rattle.lease_law.specs.Inputs.{HeardGrant, HeardLeader, HeardFailsafe, IsDea
 use Rattle.event_book.specs.Functions.{set_members}
 use Rattle.lease_law.proofs.Tools.{some-is, none-some}
 use Rattle.agent_model.specs.declared.knowledge.Knowledge.{Knowledge}
-use Rattle.agent_model.specs.declared.knowledge.Waited.{Waited}
+use Rattle.agent_model.specs.declared.knowledge.PendingQuestion.{PendingQuestion}
 use Rattle.agent_model.specs.Acting.{is_hold_active}
 use Rattle.agent_model.specs.Agents.{Outcome}
 use Rattle.agent_model.specs.Decisions.{asks_lease}
@@ -57,13 +57,13 @@ hears-grant s m runs sequence heard now grant snapshot o stands hears awaited = 
   waited = record {
     agent = was_of o;
     is = ap (λ (n : ℕ). (s.members n).agent) hears.answer.member ∙ stands-agent s m runs now o stands;
-    run = sym hears.answer.run;
-    sequence = ap (λ (w : Option Waited). lease_asked w) awaited.is ∙ (asked-of (asks_lease awaited.waited.question) awaited.waited.sequence sequence awaited.decision ∙ ap (λ (n : ℕ). some_of n) (sym hears.answer.sequence_is));
+    incarnation = sym hears.answer.incarnation;
+    sequence = ap (λ (w : Option PendingQuestion). lease_asked w) awaited.is ∙ (asked-of (asks_lease awaited.waited.question) awaited.waited.sequence sequence awaited.decision ∙ ap (λ (n : ℕ). some_of n) (sym hears.answer.sequence_is));
   };
 }
 
 -- the deadline that it gives, by the margin
-pub deadline-of : (margin : Option Ticks) (now : Ticks) (waited : Waited) (clock ttl sent : ℕ) → clock ≡ now.0 → ttl ≡ waited.ttl.0 → sent ≡ waited.sent.0 → IsLeaseSpan waited.ttl.0 → IfSome margin (λ at_most. at_most.0 ≤ greatest_margin) → IsYoung margin now waited
+pub deadline-of : (margin : Option Ticks) (now : Ticks) (waited : PendingQuestion) (clock ttl sent : ℕ) → clock ≡ now.0 → ttl ≡ waited.ttl.0 → sent ≡ waited.sent.0 → IsLeaseSpan waited.ttl.0 → IfSome margin (λ at_most. at_most.0 ≤ greatest_margin) → IsYoung margin now waited
     → IsDeadline (moment_seen margin) clock ttl sent (now.0 + timeout_of margin waited.ttl.0)
 deadline-of (Some margin) now waited clock ttl sent clock_is ttl_is sent_is span has young = (omega (arith, ttl_is, span.least, has), omega (arith, clock_is, ttl_is))
 deadline-of None now waited clock ttl sent clock_is ttl_is sent_is span has young = (omega (arith, ttl_is, span.least), omega (arith, clock_is, ttl_is, sent_is, young), omega (arith, clock_is, ttl_is))

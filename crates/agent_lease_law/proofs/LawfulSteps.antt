@@ -18,21 +18,21 @@ use Rattle.lease_law.specs.Inputs.{AgentInput, HeardLeader, HeardFailsafe, FedKn
 use Rattle.event_book.specs.Functions.{set_members}
 use Rattle.lease_law.proofs.Tools.{some-is, none-some}
 use Rattle.agent_model.specs.declared.heard.Heard.{Heard}
-use Rattle.agent_model.specs.declared.heard.Heard.TheVariants.{Wake, Got, Granted as HeardGranted, Mismatch, Asked, Answered, Operated as HearsOperator}
+use Rattle.agent_model.specs.declared.heard.Heard.TheVariants.{Wake, ReadAnswered, Granted as HeardGranted, Mismatch, Asked, Answered, Operated as HearsOperator}
 use Rattle.agent_model.specs.declared.knowledge.Knowledge.{Knowledge}
-use Rattle.agent_model.specs.declared.knowledge.Waited.{Waited}
+use Rattle.agent_model.specs.declared.knowledge.PendingQuestion.{PendingQuestion}
 use Rattle.agent_model.specs.declared.machine.Machine.{Machine}
 use Rattle.agent_model.specs.declared.output.Output.{Output}
 use Rattle.agent_model.specs.declared.who.Who.{Who}
-use Rattle.agent_model.specs.Agents.{RoleFacts, EndsAlone, IsSoundAgent, Outcome, made, is_ready}
-use Rattle.agent_model.specs.Before.{before}
+use Rattle.agent_model.specs.Agents.{RoleFacts, EndsAlone, IsSoundAgent, Outcome, outcome_from, is_ready}
+use Rattle.agent_model.specs.Reconciling.{reconciled}
 use Rattle.agent_model.specs.Decisions.{is_lease_of}
 use Rattle.agent_lease_law.specs.Lawful.{StandsIn, HearsAnswer, TellsLease, HearsGrant, IsInputOf, MayPromote, IsLawfulAnd, IsLawfulFrom}
 use Rattle.agent_roles.specs.Powers.{BringsNothing, LeavesMachine, IsAwaitedLease, GrantMay, leads, lease_of}
 use Rattle.agent_roles.specs.Powers.GrantMay.{Nothing, Leads, Rests, Begins}
 use Rattle.agent_roles.specs.Seen.{leader_seen_if, failsafe_seen_if}
 use Rattle.agent_model.specs.Peers.{asked, answered}
-use Rattle.agent_model.specs.Snapshots.{got}
+use Rattle.agent_model.specs.Snapshots.{read_answered}
 use Rattle.lease_store.specs.declared.action.OperatorAction.{OperatorAction}
 use Rattle.agent_model.specs.Fits.{Fits}
 use Rattle.agent_model.specs.Operators.{given_up, looked, operated}
@@ -76,9 +76,9 @@ without-grant s m runs input now told o after stands is onward leaves brings par
 }
 
 wake-parted : (now : Ticks) (o : Outcome) → is_ready (woken now o).role ≡ true → live (woken now o).machine.server.state ≡ false
-wake-parted now o = let b : Outcome = given_up now (before now o) in
+wake-parted now o = let b : Outcome = given_up now (reconciled now o) in
     wake-by (λ (x : Outcome). is_ready x.role ≡ true → live x.machine.server.state ≡ false) now o
-    (parted-by (before now o) (before now o) (before-fits now o) (record { live = λ e. e; leads = λ e. e; ready = λ e. e; lease = λ revision e. e }))
+    (parted-by (reconciled now o) (reconciled now o) (before-fits now o) (record { live = λ e. e; leads = λ e. e; ready = λ e. e; lease = λ revision e. e }))
     (parted-by b (turned now (overdue now b)) (given-up-fits now o) (brings-then b (overdue now b) (turned now (overdue now b)) (overdue-brings now b) (turn-brings now (overdue now b))))
 
 -- what is waited for behind it was waited for before it
@@ -94,16 +94,16 @@ awaited-before sequence grant o b waits who awaited = record {
 abbrev pub AsksLeases : Knowledge → Type 0
 AsksLeases knows = ForSome knows.waited (λ waited. IsLeaseSpan waited.ttl.0)
 
-span-of : (knows : Knowledge) (waited : Waited) → AsksLeases knows → knows.waited ≡ Some waited → IsLeaseSpan waited.ttl.0
+span-of : (knows : Knowledge) (waited : PendingQuestion) → AsksLeases knows → knows.waited ≡ Some waited → IsLeaseSpan waited.ttl.0
 span-of knows waited asks is = asks waited is
 
 -- a revision that the grant gives which is waited for, or that of the agent's lease
 abbrev Gives : ℕ → Granted → Outcome → ℕ → Type 0
 Gives sequence grant b revision = (Decides sequence grant b × (grant.revision ≡ revision)) ⊎ (lease_of b.role ≡ Some revision)
 
-awaited-by : (sequence : ℕ) (grant : Granted) (now : Ticks) (o : Outcome) → Decides sequence grant (before now o) → IsAwaitedLease sequence grant o.knows
+awaited-by : (sequence : ℕ) (grant : Granted) (now : Ticks) (o : Outcome) → Decides sequence grant (reconciled now o) → IsAwaitedLease sequence grant o.knows
 awaited-by sequence grant now o decides =
-    awaited-before sequence grant o (before now o) (before-waits now o) (before-onward None now o).who (awaited-lease sequence grant (before now o) decides.0 decides.1 decides.2)
+    awaited-before sequence grant o (reconciled now o) (before-waits now o) (before-onward None now o).who (awaited-lease sequence grant (reconciled now o) decides.0 decides.1 decides.2)
 
 gives-owns : (s : State) (m runs sequence : ℕ) (input : AgentInput) (now : Ticks) (grant : Granted) (snapshot : SnapshotFacts) (o : Outcome) → StandsIn s m runs now o → HearsGrant s m input.heard now sequence grant snapshot o
     → IsAwaitedLease sequence grant o.knows → (revision : ℕ) → grant.revision ≡ revision → Owns s m input.heard (was_of o) revision
@@ -118,11 +118,11 @@ record Brought (s : State) (m : ℕ) (input : AgentInput) (o after : Outcome) : 
   lease : (revision : ℕ) → lease_of after.role ≡ Some revision → Owns s m input.heard (was_of o) revision
 
 leads-brought : (s : State) (m runs sequence : ℕ) (input : AgentInput) (now : Ticks) (grant : Granted) (snapshot : SnapshotFacts) (o after : Outcome) → AsksLeases o.knows → StandsIn s m runs now o → HearsGrant s m input.heard now sequence grant snapshot o → IsInputOf s m runs o after input
-    → GrantMay now sequence grant snapshot (before now o) after → after.machine.hold ≡ (before now o).machine.hold → Brought s m input o after
+    → GrantMay now sequence grant snapshot (reconciled now o) after → after.machine.hold ≡ (reconciled now o).machine.hold → Brought s m input o after
 leads-brought s m runs sequence input now grant snapshot o after sound stands hears is (Nothing brings deadline) hold =
-    let all : BringsNothing o after = brings-then o (before now o) after (before-brings now o) brings in record {
-      watchdog = watchdog-leaves s m runs input now o after stands is (leaves-then o (before now o) after (before-leaves now o) (before-fits now o) (record { deadline = deadline; hold = hold }) brings) all;
-      parted = parted-by (before now o) after (before-fits now o) brings;
+    let all : BringsNothing o after = brings-then o (reconciled now o) after (before-brings now o) brings in record {
+      watchdog = watchdog-leaves s m runs input now o after stands is (leaves-then o (reconciled now o) after (before-leaves now o) (before-fits now o) (record { deadline = deadline; hold = hold }) brings) all;
+      parted = parted-by (reconciled now o) after (before-fits now o) brings;
       leads_by = λ e. inl (all.leads e);
       lease = λ revision e. inl (all.lease revision e);
     }
@@ -134,7 +134,7 @@ leads-brought s m runs sequence input now grant snapshot o after sound stands he
       lease = λ revision e. inl ((before-brings now o).lease revision (sym lease ∙ e));
     }
 leads-brought s m runs sequence input now grant snapshot o after sound stands hears is (Leads later fed lease parted known told free armed) hold =
-    let b : Outcome = before now o in
+    let b : Outcome = reconciled now o in
     let awaited : IsAwaitedLease sequence grant o.knows = awaited-before sequence grant o b (before-waits now o) (before-onward None now o).who later in
     let tells : TellsLease now grant snapshot o.machine awaited.waited hears.answer.answer = hears.lease awaited in
     let knows-it : FedKnown s m input (was_of after) = record {
@@ -158,57 +158,57 @@ wake-lawful s m runs input now o alone silent stands is = without-grant s m runs
 
 -- what an operator asks
 operated-lawful : (s : State) (m runs : ℕ) (input : AgentInput) (now : Ticks) (action : OperatorAction) (o : Outcome) → IsAlone o → All IsSilent o.outputs → StandsIn s m runs now o
-    → IsInputOf s m runs o (operated now action.request action.asked (before now o)) input → IsLawfulAnd s m (operated now action.request action.asked (before now o)) input
-operated-lawful s m runs input now action o alone silent stands is = let b : Outcome = before now o in
+    → IsInputOf s m runs o (operated now action.request action.asked (reconciled now o)) input → IsLawfulAnd s m (operated now action.request action.asked (reconciled now o)) input
+operated-lawful s m runs input now action o alone silent stands is = let b : Outcome = reconciled now o in
     let after : Outcome = operated now action.request action.asked b in
     without-grant s m runs input now None o after stands is (onward-then None o b after (before-onward None now o) (operated-onward now action b))
     (operated-leaves now action o) (operated-brings now action o) (parted-by b after (before-fits now o) (acting-brings now action b))
     (operated-may Nobody now action o alone silent) (λ key e. absurd (none-some _ e)) (λ seen e. absurd (none-some _ e))
 
 got-lawful : (s : State) (m runs : ℕ) (input : AgentInput) (now : Ticks) (points : List HistoryPoint) (sequence : ℕ) (snapshot : SnapshotFacts) (o : Outcome) → IsAlone o → All IsSilent o.outputs → StandsIn s m runs now o
-    → HearsAnswer s m input.heard sequence snapshot o.knows → IsInputOf s m runs o (got now points sequence snapshot (looked sequence snapshot (before now o))) input → IsLawfulAnd s m (got now points sequence snapshot (looked sequence snapshot (before now o))) input
-got-lawful s m runs input now points sequence snapshot o alone silent stands hears is = let p : Outcome = looked sequence snapshot (before now o) in
-    without-grant s m runs input now (Some snapshot) o (got now points sequence snapshot p) stands is (onward-then (Some snapshot) o p (got now points sequence snapshot p) (looked-onward (Some snapshot) now sequence snapshot o) (got-onward now points sequence snapshot p))
+    → HearsAnswer s m input.heard sequence snapshot o.knows → IsInputOf s m runs o (read_answered now points sequence snapshot (looked sequence snapshot (reconciled now o))) input → IsLawfulAnd s m (read_answered now points sequence snapshot (looked sequence snapshot (reconciled now o))) input
+got-lawful s m runs input now points sequence snapshot o alone silent stands hears is = let p : Outcome = looked sequence snapshot (reconciled now o) in
+    without-grant s m runs input now (Some snapshot) o (read_answered now points sequence snapshot p) stands is (onward-then (Some snapshot) o p (read_answered now points sequence snapshot p) (looked-onward (Some snapshot) now sequence snapshot o) (got-onward now points sequence snapshot p))
     (read-leaves now points sequence snapshot o) (read-brings now points sequence snapshot o)
-    (parted-by p (got now points sequence snapshot p) (looked-by (λ (x : Outcome). Fits x.role (live x.machine.server.state)) sequence snapshot (before now o) (told-fits now o)) (got-brings now points sequence snapshot p))
+    (parted-by p (read_answered now points sequence snapshot p) (looked-by (λ (x : Outcome). Fits x.role (live x.machine.server.state)) sequence snapshot (reconciled now o) (told-fits now o)) (got-brings now points sequence snapshot p))
     (got-may Nobody now points sequence snapshot o alone silent)
     (heard-failsafe s m sequence input.heard snapshot o.knows hears) (heard-leader s m sequence input.heard snapshot o.knows hears)
 
 refused-lawful : (s : State) (m runs : ℕ) (input : AgentInput) (now : Ticks) (sequence : ℕ) (o : Outcome) → IsAlone o → All IsSilent o.outputs → StandsIn s m runs now o
-    → IsInputOf s m runs o (refused_any now sequence (before now o)) input → IsLawfulAnd s m (refused_any now sequence (before now o)) input
-refused-lawful s m runs input now sequence o alone silent stands is = let b : Outcome = before now o in
+    → IsInputOf s m runs o (refused_any now sequence (reconciled now o)) input → IsLawfulAnd s m (refused_any now sequence (reconciled now o)) input
+refused-lawful s m runs input now sequence o alone silent stands is = let b : Outcome = reconciled now o in
     let after : Outcome = refused_any now sequence b in
     without-grant s m runs input now None o after stands is (onward-then None o b after (before-onward None now o) (any-refused-onward now sequence b))
     (refusal-leaves now sequence o) (refusal-brings now sequence o) (parted-by b after (before-fits now o) (any-refused-brings now sequence b))
     (refused-may Nobody now sequence o alone silent) (λ key e. absurd (none-some _ e)) (λ seen e. absurd (none-some _ e))
 
 answered-lawful : (s : State) (m runs : ℕ) (input : AgentInput) (now : Ticks) (sequence : ℕ) (answer : PeerAnswer) (o : Outcome) → IsAlone o → All IsSilent o.outputs → StandsIn s m runs now o
-    → IsInputOf s m runs o (answered now sequence answer (before now o)) input → IsLawfulAnd s m (answered now sequence answer (before now o)) input
-answered-lawful s m runs input now sequence answer o alone silent stands is = let b : Outcome = before now o in
+    → IsInputOf s m runs o (answered now sequence answer (reconciled now o)) input → IsLawfulAnd s m (answered now sequence answer (reconciled now o)) input
+answered-lawful s m runs input now sequence answer o alone silent stands is = let b : Outcome = reconciled now o in
     without-grant s m runs input now None o (answered now sequence answer b) stands is (onward-then None o b (answered now sequence answer b) (before-onward None now o) (answered-onward None now sequence answer b))
     (answered-leaves now sequence answer o) (answered-brings now sequence answer o) (parted-by b (answered now sequence answer b) (before-fits now o) (answer-brings now sequence answer b))
     (answered-may Nobody now sequence answer o alone (before-onward None now o).last silent) (λ key e. absurd (none-some _ e)) (λ seen e. absurd (none-some _ e))
 
-asked-lawful : (s : State) (m runs : ℕ) (input : AgentInput) (now : Ticks) (from : MemberId) (run sequence : ℕ) (o : Outcome) → IsAlone o → All IsSilent o.outputs → StandsIn s m runs now o
-    → IsInputOf s m runs o (asked from run sequence (before now o)) input → IsLawfulAnd s m (asked from run sequence (before now o)) input
-asked-lawful s m runs input now from run sequence o alone silent stands is = let b : Outcome = before now o in
-    without-grant s m runs input now None o (asked from run sequence b) stands is (onward-then None o b (asked from run sequence b) (before-onward None now o) (asked-onward None from run sequence b))
-    (asked-leaves now from run sequence o) (asked-brings now from run sequence o) (parted-by b b (before-fits now o) (record { live = λ e. e; leads = λ e. e; ready = λ e. e; lease = λ revision e. e }))
-    (asked-may Nobody now from run sequence o alone silent) (λ key e. absurd (none-some _ e)) (λ seen e. absurd (none-some _ e))
+asked-lawful : (s : State) (m runs : ℕ) (input : AgentInput) (now : Ticks) (from : MemberId) (incarnation sequence : ℕ) (o : Outcome) → IsAlone o → All IsSilent o.outputs → StandsIn s m runs now o
+    → IsInputOf s m runs o (asked from incarnation sequence (reconciled now o)) input → IsLawfulAnd s m (asked from incarnation sequence (reconciled now o)) input
+asked-lawful s m runs input now from incarnation sequence o alone silent stands is = let b : Outcome = reconciled now o in
+    without-grant s m runs input now None o (asked from incarnation sequence b) stands is (onward-then None o b (asked from incarnation sequence b) (before-onward None now o) (asked-onward None from incarnation sequence b))
+    (asked-leaves now from incarnation sequence o) (asked-brings now from incarnation sequence o) (parted-by b b (before-fits now o) (record { live = λ e. e; leads = λ e. e; ready = λ e. e; lease = λ revision e. e }))
+    (asked-may Nobody now from incarnation sequence o alone silent) (λ key e. absurd (none-some _ e)) (λ seen e. absurd (none-some _ e))
 
 may-promote : (s : State) (m runs sequence : ℕ) (input : AgentInput) (now : Ticks) (grant : Granted) (snapshot : SnapshotFacts) (o : Outcome) → AsksLeases o.knows → StandsIn s m runs now o → HearsGrant s m input.heard now sequence grant snapshot o
-    → (outs : List Output) → BeginsOn now sequence grant (before now o) outs → MayPromote s m input outs
+    → (outs : List Output) → BeginsOn now sequence grant (reconciled now o) outs → MayPromote s m input outs
 may-promote s m runs sequence input now grant snapshot o sound stands hears outs (WasReady ready) = inl (seen-acts (s.members m) runs o stands.member (inr ((before-brings now o).ready ready)))
 may-promote s m runs sequence input now grant snapshot o sound stands hears outs (OnLease decides free armed) = let awaited : IsAwaitedLease sequence grant o.knows = awaited-by sequence grant now o decides in inr (record {
   fed = fed-of s m runs sequence input.heard now grant snapshot o stands hears awaited (span-of o.knows awaited.waited sound awaited.is);
-  free = free-of s m runs now o (before now o) stands (before-leaves now o) free;
+  free = free-of s m runs now o (reconciled now o) stands (before-leaves now o) free;
   armed = armed;
 })
 
 grant-lawful : (s : State) (m runs : ℕ) (input : AgentInput) (now : Ticks) (sequence : ℕ) (grant : Granted) (snapshot : SnapshotFacts) (o : Outcome) → AsksLeases o.knows → IsAlone o → All IsSilent o.outputs → StandsIn s m runs now o
-    → HearsGrant s m input.heard now sequence grant snapshot o → IsInputOf s m runs o (granted_any now sequence grant snapshot (before now o)) input → IsLawfulAnd s m (granted_any now sequence grant snapshot (before now o)) input
+    → HearsGrant s m input.heard now sequence grant snapshot o → IsInputOf s m runs o (granted_any now sequence grant snapshot (reconciled now o)) input → IsLawfulAnd s m (granted_any now sequence grant snapshot (reconciled now o)) input
 grant-lawful s m runs input now sequence grant snapshot o sound alone silent stands hears is =
-    let b : Outcome = before now o in
+    let b : Outcome = reconciled now o in
     let after : Outcome = granted_any now sequence grant snapshot b in
     let gives : (revision : ℕ) → Gives sequence grant b revision → Owns s m input.heard (was_of o) revision = λ revision e. elim e [
       | inl given ↦ gives-owns s m runs sequence input now grant snapshot o stands hears (awaited-by sequence grant now o given.0) revision given.1
@@ -234,24 +234,24 @@ grant-lawful s m runs input now sequence grant snapshot o sound alone silent sta
 
 step-lawful : (now : Ticks) (points : List HistoryPoint) (heard : Heard) (o : Outcome) → AsksLeases o.knows → IsAlone o → All IsSilent o.outputs → IsLawfulFrom now heard o (step now points heard o)
 step-lawful now points Wake o sound alone silent s m runs input stands hears is = wake-lawful s m runs input now o alone silent stands is
-step-lawful now points (Got sequence snapshot) o sound alone silent s m runs input stands hears is = got-lawful s m runs input now points sequence snapshot o alone silent stands hears is
+step-lawful now points (ReadAnswered sequence snapshot) o sound alone silent s m runs input stands hears is = got-lawful s m runs input now points sequence snapshot o alone silent stands hears is
 step-lawful now points (HeardGranted sequence grant snapshot) o sound alone silent s m runs input stands hears is = grant-lawful s m runs input now sequence grant snapshot o sound alone silent stands hears is
 step-lawful now points (Mismatch sequence key found) o sound alone silent s m runs input stands hears is = refused-lawful s m runs input now sequence o alone silent stands is
-step-lawful now points (Asked from run sequence) o sound alone silent s m runs input stands hears is = asked-lawful s m runs input now from run sequence o alone silent stands is
+step-lawful now points (Asked from incarnation sequence) o sound alone silent s m runs input stands hears is = asked-lawful s m runs input now from incarnation sequence o alone silent stands is
 step-lawful now points (Answered sequence answer) o sound alone silent s m runs input stands hears is = answered-lawful s m runs input now sequence answer o alone silent stands is
 step-lawful now points (HearsOperator action) o sound alone silent s m runs input stands hears is = operated-lawful s m runs input now action o alone silent stands is
 
 -- each input of the table is lawful, whenever the agent's turns began
 pub input-lawful-from : (now : Ticks) (points : List HistoryPoint) (heard : Heard) (role : RoleFacts) (knows : Knowledge) (machine : Machine) → AsksLeases knows → EndsAlone role knows.waited
-    → IsLawfulFrom now heard (made role knows machine []) (step now points heard (made role knows machine []))
-input-lawful-from now points heard role knows machine asks ends = let o : Outcome = made role knows machine [] in step-lawful now points heard o asks (alone-of o ends) (All-nil IsSilent)
+    → IsLawfulFrom now heard (outcome_from role knows machine []) (step now points heard (outcome_from role knows machine []))
+input-lawful-from now points heard role knows machine asks ends = let o : Outcome = outcome_from role knows machine [] in step-lawful now points heard o asks (alone-of o ends) (All-nil IsSilent)
 
 -- so is that of a sound agent
-pub input-lawful : (now : Ticks) (points : List HistoryPoint) (heard : Heard) (role : RoleFacts) (knows : Knowledge) (machine : Machine) → IsSoundAgent role knows → IsLawfulFrom now heard (made role knows machine []) (step now points heard (made role knows machine []))
+pub input-lawful : (now : Ticks) (points : List HistoryPoint) (heard : Heard) (role : RoleFacts) (knows : Knowledge) (machine : Machine) → IsSoundAgent role knows → IsLawfulFrom now heard (outcome_from role knows machine []) (step now points heard (outcome_from role knows machine []))
 input-lawful now points heard role knows machine sound = input-lawful-from now points heard role knows machine sound.sound.span sound.ends
 
 -- the same of what is made of an input, where no output stood before
-pub input-lawful-as : (now : Ticks) (points : List HistoryPoint) (heard : Heard) (role : RoleFacts) (knows : Knowledge) (machine : Machine) (outs : List Output) (after : Outcome) → after ≡ step now points heard (made role knows machine outs) → IsSoundAgent role knows
-    → outs ≡ [] → IsLawfulFrom now heard (made role knows machine []) after
-input-lawful-as now points heard role knows machine outs after is sound none = let same : after ≡ step now points heard (made role knows machine []) = is ∙ ap (λ (l : List Output). step now points heard (made role knows machine l)) none in
-    subst (λ (x : Outcome). IsLawfulFrom now heard (made role knows machine []) x) (sym same) (input-lawful now points heard role knows machine sound)
+pub input-lawful-as : (now : Ticks) (points : List HistoryPoint) (heard : Heard) (role : RoleFacts) (knows : Knowledge) (machine : Machine) (outs : List Output) (after : Outcome) → after ≡ step now points heard (outcome_from role knows machine outs) → IsSoundAgent role knows
+    → outs ≡ [] → IsLawfulFrom now heard (outcome_from role knows machine []) after
+input-lawful-as now points heard role knows machine outs after is sound none = let same : after ≡ step now points heard (outcome_from role knows machine []) = is ∙ ap (λ (l : List Output). step now points heard (outcome_from role knows machine l)) none in
+    subst (λ (x : Outcome). IsLawfulFrom now heard (outcome_from role knows machine []) x) (sym same) (input-lawful now points heard role knows machine sound)

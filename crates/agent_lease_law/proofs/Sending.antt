@@ -20,7 +20,7 @@ use Rattle.lease_law.specs.Leases.{LeaderSeen}
 use Rattle.agent_model.specs.declared.output.Repair.{Repair}
 use Rattle.agent_model.specs.Repairs.{repair_of, repairing}
 use Rattle.agent_model.specs.declared.knowledge.Settling.{Settling}
-use Rattle.agent_model.specs.declared.knowledge.Waited.{Waited}
+use Rattle.agent_model.specs.declared.knowledge.PendingQuestion.{PendingQuestion}
 use Rattle.agent_model.specs.declared.output.Output.{Output}
 use Rattle.agent_model.specs.declared.output.Output.TheVariants as outputs
 use Rattle.agent_model.specs.declared.output.Target.TheVariants as targets
@@ -29,16 +29,16 @@ use Rattle.agent_model.specs.declared.who.Who.{Who}
 use Rattle.agent_model.specs.declared.why.Why.TheVariants.{HandOver, Lost}
 use Rattle.agent_model.specs.Acting.{armed, fed_until, disarmed, deadline_after, arming, ending_server, requiring, touching, starting_replica, following_server, is_refusing, waiting_no_more, shutting_down}
 use Rattle.agent_model.specs.Agents.{Follower, Ready, Ending, Outcome}
-use Rattle.agent_model.specs.Before.{has_ended, before}
+use Rattle.agent_model.specs.Reconciling.{has_ended, reconciled}
 use Rattle.agent_model.specs.Claiming.{begins, claims, begins_or_claims, passing, postpones}
-use Rattle.agent_model.specs.Decisions.{is_decision, is_lease_of, leader_renewed, takes_over, stray_renewed, may_take, gives_back, arms, takes_key, granted, refused}
+use Rattle.agent_model.specs.Decisions.{is_decision, is_lease_of, leader_renewed, takes_over, unleased_renewed, may_take, gives_back, arms, takes_key, granted, refused}
 use Rattle.agent_model.specs.Fits.{Fits}
-use Rattle.agent_model.specs.Outputs.{listed}
+use Rattle.agent_model.specs.Outputs.{with_output}
 use Rattle.agent_model.specs.Planning.{writing_sync, noting}
 use Rattle.agent_roles.specs.Powers.{Acts, lease_of}
 use Rattle.agent_model.specs.Synchronous.{unnamed}
 use Rattle.agent_roles.specs.Seen.{lease_asked, leader_entry_seen, leader_seen_if}
-use Rattle.agent_model.specs.Snapshots.{renewing, follows, leader_loses_key, stray_loses_key, read_noted, got, follow_row, asks_as_stray, led_by_another}
+use Rattle.agent_model.specs.Snapshots.{renewing, follows, leader_loses_key, unleased_loses_key, read_noted, read_answered, follow_row, asks_as_unleased, led_by_another}
 use Rattle.agent_model.specs.HandingOver.{asking_whom, checking, hands_over}
 use Rattle.agent_model.specs.Operators.{answering, given_up, learned, looked, operated, operating, restarting, telling, wiping}
 use Rattle.agent_model.specs.Table.{granted_any, refused_any}
@@ -58,7 +58,7 @@ use Rattle.agent_roles.proofs.Fitting.{ended-for}
 use Rattle.agent_roles.proofs.Leaving.{rests-by}
 use Rattle.agent_roles.proofs.Living.{no-way, primary-live, restart-live, wipe-live}
 use Rattle.agent_model.proofs.Rows.{HandoverRows, ReplyRows, ActRows, IsOperatorTxn, dropping, looked-by, given-up-by, granted-any-by, refused-any-by, operated-by, WritesSync, led_on, if-cases, renewed-by, passing-by, begins-or-claims-by, before-by, overdue-by, turn-by, wake-by, got-by, refused-by, follow-by, repaired-by, free-by, granted-by, judged-by, answered-by, DutyRows, duties-of, rested_on, takes-in-pause-by}
-use Rattle.agent_model.specs.Pausing.{may_start_behind, rest_told, resting, running_without_key}
+use Rattle.agent_model.specs.Pausing.{may_start_behind, disabling_told, disabling_watchdog, running_without_key}
 
 -- an output that sends nothing, takes no hold, and by which no server comes to accept writes
 abbrev pub IsSilent : Output → Type 0
@@ -110,10 +110,10 @@ silent-may G o after _ e = tt
 front : (G : ℕ → Type 0) (o after : Outcome) (outs : List Output) → All IsSilent outs → All (MayPut G o after) outs
 front G o after outs silent = All-weaker IsSilent (MayPut G o after) (silent-may G o after) outs silent
 
-push : (G : ℕ → Type 0) (o after : Outcome) (outs : List Output) (output : Output) → All (MayPut G o after) outs → MayPut G o after output → All (MayPut G o after) (listed output outs)
+push : (G : ℕ → Type 0) (o after : Outcome) (outs : List Output) (output : Output) → All (MayPut G o after) outs → MayPut G o after output → All (MayPut G o after) (with_output output outs)
 push G o after outs output all may = All-push (MayPut G o after) outs output all may
 
-pub silently : (outs : List Output) (output : Output) → All IsSilent outs → IsSilent output → All IsSilent (listed output outs)
+pub silently : (outs : List Output) (output : Output) → All IsSilent outs → IsSilent output → All IsSilent (with_output output outs)
 silently outs output all silent = All-push IsSilent outs output all silent
 
 silent-disarmed : (deadline : Option Ticks) (outs : List Output) → All IsSilent outs → All IsSilent (disarmed deadline outs)
@@ -128,9 +128,9 @@ pub silent-fed : (deadline : Option Ticks) (outs : List Output) → All IsSilent
 silent-fed None outs all = all
 silent-fed (Some deadline) outs all = silently outs (outputs.Fed deadline) all tt
 
-silent-rest : (renews : Bool) (deadline : Option Ticks) (outs : List Output) → All IsSilent outs → All IsSilent (rest_told renews deadline outs)
+silent-rest : (renews : Bool) (deadline : Option Ticks) (outs : List Output) → All IsSilent outs → All IsSilent (disabling_told renews deadline outs)
 silent-rest renews None outs all = all
-silent-rest true (Some deadline) outs all = silently (listed outputs.Disarmed outs) outputs.DisablesWatchdog (silently outs outputs.Disarmed all tt) tt
+silent-rest true (Some deadline) outs all = silently (with_output outputs.Disarmed outs) outputs.DisablesWatchdog (silently outs outputs.Disarmed all tt) tt
 silent-rest false (Some deadline) outs all = silently outs outputs.Disarmed all tt
 
 -- the release of this revision under this number, or a silent output
@@ -222,13 +222,13 @@ judged-mild low now o less silent =
     let later : low < high = omega (arith, less) in
     judged-by (AllMild low) now o
     (All-push (IsMild low high) o.outputs _ (mild-front low high o.outputs silent) (later, omega arith, refl))
-    (λ bar. All-push (IsMild low high) (listed (outputs.DoesNotRace bar) o.outputs) _ (mild-front low high (listed (outputs.DoesNotRace bar) o.outputs) (silently o.outputs (outputs.DoesNotRace bar) silent tt)) (later, omega arith, tt))
+    (λ bar. All-push (IsMild low high) (with_output (outputs.DoesNotRace bar) o.outputs) _ (mild-front low high (with_output (outputs.DoesNotRace bar) o.outputs) (silently o.outputs (outputs.DoesNotRace bar) silent tt)) (later, omega arith, tt))
 
 -- so do the asks
 ask-mild : (low high : ℕ) (who : Who) (sequence : ℕ) (member : Option MemberId) (outs : List Output) → low < sequence → sequence ≤ high → All (IsMild low high) outs → All (IsMild low high) (asking_one who sequence member outs)
 ask-mild low high who sequence None outs later less all = all
 ask-mild low high who sequence (Some member) outs later less all =
-    if-cases (λ (l : List Output). All (IsMild low high) l) (is_other who member) (listed (outputs.Send (targets.Member member) sequence bodies.Ask) outs) outs
+    if-cases (λ (l : List Output). All (IsMild low high) l) (is_other who member) (with_output (outputs.Send (targets.Member member) sequence bodies.Ask) outs) outs
     (λ _. All-push (IsMild low high) outs (outputs.Send (targets.Member member) sequence bodies.Ask) all (later, less, tt)) (λ _. all)
 
 asks-mild : (low high : ℕ) (who : Who) (sequence count : ℕ) (outs : List Output) → low < sequence → sequence ≤ high → All (IsMild low high) outs → All (IsMild low high) (asking_first who sequence count outs)
@@ -244,8 +244,8 @@ pub handover-mild : (low : ℕ) (now : Ticks) (held : ℕ) (o : Outcome) → low
 handover-mild low now held o less silent = let out : ℕ = o.knows.sequence in record {
   kept = mild-front low out o.outputs silent;
   clears = λ compared. All-push (IsMild low (out + 1)) o.outputs _ (mild-front low (out + 1) o.outputs silent) (omega (arith, less), omega arith, tt);
-  hands = λ candidate. mild-front low out (listed outputs.ShutDown (listed (outputs.HandsOver candidate) o.outputs))
-      (silently (listed (outputs.HandsOver candidate) o.outputs) outputs.ShutDown (silently o.outputs (outputs.HandsOver candidate) silent tt) tt);
+  hands = λ candidate. mild-front low out (with_output outputs.ShutDown (with_output (outputs.HandsOver candidate) o.outputs))
+      (silently (with_output (outputs.HandsOver candidate) o.outputs) outputs.ShutDown (silently o.outputs (outputs.HandsOver candidate) silent tt) tt);
 }
 
 -- so does who asks for whom it may hand over to
@@ -263,7 +263,7 @@ ended-fronts HandOver held o is ended alone silent = Released held (rw is refl) 
     (All-weaker IsSilent (IsReleaseOr (o.knows.sequence + 1) held) (λ output e. inl e) (disarmed o.machine.watchdog.deadline o.outputs) (silent-disarmed o.machine.watchdog.deadline o.outputs silent)) (inr refl))
 ended-fronts Lost held o is ended alone silent = Silent (silent-disarmed o.machine.watchdog.deadline o.outputs silent)
 
-pub before-fronts : (now : Ticks) (o : Outcome) → IsAlone o → All IsSilent o.outputs → Fronts o (before now o)
+pub before-fronts : (now : Ticks) (o : Outcome) → IsAlone o → All IsSilent o.outputs → Fronts o (reconciled now o)
 before-fronts now o alone silent = let rest : All IsSilent (disarmed o.machine.watchdog.deadline o.outputs) = silent-disarmed o.machine.watchdog.deadline o.outputs silent in
     before-by (Fronts o) now o (record {
       kept = λ _. Silent silent;
@@ -272,7 +272,7 @@ before-fronts now o alone silent = let rest : All IsSilent (disarmed o.machine.w
       follower = λ _ _. Silent silent;
       holder = λ held _ _. Silent silent;
       ready = λ held _ _. Silent rest;
-      stray = λ _ _. Silent rest;
+      unleased = λ _ _. Silent rest;
     })
 
 release-may : (G : ℕ → Type 0) (o after : Outcome) (revision : ℕ) → lease_of o.role ≡ Some revision → after.role ≡ Follower → live after.machine.server.state ≡ false → o.knows.sequence + 1 ≤ after.knows.sequence
@@ -289,8 +289,8 @@ fronts-may : (G : ℕ → Type 0) (o after : Outcome) → Fronts o after → All
 fronts-may G o after (Silent all) = front G o after after.outputs all
 fronts-may G o after (Released revision held alone role ended counted all) = released G o after revision after.outputs held role ended counted all
 
-pub before-may : (G : ℕ → Type 0) (now : Ticks) (o : Outcome) → IsAlone o → All IsSilent o.outputs → AllMay G o (before now o)
-before-may G now o alone silent = fronts-may G o (before now o) (before-fronts now o alone silent)
+pub before-may : (G : ℕ → Type 0) (now : Ticks) (o : Outcome) → IsAlone o → All IsSilent o.outputs → AllMay G o (reconciled now o)
+before-may G now o alone silent = fronts-may G o (reconciled now o) (before-fronts now o alone silent)
 
 -- a promotion that is postponed sends nothing
 pub postpones-silent : (held : ℕ) (o : Outcome) → All IsSilent o.outputs → All IsSilent (postpones held o).outputs
@@ -301,8 +301,8 @@ overdue-mild low now o less silent = let out : ℕ = o.knows.sequence in
     overdue-by (AllMild low) now o (record {
       kept = mild-front low out o.outputs silent;
       quiet = mild-front low out o.outputs silent;
-      leader = λ held _. mild-front low out (listed (outputs.Stop StoreOutOfReach) o.outputs) (silently o.outputs (outputs.Stop StoreOutOfReach) silent tt);
-      stray = λ _. mild-front low out (listed (outputs.Stop StoreOutOfReach) o.outputs) (silently o.outputs (outputs.Stop StoreOutOfReach) silent tt);
+      leader = λ held _. mild-front low out (with_output (outputs.Stop StoreOutOfReach) o.outputs) (silently o.outputs (outputs.Stop StoreOutOfReach) silent tt);
+      unleased = λ _. mild-front low out (with_output (outputs.Stop StoreOutOfReach) o.outputs) (silently o.outputs (outputs.Stop StoreOutOfReach) silent tt);
       judges = λ _. judged-mild low now o less silent;
       ready = λ held _. mild-front low out (postpones held (waiting_no_more o)).outputs (postpones-silent held (waiting_no_more o) silent);
       checks = λ held _. handover-mild low now held o less silent;
@@ -349,13 +349,13 @@ told-fronts o b fronts = record { kept = fronts; answers = λ request told. answ
     answers-front request told (Released revision held alone role ended counted all) =
         Released revision held alone role ended counted (All-push (IsReleaseOr (o.knows.sequence + 1) revision) b.outputs (outputs.Told request told) all (inl tt))
 
-pub given-up-fronts : (now : Ticks) (o : Outcome) → IsAlone o → All IsSilent o.outputs → Fronts o (given_up now (before now o))
-given-up-fronts now o alone silent = given-up-by (Fronts o) now (before now o) (told-fronts o (before now o) (before-fronts now o alone silent))
+pub given-up-fronts : (now : Ticks) (o : Outcome) → IsAlone o → All IsSilent o.outputs → Fronts o (given_up now (reconciled now o))
+given-up-fronts now o alone silent = given-up-by (Fronts o) now (reconciled now o) (told-fronts o (reconciled now o) (before-fronts now o alone silent))
 
 pub wake-may : (G : ℕ → Type 0) (now : Ticks) (o : Outcome) → IsAlone o → All IsSilent o.outputs → AllMay G o (woken now o)
 wake-may G now o alone silent =
-    wake-by (AllMay G o) now o (fronts-may G o (before now o) (before-fronts now o alone silent))
-    (turn-fronts G now o (given_up now (before now o)) (given-up-onward None now o).last (given-up-fronts now o alone silent))
+    wake-by (AllMay G o) now o (fronts-may G o (reconciled now o) (before-fronts now o alone silent))
+    (turn-fronts G now o (given_up now (reconciled now o)) (given-up-onward None now o).last (given-up-fronts now o alone silent))
 
 -- a question is sent under the next number
 sends : (G : ℕ → Type 0) (o after : Outcome) (b : ℕ) (body : Body) → o.knows.sequence ≤ b → after.knows.sequence ≡ b + 1 → MayAskStore G o after (b + 1) body → SendsNew G o after (b + 1) body
@@ -399,54 +399,54 @@ free-may G now o b later silent = let x : Outcome = record b { role = Follower }
     free-by (AllMay G o) now x (record {
       starts = touches G o (starting_replica now None x) x.outputs later (silently b.outputs (outputs.StartReplica None) silent tt);
       touches = touches G o x x.outputs later silent;
-      bars = λ bar. touches G o (record x { outputs = listed (outputs.DoesNotRace bar) x.outputs }) x.outputs later (silently b.outputs (outputs.DoesNotRace bar) silent tt);
+      bars = λ bar. touches G o (record x { outputs = with_output (outputs.DoesNotRace bar) x.outputs }) x.outputs later (silently b.outputs (outputs.DoesNotRace bar) silent tt);
       judges = mild-all G o (judged now (unheard x)) (judged-mild o.knows.sequence now (unheard x) later silent);
       asks = mild-all G o (asking_others now (unheard x)) (others-mild o.knows.sequence now (unheard x) later silent);
     })
 
-got-silent : (G : ℕ → Type 0) (now : Ticks) (points : List HistoryPoint) (sequence : ℕ) (snapshot : SnapshotFacts) (o b : Outcome) → o.knows.sequence ≤ b.knows.sequence → All IsSilent b.outputs → AllMay G o (got now points sequence snapshot b)
+got-silent : (G : ℕ → Type 0) (now : Ticks) (points : List HistoryPoint) (sequence : ℕ) (snapshot : SnapshotFacts) (o b : Outcome) → o.knows.sequence ≤ b.knows.sequence → All IsSilent b.outputs → AllMay G o (read_answered now points sequence snapshot b)
 got-silent G now points sequence snapshot o b later silent = let read : Outcome = record b { knows = read_noted now snapshot b.knows } in
     got-by (AllMay G o) now points sequence snapshot b (record {
       kept = front G o b b.outputs silent;
       quiet = front G o (waiting_no_more b) b.outputs silent;
       other = front G o read b.outputs silent;
       leader = λ held _. let lost : Outcome = leader_loses_key now held read in push G o lost b.outputs (outputs.Stop LeaderKeyLost) (front G o lost b.outputs silent) tt;
-      stray = λ _. let lost : Outcome = stray_loses_key now read in push G o lost b.outputs (outputs.Stop LeaderKeyLost) (front G o lost b.outputs silent) tt;
+      unleased = λ _. let lost : Outcome = unleased_loses_key now read in push G o lost b.outputs (outputs.Stop LeaderKeyLost) (front G o lost b.outputs silent) tt;
       renews = λ _ leader some mine. let renews : Outcome = renewing now points leader.revision read in
           push G o renews b.outputs _ (front G o renews b.outputs silent) (sends G o renews b.knows.sequence _ later refl (leader-shown (leader_in snapshot) leader b.knows.who.me.number some mine, refl, refl));
       touches = touches G o read read.outputs later silent;
       follows = λ leader _ _. follow-may G now leader.holder o read later silent;
       free = λ _ _. free-may G now o read later silent;
       runs_on = λ _. let runs : Outcome = running_without_key read in front G o runs runs.outputs (silently b.outputs outputs.RunsWithoutKey silent tt);
-      asks_on = λ _. let asks : Outcome = asks_as_stray now read in let runs : List Output = listed outputs.RunsWithoutKey b.outputs in
+      asks_on = λ _. let asks : Outcome = asks_as_unleased now read in let runs : List Output = with_output outputs.RunsWithoutKey b.outputs in
           push G o asks runs _ (front G o asks runs (silently b.outputs outputs.RunsWithoutKey silent tt)) (sends G o asks b.knows.sequence _ later refl refl);
     })
 
-pub got-none : (now : Ticks) (points : List HistoryPoint) (sequence : ℕ) (snapshot : SnapshotFacts) (o : Outcome) → o.knows.waited ≡ None → got now points sequence snapshot o ≡ o
+pub got-none : (now : Ticks) (points : List HistoryPoint) (sequence : ℕ) (snapshot : SnapshotFacts) (o : Outcome) → o.knows.waited ≡ None → read_answered now points sequence snapshot o ≡ o
 got-none now points sequence snapshot o is = rw is refl
 
-got-fronts : (G : ℕ → Type 0) (now : Ticks) (points : List HistoryPoint) (sequence : ℕ) (snapshot : SnapshotFacts) (o b : Outcome) → o.knows.sequence ≤ b.knows.sequence → Fronts o b → AllMay G o (got now points sequence snapshot b)
+got-fronts : (G : ℕ → Type 0) (now : Ticks) (points : List HistoryPoint) (sequence : ℕ) (snapshot : SnapshotFacts) (o b : Outcome) → o.knows.sequence ≤ b.knows.sequence → Fronts o b → AllMay G o (read_answered now points sequence snapshot b)
 got-fronts G now points sequence snapshot o b later (Silent all) = got-silent G now points sequence snapshot o b later all
 got-fronts G now points sequence snapshot o b later (Released revision held alone role ended counted all) =
     subst (λ (z : Outcome). AllMay G o z) (sym (got-none now points sequence snapshot b alone)) (released G o b revision b.outputs held role ended counted all)
 
 -- a read that is looked at for an operator
-pub looked-fronts : (now : Ticks) (sequence : ℕ) (snapshot : SnapshotFacts) (o : Outcome) → IsAlone o → All IsSilent o.outputs → Fronts o (looked sequence snapshot (before now o))
-looked-fronts now sequence snapshot o alone silent = looked-by (Fronts o) sequence snapshot (before now o) (told-fronts o (before now o) (before-fronts now o alone silent))
+pub looked-fronts : (now : Ticks) (sequence : ℕ) (snapshot : SnapshotFacts) (o : Outcome) → IsAlone o → All IsSilent o.outputs → Fronts o (looked sequence snapshot (reconciled now o))
+looked-fronts now sequence snapshot o alone silent = looked-by (Fronts o) sequence snapshot (reconciled now o) (told-fronts o (reconciled now o) (before-fronts now o alone silent))
 
-pub looked-later : (now : Ticks) (sequence : ℕ) (snapshot : SnapshotFacts) (o : Outcome) → o.knows.sequence ≤ (looked sequence snapshot (before now o)).knows.sequence
-looked-later now sequence snapshot o = let later : o.knows.sequence ≤ (before now o).knows.sequence = (before-onward None now o).last in
-    looked-by (λ (x : Outcome). o.knows.sequence ≤ x.knows.sequence) sequence snapshot (before now o) (record { kept = later; answers = λ request told. later })
+pub looked-later : (now : Ticks) (sequence : ℕ) (snapshot : SnapshotFacts) (o : Outcome) → o.knows.sequence ≤ (looked sequence snapshot (reconciled now o)).knows.sequence
+looked-later now sequence snapshot o = let later : o.knows.sequence ≤ (reconciled now o).knows.sequence = (before-onward None now o).last in
+    looked-by (λ (x : Outcome). o.knows.sequence ≤ x.knows.sequence) sequence snapshot (reconciled now o) (record { kept = later; answers = λ request told. later })
 
-pub got-may : (G : ℕ → Type 0) (now : Ticks) (points : List HistoryPoint) (sequence : ℕ) (snapshot : SnapshotFacts) (o : Outcome) → IsAlone o → All IsSilent o.outputs → AllMay G o (got now points sequence snapshot (looked sequence snapshot (before now o)))
-got-may G now points sequence snapshot o alone silent = got-fronts G now points sequence snapshot o (looked sequence snapshot (before now o)) (looked-later now sequence snapshot o) (looked-fronts now sequence snapshot o alone silent)
+pub got-may : (G : ℕ → Type 0) (now : Ticks) (points : List HistoryPoint) (sequence : ℕ) (snapshot : SnapshotFacts) (o : Outcome) → IsAlone o → All IsSilent o.outputs → AllMay G o (read_answered now points sequence snapshot (looked sequence snapshot (reconciled now o)))
+got-may G now points sequence snapshot o alone silent = got-fronts G now points sequence snapshot o (looked sequence snapshot (reconciled now o)) (looked-later now sequence snapshot o) (looked-fronts now sequence snapshot o alone silent)
 
 refused-silent : (now : Ticks) (sequence : ℕ) (o : Outcome) → All IsSilent o.outputs → All IsSilent (refused now sequence o).outputs
 refused-silent now sequence o silent = refused-by (λ (x : Outcome). All IsSilent x.outputs) now sequence o (record {
   kept = silent;
   quiet = silent;
   leader = λ held _. silently o.outputs (outputs.Stop LeaderKeyLost) silent tt;
-  stray = λ _. silently o.outputs (outputs.Stop LeaderKeyLost) silent tt;
+  unleased = λ _. silently o.outputs (outputs.Stop LeaderKeyLost) silent tt;
   follower = λ held _. silent;
   ready = λ held _. postpones-silent held (waiting_no_more o) silent;
   runs_on = λ _. silently o.outputs outputs.RunsWithoutKey silent tt;
@@ -464,9 +464,9 @@ refused-fronts G now sequence o b (Released revision held alone role ended count
 told-may : (G : ℕ → Type 0) (o b : Outcome) → Fronts o b → ReplyRows (AllMay G o) b
 told-may G o b fronts = let rows : ReplyRows (Fronts o) b = told-fronts o b fronts in record { kept = fronts-may G o b fronts; answers = λ request told. fronts-may G o (answering request told b) (rows.answers request told) }
 
-pub refused-may : (G : ℕ → Type 0) (now : Ticks) (sequence : ℕ) (o : Outcome) → IsAlone o → All IsSilent o.outputs → AllMay G o (refused_any now sequence (before now o))
-refused-may G now sequence o alone silent = let fronts : Fronts o (before now o) = before-fronts now o alone silent in
-    refused-any-by (AllMay G o) now sequence (before now o) (told-may G o (before now o) fronts) (refused-fronts G now sequence o (before now o) fronts)
+pub refused-may : (G : ℕ → Type 0) (now : Ticks) (sequence : ℕ) (o : Outcome) → IsAlone o → All IsSilent o.outputs → AllMay G o (refused_any now sequence (reconciled now o))
+refused-may G now sequence o alone silent = let fronts : Fronts o (reconciled now o) = before-fronts now o alone silent in
+    refused-any-by (AllMay G o) now sequence (reconciled now o) (told-may G o (reconciled now o) fronts) (refused-fronts G now sequence o (reconciled now o) fronts)
 
 pub answered-none : (now : Ticks) (sequence : ℕ) (answer : PeerAnswer) (o : Outcome) → o.knows.waited ≡ None → answered now sequence answer o ≡ o
 answered-none now sequence answer o is = rw is refl
@@ -480,17 +480,17 @@ answered-fronts G now sequence answer o b later (Silent all) = mild-all G o (ans
 answered-fronts G now sequence answer o b later (Released revision held alone role ended counted all) =
     subst (λ (z : Outcome). AllMay G o z) (sym (answered-none now sequence answer b alone)) (released G o b revision b.outputs held role ended counted all)
 
-pub answered-may : (G : ℕ → Type 0) (now : Ticks) (sequence : ℕ) (answer : PeerAnswer) (o : Outcome) → IsAlone o → o.knows.sequence ≤ (before now o).knows.sequence → All IsSilent o.outputs → AllMay G o (answered now sequence answer (before now o))
-answered-may G now sequence answer o alone later silent = answered-fronts G now sequence answer o (before now o) later (before-fronts now o alone silent)
+pub answered-may : (G : ℕ → Type 0) (now : Ticks) (sequence : ℕ) (answer : PeerAnswer) (o : Outcome) → IsAlone o → o.knows.sequence ≤ (reconciled now o).knows.sequence → All IsSilent o.outputs → AllMay G o (answered now sequence answer (reconciled now o))
+answered-may G now sequence answer o alone later silent = answered-fronts G now sequence answer o (reconciled now o) later (before-fronts now o alone silent)
 
 -- an answer to another member is silent: the key store isn't asked
-asked-fronts : (from : MemberId) (run sequence : ℕ) (o b : Outcome) → Fronts o b → Fronts o (asked from run sequence b)
-asked-fronts from run sequence o b (Silent all) = Silent (silently b.outputs _ all tt)
-asked-fronts from run sequence o b (Released revision held alone role ended counted all) =
+asked-fronts : (from : MemberId) (incarnation sequence : ℕ) (o b : Outcome) → Fronts o b → Fronts o (asked from incarnation sequence b)
+asked-fronts from incarnation sequence o b (Silent all) = Silent (silently b.outputs _ all tt)
+asked-fronts from incarnation sequence o b (Released revision held alone role ended counted all) =
     Released revision held alone role ended counted (All-push (IsReleaseOr (o.knows.sequence + 1) revision) b.outputs _ all (inl tt))
 
-pub asked-may : (G : ℕ → Type 0) (now : Ticks) (from : MemberId) (run sequence : ℕ) (o : Outcome) → IsAlone o → All IsSilent o.outputs → AllMay G o (asked from run sequence (before now o))
-asked-may G now from run sequence o alone silent = fronts-may G o (asked from run sequence (before now o)) (asked-fronts from run sequence o (before now o) (before-fronts now o alone silent))
+pub asked-may : (G : ℕ → Type 0) (now : Ticks) (from : MemberId) (incarnation sequence : ℕ) (o : Outcome) → IsAlone o → All IsSilent o.outputs → AllMay G o (asked from incarnation sequence (reconciled now o))
+asked-may G now from incarnation sequence o alone silent = fronts-may G o (asked from incarnation sequence (reconciled now o)) (asked-fronts from incarnation sequence o (reconciled now o) (before-fronts now o alone silent))
 
 -- a write of the sync key is sent under the next number
 writes-ask : (G : ℕ → Type 0) (o after : Outcome) (sequence : ℕ) (txn : Txn) → WritesSync txn → MayTransact G o after sequence txn
@@ -529,8 +529,8 @@ renewed-may G now ttl revision o b later silent = let led : Outcome = led_on now
     let rest : All IsSilent led.outputs = silent-fed (deadline_after now ttl b.machine.watchdog) b.outputs silent in
     renewed-by (AllMay G o) now ttl revision b (front G o ended ended.outputs (silently led.outputs (outputs.Stop StartTooLong) rest tt)) (duty-may G now revision o led later rest)
 
-stray-may : (G : ℕ → Type 0) (now ttl : Ticks) (revision : ℕ) (o b : Outcome) → All IsSilent b.outputs → AllMay G o (stray_renewed now ttl revision b)
-stray-may G now ttl revision o b silent = let over : Outcome = takes_over now revision (arming now ttl b) in let ended : Outcome = ending_server now WatchdogNotArmed b in
+unleased-may : (G : ℕ → Type 0) (now ttl : Ticks) (revision : ℕ) (o b : Outcome) → All IsSilent b.outputs → AllMay G o (unleased_renewed now ttl revision b)
+unleased-may G now ttl revision o b silent = let over : Outcome = takes_over now revision (arming now ttl b) in let ended : Outcome = ending_server now WatchdogNotArmed b in
     if-cases (AllMay G o) (is_refusing b.machine.watchdog.mode b.machine.watchdog.works) ended over
     (λ _. front G o ended ended.outputs (silently b.outputs (outputs.Stop WatchdogNotArmed) silent tt)) (λ _. front G o over over.outputs (silent-armed (deadline_after now ttl b.machine.watchdog) b.outputs silent))
 
@@ -541,18 +541,18 @@ gives-back-may G revision o b later ended given silent = let back : Outcome = gi
 
 begins-may : (G : ℕ → Type 0) (now : Ticks) (revision : ℕ) (o b : Outcome) → G revision → All IsSilent b.outputs → AllMay G o (begins now revision b)
 begins-may G now revision o b given silent = let begun : Outcome = begins now revision b in let required : Output = outputs.Require (unnamed b.knows.turn_settings) in
-    push G o begun (listed required b.outputs) outputs.Begin (front G o begun (listed required b.outputs) (silently b.outputs required silent tt)) (revision, given)
+    push G o begun (with_output required b.outputs) outputs.Begin (front G o begun (with_output required b.outputs) (silently b.outputs required silent tt)) (revision, given)
 
 -- a note of the sync key is silent
 pub silent-passing : (o : Outcome) → All IsSilent o.outputs → All IsSilent (passing o).outputs
-silent-passing o silent = passing-by (All IsSilent) o silent (silently o.outputs outputs.Passes silent tt)
+silent-passing o silent = passing-by (All IsSilent) o silent (silently o.outputs outputs.ClaimsOutsideSync silent tt)
 
 claims-may : (G : ℕ → Type 0) (now : Ticks) (revision : ℕ) (o b : Outcome) → o.knows.sequence ≤ b.knows.sequence → All IsSilent b.outputs → AllMay G o (claims now revision b)
 claims-may G now revision o b later silent = let after : Outcome = claims now revision b in
     push G o after b.outputs _ (front G o after b.outputs silent) (sends G o after b.knows.sequence _ later refl tt)
 
 arms-may : (G : ℕ → Type 0) (now ttl : Ticks) (revision : ℕ) (o b : Outcome) → o.knows.sequence ≤ b.knows.sequence → live b.machine.server.state ≡ false → G revision → All IsSilent b.outputs → AllMay G o (arms now ttl revision b)
-arms-may G now ttl revision o b later ended given silent = let cannot : Outcome = record b { outputs = listed outputs.CannotArm b.outputs } in let arm : Outcome = arming now ttl b in
+arms-may G now ttl revision o b later ended given silent = let cannot : Outcome = record b { outputs = with_output outputs.CannotArm b.outputs } in let arm : Outcome = arming now ttl b in
     let rest : All IsSilent arm.outputs = silent-armed (deadline_after now ttl b.machine.watchdog) b.outputs silent in
     if-cases (AllMay G o) (is_refusing b.machine.watchdog.mode b.machine.watchdog.works) (gives_back revision cannot) (begins_or_claims now revision arm)
     (λ _. gives-back-may G revision o cannot later ended given (silently b.outputs outputs.CannotArm silent tt))
@@ -565,7 +565,7 @@ takes-may G now ttl revision o b later ended given silent =
 
 -- the decision is waited for, and grants this member the leader key
 abbrev pub Decides : ℕ → Granted → Outcome → Type 0
-Decides sequence grant o = (waited : Waited) × (o.knows.waited ≡ Some waited) × (is_decision waited sequence && is_lease_of o.knows.who.me grant ≡ true)
+Decides sequence grant o = (waited : PendingQuestion) × (o.knows.waited ≡ Some waited) × (is_decision waited sequence && is_lease_of o.knows.who.me grant ≡ true)
 
 -- of whom the leader key is, G holds where the agent is about to begin on it
 abbrev pub HoldsOfReady : (ℕ → Type 0) → Outcome → Type 0
@@ -578,11 +578,11 @@ granted-silent G now sequence grant snapshot o b later fits gives readies silent
     (λ waited is decision. record {
       other = front G o (Told snapshot b) b.outputs silent;
       leader = λ held _. renewed-may G now waited.ttl grant.revision o (Told snapshot b) later silent;
-      stray = λ _. stray-may G now waited.ttl grant.revision o (Told snapshot b) silent;
+      unleased = λ _. unleased-may G now waited.ttl grant.revision o (Told snapshot b) silent;
       takes = λ may. takes-may G now waited.ttl grant.revision o (Told snapshot b) later (ended-for b.role (live b.machine.server.state) may fits) (gives (waited, is, decision)) silent;
       rests = λ renews _ held _. let led : Outcome = rested_on renews grant.revision (Told snapshot b) in duties-of (AllMay G o) now grant.revision led (duty-may G now grant.revision o led later (silent-rest renews b.machine.watchdog.deadline b.outputs silent));
-      stray_rests = λ renews _ _. let over : Outcome = takes_over now grant.revision (resting renews (Told snapshot b)) in front G o over over.outputs (silent-rest renews b.machine.watchdog.deadline b.outputs silent);
-      takes_resting = λ renews _ may. let told : Outcome = Told snapshot b in let rest : Outcome = resting renews told in let quiet : All IsSilent rest.outputs = silent-rest renews b.machine.watchdog.deadline b.outputs silent in
+      unleased_rests = λ renews _ _. let over : Outcome = takes_over now grant.revision (disabling_watchdog renews (Told snapshot b)) in front G o over over.outputs (silent-rest renews b.machine.watchdog.deadline b.outputs silent);
+      takes_resting = λ renews _ may. let told : Outcome = Told snapshot b in let rest : Outcome = disabling_watchdog renews told in let quiet : All IsSilent rest.outputs = silent-rest renews b.machine.watchdog.deadline b.outputs silent in
           takes-in-pause-by (AllMay G o) now renews grant.revision told (gives-back-may G grant.revision o told later (ended-for b.role (live b.machine.server.state) may fits) (gives (waited, is, decision)) silent)
           (begins-may G now grant.revision o rest (gives (waited, is, decision)) quiet) (claims-may G now grant.revision o (passing rest) later (silent-passing rest quiet));
     })
@@ -606,9 +606,9 @@ granted-fronts G now sequence grant snapshot o b later fits gives readies (Silen
 granted-fronts G now sequence grant snapshot o b later fits gives readies (Released revision held alone role ended counted all) =
     subst (λ (z : Outcome). AllMay G o z) (sym (granted-none now sequence grant snapshot b alone)) (released G o b revision b.outputs held role ended counted all)
 
-pub granted-may : (G : ℕ → Type 0) (now : Ticks) (sequence : ℕ) (grant : Granted) (snapshot : SnapshotFacts) (o : Outcome) → IsAlone o → o.knows.sequence ≤ (before now o).knows.sequence → Fits (before now o).role (live (before now o).machine.server.state)
-    → (Decides sequence grant (before now o) → G grant.revision) → HoldsOfReady G (before now o) → All IsSilent o.outputs → AllMay G o (granted_any now sequence grant snapshot (before now o))
-granted-may G now sequence grant snapshot o alone later fits gives readies silent = let b : Outcome = before now o in
+pub granted-may : (G : ℕ → Type 0) (now : Ticks) (sequence : ℕ) (grant : Granted) (snapshot : SnapshotFacts) (o : Outcome) → IsAlone o → o.knows.sequence ≤ (reconciled now o).knows.sequence → Fits (reconciled now o).role (live (reconciled now o).machine.server.state)
+    → (Decides sequence grant (reconciled now o) → G grant.revision) → HoldsOfReady G (reconciled now o) → All IsSilent o.outputs → AllMay G o (granted_any now sequence grant snapshot (reconciled now o))
+granted-may G now sequence grant snapshot o alone later fits gives readies silent = let b : Outcome = reconciled now o in
     let fronts : Fronts o b = before-fronts now o alone silent in
     granted-any-by (AllMay G o) now sequence grant snapshot b (fronts-may G o b fronts) (told-may G o (learned snapshot b) (learned-fronts snapshot o b fronts)) (granted-fronts G now sequence grant snapshot o b later fits gives readies fronts)
 
@@ -632,13 +632,13 @@ acts-may G now request o b fronts later primary = record {
   asks = λ operation txn is. let after : Outcome = operating now request operation (bodies.Request txn) b in
       push G o after b.outputs _ (front-of G o b after fronts (omega arith) refl (λ e. e)) (sends G o after b.knows.sequence _ later refl (operator-asks G o after (b.knows.sequence + 1) txn is));
   restarts = λ told. let after : Outcome = telling request told (restarting now b) in let restart : Output = outputs.Restart (is_primary b.machine.server.state) in
-      push G o after (listed restart b.outputs) (outputs.Told request told) (push G o after b.outputs restart (front-of G o b after fronts (omega arith) refl (restart-live now b.machine.server)) primary) tt;
+      push G o after (with_output restart b.outputs) (outputs.Told request told) (push G o after b.outputs restart (front-of G o b after fronts (omega arith) refl (restart-live now b.machine.server)) primary) tt;
   wipes = λ told. let after : Outcome = telling request told (wiping b) in
-      push G o after (listed outputs.Wipe b.outputs) (outputs.Told request told) (push G o after b.outputs outputs.Wipe (front-of G o b after fronts (omega arith) refl (wipe-live b.machine.server)) tt) tt;
+      push G o after (with_output outputs.Wipe b.outputs) (outputs.Told request told) (push G o after b.outputs outputs.Wipe (front-of G o b after fronts (omega arith) refl (wipe-live b.machine.server)) tt) tt;
 }
 
 -- what precedes an input leaves the server
-before-server : (now : Ticks) (o : Outcome) → (before now o).machine.server ≡ o.machine.server
+before-server : (now : Ticks) (o : Outcome) → (reconciled now o).machine.server ≡ o.machine.server
 before-server now o = before-by (λ (x : Outcome). x.machine.server ≡ o.machine.server) now o (record {
   kept = λ _. refl;
   leader = λ _ _ _. refl;
@@ -646,14 +646,14 @@ before-server now o = before-by (λ (x : Outcome). x.machine.server ≡ o.machin
   follower = λ _ _. refl;
   holder = λ _ _ _. refl;
   ready = λ _ _ _. refl;
-  stray = λ _ _. refl;
+  unleased = λ _ _. refl;
 })
   where
     ended-server : (why : Why) (held : ℕ) (x : Outcome) → (has_ended why held x).machine.server ≡ x.machine.server
     ended-server HandOver held x = refl
     ended-server Lost held x = refl
 
-pub operated-may : (G : ℕ → Type 0) (now : Ticks) (action : OperatorAction) (o : Outcome) → IsAlone o → All IsSilent o.outputs → AllMay G o (operated now action.request action.asked (before now o))
-operated-may G now action o alone silent = let b : Outcome = before now o in
+pub operated-may : (G : ℕ → Type 0) (now : Ticks) (action : OperatorAction) (o : Outcome) → IsAlone o → All IsSilent o.outputs → AllMay G o (operated now action.request action.asked (reconciled now o))
+operated-may G now action o alone silent = let b : Outcome = reconciled now o in
     operated-by (AllMay G o) now action.request action.asked b (acts-may G now action.request o b (before-fronts now o alone silent) (before-onward None now o).last
     (λ e. subst (λ (s : ServerStatus). live s.state ≡ true) (before-server now o) (primary-live b.machine.server.state e)))

@@ -14,7 +14,7 @@ use Rattle.lease_law.specs.Past.{query_of}
 use Rattle.agent_model.specs.declared.heard.Heard.{Heard}
 use Rattle.agent_model.specs.declared.heard.Heard.TheVariants as heards
 use Rattle.agent_model.specs.declared.knowledge.Knowledge.{Knowledge}
-use Rattle.agent_model.specs.declared.knowledge.Waited.{Waited}
+use Rattle.agent_model.specs.declared.knowledge.PendingQuestion.{PendingQuestion}
 use Rattle.agent_model.specs.declared.machine.Machine.{Machine}
 use Rattle.agent_model.specs.declared.output.Output.{Output}
 use Rattle.agent_model.specs.declared.output.Output.TheVariants as outputs
@@ -43,20 +43,20 @@ pub record HearsAnswer (s : State) (m : ℕ) (heard : Option ℕ) (sequence : �
   pub heard_is : heard ≡ Some number
   pub is : s.flight number ≡ Some (Answered answer)
   pub member : answer.member ≡ m
-  pub run : answer.run ≡ knows.run
+  pub incarnation : answer.incarnation ≡ knows.incarnation
   pub sequence_is : answer.sequence ≡ sequence
   pub leader : answer.leader ≡ leader_seen snapshot
   pub failsafe : answer.failsafe ≡ failsafe_seen snapshot
   pub unpaused : (config_in snapshot).pause ≡ false
 
 -- a watchdog without a margin is fed only while half of the lease's span hasn't passed since it was asked for
-abbrev pub IsYoung : Option Ticks → Ticks → Waited → Type 0
+abbrev pub IsYoung : Option Ticks → Ticks → PendingQuestion → Type 0
 IsYoung (Some margin) now waited = Unit {0}
 IsYoung None now waited = now.0 ≤ waited.sent.0 + waited.ttl.0 / 2
 
 -- the answer tells the grant of the lease that is waited for, and the watchdog can be fed on it: it is on, its device works, and
 -- its margin is one that a watchdog may have
-pub record TellsLease (now : Ticks) (grant : Granted) (snapshot : SnapshotFacts) (machine : Machine) (waited : Waited) (answer : Answer) : Type 0 where
+pub record TellsLease (now : Ticks) (grant : Granted) (snapshot : SnapshotFacts) (machine : Machine) (waited : PendingQuestion) (answer : Answer) : Type 0 where
   pub told : Grant
   pub is : answer.grant ≡ Some told
   pub revision : told.revision ≡ grant.revision
@@ -76,10 +76,10 @@ pub record HearsGrant (s : State) (m : ℕ) (heard : Option ℕ) (now : Ticks) (
 -- its message is gone then
 abbrev pub Hears : State → ℕ → Option ℕ → Ticks → Heard → Outcome → Type 0
 Hears s m heard now heards.Wake o = Unit {0}
-Hears s m heard now (heards.Got sequence snapshot) o = HearsAnswer s m heard sequence snapshot o.knows
+Hears s m heard now (heards.ReadAnswered sequence snapshot) o = HearsAnswer s m heard sequence snapshot o.knows
 Hears s m heard now (heards.Granted sequence grant snapshot) o = HearsGrant s m heard now sequence grant snapshot o
 Hears s m heard now (heards.Mismatch sequence key found) o = Unit {0}
-Hears s m heard now (heards.Asked from run sequence) o = Unit {0}
+Hears s m heard now (heards.Asked from incarnation sequence) o = Unit {0}
 Hears s m heard now (heards.Answered sequence answer) o = Unit {0}
 Hears s m heard now (heards.Operated action) o = Unit {0}
 
@@ -89,14 +89,14 @@ query_in bodies.Read = Some Read
 query_in (bodies.Request txn) = Some (query_of txn)
 query_in _ = None
 
--- a message in flight that one of these outputs sent: a question to the key store, of this member in this run at this moment
-pub record IsSentBy (m run clock : ℕ) (outs : List Output) (flying : Flying) : Type 0 where
+-- a message in flight that one of these outputs sent: a question to the key store, of this member in this incarnation at this moment
+pub record IsSentBy (m incarnation clock : ℕ) (outs : List Output) (flying : Flying) : Type 0 where
   pub sequence : ℕ
   pub body : Body
   pub query : Query
   pub among : Contains outs (outputs.Send targets.Store sequence body)
   pub query_is : query_in body ≡ Some query
-  pub is : flying ≡ Requested (record { member = m; run = run; sequence = sequence; sent = clock; query = query })
+  pub is : flying ≡ Requested (record { member = m; incarnation = incarnation; sequence = sequence; sent = clock; query = query })
 
 -- the input of the law that stands for one of the table: its machine is what the input leaves, and the messages in flight after it
 -- are without the one that is heard, and with those that its outputs send
@@ -105,7 +105,7 @@ pub record IsInputOf (s : State) (m runs : ℕ) (o after : Outcome) (input : Age
   pub takes : input.takes ≡ None
   pub machine : input.machine ≡ machine_seen after.role after.knows after.machine false runs
   pub gone : (number : ℕ) → input.heard ≡ Some number → input.flight number ≡ None
-  pub flight : (i : ℕ) (flying : Flying) → input.flight i ≡ Some flying → (s.flight i ≡ Some flying) ⊎ IsSentBy m o.knows.run s.clock after.outputs flying
+  pub flight : (i : ℕ) (flying : Flying) → input.flight i ≡ Some flying → (s.flight i ≡ Some flying) ⊎ IsSentBy m o.knows.incarnation s.clock after.outputs flying
 
 -- whose server comes to accept writes behind these outputs heard a grant, no hold is active, and the watchdog was armed
 pub record PromotesArmed (s : State) (m : ℕ) (input : AgentInput) (before : List Output) : Type 0 where

@@ -1,4 +1,4 @@
--- What an input of an agent brings at most: messages of its run, and outputs.
+-- What an input of an agent brings at most: messages of its incarnation, and outputs.
 use Rattle.std.proofs.Common.{ℕ, ◌+◌, ◌≤◌, ◌^◌, Bool, true, false, List, [], ◌∷◌, All, length, length-append, Option, Some, None, arith, zero, suc}
 use Rattle.std.proofs.lemmas.List.Elements.{All-push}
 use Rattle.pat_base.specs.MemberId.{member_of}
@@ -24,15 +24,15 @@ use Rattle.event_book.specs.declared.message.Body.TheVariants as bodies
 use Rattle.agent_model.specs.declared.why.Why.TheVariants.{HandOver, Lost}
 use Rattle.agent_model.specs.Acting.{arming, armed, deadline_after, disarmed, fed_until, is_refusing, touching, waiting_no_more}
 use Rattle.agent_model.specs.Agents.{Follower, Outcome}
-use Rattle.agent_model.specs.Before.{before, has_ended}
+use Rattle.agent_model.specs.Reconciling.{reconciled, has_ended}
 use Rattle.agent_model.specs.Claiming.{begins, begins_or_claims, claims, passing, postpones}
-use Rattle.agent_model.specs.Decisions.{arms, gives_back, granted, leader_renewed, may_take, refused, stray_renewed, takes_key, takes_over, takes_key_in_pause}
+use Rattle.agent_model.specs.Decisions.{arms, gives_back, granted, leader_renewed, may_take, refused, unleased_renewed, takes_key, takes_over, takes_key_in_pause}
 use Rattle.agent_model.specs.HandingOver.{asking_whom, hands_over}
 use Rattle.agent_model.specs.Operators.{given_up, looked, operated}
-use Rattle.agent_model.specs.Outputs.{listed}
+use Rattle.agent_model.specs.Outputs.{with_output}
 use Rattle.agent_model.specs.Racing.{finds_free, judged, unheard}
 use Rattle.agent_model.specs.Repairs.{repair_of}
-use Rattle.agent_model.specs.Snapshots.{follow_row, follows, got, informed, read_noted, led_by_another}
+use Rattle.agent_model.specs.Snapshots.{follow_row, follows, read_answered, informed, read_noted, led_by_another}
 use Rattle.agent_model.specs.Table.{granted_any, refused_any, step}
 use Rattle.agent_model.specs.Wake.{overdue, turned, woken}
 use Rattle.agent_model.specs.Bounds.{IsSmall}
@@ -41,7 +41,7 @@ use Rattle.agent_model.specs.Answers.{is_other, asking_one, asking_first}
 use Rattle.pat_base.specs.declared.member_id.TheConstants.{MOST_MEMBERS}
 use Rattle.agent_model.specs.Peers.{keeping, answered}
 use Rattle.agent_model.specs.Asked.{AsksShortly}
-use Rattle.agent_model.specs.Pausing.{may_start_behind, rest_told, resting}
+use Rattle.agent_model.specs.Pausing.{may_start_behind, disabling_told, disabling_watchdog}
 
 -- from this number of messages and these outputs on there are so many more at most, and each asks shortly if each did before
 record Grows (most sequence later : ℕ) (before after : List Output) : Type 0 where
@@ -57,7 +57,7 @@ kept : {sequence : ℕ} {outputs : List Output} → Grows 9 sequence sequence ou
 kept = record { numbers = omega arith; few = omega arith; short = λ all. all }
 
 -- one output more, and at most one message
-one : (sequence later : ℕ) (before : List Output) (output : Output) → later ≤ sequence + 1 → AsksShortly output → Grows 1 sequence later before (listed output before)
+one : (sequence later : ℕ) (before : List Output) (output : Output) → later ≤ sequence + 1 → AsksShortly output → Grows 1 sequence later before (with_output output before)
 one sequence later before output h asks = record { numbers = h; few = omega (arith, length-append before (output ∷ [])); short = λ all. All-push AsksShortly before output all asks }
 
 none : (sequence : ℕ) (outputs : List Output) → Grows 1 sequence sequence outputs outputs
@@ -77,16 +77,16 @@ Brings most o after = Grows most o.knows.sequence after.knows.sequence o.outputs
 abbrev Row : Outcome → Outcome → Type 0
 Row o after = Brings 9 o after
 
-said : (sequence later : ℕ) (before : List Output) (output : Output) → later ≤ sequence + 1 → AsksShortly output → Grows 9 sequence later before (listed output before)
-said sequence later before output h asks = weaker 1 9 sequence later before (listed output before) (omega arith) (one sequence later before output h asks)
+said : (sequence later : ℕ) (before : List Output) (output : Output) → later ≤ sequence + 1 → AsksShortly output → Grows 9 sequence later before (with_output output before)
+said sequence later before output h asks = weaker 1 9 sequence later before (with_output output before) (omega arith) (one sequence later before output h asks)
 
 -- one thing, and then a message
-both : (sequence : ℕ) (before : List Output) (first second : Output) → AsksShortly first → AsksShortly second → Grows 2 sequence (sequence + 1) before (listed second (listed first before))
+both : (sequence : ℕ) (before : List Output) (first second : Output) → AsksShortly first → AsksShortly second → Grows 2 sequence (sequence + 1) before (with_output second (with_output first before))
 both sequence before first second asks also =
-    grows-then 1 1 2 sequence sequence (sequence + 1) before (listed first before) (listed second (listed first before)) (omega arith)
-    (one sequence sequence before first (omega arith) asks) (one sequence (sequence + 1) (listed first before) second (omega arith) also)
+    grows-then 1 1 2 sequence sequence (sequence + 1) before (with_output first before) (with_output second (with_output first before)) (omega arith)
+    (one sequence sequence before first (omega arith) asks) (one sequence (sequence + 1) (with_output first before) second (omega arith) also)
 
-said-both : (sequence : ℕ) (before : List Output) (first second : Output) → AsksShortly first → AsksShortly second → Grows 9 sequence (sequence + 1) before (listed second (listed first before))
+said-both : (sequence : ℕ) (before : List Output) (first second : Output) → AsksShortly first → AsksShortly second → Grows 9 sequence (sequence + 1) before (with_output second (with_output first before))
 said-both sequence before first second asks also = weaker 2 9 _ _ _ _ (omega arith) (both sequence before first second asks also)
 
 disarmed-one : (sequence : ℕ) (deadline : Option Ticks) (before : List Output) → Grows 1 sequence sequence before (disarmed deadline before)
@@ -111,7 +111,7 @@ ended-row HandOver held o =
     (disarmed-one o.knows.sequence o.machine.watchdog.deadline o.outputs)
     (one o.knows.sequence (o.knows.sequence + 1) (disarmed o.machine.watchdog.deadline o.outputs) _ (omega arith) (omega arith))
 
-before-row : (now : Ticks) (o : Outcome) → Row o (before now o)
+before-row : (now : Ticks) (o : Outcome) → Row o (reconciled now o)
 before-row now o = before-by (Row o) now o (record {
   kept = λ _. kept;
   leader = λ held _ _. disarmed-row o.knows.sequence o.machine.watchdog.deadline o.outputs;
@@ -119,7 +119,7 @@ before-row now o = before-by (Row o) now o (record {
   follower = λ _ _. kept;
   holder = λ held _ _. kept;
   ready = λ held _ _. disarmed-row o.knows.sequence o.machine.watchdog.deadline o.outputs;
-  stray = λ _ _. disarmed-row o.knows.sequence o.machine.watchdog.deadline o.outputs;
+  unleased = λ _ _. disarmed-row o.knows.sequence o.machine.watchdog.deadline o.outputs;
 })
 
 judged-row : (now : Ticks) (o : Outcome) → Row o (judged now o)
@@ -136,9 +136,9 @@ postponed-row held o =
 -- a leader hands over
 hands-row : (now : Ticks) (held : ℕ) (candidate : MemberId) (o : Outcome) → Brings 2 o (hands_over now held candidate o)
 hands-row now held candidate o =
-    grows-then 1 1 2 o.knows.sequence o.knows.sequence o.knows.sequence o.outputs (listed (outputs.HandsOver candidate) o.outputs) _ (omega arith)
+    grows-then 1 1 2 o.knows.sequence o.knows.sequence o.knows.sequence o.outputs (with_output (outputs.HandsOver candidate) o.outputs) _ (omega arith)
     (one o.knows.sequence o.knows.sequence o.outputs (outputs.HandsOver candidate) (omega arith) tt)
-    (one o.knows.sequence o.knows.sequence (listed (outputs.HandsOver candidate) o.outputs) outputs.ShutDown (omega arith) tt)
+    (one o.knows.sequence o.knows.sequence (with_output (outputs.HandsOver candidate) o.outputs) outputs.ShutDown (omega arith) tt)
 
 handover-rows : (now : Ticks) (held : ℕ) (o : Outcome) → HandoverRows (Brings 2 o) now held o
 handover-rows now held o = record {
@@ -187,7 +187,7 @@ overdue-row now o = overdue-by (Row o) now o (record {
   kept = kept;
   quiet = kept;
   leader = λ held _. said o.knows.sequence o.knows.sequence o.outputs _ (omega arith) tt;
-  stray = λ _. said o.knows.sequence o.knows.sequence o.outputs _ (omega arith) tt;
+  unleased = λ _. said o.knows.sequence o.knows.sequence o.outputs _ (omega arith) tt;
   judges = λ _. judged-row now o;
   ready = λ held _. postponed-row held (waiting_no_more o);
   checks = λ held _. handed-on 1 9 now held o o (omega arith) (none o.knows.sequence o.outputs);
@@ -213,7 +213,7 @@ follow-row now leader o =
 -- the asks of a race
 asked-few : (who : Who) (sequence : ℕ) (member : Option MemberId) (outs : List Output) → length (asking_one who sequence member outs) ≤ length outs + 1
 asked-few who sequence None outs = omega arith
-asked-few who sequence (Some member) outs = if-cases (λ (l : List Output). length l ≤ length outs + 1) (is_other who member) (listed (outputs.Send (targets.Member member) sequence bodies.Ask) outs) outs
+asked-few who sequence (Some member) outs = if-cases (λ (l : List Output). length l ≤ length outs + 1) (is_other who member) (with_output (outputs.Send (targets.Member member) sequence bodies.Ask) outs) outs
     (λ _. omega (arith, length-append outs (outputs.Send (targets.Member member) sequence bodies.Ask ∷ []))) (λ _. omega arith)
 
 asks-few : (who : Who) (sequence count : ℕ) (outs : List Output) → length (asking_first who sequence count outs) ≤ length outs + count
@@ -222,7 +222,7 @@ asks-few who sequence (suc count) outs = omega (arith, asked-few who sequence (m
 
 asked-short : (who : Who) (sequence : ℕ) (member : Option MemberId) (outs : List Output) → All AsksShortly outs → All AsksShortly (asking_one who sequence member outs)
 asked-short who sequence None outs all = all
-asked-short who sequence (Some member) outs all = if-cases (λ (l : List Output). All AsksShortly l) (is_other who member) (listed (outputs.Send (targets.Member member) sequence bodies.Ask) outs) outs
+asked-short who sequence (Some member) outs all = if-cases (λ (l : List Output). All AsksShortly l) (is_other who member) (with_output (outputs.Send (targets.Member member) sequence bodies.Ask) outs) outs
     (λ _. All-push AsksShortly outs (outputs.Send (targets.Member member) sequence bodies.Ask) all tt) (λ _. all)
 
 asks-short : (who : Who) (sequence count : ℕ) (outs : List Output) → All AsksShortly outs → All AsksShortly (asking_first who sequence count outs)
@@ -250,7 +250,7 @@ free-row now o = free-by (Brings MOST_MEMBERS o) now (record o { role = Follower
   asks = asks-row o.knows.who o.knows.sequence MOST_MEMBERS o.outputs (omega arith);
 })
 
-got-row : (now : Ticks) (points : List HistoryPoint) (sequence : ℕ) (snapshot : SnapshotFacts) (o : Outcome) → Brings MOST_MEMBERS o (got now points sequence snapshot o)
+got-row : (now : Ticks) (points : List HistoryPoint) (sequence : ℕ) (snapshot : SnapshotFacts) (o : Outcome) → Brings MOST_MEMBERS o (read_answered now points sequence snapshot o)
 got-row now points sequence snapshot o =
     let read : Outcome = record o { knows = read_noted now snapshot o.knows } in
     let still : Grows MOST_MEMBERS o.knows.sequence o.knows.sequence o.outputs o.outputs = more _ _ _ _ kept in
@@ -259,7 +259,7 @@ got-row now points sequence snapshot o =
       quiet = still;
       other = still;
       leader = λ held _. more _ _ _ _ (said o.knows.sequence o.knows.sequence o.outputs _ (omega arith) tt);
-      stray = λ _. more _ _ _ _ (said o.knows.sequence o.knows.sequence o.outputs _ (omega arith) tt);
+      unleased = λ _. more _ _ _ _ (said o.knows.sequence o.knows.sequence o.outputs _ (omega arith) tt);
       renews = λ leader _ _ _. more _ _ _ _ (said o.knows.sequence (o.knows.sequence + 1) o.outputs _ (omega arith) (omega (arith, read.knows.settings.ttl_range)));
       touches = more _ _ _ _ (said o.knows.sequence (o.knows.sequence + 1) o.outputs _ (omega arith) (omega (arith, read.knows.settings.ttl_range)));
       follows = λ leader _ _. more _ _ _ _ (follow-row now leader.holder read);
@@ -282,7 +282,7 @@ refused-row now sequence o = refused-by (Row o) now sequence o (record {
   kept = kept;
   quiet = kept;
   leader = λ held _. said o.knows.sequence o.knows.sequence o.outputs _ (omega arith) tt;
-  stray = λ _. said o.knows.sequence o.knows.sequence o.outputs _ (omega arith) tt;
+  unleased = λ _. said o.knows.sequence o.knows.sequence o.outputs _ (omega arith) tt;
   follower = λ held _. kept;
   ready = λ held _. postponed-row held (waiting_no_more o);
   runs_on = λ _. said o.knows.sequence o.knows.sequence o.outputs outputs.RunsWithoutKey (omega arith) tt;
@@ -299,7 +299,7 @@ begins-row now held o =
 -- what a member notes of the sync key, and its claim of that
 passing-row : (o : Outcome) → Brings 1 o (passing o)
 passing-row o =
-    passing-by (Grows 1 o.knows.sequence o.knows.sequence o.outputs) o (none o.knows.sequence o.outputs) (one o.knows.sequence o.knows.sequence o.outputs outputs.Passes (omega arith) tt)
+    passing-by (Grows 1 o.knows.sequence o.knows.sequence o.outputs) o (none o.knows.sequence o.outputs) (one o.knows.sequence o.knows.sequence o.outputs outputs.ClaimsOutsideSync (omega arith) tt)
 
 claims-row : (now : Ticks) (held : ℕ) (o : Outcome) → Brings 2 o (claims now held (passing o))
 claims-row now held o =
@@ -310,9 +310,9 @@ begun-row : (now : Ticks) (held : ℕ) (o : Outcome) → Brings 2 o (begins_or_c
 begun-row now held o = begins-or-claims-by (Brings 2 o) now held o (begins-row now held o) (claims-row now held o)
 
 arms-row : (now ttl : Ticks) (held : ℕ) (o : Outcome) → Row o (arms now ttl held o)
-arms-row now ttl held o = if-cases (Row o) (is_refusing o.machine.watchdog.mode o.machine.watchdog.works) (gives_back held (record o { outputs = listed outputs.CannotArm o.outputs })) (begins_or_claims now held (arming now ttl o))
-    (λ _. grows-then 1 1 9 o.knows.sequence o.knows.sequence (o.knows.sequence + 1) o.outputs (listed outputs.CannotArm o.outputs) _ (omega arith)
-    (one o.knows.sequence o.knows.sequence o.outputs outputs.CannotArm (omega arith) tt) (back-row held (record o { outputs = listed outputs.CannotArm o.outputs })))
+arms-row now ttl held o = if-cases (Row o) (is_refusing o.machine.watchdog.mode o.machine.watchdog.works) (gives_back held (record o { outputs = with_output outputs.CannotArm o.outputs })) (begins_or_claims now held (arming now ttl o))
+    (λ _. grows-then 1 1 9 o.knows.sequence o.knows.sequence (o.knows.sequence + 1) o.outputs (with_output outputs.CannotArm o.outputs) _ (omega arith)
+    (one o.knows.sequence o.knows.sequence o.outputs outputs.CannotArm (omega arith) tt) (back-row held (record o { outputs = with_output outputs.CannotArm o.outputs })))
     (λ _. grows-then 1 2 9 o.knows.sequence o.knows.sequence _ o.outputs (armed (deadline_after now ttl o.machine.watchdog) o.outputs) _ (omega arith)
     (armed-one o.knows.sequence (deadline_after now ttl o.machine.watchdog) o.outputs) (begun-row now held (arming now ttl o)))
 
@@ -329,7 +329,7 @@ sync-short _ writes = absurd writes
 -- what a leader owes its cluster, behind what became of its watchdog
 duties-row : (most whole : ℕ) (now : Ticks) (held : ℕ) (start led : Outcome) → most + MOST_MEMBERS ≤ whole → Brings most start led → DutyRows (Brings whole start) now held led
 duties-row most whole now held start led h before =
-    let and-one : (later : ℕ) (output : Output) → later ≤ led.knows.sequence + 1 → AsksShortly output → Grows whole start.knows.sequence later start.outputs (listed output led.outputs) =
+    let and-one : (later : ℕ) (output : Output) → later ≤ led.knows.sequence + 1 → AsksShortly output → Grows whole start.knows.sequence later start.outputs (with_output output led.outputs) =
     λ later output next asks. grows-then most 1 whole _ _ _ _ _ _ (omega (arith, h)) before (one led.knows.sequence later led.outputs output next asks) in
     record {
       plan = record {
@@ -344,18 +344,18 @@ duties-row most whole now held start led h before =
     }
 
 -- a watchdog that rests
-rested-one : (sequence : ℕ) (renews : Bool) (deadline : Option Ticks) (before : List Output) → Grows 2 sequence sequence before (rest_told renews deadline before)
+rested-one : (sequence : ℕ) (renews : Bool) (deadline : Option Ticks) (before : List Output) → Grows 2 sequence sequence before (disabling_told renews deadline before)
 rested-one sequence renews None before = weaker 1 2 _ _ _ _ (omega arith) (none sequence before)
 rested-one sequence true (Some deadline) before =
-    grows-then 1 1 2 sequence sequence sequence before (listed outputs.Disarmed before) _ (omega arith) (one sequence sequence before outputs.Disarmed (omega arith) tt) (one sequence sequence (listed outputs.Disarmed before) outputs.DisablesWatchdog (omega arith) tt)
+    grows-then 1 1 2 sequence sequence sequence before (with_output outputs.Disarmed before) _ (omega arith) (one sequence sequence before outputs.Disarmed (omega arith) tt) (one sequence sequence (with_output outputs.Disarmed before) outputs.DisablesWatchdog (omega arith) tt)
 rested-one sequence false (Some deadline) before = weaker 1 2 _ _ _ _ (omega arith) (one sequence sequence before outputs.Disarmed (omega arith) tt)
 
-resting-row : (renews : Bool) (o : Outcome) → Brings 2 o (resting renews o)
+resting-row : (renews : Bool) (o : Outcome) → Brings 2 o (disabling_watchdog renews o)
 resting-row renews o = rested-one o.knows.sequence renews o.machine.watchdog.deadline o.outputs
 
 takes-resting-row : (now : Ticks) (renews : Bool) (held : ℕ) (o : Outcome) → Row o (takes_key_in_pause now renews held o)
 takes-resting-row now renews held o =
-    let rest : Outcome = resting renews o in
+    let rest : Outcome = disabling_watchdog renews o in
     takes-in-pause-by (Row o) now renews held o (weaker 1 9 _ _ _ _ (omega arith) (back-row held o))
     (grows-then 2 2 9 _ _ _ _ _ _ (omega arith) (resting-row renews o) (begins-row now held rest)) (grows-then 2 2 9 _ _ _ _ _ _ (omega arith) (resting-row renews o) (claims-row now held rest))
 
@@ -365,8 +365,8 @@ renewed-row now ttl held o =
     let fed : Brings 1 o led = fed-one o.knows.sequence (deadline_after now ttl o.machine.watchdog) o.outputs in
     renewed-by (Brings 17 o) now ttl held o (grows-then 1 1 17 _ _ _ _ _ _ (omega arith) fed (one o.knows.sequence o.knows.sequence led.outputs _ (omega arith) tt)) (duties-row 1 17 now held o led (omega arith) fed)
 
-stray-row : (now ttl : Ticks) (held : ℕ) (o : Outcome) → Row o (stray_renewed now ttl held o)
-stray-row now ttl held o = if-cases (Row o) (is_refusing o.machine.watchdog.mode o.machine.watchdog.works) _ (takes_over now held (arming now ttl o))
+unleased-row : (now ttl : Ticks) (held : ℕ) (o : Outcome) → Row o (unleased_renewed now ttl held o)
+unleased-row now ttl held o = if-cases (Row o) (is_refusing o.machine.watchdog.mode o.machine.watchdog.works) _ (takes_over now held (arming now ttl o))
     (λ _. said o.knows.sequence o.knows.sequence o.outputs _ (omega arith) tt)
     (λ _. weaker 1 9 o.knows.sequence o.knows.sequence o.outputs _ (omega arith) (armed-one o.knows.sequence (deadline_after now ttl o.machine.watchdog) o.outputs))
 
@@ -377,10 +377,10 @@ granted-row now sequence grant snapshot o =
     granted-by (Brings 18 o) now sequence grant snapshot o still still (λ asked _ _. record {
       other = still;
       leader = λ held _. weaker 17 18 _ _ _ _ (omega arith) (renewed-row now asked.ttl grant.revision told);
-      stray = λ _. as-much _ _ _ _ (stray-row now asked.ttl grant.revision told);
+      unleased = λ _. as-much _ _ _ _ (unleased-row now asked.ttl grant.revision told);
       takes = λ _. as-much _ _ _ _ (takes-row now asked.ttl grant.revision told);
       rests = λ renews _ held _. let led : Outcome = rested_on renews grant.revision told in duties-of (Brings 18 o) now grant.revision led (duties-row 2 18 now grant.revision o led (omega arith) (resting-row renews told));
-      stray_rests = λ renews _ _. weaker 2 18 _ _ _ _ (omega arith) (resting-row renews told);
+      unleased_rests = λ renews _ _. weaker 2 18 _ _ _ _ (omega arith) (resting-row renews told);
       takes_resting = λ renews _ _. as-much _ _ _ _ (takes-resting-row now renews grant.revision told);
     })
     (record {
@@ -407,7 +407,7 @@ small o mid after one two = record { sequence = omega (arith, one.numbers, two.n
 
 woken-small : (now : Ticks) (o : Outcome) → IsSmall o (woken now o)
 woken-small now o =
-    let found : Outcome = before now o in
+    let found : Outcome = reconciled now o in
     let over : Outcome = given_up now found in
     wake-by (IsSmall o) now o
     (small o found found (before-row now o) (weaker 9 19 _ _ _ _ (omega arith) kept))
@@ -421,13 +421,13 @@ one-more o mid after one two = small o mid after one (weaker 9 19 _ _ _ _ (omega
 -- so it is with each input
 pub step-small : (now : Ticks) (points : List HistoryPoint) (heard : Heard) (o : Outcome) → IsSmall o (step now points heard o)
 step-small now points heards.Wake o = woken-small now o
-step-small now points (heards.Got sequence snapshot) o =
-    let found : Outcome = before now o in
+step-small now points (heards.ReadAnswered sequence snapshot) o =
+    let found : Outcome = reconciled now o in
     small o found _ (before-row now o)
     (grows-then 1 16 19 _ _ _ _ _ _ (omega arith) (looked-row sequence snapshot found) (got-row now points sequence snapshot (looked sequence snapshot found)))
 step-small now points (heards.Granted sequence grant snapshot) o =
-    small o (before now o) _ (before-row now o) (weaker 18 19 _ _ _ _ (omega arith) (granted-any-row now sequence grant snapshot (before now o)))
-step-small now points (heards.Mismatch sequence key found) o = one-more o (before now o) _ (before-row now o) (refused-any-row now sequence (before now o))
-step-small now points (heards.Asked from run sequence) o = one-more o (before now o) _ (before-row now o) (said (before now o).knows.sequence (before now o).knows.sequence (before now o).outputs _ (omega arith) tt)
-step-small now points (heards.Answered sequence answer) o = one-more o (before now o) _ (before-row now o) (answered-row now sequence answer (before now o))
-step-small now points (heards.Operated action) o = small o (before now o) _ (before-row now o) (weaker 2 19 _ _ _ _ (omega arith) (operated-row now action.request action.asked (before now o)))
+    small o (reconciled now o) _ (before-row now o) (weaker 18 19 _ _ _ _ (omega arith) (granted-any-row now sequence grant snapshot (reconciled now o)))
+step-small now points (heards.Mismatch sequence key found) o = one-more o (reconciled now o) _ (before-row now o) (refused-any-row now sequence (reconciled now o))
+step-small now points (heards.Asked from incarnation sequence) o = one-more o (reconciled now o) _ (before-row now o) (said (reconciled now o).knows.sequence (reconciled now o).knows.sequence (reconciled now o).outputs _ (omega arith) tt)
+step-small now points (heards.Answered sequence answer) o = one-more o (reconciled now o) _ (before-row now o) (answered-row now sequence answer (reconciled now o))
+step-small now points (heards.Operated action) o = small o (reconciled now o) _ (before-row now o) (weaker 2 19 _ _ _ _ (omega arith) (operated-row now action.request action.asked (reconciled now o)))

@@ -16,11 +16,11 @@ use Rattle.agent_model.specs.declared.output.Output.TheVariants as outputs
 use Rattle.agent_model.specs.declared.output.Repair.{Repair}
 use Rattle.agent_model.specs.Repairs.{is_upstream, repairing, repaired_if}
 use Rattle.agent_model.specs.declared.knowledge.Question.{Question}
-use Rattle.agent_model.specs.declared.knowledge.Question.TheVariants.{Reading, Asking, Creating, Renewing, Claiming, Syncing, Checking}
+use Rattle.agent_model.specs.declared.knowledge.Question.TheVariants.{Reading, ComparingPositions, Creating, Renewing, Claiming, Syncing, FindingCandidate}
 use Rattle.agent_model.specs.declared.knowledge.Settling.{Settling}
-use Rattle.agent_model.specs.declared.knowledge.Settling.TheVariants.{Stays, Lists, Empties}
+use Rattle.agent_model.specs.declared.knowledge.Settling.TheVariants.{KeepsList, NamesStandbys, ClearsList}
 use Rattle.agent_model.specs.declared.knowledge.SyncRead.{SyncRead}
-use Rattle.agent_model.specs.declared.knowledge.Waited.{Waited}
+use Rattle.agent_model.specs.declared.knowledge.PendingQuestion.{PendingQuestion}
 use Rattle.agent_model.specs.Synchronous.{sync_read_if, expected_of, is_named_if, waiting_for}
 use Rattle.pat_base.specs.declared.server_state.Required.{Required}
 use Rattle.pat_base.specs.declared.server_state.Required.TheVariants.{Nobody, All}
@@ -34,14 +34,14 @@ use Rattle.agent_model.specs.declared.why.Why.TheVariants.{HandOver}
 use Rattle.event_book.specs.declared.reason.Reason.TheVariants.{StartTooLong}
 use Rattle.agent_model.specs.declared.why.Why.{Why}
 use Rattle.agent_model.specs.Acting.{sending, lease_span, disarming, feeding, ending_server, requiring, waiting_no_more, touching, starting_replica, following_server, is_hold_active, shutting_down}
-use Rattle.agent_model.specs.Agents.{RoleFacts, Follower, Holder, Ready, Leader, Ending, Stray, Outcome, is_leader}
-use Rattle.agent_model.specs.Before.{leader_finds_ended, has_ended, finds_live, stray_finds_ended, before_as, before}
-use Rattle.agent_model.specs.Pausing.{is_paused, ends_forks, is_wanted, resting, running_without_key}
-use Rattle.agent_model.specs.Decisions.{takes_over, may_take, gives_back, takes_key_in_pause, granted_in_pause, uses_lease, asks_renewal, lease_used, may_create, has_primary, leader_renewed, is_start_too_long, stray_renewed, takes_key, lease_granted, belongs, accepted_grant, is_lease_of, granted_write, granted_for, granted, is_decision, is_sync_decision, awaits_decision, is_write_of, sync_granted, accepted_sync, follower_for, renewal_refused, refused_as, refused_for, refused}
+use Rattle.agent_model.specs.Agents.{RoleFacts, Follower, Holder, Ready, Leader, Ending, Unleased, Outcome, is_leader}
+use Rattle.agent_model.specs.Reconciling.{leader_finds_ended, has_ended, finds_live, unleased_finds_ended, before_as, reconciled}
+use Rattle.agent_model.specs.Pausing.{is_paused, ends_forks, is_wanted, disabling_watchdog, running_without_key}
+use Rattle.agent_model.specs.Decisions.{takes_over, may_take, gives_back, takes_key_in_pause, granted_in_pause, uses_lease, asks_renewal, lease_used, may_create, has_primary, leader_renewed, is_start_too_long, unleased_renewed, takes_key, lease_granted, belongs, accepted_grant, is_lease_of, granted_write, granted_for, granted, is_decision, is_sync_decision, awaits_decision, is_write_of, sync_granted, accepted_sync, follower_for, renewal_refused, refused_as, refused_for, refused}
 use Rattle.agent_model.specs.Claiming.{begins, claims, begins_or_claims, passing, told_passing, postpones, claim_fails_as, claim_fails, may_begin_on_claim}
 use Rattle.agent_model.specs.Planning.{leader_view, writing_sync, switching_off, noting, planned_as, planned_on, planned, settled}
 use Rattle.agent_model.specs.Fits.{Fits}
-use Rattle.agent_model.specs.Outputs.{listed}
+use Rattle.agent_model.specs.Outputs.{with_output}
 use Rattle.agent_model.specs.HandingOver.{is_done, leader_revision, clearing_under, clearing, successor_by, hands_over, hands_over_to, handover_judged, judged_if_leading, whom_answered, checking, checks, checks_unless_paused, failover_duty, duty_on, duties, check_answered}
 use Rattle.agent_model.specs.Operators.{telling, answering, answering_if, operating, config_revision, restarting, wiping, operated, result_as, looked_by, uses_read, looked, operator_until, late_answer, given_up_by, given_up, learned, granted_as, operates, grants_operator, operator_granted, refusal_of, operator_refused}
 use Rattle.operator_keys.specs.Statuses.{ok}
@@ -56,12 +56,12 @@ use Rattle.lease_store.specs.declared.action.OperatorRequest.TheVariants as requ
 use Rattle.lease_store.specs.declared.value.FailoverKey.{FailoverKey}
 use Rattle.event_book.specs.declared.message.Body.TheVariants as bodies
 use Rattle.cluster_config.specs.Naming.{candidate_of}
-use Rattle.agent_model.specs.Snapshots.{leader_loses_key, stray_loses_key, renewing, finds_own_key, own_key, asks_as_stray, starts_behind, starts_if, follow_row, follows, others_key, no_key, led, is_active, awaits_read, read_noted, informed, accepted, got, ends_fork}
+use Rattle.agent_model.specs.Snapshots.{leader_loses_key, unleased_loses_key, renewing, finds_own_key, own_key, asks_as_unleased, starts_behind, starts_if, follow_row, follows, others_key, no_key, led, is_active, awaits_read, read_noted, informed, accepted, read_answered, ends_fork}
 use Rattle.agent_model.specs.Racing.{can_start, starts_alone, bar_of, creating, barred, races_unless, free_key, finds_free, outcome_at, judged_as, judged, asking_others, unheard}
 use Rattle.agent_model.specs.Answers.{all_answered}
 use Rattle.agent_model.specs.Peers.{is_asking, awaits_others, awaits_answer, awaits_check, judged_if_all, keeping, accepted_answer, answered_for, answered}
 use Rattle.agent_model.specs.Table.{granted_any, refused_any}
-use Rattle.agent_model.specs.Wake.{roused, is_due, has_turn, leader_out_of_reach, stray_out_of_reach, out_of_reach_as, out_of_reach, unanswered, overdue_for, overdue, is_stopping, reading, turn_noted, turn_as, turn_begins, turned, woken}
+use Rattle.agent_model.specs.Wake.{roused, is_due, has_turn, leader_out_of_reach, unleased_out_of_reach, out_of_reach_as, out_of_reach, unanswered, overdue_for, overdue, is_stopping, reading, turn_noted, turn_as, turn_begins, turned, woken}
 
 and-left : (a b : Bool) → a && b ≡ true → a ≡ true
 and-left true b e = refl
@@ -79,7 +79,7 @@ pub record BeforeRows (P : Outcome → Type 0) (now : Ticks) (o : Outcome) : Typ
   pub follower : o.role ≡ Follower → live o.machine.server.state ≡ true → P (finds_live o)
   pub holder : (revision : ℕ) → o.role ≡ Holder revision → live o.machine.server.state ≡ true → P (finds_live o)
   pub ready : (revision : ℕ) → o.role ≡ Ready revision → live o.machine.server.state ≡ true → P (finds_live (disarming o))
-  pub stray : o.role ≡ Stray → live o.machine.server.state ≡ false → P (stray_finds_ended o)
+  pub unleased : o.role ≡ Unleased → live o.machine.server.state ≡ false → P (unleased_finds_ended o)
 
 fits-as : (role other : RoleFacts) (b : Bool) → role ≡ other → Fits other b → Fits role b
 fits-as role other b e fits = rw e fits
@@ -90,9 +90,9 @@ before-as P now (Ending r why) o is rows = if-cases P (live o.machine.server.sta
 before-as P now Follower o is rows = if-cases P (live o.machine.server.state) (finds_live o) o (λ l. rows.follower is l) (λ l. rows.kept (fits-as o.role Follower (live o.machine.server.state) is l))
 before-as P now (Holder r) o is rows = if-cases P (live o.machine.server.state) (finds_live o) o (λ l. rows.holder r is l) (λ l. rows.kept (fits-as o.role (Holder r) (live o.machine.server.state) is l))
 before-as P now (Ready r) o is rows = if-cases P (live o.machine.server.state) (finds_live (disarming o)) o (λ l. rows.ready r is l) (λ l. rows.kept (fits-as o.role (Ready r) (live o.machine.server.state) is l))
-before-as P now Stray o is rows = if-cases P (live o.machine.server.state) o (stray_finds_ended o) (λ l. rows.kept (fits-as o.role Stray (live o.machine.server.state) is l)) (λ l. rows.stray is l)
+before-as P now Unleased o is rows = if-cases P (live o.machine.server.state) o (unleased_finds_ended o) (λ l. rows.kept (fits-as o.role Unleased (live o.machine.server.state) is l)) (λ l. rows.unleased is l)
 
-pub before-by : (P : Outcome → Type 0) (now : Ticks) (o : Outcome) → BeforeRows P now o → P (before now o)
+pub before-by : (P : Outcome → Type 0) (now : Ticks) (o : Outcome) → BeforeRows P now o → P (reconciled now o)
 before-by P now o rows = before-as P now o.role o refl rows
 
 -- the race is judged
@@ -141,7 +141,7 @@ judged-if-leading P now Follower o is quiet rows = quiet
 judged-if-leading P now (Holder held) o is quiet rows = quiet
 judged-if-leading P now (Ready held) o is quiet rows = quiet
 judged-if-leading P now (Ending held why) o is quiet rows = quiet
-judged-if-leading P now Stray o is quiet rows = quiet
+judged-if-leading P now Unleased o is quiet rows = quiet
 
 -- operators are answered
 pub record ReplyRows (P : Outcome → Type 0) (o : Outcome) : Type 0 where
@@ -206,14 +206,14 @@ pub record OverdueWhen (P : Outcome → Type 0) (now : Ticks) (o : Outcome) : Ty
   pub kept : P o
   pub quiet : P (waiting_no_more o)
   pub leader : (revision : ℕ) → o.role ≡ Leader revision → is_paused o.knows ≡ false → P (leader_out_of_reach now revision (waiting_no_more o))
-  pub stray : o.role ≡ Stray → is_paused o.knows ≡ false → P (stray_out_of_reach now (waiting_no_more o))
+  pub unleased : o.role ≡ Unleased → is_paused o.knows ≡ false → P (unleased_out_of_reach now (waiting_no_more o))
   pub judges : awaits_others o.knows.waited ≡ true → may_create o.role ≡ true → P (judged now o)
   pub ready : (revision : ℕ) → o.role ≡ Ready revision → P (postpones revision (waiting_no_more o))
   pub checks : (revision : ℕ) → o.role ≡ Leader revision → HandoverRows P now revision o
 
 out-of-reach-as : (P : Outcome → Type 0) (now : Ticks) (role : RoleFacts) (o : Outcome) → o.role ≡ role → is_paused o.knows ≡ false → OverdueWhen P now o → P (out_of_reach_as now role (waiting_no_more o))
 out-of-reach-as P now (Leader r) o is unpaused rows = rows.leader r is unpaused
-out-of-reach-as P now Stray o is unpaused rows = rows.stray is unpaused
+out-of-reach-as P now Unleased o is unpaused rows = rows.unleased is unpaused
 out-of-reach-as P now Follower o is unpaused rows = rows.quiet
 out-of-reach-as P now (Holder r) o is unpaused rows = rows.quiet
 out-of-reach-as P now (Ready r) o is unpaused rows = rows.quiet
@@ -228,10 +228,10 @@ unanswered-by P now Renewing o asked rows = out-of-reach P now o rows
 unanswered-by P now Creating o asked rows = rows.quiet
 unanswered-by P now Claiming o asked rows = claim-fails-by P (waiting_no_more o) rows.quiet rows.ready
 unanswered-by P now (Syncing settling) o asked rows = rows.quiet
-unanswered-by P now Checking o asked rows = judged-if-leading P now o.role o refl rows.quiet rows.checks
-unanswered-by P now Asking o asked rows = if-cases P (may_create o.role) (judged now o) (waiting_no_more o) (rows.judges (asked refl)) (λ _. rows.quiet)
+unanswered-by P now FindingCandidate o asked rows = judged-if-leading P now o.role o refl rows.quiet rows.checks
+unanswered-by P now ComparingPositions o asked rows = if-cases P (may_create o.role) (judged now o) (waiting_no_more o) (rows.judges (asked refl)) (λ _. rows.quiet)
 
-overdue-for : (P : Outcome → Type 0) (now : Ticks) (waited : Option Waited) (o : Outcome) → o.knows.waited ≡ waited → OverdueWhen P now o → P (overdue_for now waited o)
+overdue-for : (P : Outcome → Type 0) (now : Ticks) (waited : Option PendingQuestion) (o : Outcome) → o.knows.waited ≡ waited → OverdueWhen P now o → P (overdue_for now waited o)
 overdue-for P now None o is rows = rows.kept
 overdue-for P now (Some waited) o is rows = if-cases P (nat_le waited.until.0 now.0) (unanswered now waited.question o) o (λ _. unanswered-by P now waited.question o (λ asked. ap awaits_others is ∙ asked) rows) (λ _. rows.kept)
 
@@ -243,7 +243,7 @@ pub record OverdueRows (P : Outcome → Type 0) (now : Ticks) (o : Outcome) : Ty
   pub kept : P o
   pub quiet : P (waiting_no_more o)
   pub leader : (revision : ℕ) → o.role ≡ Leader revision → P (leader_out_of_reach now revision (waiting_no_more o))
-  pub stray : o.role ≡ Stray → P (stray_out_of_reach now (waiting_no_more o))
+  pub unleased : o.role ≡ Unleased → P (unleased_out_of_reach now (waiting_no_more o))
   pub judges : may_create o.role ≡ true → P (judged now o)
   pub ready : (revision : ℕ) → o.role ≡ Ready revision → P (postpones revision (waiting_no_more o))
   pub checks : (revision : ℕ) → o.role ≡ Leader revision → HandoverRows P now revision o
@@ -253,7 +253,7 @@ overdue-by P now o rows = overdue-when P now o (record {
   kept = rows.kept;
   quiet = rows.quiet;
   leader = λ revision is _. rows.leader revision is;
-  stray = λ is _. rows.stray is;
+  unleased = λ is _. rows.unleased is;
   judges = λ _ may. rows.judges may;
   ready = rows.ready;
   checks = rows.checks;
@@ -267,7 +267,7 @@ pub record TurnRows (P : Outcome → Type 0) (now : Ticks) (o : Outcome) : Type 
 
 turn-as : (P : Outcome → Type 0) (now : Ticks) (role : RoleFacts) (o : Outcome) → o.role ≡ role → TurnRows P now o → P (turn_as now role (record o { knows = turn_noted now o.knows }))
 turn-as P now (Ending r why) o is rows = rows.quiet
-turn-as P now Stray o is rows = if-cases P (is_stopping o.machine.server.state) (record o { knows = turn_noted now o.knows }) (reading now (record o { knows = turn_noted now o.knows })) (λ _. rows.quiet) (λ _. rows.reads (rw is refl))
+turn-as P now Unleased o is rows = if-cases P (is_stopping o.machine.server.state) (record o { knows = turn_noted now o.knows }) (reading now (record o { knows = turn_noted now o.knows })) (λ _. rows.quiet) (λ _. rows.reads (rw is refl))
 turn-as P now Follower o is rows = rows.reads (rw is refl)
 turn-as P now (Holder r) o is rows = rows.reads (rw is refl)
 turn-as P now (Ready r) o is rows = rows.reads (rw is refl)
@@ -277,8 +277,8 @@ pub turn-by : (P : Outcome → Type 0) (now : Ticks) (o : Outcome) → TurnRows 
 turn-by P now o rows = if-cases P (has_turn now o.knows) (turn_begins now o) o (λ _. turn-as P now o.role o refl rows) (λ _. rows.kept)
 
 -- a wake: what comes before it alone, or with an operator whose time is over, a deadline that has passed and a turn
-pub wake-by : (P : Outcome → Type 0) (now : Ticks) (o : Outcome) → P (before now o) → P (roused now o) → P (woken now o)
-wake-by P now o idle due = if-cases P (is_due now o.role o.knows o.machine) (roused now o) (before now o) (λ _. due) (λ _. idle)
+pub wake-by : (P : Outcome → Type 0) (now : Ticks) (o : Outcome) → P (reconciled now o) → P (roused now o) → P (woken now o)
+wake-by P now o idle due = if-cases P (is_due now o.role o.knows o.machine) (roused now o) (reconciled now o) (λ _. due) (λ _. idle)
 
 -- the answer to a read, by when each row applies
 pub record GotWhen (P : Outcome → Type 0) (now : Ticks) (points : List HistoryPoint) (snapshot : SnapshotFacts) (o : Outcome) : Type 0 where
@@ -286,14 +286,14 @@ pub record GotWhen (P : Outcome → Type 0) (now : Ticks) (points : List History
   pub quiet : P (waiting_no_more o)
   pub other : P (record o { knows = read_noted now snapshot o.knows })
   pub leader : (held : ℕ) → o.role ≡ Leader held → is_paused (read_noted now snapshot o.knows) ≡ false → P (leader_loses_key now held (record o { knows = read_noted now snapshot o.knows }))
-  pub stray : o.role ≡ Stray → is_paused (read_noted now snapshot o.knows) ≡ false → P (stray_loses_key now (record o { knows = read_noted now snapshot o.knows }))
+  pub unleased : o.role ≡ Unleased → is_paused (read_noted now snapshot o.knows) ≡ false → P (unleased_loses_key now (record o { knows = read_noted now snapshot o.knows }))
   pub renews : is_active o.role ≡ true → (leader : LeaderEntry) → leader_in snapshot ≡ Some leader → leader.holder.number == o.knows.who.me.number ≡ true → P (renewing now points leader.revision (record o { knows = read_noted now snapshot o.knows }))
   pub touches : P (touching (record o { knows = read_noted now snapshot o.knows }))
   pub follows : (leader : LeaderEntry) → leader_in snapshot ≡ Some leader → may_create o.role ≡ true → P (follows now leader.holder (record o { knows = read_noted now snapshot o.knows }))
   pub free : leader_in snapshot ≡ None → may_create o.role ≡ true → P (finds_free now (record o { knows = read_noted now snapshot o.knows }))
   -- in a pause
   pub runs_on : is_paused (read_noted now snapshot o.knows) ≡ true → P (running_without_key (record o { knows = read_noted now snapshot o.knows }))
-  pub asks_on : leader_in snapshot ≡ None → has_primary o.role ≡ true → is_paused (read_noted now snapshot o.knows) ≡ true → P (asks_as_stray now (record o { knows = read_noted now snapshot o.knows }))
+  pub asks_on : leader_in snapshot ≡ None → has_primary o.role ≡ true → is_paused (read_noted now snapshot o.knows) ≡ true → P (asks_as_unleased now (record o { knows = read_noted now snapshot o.knows }))
 
 -- a primary doesn't have the leader key, since another has it, or nobody
 without-key : (P : Outcome → Type 0) (now : Ticks) (points : List HistoryPoint) (snapshot : SnapshotFacts) (o lost : Outcome) → (is_paused (read_noted now snapshot o.knows) ≡ false → P lost) → GotWhen P now points snapshot o
@@ -301,12 +301,12 @@ without-key : (P : Outcome → Type 0) (now : Ticks) (points : List HistoryPoint
 without-key P now points snapshot o lost ends rows = if-cases P (is_paused (read_noted now snapshot o.knows)) (running_without_key (record o { knows = read_noted now snapshot o.knows })) lost rows.runs_on ends
 
 without-leader : (P : Outcome → Type 0) (now : Ticks) (points : List HistoryPoint) (snapshot : SnapshotFacts) (o lost : Outcome) → leader_in snapshot ≡ None → has_primary o.role ≡ true → (is_paused (read_noted now snapshot o.knows) ≡ false → P lost) → GotWhen P now points snapshot o
-    → P (if is_paused (read_noted now snapshot o.knows) then asks_as_stray now (record o { knows = read_noted now snapshot o.knows }) else lost)
-without-leader P now points snapshot o lost none primary ends rows = if-cases P (is_paused (read_noted now snapshot o.knows)) (asks_as_stray now (record o { knows = read_noted now snapshot o.knows })) lost (rows.asks_on none primary) ends
+    → P (if is_paused (read_noted now snapshot o.knows) then asks_as_unleased now (record o { knows = read_noted now snapshot o.knows }) else lost)
+without-leader P now points snapshot o lost none primary ends rows = if-cases P (is_paused (read_noted now snapshot o.knows)) (asks_as_unleased now (record o { knows = read_noted now snapshot o.knows })) lost (rows.asks_on none primary) ends
 
 got-none : (P : Outcome → Type 0) (now : Ticks) (points : List HistoryPoint) (snapshot : SnapshotFacts) (role : RoleFacts) (o : Outcome) → o.role ≡ role → leader_in snapshot ≡ None → GotWhen P now points snapshot o → P (no_key now role (record o { knows = read_noted now snapshot o.knows }))
 got-none P now points snapshot (Leader held) o is none rows = without-leader P now points snapshot o (leader_loses_key now held (record o { knows = read_noted now snapshot o.knows })) none (rw is refl) (rows.leader held is) rows
-got-none P now points snapshot Stray o is none rows = without-leader P now points snapshot o (stray_loses_key now (record o { knows = read_noted now snapshot o.knows })) none (rw is refl) (rows.stray is) rows
+got-none P now points snapshot Unleased o is none rows = without-leader P now points snapshot o (unleased_loses_key now (record o { knows = read_noted now snapshot o.knows })) none (rw is refl) (rows.unleased is) rows
 got-none P now points snapshot Follower o is none rows = rows.free none (rw is refl)
 got-none P now points snapshot (Holder held) o is none rows = rows.free none (rw is refl)
 got-none P now points snapshot (Ready held) o is none rows = rows.other
@@ -314,7 +314,7 @@ got-none P now points snapshot (Ending held why) o is none rows = rows.other
 
 got-others : (P : Outcome → Type 0) (now : Ticks) (points : List HistoryPoint) (snapshot : SnapshotFacts) (leader : LeaderEntry) (role : RoleFacts) (o : Outcome) → o.role ≡ role → leader_in snapshot ≡ Some leader → GotWhen P now points snapshot o → P (others_key now leader.holder role (record o { knows = read_noted now snapshot o.knows }))
 got-others P now points snapshot leader (Leader held) o is some rows = without-key P now points snapshot o (leader_loses_key now held (record o { knows = read_noted now snapshot o.knows })) (rows.leader held is) rows
-got-others P now points snapshot leader Stray o is some rows = without-key P now points snapshot o (stray_loses_key now (record o { knows = read_noted now snapshot o.knows })) (rows.stray is) rows
+got-others P now points snapshot leader Unleased o is some rows = without-key P now points snapshot o (unleased_loses_key now (record o { knows = read_noted now snapshot o.knows })) (rows.unleased is) rows
 got-others P now points snapshot leader Follower o is some rows = rows.follows leader some (rw is refl)
 got-others P now points snapshot leader (Holder held) o is some rows = rows.follows leader some (rw is refl)
 got-others P now points snapshot leader (Ready held) o is some rows = rows.other
@@ -325,7 +325,7 @@ own-found P now points snapshot leader o active some mine rows = if-cases P (is_
 
 got-own : (P : Outcome → Type 0) (now : Ticks) (points : List HistoryPoint) (snapshot : SnapshotFacts) (leader : LeaderEntry) (role : RoleFacts) (o : Outcome) → is_active o.role ≡ true → leader_in snapshot ≡ Some leader → leader.holder.number == o.knows.who.me.number ≡ true → GotWhen P now points snapshot o → P (own_key now points leader.revision role (record o { knows = read_noted now snapshot o.knows }))
 got-own P now points snapshot leader (Leader held) o active some mine rows = rows.renews active leader some mine
-got-own P now points snapshot leader Stray o active some mine rows = rows.renews active leader some mine
+got-own P now points snapshot leader Unleased o active some mine rows = rows.renews active leader some mine
 got-own P now points snapshot leader Follower o active some mine rows = own-found P now points snapshot leader o active some mine rows
 got-own P now points snapshot leader (Holder held) o active some mine rows = own-found P now points snapshot leader o active some mine rows
 got-own P now points snapshot leader (Ready held) o active some mine rows = rows.other
@@ -337,7 +337,7 @@ got-led P now points snapshot (Some leader) o active is rows =
     if-cases P (leader.holder.number == o.knows.who.me.number) (own_key now points leader.revision o.role (record o { knows = read_noted now snapshot o.knows })) (others_key now leader.holder o.role (record o { knows = read_noted now snapshot o.knows }))
     (λ mine. got-own P now points snapshot leader o.role o active is mine rows) (λ _. got-others P now points snapshot leader o.role o refl is rows)
 
-pub got-when : (P : Outcome → Type 0) (now : Ticks) (points : List HistoryPoint) (sequence : ℕ) (snapshot : SnapshotFacts) (o : Outcome) → GotWhen P now points snapshot o → P (got now points sequence snapshot o)
+pub got-when : (P : Outcome → Type 0) (now : Ticks) (points : List HistoryPoint) (sequence : ℕ) (snapshot : SnapshotFacts) (o : Outcome) → GotWhen P now points snapshot o → P (read_answered now points sequence snapshot o)
 got-when P now points sequence snapshot o rows =
     if-cases P (awaits_read o.knows.waited sequence) (accepted now points snapshot o) o
     (λ _. if-cases P (is_active o.role) (led now points (leader_in snapshot) (record o { knows = read_noted now snapshot o.knows })) (waiting_no_more o) (λ active. got-led P now points snapshot (leader_in snapshot) o active refl rows) (λ _. rows.quiet))
@@ -349,22 +349,22 @@ pub record GotRows (P : Outcome → Type 0) (now : Ticks) (points : List History
   pub quiet : P (waiting_no_more o)
   pub other : P (record o { knows = read_noted now snapshot o.knows })
   pub leader : (held : ℕ) → o.role ≡ Leader held → P (leader_loses_key now held (record o { knows = read_noted now snapshot o.knows }))
-  pub stray : o.role ≡ Stray → P (stray_loses_key now (record o { knows = read_noted now snapshot o.knows }))
+  pub unleased : o.role ≡ Unleased → P (unleased_loses_key now (record o { knows = read_noted now snapshot o.knows }))
   pub renews : is_active o.role ≡ true → (leader : LeaderEntry) → leader_in snapshot ≡ Some leader → leader.holder.number == o.knows.who.me.number ≡ true → P (renewing now points leader.revision (record o { knows = read_noted now snapshot o.knows }))
   pub touches : P (touching (record o { knows = read_noted now snapshot o.knows }))
   pub follows : (leader : LeaderEntry) → leader_in snapshot ≡ Some leader → may_create o.role ≡ true → P (follows now leader.holder (record o { knows = read_noted now snapshot o.knows }))
   pub free : leader_in snapshot ≡ None → may_create o.role ≡ true → P (finds_free now (record o { knows = read_noted now snapshot o.knows }))
   -- in a pause
   pub runs_on : is_paused (read_noted now snapshot o.knows) ≡ true → P (running_without_key (record o { knows = read_noted now snapshot o.knows }))
-  pub asks_on : is_paused (read_noted now snapshot o.knows) ≡ true → P (asks_as_stray now (record o { knows = read_noted now snapshot o.knows }))
+  pub asks_on : is_paused (read_noted now snapshot o.knows) ≡ true → P (asks_as_unleased now (record o { knows = read_noted now snapshot o.knows }))
 
-pub got-by : (P : Outcome → Type 0) (now : Ticks) (points : List HistoryPoint) (sequence : ℕ) (snapshot : SnapshotFacts) (o : Outcome) → GotRows P now points snapshot o → P (got now points sequence snapshot o)
+pub got-by : (P : Outcome → Type 0) (now : Ticks) (points : List HistoryPoint) (sequence : ℕ) (snapshot : SnapshotFacts) (o : Outcome) → GotRows P now points snapshot o → P (read_answered now points sequence snapshot o)
 got-by P now points sequence snapshot o rows = got-when P now points sequence snapshot o (record {
   kept = rows.kept;
   quiet = rows.quiet;
   other = rows.other;
   leader = λ held is _. rows.leader held is;
-  stray = λ is _. rows.stray is;
+  unleased = λ is _. rows.unleased is;
   renews = rows.renews;
   touches = rows.touches;
   follows = rows.follows;
@@ -378,7 +378,7 @@ pub record RefusedWhen (P : Outcome → Type 0) (now : Ticks) (o : Outcome) : Ty
   pub kept : P o
   pub quiet : P (waiting_no_more o)
   pub leader : (held : ℕ) → o.role ≡ Leader held → is_paused o.knows ≡ false → P (leader_loses_key now held (waiting_no_more o))
-  pub stray : o.role ≡ Stray → is_paused o.knows ≡ false → P (stray_loses_key now (waiting_no_more o))
+  pub unleased : o.role ≡ Unleased → is_paused o.knows ≡ false → P (unleased_loses_key now (waiting_no_more o))
   pub follower : (held : ℕ) → o.role ≡ Holder held → P (record (waiting_no_more o) { role = Follower })
   pub ready : (held : ℕ) → o.role ≡ Ready held → P (postpones held (waiting_no_more o))
   -- in a pause
@@ -386,7 +386,7 @@ pub record RefusedWhen (P : Outcome → Type 0) (now : Ticks) (o : Outcome) : Ty
 
 renewal-refused : (P : Outcome → Type 0) (now : Ticks) (role : RoleFacts) (o : Outcome) → o.role ≡ role → RefusedWhen P now o → P (renewal_refused now role (waiting_no_more o))
 renewal-refused P now (Leader held) o is rows = if-cases P (is_paused o.knows) (running_without_key (waiting_no_more o)) (leader_loses_key now held (waiting_no_more o)) rows.runs_on (rows.leader held is)
-renewal-refused P now Stray o is rows = if-cases P (is_paused o.knows) (running_without_key (waiting_no_more o)) (stray_loses_key now (waiting_no_more o)) rows.runs_on (rows.stray is)
+renewal-refused P now Unleased o is rows = if-cases P (is_paused o.knows) (running_without_key (waiting_no_more o)) (unleased_loses_key now (waiting_no_more o)) rows.runs_on (rows.unleased is)
 renewal-refused P now (Holder held) o is rows = rows.follower held is
 renewal-refused P now Follower o is rows = rows.quiet
 renewal-refused P now (Ready held) o is rows = rows.quiet
@@ -398,18 +398,18 @@ create-refused P now Follower o is rows = subst (λ (r : RoleFacts). P (record (
 create-refused P now (Ready held) o is rows = subst (λ (r : RoleFacts). P (record (waiting_no_more o) { role = r })) is rows.quiet
 create-refused P now (Leader held) o is rows = subst (λ (r : RoleFacts). P (record (waiting_no_more o) { role = r })) is rows.quiet
 create-refused P now (Ending held why) o is rows = subst (λ (r : RoleFacts). P (record (waiting_no_more o) { role = r })) is rows.quiet
-create-refused P now Stray o is rows = subst (λ (r : RoleFacts). P (record (waiting_no_more o) { role = r })) is rows.quiet
+create-refused P now Unleased o is rows = subst (λ (r : RoleFacts). P (record (waiting_no_more o) { role = r })) is rows.quiet
 
 refused-as : (P : Outcome → Type 0) (now : Ticks) (question : Question) (o : Outcome) → RefusedWhen P now o → P (refused_as now question (waiting_no_more o))
 refused-as P now Creating o rows = create-refused P now o.role o refl rows
 refused-as P now Renewing o rows = renewal-refused P now o.role o refl rows
 refused-as P now Claiming o rows = claim-fails-by P (waiting_no_more o) rows.quiet rows.ready
 refused-as P now Reading o rows = rows.quiet
-refused-as P now Asking o rows = rows.quiet
+refused-as P now ComparingPositions o rows = rows.quiet
 refused-as P now (Syncing settling) o rows = rows.quiet
-refused-as P now Checking o rows = rows.quiet
+refused-as P now FindingCandidate o rows = rows.quiet
 
-refused-for : (P : Outcome → Type 0) (now : Ticks) (sequence : ℕ) (waited : Option Waited) (o : Outcome) → RefusedWhen P now o → P (refused_for now sequence waited o)
+refused-for : (P : Outcome → Type 0) (now : Ticks) (sequence : ℕ) (waited : Option PendingQuestion) (o : Outcome) → RefusedWhen P now o → P (refused_for now sequence waited o)
 refused-for P now sequence None o rows = rows.kept
 refused-for P now sequence (Some waited) o rows = if-cases P (awaits_decision waited sequence) (refused_as now waited.question (waiting_no_more o)) o (λ _. refused-as P now waited.question o rows) (λ _. rows.kept)
 
@@ -421,7 +421,7 @@ pub record RefusedRows (P : Outcome → Type 0) (now : Ticks) (o : Outcome) : Ty
   pub kept : P o
   pub quiet : P (waiting_no_more o)
   pub leader : (held : ℕ) → o.role ≡ Leader held → P (leader_loses_key now held (waiting_no_more o))
-  pub stray : o.role ≡ Stray → P (stray_loses_key now (waiting_no_more o))
+  pub unleased : o.role ≡ Unleased → P (unleased_loses_key now (waiting_no_more o))
   pub follower : (held : ℕ) → o.role ≡ Holder held → P (record (waiting_no_more o) { role = Follower })
   pub ready : (held : ℕ) → o.role ≡ Ready held → P (postpones held (waiting_no_more o))
   -- in a pause
@@ -432,7 +432,7 @@ refused-by P now sequence o rows = refused-when P now sequence o (record {
   kept = rows.kept;
   quiet = rows.quiet;
   leader = λ held is _. rows.leader held is;
-  stray = λ is _. rows.stray is;
+  unleased = λ is _. rows.unleased is;
   follower = rows.follower;
   ready = rows.ready;
   runs_on = rows.runs_on;
@@ -501,9 +501,9 @@ check-answered P now answer Follower o is rows = rows.quiet
 check-answered P now answer (Holder held) o is rows = rows.quiet
 check-answered P now answer (Ready held) o is rows = rows.quiet
 check-answered P now answer (Ending held why) o is rows = rows.quiet
-check-answered P now answer Stray o is rows = rows.quiet
+check-answered P now answer Unleased o is rows = rows.quiet
 
-answered-for : (P : Outcome → Type 0) (now : Ticks) (sequence : ℕ) (answer : PeerAnswer) (waited : Option Waited) (o : Outcome) → o.knows.waited ≡ waited → AnsweredWhen P now answer o → P (answered_for now sequence answer waited o)
+answered-for : (P : Outcome → Type 0) (now : Ticks) (sequence : ℕ) (answer : PeerAnswer) (waited : Option PendingQuestion) (o : Outcome) → o.knows.waited ≡ waited → AnsweredWhen P now answer o → P (answered_for now sequence answer waited o)
 answered-for P now sequence answer None o is rows = rows.kept
 answered-for P now sequence answer (Some waited) o is rows =
     if-cases P (awaits_answer waited sequence) (accepted_answer now answer o) (if awaits_check waited sequence then check_answered now answer o.role o else o) (λ awaits. accepted-answer P now answer o (ap awaits_others is ∙ and-left (is_asking waited.question) (waited.sequence == sequence) awaits) rows)
@@ -525,22 +525,22 @@ answered-by P now sequence answer o rows = answered-when P now sequence answer o
 
 -- a leader whose watchdog rests on the grant of this revision
 abbrev pub rested_on : Bool → ℕ → Outcome → Outcome
-rested_on renews revision o = record (resting renews o) { role = Leader revision }
+rested_on renews revision o = record (disabling_watchdog renews o) { role = Leader revision }
 
 -- the lease of a request that was granted, by when each row applies
 pub record GrantWhen (P : Outcome → Type 0) (now ttl : Ticks) (revision : ℕ) (o : Outcome) : Type 0 where
   pub other : P o
   pub leader : (held : ℕ) → is_paused o.knows ≡ false → o.role ≡ Leader held → P (leader_renewed now ttl revision o)
-  pub stray : is_paused o.knows ≡ false → o.role ≡ Stray → P (stray_renewed now ttl revision o)
+  pub unleased : is_paused o.knows ≡ false → o.role ≡ Unleased → P (unleased_renewed now ttl revision o)
   pub takes : is_paused o.knows ≡ false → may_create o.role ≡ true → P (takes_key now ttl revision o)
   -- in a pause
   pub rests : (renews : Bool) → is_paused o.knows ≡ true → (held : ℕ) → o.role ≡ Leader held → P (duties now revision (rested_on renews revision o))
-  pub stray_rests : (renews : Bool) → is_paused o.knows ≡ true → o.role ≡ Stray → P (takes_over now revision (resting renews o))
+  pub unleased_rests : (renews : Bool) → is_paused o.knows ≡ true → o.role ≡ Unleased → P (takes_over now revision (disabling_watchdog renews o))
   pub takes_resting : (renews : Bool) → is_paused o.knows ≡ true → may_create o.role ≡ true → P (takes_key_in_pause now renews revision o)
 
 granted-in-pause : (P : Outcome → Type 0) (now ttl : Ticks) (renews : Bool) (revision : ℕ) (role : RoleFacts) (o : Outcome) → o.role ≡ role → is_paused o.knows ≡ true → GrantWhen P now ttl revision o → P (granted_in_pause now renews revision role o)
 granted-in-pause P now ttl renews revision (Leader held) o is paused rows = rows.rests renews paused held is
-granted-in-pause P now ttl renews revision Stray o is paused rows = rows.stray_rests renews paused is
+granted-in-pause P now ttl renews revision Unleased o is paused rows = rows.unleased_rests renews paused is
 granted-in-pause P now ttl renews revision Follower o is paused rows = rows.takes_resting renews paused (rw is refl)
 granted-in-pause P now ttl renews revision (Holder held) o is paused rows = rows.takes_resting renews paused (rw is refl)
 granted-in-pause P now ttl renews revision (Ready held) o is paused rows = rows.other
@@ -548,7 +548,7 @@ granted-in-pause P now ttl renews revision (Ending held why) o is paused rows = 
 
 lease-granted : (P : Outcome → Type 0) (now ttl : Ticks) (revision : ℕ) (role : RoleFacts) (o : Outcome) → o.role ≡ role → is_paused o.knows ≡ false → GrantWhen P now ttl revision o → P (lease_granted now ttl revision role o)
 lease-granted P now ttl revision (Leader held) o is unpaused rows = rows.leader held unpaused is
-lease-granted P now ttl revision Stray o is unpaused rows = rows.stray unpaused is
+lease-granted P now ttl revision Unleased o is unpaused rows = rows.unleased unpaused is
 lease-granted P now ttl revision Follower o is unpaused rows = rows.takes unpaused (rw is refl)
 lease-granted P now ttl revision (Holder held) o is unpaused rows = rows.takes unpaused (rw is refl)
 lease-granted P now ttl revision (Ready held) o is unpaused rows = rows.other
@@ -558,21 +558,21 @@ lease-granted P now ttl revision (Ending held why) o is unpaused rows = rows.oth
 pub record GrantRows (P : Outcome → Type 0) (now ttl : Ticks) (revision : ℕ) (o : Outcome) : Type 0 where
   pub other : P o
   pub leader : (held : ℕ) → o.role ≡ Leader held → P (leader_renewed now ttl revision o)
-  pub stray : o.role ≡ Stray → P (stray_renewed now ttl revision o)
+  pub unleased : o.role ≡ Unleased → P (unleased_renewed now ttl revision o)
   pub takes : may_create o.role ≡ true → P (takes_key now ttl revision o)
   -- in a pause
   pub rests : (renews : Bool) → is_paused o.knows ≡ true → (held : ℕ) → o.role ≡ Leader held → P (duties now revision (rested_on renews revision o))
-  pub stray_rests : (renews : Bool) → is_paused o.knows ≡ true → o.role ≡ Stray → P (takes_over now revision (resting renews o))
+  pub unleased_rests : (renews : Bool) → is_paused o.knows ≡ true → o.role ≡ Unleased → P (takes_over now revision (disabling_watchdog renews o))
   pub takes_resting : (renews : Bool) → is_paused o.knows ≡ true → may_create o.role ≡ true → P (takes_key_in_pause now renews revision o)
 
 grant-rows : (P : Outcome → Type 0) (now ttl : Ticks) (revision : ℕ) (o : Outcome) → GrantRows P now ttl revision o → GrantWhen P now ttl revision o
 grant-rows P now ttl revision o rows = record {
   other = rows.other;
   leader = λ held _ is. rows.leader held is;
-  stray = λ _ is. rows.stray is;
+  unleased = λ _ is. rows.unleased is;
   takes = λ _ may. rows.takes may;
   rests = rows.rests;
-  stray_rests = rows.stray_rests;
+  unleased_rests = rows.unleased_rests;
   takes_resting = rows.takes_resting;
 }
 
@@ -595,15 +595,15 @@ pub record PlanRows (P : Outcome → Type 0) (now : Ticks) (o : Outcome) : Type 
 
 switching-off : (P : Outcome → Type 0) (now : Ticks) (revision : ℕ) (read : Option SyncRead) (o : Outcome) → PlanRows P now o → P (switching_off now revision read o)
 switching-off P now revision None o rows = rows.kept
-switching-off P now revision (Some read) o rows = rows.writes Empties (txns.DropSync revision read.revision) tt
+switching-off P now revision (Some read) o rows = rows.writes ClearsList (txns.DropSync revision read.revision) tt
 
 planned-as : (P : Outcome → Type 0) (now : Ticks) (revision : ℕ) (plan : Plan) (o : Outcome) → PlanRows P now o → P (planned_as now revision plan o)
 planned-as P now revision plans.Keep o rows = rows.kept
 planned-as P now revision plans.SwitchOff o rows = switching-off P now revision (sync_read_if o.knows.seen) o rows
-planned-as P now revision plans.Mark o rows = rows.writes (Lists nobody) (txns.SetSync revision (expected_of (sync_read_if o.knows.seen)) nobody) tt
-planned-as P now revision (plans.Withdraw standbys) o rows = rows.writes (Lists standbys) (txns.SetSync revision (expected_of (sync_read_if o.knows.seen)) standbys) tt
+planned-as P now revision plans.Mark o rows = rows.writes (NamesStandbys nobody) (txns.SetSync revision (expected_of (sync_read_if o.knows.seen)) nobody) tt
+planned-as P now revision (plans.Withdraw standbys) o rows = rows.writes (NamesStandbys standbys) (txns.SetSync revision (expected_of (sync_read_if o.knows.seen)) standbys) tt
 planned-as P now revision (plans.AddRequired members) o rows = rows.adds (All members)
-planned-as P now revision (plans.Publish standbys) o rows = rows.writes Stays (txns.SetSync revision (expected_of (sync_read_if o.knows.seen)) standbys) tt
+planned-as P now revision (plans.Publish standbys) o rows = rows.writes KeepsList (txns.SetSync revision (expected_of (sync_read_if o.knows.seen)) standbys) tt
 planned-as P now revision (plans.DropRequired members) o rows = rows.drops (waiting_for o.knows.settings members)
 
 planned-on : (P : Outcome → Type 0) (now : Ticks) (revision : ℕ) (seen : Option SnapshotFacts) (o : Outcome) → PlanRows P now o → P (planned_on now revision seen o)
@@ -651,11 +651,11 @@ renewed-by P now ttl revision o ends rows = let fed : Outcome = led_on now ttl r
     (λ _. ends) (λ _. duties-of P now revision fed rows)
 
 -- what a member notes of the sync key before it claims that: nothing, or that it doesn't name the member
-passing-as : (P : List Output → Type 0) (named : Bool) (outs : List Output) → P outs → P (listed outputs.Passes outs) → P (told_passing named outs)
+passing-as : (P : List Output → Type 0) (named : Bool) (outs : List Output) → P outs → P (with_output outputs.ClaimsOutsideSync outs) → P (told_passing named outs)
 passing-as P true outs silent noted = silent
 passing-as P false outs silent noted = noted
 
-pub passing-by : (P : List Output → Type 0) (o : Outcome) → P o.outputs → P (listed outputs.Passes o.outputs) → P (passing o).outputs
+pub passing-by : (P : List Output → Type 0) (o : Outcome) → P o.outputs → P (with_output outputs.ClaimsOutsideSync o.outputs) → P (passing o).outputs
 passing-by P o silent noted = passing-as P (is_named_if o.knows.who.me o.knows.turn_sync) o.outputs silent noted
 
 -- a member that takes the leader key behind an armed watchdog
@@ -663,10 +663,10 @@ pub begins-or-claims-by : (P : Outcome → Type 0) (now : Ticks) (revision : ℕ
 begins-or-claims-by P now revision o begin claim = if-cases P o.knows.turn_settings.synchronous_mode (claims now revision (passing o)) (begins now revision o) (λ _. claim) (λ _. begin)
 
 -- a member that takes the leader key in a pause, or gives it back
-pub takes-in-pause-by : (P : Outcome → Type 0) (now : Ticks) (renews : Bool) (revision : ℕ) (o : Outcome) → P (gives_back revision o) → P (begins now revision (resting renews o)) → P (claims now revision (passing (resting renews o))) → P (takes_key_in_pause now renews revision o)
+pub takes-in-pause-by : (P : Outcome → Type 0) (now : Ticks) (renews : Bool) (revision : ℕ) (o : Outcome) → P (gives_back revision o) → P (begins now revision (disabling_watchdog renews o)) → P (claims now revision (passing (disabling_watchdog renews o))) → P (takes_key_in_pause now renews revision o)
 takes-in-pause-by P now renews revision o gives begin claim =
-    if-cases P (is_wanted o.knows.who.me o.knows.turn_failover o.machine.server.state && may_take now o.knows o.machine) (begins_or_claims now revision (resting renews o)) (gives_back revision o)
-    (λ _. begins-or-claims-by P now revision (resting renews o) begin claim) (λ _. gives)
+    if-cases P (is_wanted o.knows.who.me o.knows.turn_failover o.machine.server.state && may_take now o.knows o.machine) (begins_or_claims now revision (disabling_watchdog renews o)) (gives_back revision o)
+    (λ _. begins-or-claims-by P now revision (disabling_watchdog renews o) begin claim) (λ _. gives)
 
 -- a write of the sync key that was granted, by when each row applies
 pub record SyncWhen (P : Outcome → Type 0) (now : Ticks) (o : Outcome) : Type 0 where
@@ -686,9 +686,9 @@ sync-rows : (P : Outcome → Type 0) (now : Ticks) (o : Outcome) → SyncRows P 
 sync-rows P now o rows = record { other = rows.other; begins = λ revision is _. rows.begins revision is; postpones = rows.postpones; settles = rows.settles }
 
 settled-by : (P : Outcome → Type 0) (settling : Settling) (o : Outcome) → P o → ((required : Required) → P (requiring required o)) → P (settled settling o)
-settled-by P Stays o kept requires = kept
-settled-by P (Lists standbys) o kept requires = requires (waiting_for o.knows.settings standbys)
-settled-by P Empties o kept requires = requires Nobody
+settled-by P KeepsList o kept requires = kept
+settled-by P (NamesStandbys standbys) o kept requires = requires (waiting_for o.knows.settings standbys)
+settled-by P ClearsList o kept requires = requires Nobody
 
 sync-granted : (P : Outcome → Type 0) (now : Ticks) (question : Question) (role : RoleFacts) (o : Outcome) → o.role ≡ role → belongs question role ≡ true → SyncWhen P now o → P (sync_granted now question role o)
 sync-granted P now Claiming (Ready revision) o is fits rows =
@@ -697,16 +697,16 @@ sync-granted P now Claiming Follower o is fits rows = rows.other
 sync-granted P now Claiming (Holder held) o is fits rows = rows.other
 sync-granted P now Claiming (Leader held) o is fits rows = rows.other
 sync-granted P now Claiming (Ending held why) o is fits rows = rows.other
-sync-granted P now Claiming Stray o is fits rows = rows.other
+sync-granted P now Claiming Unleased o is fits rows = rows.other
 sync-granted P now (Syncing settling) role o is fits rows = settled-by P settling o rows.other (λ required. rows.settles required (ap is_leader is ∙ fits))
 sync-granted P now Reading role o is fits rows = rows.other
-sync-granted P now Asking role o is fits rows = rows.other
+sync-granted P now ComparingPositions role o is fits rows = rows.other
 sync-granted P now Creating role o is fits rows = rows.other
 sync-granted P now Renewing role o is fits rows = rows.other
-sync-granted P now Checking role o is fits rows = rows.other
+sync-granted P now FindingCandidate role o is fits rows = rows.other
 
-granted-for : (P : Outcome → Type 0) (now : Ticks) (sequence : ℕ) (grant : Granted) (snapshot : SnapshotFacts) (waited : Option Waited) (o : Outcome) → o.knows.waited ≡ waited → P o → P (waiting_no_more o)
-    → ((asked : Waited) → o.knows.waited ≡ Some asked → is_decision asked sequence && is_lease_of o.knows.who.me grant ≡ true → GrantWhen P now asked.ttl grant.revision (record o { knows = informed snapshot o.knows }))
+granted-for : (P : Outcome → Type 0) (now : Ticks) (sequence : ℕ) (grant : Granted) (snapshot : SnapshotFacts) (waited : Option PendingQuestion) (o : Outcome) → o.knows.waited ≡ waited → P o → P (waiting_no_more o)
+    → ((asked : PendingQuestion) → o.knows.waited ≡ Some asked → is_decision asked sequence && is_lease_of o.knows.who.me grant ≡ true → GrantWhen P now asked.ttl grant.revision (record o { knows = informed snapshot o.knows }))
     → SyncWhen P now (record o { knows = informed snapshot o.knows }) → P (granted_for now sequence grant snapshot waited o)
 granted-for P now sequence grant snapshot None o is kept quiet rows syncs = kept
 granted-for P now sequence grant snapshot (Some waited) o is kept quiet rows syncs = let told : Outcome = record o { knows = informed snapshot o.knows } in
@@ -721,13 +721,13 @@ granted-for P now sequence grant snapshot (Some waited) o is kept quiet rows syn
 
 -- a request was granted, by when each row applies
 pub granted-when : (P : Outcome → Type 0) (now : Ticks) (sequence : ℕ) (grant : Granted) (snapshot : SnapshotFacts) (o : Outcome) → P o → P (waiting_no_more o)
-    → ((asked : Waited) → o.knows.waited ≡ Some asked → is_decision asked sequence && is_lease_of o.knows.who.me grant ≡ true → GrantWhen P now asked.ttl grant.revision (record o { knows = informed snapshot o.knows }))
+    → ((asked : PendingQuestion) → o.knows.waited ≡ Some asked → is_decision asked sequence && is_lease_of o.knows.who.me grant ≡ true → GrantWhen P now asked.ttl grant.revision (record o { knows = informed snapshot o.knows }))
     → SyncWhen P now (record o { knows = informed snapshot o.knows }) → P (granted now sequence grant snapshot o)
 granted-when P now sequence grant snapshot o kept quiet rows syncs = granted-for P now sequence grant snapshot o.knows.waited o refl kept quiet rows syncs
 
 -- the same, whenever they apply
 pub granted-by : (P : Outcome → Type 0) (now : Ticks) (sequence : ℕ) (grant : Granted) (snapshot : SnapshotFacts) (o : Outcome) → P o → P (waiting_no_more o)
-    → ((asked : Waited) → o.knows.waited ≡ Some asked → is_decision asked sequence && is_lease_of o.knows.who.me grant ≡ true → GrantRows P now asked.ttl grant.revision (record o { knows = informed snapshot o.knows }))
+    → ((asked : PendingQuestion) → o.knows.waited ≡ Some asked → is_decision asked sequence && is_lease_of o.knows.who.me grant ≡ true → GrantRows P now asked.ttl grant.revision (record o { knows = informed snapshot o.knows }))
     → SyncRows P now (record o { knows = informed snapshot o.knows }) → P (granted now sequence grant snapshot o)
 granted-by P now sequence grant snapshot o kept quiet rows syncs = let told : Outcome = record o { knows = informed snapshot o.knows } in
     granted-when P now sequence grant snapshot o kept quiet (λ asked is decision. grant-rows P now asked.ttl grant.revision told (rows asked is decision)) (sync-rows P now told syncs)

@@ -5,7 +5,7 @@ use Rattle.std.proofs.lemmas.Bool.Decides.{nat_tests}
 use Rattle.pat_base.specs.declared.server_state.State.{State}
 use Rattle.pat_base.specs.declared.ticks.Ticks.{Ticks}
 use Rattle.agent_model.specs.declared.knowledge.Knowledge.{Knowledge}
-use Rattle.agent_model.specs.declared.knowledge.Waited.{Waited}
+use Rattle.agent_model.specs.declared.knowledge.PendingQuestion.{PendingQuestion}
 use Rattle.agent_model.specs.declared.machine.Machine.{Machine}
 use Rattle.agent_model.specs.Agents.{RoleFacts}
 use Rattle.agent_model.specs.Wake.{due_from, finds_ended, is_due, is_overdue, waits_until}
@@ -13,7 +13,7 @@ use Rattle.agent_model.specs.Wake.{due_from, finds_ended, is_due, is_overdue, wa
 from-start : (now : Ticks) → true ≡ nat_le 0 now.0
 from-start now = grind (arith, nat_tests)
 
-due-if : (ended : Bool) (waited : Option Waited) (next now : Ticks)
+due-if : (ended : Bool) (waited : Option PendingQuestion) (next now : Ticks)
     → (ended || (is_overdue now waited || (is_none waited && nat_le next.0 now.0))) ≡ nat_le (cond ended (record { 0 = 0 }) (waits_until waited next)).0 now.0
 due-if true waited next now = from-start now
 due-if false None next now = refl

@@ -23,7 +23,7 @@ use Rattle.agent_model.specs.declared.output.Output.TheVariants as outputs
 use Rattle.agent_model.specs.declared.output.Target.TheVariants as targets
 use Rattle.agent_model.specs.Agents.{Outcome}
 use Rattle.agent_model.specs.Info.{info_of}
-use Rattle.agent_model.specs.Outputs.{listed}
+use Rattle.agent_model.specs.Outputs.{with_output}
 use Rattle.pat_base.specs.declared.ticks.TheConstants.{TICKS_OF_SECOND}
 
 -- so many seconds after a moment
@@ -34,13 +34,13 @@ seconds_after moment seconds = record { 0 = moment.0 + TICKS_OF_SECOND * seconds
 abbrev pub lease_span : Config → Ticks
 lease_span settings = record { 0 = TICKS_OF_SECOND * settings.ttl }
 
--- one more message of this run
+-- one more message of this incarnation
 abbrev pub counted : Knowledge → Knowledge
 counted knows = record knows { sequence = knows.sequence + 1 }
 
 -- the agent sends this to the key store under the next number, and doesn't wait for the answer
 abbrev pub sending : Body → Outcome → Outcome
-sending body o = record o { knows = counted o.knows; outputs = listed (outputs.Send targets.Store (o.knows.sequence + 1) body) o.outputs }
+sending body o = record o { knows = counted o.knows; outputs = with_output (outputs.Send targets.Store (o.knows.sequence + 1) body) o.outputs }
 
 -- the agent waits for the answer to its last question until a moment: what it asked for are leases of its settings'
 -- span
@@ -65,11 +65,11 @@ releasing revision o = sending (bodies.Request (txns.Release revision)) o
 
 -- the agent ends its server
 abbrev pub ending_server : Ticks → Reason → Outcome → Outcome
-ending_server now reason o = record o { machine = record o.machine { server = status_stopping now o.machine.server }; outputs = listed (outputs.Stop reason) o.outputs }
+ending_server now reason o = record o { machine = record o.machine { server = status_stopping now o.machine.server }; outputs = with_output (outputs.Stop reason) o.outputs }
 
 -- the server shuts down
 abbrev pub shutting_down : Ticks → Outcome → Outcome
-shutting_down now o = record o { machine = record o.machine { server = status_stopping now o.machine.server }; outputs = listed outputs.ShutDown o.outputs }
+shutting_down now o = record o { machine = record o.machine { server = status_stopping now o.machine.server }; outputs = with_output outputs.ShutDown o.outputs }
 
 -- the server of this member, if one is named
 abbrev pub upstream_of : Option MemberId → Option ServerId
@@ -78,11 +78,11 @@ upstream_of (Some leader) = Some (server_id_of leader)
 
 -- the server starts as a replica of this member's, or of none
 abbrev pub starting_replica : Ticks → Option MemberId → Outcome → Outcome
-starting_replica now leader o = record o { machine = record o.machine { server = status_replica_started now (upstream_of leader) o.machine.server }; outputs = listed (outputs.StartReplica leader) o.outputs }
+starting_replica now leader o = record o { machine = record o.machine { server = status_replica_started now (upstream_of leader) o.machine.server }; outputs = with_output (outputs.StartReplica leader) o.outputs }
 
 -- the server follows this member's
 abbrev pub following_server : MemberId → Outcome → Outcome
-following_server leader o = record o { machine = record o.machine { server = status_following (server_id_of leader) o.machine.server }; outputs = listed (outputs.Follow leader) o.outputs }
+following_server leader o = record o { machine = record o.machine { server = status_following (server_id_of leader) o.machine.server }; outputs = with_output (outputs.Follow leader) o.outputs }
 
 -- a replica is promoted, and one that is down and was a primary starts as one again; another server stays as it is
 abbrev pub status_begun : Ticks → ServerStatus → ServerStatus
@@ -90,7 +90,7 @@ status_begun now s = status_primary_started now (status_promoted s)
 
 -- the server begins to accept writes, at once or when its start is complete
 abbrev pub beginning : Ticks → Outcome → Outcome
-beginning now o = record o { machine = record o.machine { server = status_begun now o.machine.server }; outputs = listed outputs.Begin o.outputs }
+beginning now o = record o { machine = record o.machine { server = status_begun now o.machine.server }; outputs = with_output outputs.Begin o.outputs }
 
 -- the server's commits wait for these
 abbrev pub with_required : Required → Machine → Machine
@@ -98,7 +98,7 @@ with_required required machine = record machine { replication = record machine.r
 
 -- the server's commits wait for these from now on
 abbrev pub requiring : Required → Outcome → Outcome
-requiring required o = record o { machine = with_required required o.machine; outputs = listed (outputs.Require required) o.outputs }
+requiring required o = record o { machine = with_required required o.machine; outputs = with_output (outputs.Require required) o.outputs }
 
 -- the machine with no deadline of its watchdog
 abbrev pub without_deadline : Machine → Machine
@@ -107,7 +107,7 @@ without_deadline machine = record machine { watchdog = record machine.watchdog {
 -- a deadline that is removed is told
 abbrev pub disarmed : Option Ticks → List Output → List Output
 disarmed None out = out
-disarmed (Some deadline) out = listed outputs.Disarmed out
+disarmed (Some deadline) out = with_output outputs.Disarmed out
 
 -- the watchdog has no deadline any more
 abbrev pub disarming : Outcome → Outcome
@@ -129,12 +129,12 @@ is_refusing _ works = false
 -- a first deadline is told, if there is one
 abbrev pub armed : Option Ticks → List Output → List Output
 armed None out = out
-armed (Some until) out = listed (outputs.Armed until) out
+armed (Some until) out = with_output (outputs.Armed until) out
 
 -- a new deadline is told, if there is one
 abbrev pub fed_until : Option Ticks → List Output → List Output
 fed_until None out = out
-fed_until (Some until) out = listed (outputs.Fed until) out
+fed_until (Some until) out = with_output (outputs.Fed until) out
 
 -- the watchdog gets its first deadline, where it is used and its device works
 abbrev pub arming : Ticks → Ticks → Outcome → Outcome

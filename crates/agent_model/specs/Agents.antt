@@ -8,7 +8,7 @@ use Rattle.cluster_config.specs.declared.view.RoleWord.{RoleWord}
 use Rattle.cluster_config.specs.declared.view.RoleWord.TheVariants as words
 use Rattle.pg_model.specs.declared.status.ServerStatus.{ServerStatus}
 use Rattle.agent_model.specs.declared.knowledge.Knowledge.{Knowledge}
-use Rattle.agent_model.specs.declared.knowledge.Waited.{Waited}
+use Rattle.agent_model.specs.declared.knowledge.PendingQuestion.{PendingQuestion}
 use Rattle.agent_model.specs.declared.machine.Machine.{Machine}
 use Rattle.agent_model.specs.declared.output.Output.{Output}
 use Rattle.agent_model.specs.declared.why.Why.{Why}
@@ -22,7 +22,7 @@ pub data RoleFacts : Type 0 where
   Ready : (revision : ℕ) → RoleFacts
   Leader : (revision : ℕ) → RoleFacts
   Ending : (revision : ℕ) (why : Why) → RoleFacts
-  Stray : RoleFacts
+  Unleased : RoleFacts
 
 -- the word for a role, as views show it
 abbrev pub word_of : RoleFacts → RoleWord
@@ -31,7 +31,7 @@ word_of (Holder revision) = words.Holder
 word_of (Ready revision) = words.Ready
 word_of (Leader revision) = words.Leader
 word_of (Ending revision why) = words.Ending
-word_of Stray = words.Stray
+word_of Unleased = words.Unleased
 
 -- an agent is about to begin
 abbrev pub is_ready : RoleFacts → Bool
@@ -48,7 +48,7 @@ pub record AgentFacts : Type 0 where
   pub role : RoleFacts
   pub knows : Knowledge
 
--- so many messages a run may send
+-- so many messages an incarnation may send
 abbrev pub most_messages : ℕ
 most_messages = 2 ^ 60
 
@@ -60,7 +60,7 @@ pub record IsSound (knows : Knowledge) : Type 0 where
   pub since : ForSome knows.operating (λ waiting. waiting.since.0 ≤ latest)
 
 -- who ends its server waits for no answer
-abbrev pub EndsAlone : RoleFacts → Option Waited → Type 0
+abbrev pub EndsAlone : RoleFacts → Option PendingQuestion → Type 0
 EndsAlone (Ending revision why) waited = waited ≡ None
 EndsAlone _ waited = Unit {0}
 
@@ -82,9 +82,9 @@ pub record IsWithin (server : ServerStatus) : Type 0 where
 
 -- what an agent knows as it starts
 abbrev pub fresh_knowledge : Who → Ticks → ℕ → Knowledge
-fresh_knowledge who first run = record {
+fresh_knowledge who first incarnation = record {
   who = who;
-  run = run;
+  incarnation = incarnation;
   waited = None;
   sequence = 0;
   last_turn = None;
@@ -113,5 +113,5 @@ pub record Outcome : Type 0 where
   pub outputs : List Output
 
 -- the outcome of these parts
-abbrev pub made : RoleFacts → Knowledge → Machine → List Output → Outcome
-made role knows machine outputs = record { role = role; knows = knows; machine = machine; outputs = outputs }
+abbrev pub outcome_from : RoleFacts → Knowledge → Machine → List Output → Outcome
+outcome_from role knows machine outputs = record { role = role; knows = knows; machine = machine; outputs = outputs }

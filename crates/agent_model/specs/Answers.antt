@@ -12,7 +12,7 @@ use Rattle.agent_model.specs.declared.output.Output.TheVariants as outputs
 use Rattle.agent_model.specs.declared.output.Target.TheVariants as targets
 use Rattle.agent_model.specs.declared.who.Who.{Who}
 use Rattle.agent_model.specs.Info.{runs}
-use Rattle.agent_model.specs.Outputs.{listed}
+use Rattle.agent_model.specs.Outputs.{with_output}
 use Rattle.pat_base.specs.declared.member_id.TheConstants.{MOST_MEMBERS}
 
 -- this member gave the answer
@@ -38,7 +38,7 @@ is_other who member = nat_lt member.number who.members && not (member.number == 
 -- the ask to this member, where it is another one
 abbrev pub asking_one : Who → ℕ → Option MemberId → List Output → List Output
 asking_one who sequence None out = out
-asking_one who sequence (Some member) out = if is_other who member then listed (outputs.Send (targets.Member member) sequence bodies.Ask) out else out
+asking_one who sequence (Some member) out = if is_other who member then with_output (outputs.Send (targets.Member member) sequence bodies.Ask) out else out
 
 -- the asks to the other members among so many first ones, in the order in which the script declares them, all under one number
 abbrev pub asking_first : Who → ℕ → ℕ → List Output → List Output

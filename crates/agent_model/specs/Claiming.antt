@@ -12,7 +12,7 @@ use Rattle.agent_model.specs.declared.output.Output.{Output}
 use Rattle.agent_model.specs.declared.output.Output.TheVariants as outputs
 use Rattle.agent_model.specs.Acting.{seconds_after, asking, disarming, beginning, requiring}
 use Rattle.agent_model.specs.Agents.{RoleFacts, Holder, Ready, Leader, Outcome}
-use Rattle.agent_model.specs.Outputs.{listed}
+use Rattle.agent_model.specs.Outputs.{with_output}
 use Rattle.agent_model.specs.Pausing.{is_paused, is_wanted_by}
 use Rattle.agent_model.specs.Synchronous.{expected_of, is_named_if, unnamed}
 
@@ -30,7 +30,7 @@ claims now revision o = record (asking now Claiming (seconds_after now o.knows.s
 -- that the member leads though the sync key doesn't name it stands behind what it did so far
 abbrev pub told_passing : Bool → List Output → List Output
 told_passing true out = out
-told_passing false out = listed outputs.Passes out
+told_passing false out = with_output outputs.ClaimsOutsideSync out
 
 -- the member notes where the sync key, as its turn read it, doesn't name it: a failover by hand alone lets it lead then
 abbrev pub passing : Outcome → Outcome
@@ -42,7 +42,7 @@ begins_or_claims now revision o = if o.knows.turn_settings.synchronous_mode then
 
 -- the member keeps the leader key, and its promotion is postponed: what was armed is given up
 abbrev pub postpones : ℕ → Outcome → Outcome
-postpones revision o = let undone = disarming o in record undone { role = Holder revision; outputs = listed outputs.PostponesPromotion undone.outputs }
+postpones revision o = let undone = disarming o in record undone { role = Holder revision; outputs = with_output outputs.PostponesPromotion undone.outputs }
 
 -- a claim of the sync key fails: who is about to begin on it doesn't
 abbrev pub claim_fails_as : RoleFacts → Outcome → Outcome

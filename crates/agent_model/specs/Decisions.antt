@@ -10,23 +10,23 @@ use Rattle.event_book.specs.declared.reason.Reason.TheVariants.{StartTooLong, Wa
 use Rattle.cluster_config.specs.Snapshots.{SnapshotFacts}
 use Rattle.agent_model.specs.declared.knowledge.Knowledge.{Knowledge}
 use Rattle.agent_model.specs.declared.knowledge.Question.{Question}
-use Rattle.agent_model.specs.declared.knowledge.Question.TheVariants.{Asking, Creating, Renewing, Claiming, Syncing, Checking}
-use Rattle.agent_model.specs.declared.knowledge.Waited.{Waited}
+use Rattle.agent_model.specs.declared.knowledge.Question.TheVariants.{ComparingPositions, Creating, Renewing, Claiming, Syncing, FindingCandidate}
+use Rattle.agent_model.specs.declared.knowledge.PendingQuestion.{PendingQuestion}
 use Rattle.agent_model.specs.declared.machine.Machine.{Machine}
 use Rattle.agent_model.specs.declared.output.Output.TheVariants as outputs
 use Rattle.agent_model.specs.declared.why.Why.TheVariants.{HandOver}
 use Rattle.agent_model.specs.Acting.{waiting_no_more, releasing, ending_server, arming, feeding, is_refusing, is_hold_active}
-use Rattle.agent_model.specs.Agents.{RoleFacts, Follower, Holder, Ready, Leader, Ending, Stray, Outcome, is_ready, is_leader}
+use Rattle.agent_model.specs.Agents.{RoleFacts, Follower, Holder, Ready, Leader, Ending, Unleased, Outcome, is_ready, is_leader}
 use Rattle.agent_model.specs.Claiming.{begins_or_claims, claim_fails, claim_granted}
-use Rattle.agent_model.specs.Outputs.{listed}
+use Rattle.agent_model.specs.Outputs.{with_output}
 use Rattle.agent_model.specs.HandingOver.{duties}
 use Rattle.agent_model.specs.Planning.{settled}
 use Rattle.agent_model.specs.Synchronous.{may_lead_in_sync}
-use Rattle.agent_model.specs.Pausing.{is_paused, is_wanted, resting}
-use Rattle.agent_model.specs.Snapshots.{informed, is_active, leader_without_key, stray_without_key}
+use Rattle.agent_model.specs.Pausing.{is_paused, is_wanted, disabling_watchdog}
+use Rattle.agent_model.specs.Snapshots.{informed, is_active, leader_without_key, unleased_without_key}
 use Rattle.pat_base.specs.declared.ticks.TheConstants.{TICKS_OF_SECOND}
 
--- so many ticks have passed since this run began the server, or took it over
+-- so many ticks have passed since this incarnation began the server, or took it over
 abbrev pub has_lasted : Ticks → ℕ → Option Ticks → Bool
 has_lasted now span None = false
 has_lasted now span (Some begun) = nat_le span (now.0 - begun.0)
@@ -51,8 +51,8 @@ abbrev pub takes_over : Ticks → ℕ → Outcome → Outcome
 takes_over now revision o = record o { role = Leader revision; knows = record o.knows { begun = Some now; noted = o.machine.server.end } }
 
 -- an agent whose server is live without a lease gets one: it leads, once its watchdog is armed
-abbrev pub stray_renewed : Ticks → Ticks → ℕ → Outcome → Outcome
-stray_renewed now ttl revision o =
+abbrev pub unleased_renewed : Ticks → Ticks → ℕ → Outcome → Outcome
+unleased_renewed now ttl revision o =
     if is_refusing o.machine.watchdog.mode o.machine.watchdog.works then ending_server now WatchdogNotArmed o else takes_over now revision (arming now ttl o)
 
 -- so many ticks have passed since the crash was noted; none where none was
@@ -83,7 +83,7 @@ gives_back revision o = record (releasing revision o) { role = Follower }
 -- nobody begins without an armed watchdog, where the member needs one
 abbrev pub arms : Ticks → Ticks → ℕ → Outcome → Outcome
 arms now ttl revision o =
-    if is_refusing o.machine.watchdog.mode o.machine.watchdog.works then gives_back revision (record o { outputs = listed outputs.CannotArm o.outputs }) else begins_or_claims now revision (arming now ttl o)
+    if is_refusing o.machine.watchdog.mode o.machine.watchdog.works then gives_back revision (record o { outputs = with_output outputs.CannotArm o.outputs }) else begins_or_claims now revision (arming now ttl o)
 
 -- an agent that isn't leading gets a lease
 abbrev pub takes_key : Ticks → Ticks → ℕ → Outcome → Outcome
@@ -92,12 +92,12 @@ takes_key now ttl revision o = if may_take now o.knows o.machine then arms now t
 -- in a pause only whom an operator wants to lead takes the leader key, and its watchdog rests
 abbrev pub takes_key_in_pause : Ticks → Bool → ℕ → Outcome → Outcome
 takes_key_in_pause now renews revision o =
-    if is_wanted o.knows.who.me o.knows.turn_failover o.machine.server.state && may_take now o.knows o.machine then begins_or_claims now revision (resting renews o) else gives_back revision o
+    if is_wanted o.knows.who.me o.knows.turn_failover o.machine.server.state && may_take now o.knows o.machine then begins_or_claims now revision (disabling_watchdog renews o) else gives_back revision o
 
 -- what each role does in a pause with a lease that it was granted, by a renewal or as the key was free
 abbrev pub granted_in_pause : Ticks → Bool → ℕ → RoleFacts → Outcome → Outcome
-granted_in_pause now renews revision (Leader held) o = duties now revision (record (resting renews o) { role = Leader revision })
-granted_in_pause now renews revision Stray o = takes_over now revision (resting renews o)
+granted_in_pause now renews revision (Leader held) o = duties now revision (record (disabling_watchdog renews o) { role = Leader revision })
+granted_in_pause now renews revision Unleased o = takes_over now revision (disabling_watchdog renews o)
 granted_in_pause now renews revision Follower o = takes_key_in_pause now renews revision o
 granted_in_pause now renews revision (Holder held) o = takes_key_in_pause now renews revision o
 granted_in_pause now renews revision _ o = o
@@ -105,7 +105,7 @@ granted_in_pause now renews revision _ o = o
 -- what each role does with a lease that it was granted
 abbrev pub lease_granted : Ticks → Ticks → ℕ → RoleFacts → Outcome → Outcome
 lease_granted now ttl revision (Leader held) o = leader_renewed now ttl revision o
-lease_granted now ttl revision Stray o = stray_renewed now ttl revision o
+lease_granted now ttl revision Unleased o = unleased_renewed now ttl revision o
 lease_granted now ttl revision Follower o = takes_key now ttl revision o
 lease_granted now ttl revision (Holder held) o = takes_key now ttl revision o
 lease_granted now ttl revision _ o = o
@@ -119,21 +119,21 @@ may_create _ = false
 -- an agent whose server is live: it leads, or has no lease
 abbrev pub has_primary : RoleFacts → Bool
 has_primary (Leader revision) = true
-has_primary Stray = true
+has_primary Unleased = true
 has_primary _ = false
 
 -- a question belongs to the role: its answer is used
 abbrev pub belongs : Question → RoleFacts → Bool
-belongs Asking role = may_create role
+belongs ComparingPositions role = may_create role
 belongs Creating role = may_create role
 belongs Claiming role = is_ready role
 belongs (Syncing settling) role = is_leader role
-belongs Checking role = is_leader role
+belongs FindingCandidate role = is_leader role
 belongs _ role = is_active role
 
 -- in a pause who runs on without the leader key asks for it too
 abbrev pub asks_in_pause : Question → RoleFacts → Bool
-asks_in_pause Creating Stray = true
+asks_in_pause Creating Unleased = true
 asks_in_pause _ _ = false
 
 -- a grant of the leader key is used in this role
@@ -146,11 +146,11 @@ asks_renewal Renewing = true
 asks_renewal _ = false
 
 -- a lease is granted that was asked for so
-abbrev pub lease_used : Ticks → Waited → ℕ → Outcome → Outcome
+abbrev pub lease_used : Ticks → PendingQuestion → ℕ → Outcome → Outcome
 lease_used now waited revision o = if is_paused o.knows then granted_in_pause now (asks_renewal waited.question) revision o.role o else lease_granted now waited.ttl revision o.role o
 
 -- a grant that is waited for is used where its question belongs to the role; its snapshot is then the newest, also for whether there is a pause
-abbrev pub accepted_grant : Ticks → Waited → ℕ → SnapshotFacts → Outcome → Outcome
+abbrev pub accepted_grant : Ticks → PendingQuestion → ℕ → SnapshotFacts → Outcome → Outcome
 accepted_grant now waited revision snapshot o =
     if uses_lease (is_paused (informed snapshot o.knows)) waited.question o.role then lease_used now waited revision (record o { knows = informed snapshot o.knows }) else waiting_no_more o
 
@@ -167,7 +167,7 @@ asks_sync (Syncing settling) = true
 asks_sync _ = false
 
 -- the decision on this request for the leader key is waited for
-abbrev pub is_decision : Waited → ℕ → Bool
+abbrev pub is_decision : PendingQuestion → ℕ → Bool
 is_decision waited sequence = asks_lease waited.question && waited.sequence == sequence
 
 -- the grant is one of the leader key, to this member
@@ -175,7 +175,7 @@ abbrev pub is_lease_of : MemberId → Granted → Bool
 is_lease_of me grant = grant.leased && grant.by.number == me.number
 
 -- the decision on this write of the sync key is waited for
-abbrev pub is_sync_decision : Waited → ℕ → Bool
+abbrev pub is_sync_decision : PendingQuestion → ℕ → Bool
 is_sync_decision waited sequence = asks_sync waited.question && waited.sequence == sequence
 
 -- the grant is one of another write, to this member
@@ -189,15 +189,15 @@ sync_granted now (Syncing settling) role o = settled settling o
 sync_granted now _ role o = o
 
 -- such a grant is used where its question belongs to the role; its snapshot is then the newest
-abbrev pub accepted_sync : Ticks → Waited → SnapshotFacts → Outcome → Outcome
+abbrev pub accepted_sync : Ticks → PendingQuestion → SnapshotFacts → Outcome → Outcome
 accepted_sync now waited snapshot o = if belongs waited.question o.role then sync_granted now waited.question o.role (record o { knows = informed snapshot o.knows }) else waiting_no_more o
 
 -- a grant of another write than that of the leader key
-abbrev pub granted_write : Ticks → ℕ → Granted → SnapshotFacts → Waited → Outcome → Outcome
+abbrev pub granted_write : Ticks → ℕ → Granted → SnapshotFacts → PendingQuestion → Outcome → Outcome
 granted_write now sequence grant snapshot waited o = if is_sync_decision waited sequence && is_write_of o.knows.who.me grant then accepted_sync now waited snapshot o else o
 
 -- a grant, by what is waited for
-abbrev pub granted_for : Ticks → ℕ → Granted → SnapshotFacts → Option Waited → Outcome → Outcome
+abbrev pub granted_for : Ticks → ℕ → Granted → SnapshotFacts → Option PendingQuestion → Outcome → Outcome
 granted_for now sequence grant snapshot None o = o
 granted_for now sequence grant snapshot (Some waited) o =
     if is_decision waited sequence && is_lease_of o.knows.who.me grant then accepted_grant now waited grant.revision snapshot o else granted_write now sequence grant snapshot waited o
@@ -218,7 +218,7 @@ create_refused o = record o { role = follower_for o.role }
 -- the leader key isn't as it was read: a lease is lost
 abbrev pub renewal_refused : Ticks → RoleFacts → Outcome → Outcome
 renewal_refused now (Leader held) o = leader_without_key now held o
-renewal_refused now Stray o = stray_without_key now o
+renewal_refused now Unleased o = unleased_without_key now o
 renewal_refused now (Holder held) o = record o { role = Follower }
 renewal_refused now _ o = o
 
@@ -230,11 +230,11 @@ refused_as now Claiming o = claim_fails o
 refused_as now _ o = o
 
 -- the decision on this request is waited for
-abbrev pub awaits_decision : Waited → ℕ → Bool
+abbrev pub awaits_decision : PendingQuestion → ℕ → Bool
 awaits_decision waited sequence = is_decision waited sequence || is_sync_decision waited sequence
 
 -- a refusal, by what is waited for
-abbrev pub refused_for : Ticks → ℕ → Option Waited → Outcome → Outcome
+abbrev pub refused_for : Ticks → ℕ → Option PendingQuestion → Outcome → Outcome
 refused_for now sequence None o = o
 refused_for now sequence (Some waited) o = if awaits_decision waited sequence then refused_as now waited.question (waiting_no_more o) else o
 

@@ -15,7 +15,7 @@ use Rattle.cluster_config.specs.Snapshots.{SnapshotFacts, leader_in}
 use Rattle.leader_race.specs.Peers.{first_of}
 use Rattle.event_book.specs.declared.message.Body.TheVariants as bodies
 use Rattle.agent_model.specs.declared.knowledge.Knowledge.{Knowledge}
-use Rattle.agent_model.specs.declared.knowledge.Question.TheVariants.{Checking}
+use Rattle.agent_model.specs.declared.knowledge.Question.TheVariants.{FindingCandidate}
 use Rattle.agent_model.specs.declared.knowledge.SyncRead.{SyncRead}
 use Rattle.agent_model.specs.declared.output.Output.{Output}
 use Rattle.agent_model.specs.declared.output.Output.TheVariants as outputs
@@ -24,7 +24,7 @@ use Rattle.agent_model.specs.declared.who.Who.{Who}
 use Rattle.agent_model.specs.Acting.{counted, waiting, sending, shutting_down, waiting_no_more}
 use Rattle.agent_model.specs.Agents.{RoleFacts, Leader, Ending, Outcome}
 use Rattle.agent_model.specs.Answers.{asking_one, asking_all, is_settled, all_answered, with_answer}
-use Rattle.agent_model.specs.Outputs.{listed}
+use Rattle.agent_model.specs.Outputs.{with_output}
 use Rattle.agent_model.specs.Pausing.{is_paused}
 use Rattle.agent_model.specs.Planning.{planned}
 use Rattle.agent_model.specs.Racing.{answers_until, unheard}
@@ -83,7 +83,7 @@ successor_by (Some failover) knows server = first_of (is_successor knows server 
 
 -- the member notes that it hands over to this one, and ends its server; it gives up the leader key when that has ended
 abbrev pub hands_over : Ticks → ℕ → MemberId → Outcome → Outcome
-hands_over now revision candidate o = record (shutting_down now (record o { outputs = listed (outputs.HandsOver candidate) o.outputs })) { role = Ending revision HandOver; knows = record o.knows { handed_over = true } }
+hands_over now revision candidate o = record (shutting_down now (record o { outputs = with_output (outputs.HandsOver candidate) o.outputs })) { role = Ending revision HandOver; knows = record o.knows { handed_over = true } }
 
 -- a leader hands over, or asks that the failover key be removed where nobody may lead next
 abbrev pub hands_over_to : Ticks → ℕ → Option MemberId → Outcome → Outcome
@@ -111,7 +111,7 @@ whom_answered who (Some candidate) answers = is_settled who answers (Some candid
 
 -- the leader asks who may lead in its place, all under one number, and waits for the answers
 abbrev pub checking : Ticks → Option MemberId → Outcome → Outcome
-checking now candidate o = record o { knows = waiting now Checking (answers_until now) (counted o.knows); outputs = asking_whom o.knows.who candidate (o.knows.sequence + 1) o.outputs }
+checking now candidate o = record o { knows = waiting now FindingCandidate (answers_until now) (counted o.knows); outputs = asking_whom o.knows.who candidate (o.knows.sequence + 1) o.outputs }
 
 -- it asks them; where there is nobody to ask, the handover is judged at once
 abbrev pub checks : Ticks → ℕ → Option MemberId → Outcome → Outcome

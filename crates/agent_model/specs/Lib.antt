@@ -2,7 +2,7 @@ pub mod Acting
 pub mod Agents
 pub mod Answers
 pub mod Asked
-pub mod Before
+pub mod Reconciling
 pub mod Bounds
 pub mod Claiming
 pub mod Decisions

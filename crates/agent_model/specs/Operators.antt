@@ -26,7 +26,7 @@ use Rattle.operator_keys.specs.Statuses.{ok, conflict, service_unavailable}
 use Rattle.event_book.specs.declared.message.Body.{Body}
 use Rattle.event_book.specs.declared.message.Body.TheVariants as bodies
 use Rattle.agent_model.specs.declared.knowledge.Knowledge.{Knowledge}
-use Rattle.agent_model.specs.declared.knowledge.Waited.{Waited}
+use Rattle.agent_model.specs.declared.knowledge.PendingQuestion.{PendingQuestion}
 use Rattle.agent_model.specs.declared.operating.Operating.{Operating}
 use Rattle.agent_model.specs.declared.operating.Operation.{Operation}
 use Rattle.agent_model.specs.declared.operating.Operation.TheVariants.{FailingOver, Configuring}
@@ -36,7 +36,7 @@ use Rattle.agent_model.specs.declared.output.Output.TheVariants as outputs
 use Rattle.agent_model.specs.Acting.{seconds_after, lease_span, counted, sending}
 use Rattle.agent_model.specs.Agents.{Outcome}
 use Rattle.agent_model.specs.Decisions.{is_write_of}
-use Rattle.agent_model.specs.Outputs.{listed}
+use Rattle.agent_model.specs.Outputs.{with_output}
 use Rattle.agent_model.specs.Snapshots.{informed, is_active, awaits_read}
 
 -- for so many ticks an operator waits for what comes of a switchover or a failover
@@ -45,7 +45,7 @@ most_operator_ticks = 600
 
 -- the agent answers the operator's request of this number
 abbrev pub telling : ℕ → Told → Outcome → Outcome
-telling request told o = record o { outputs = listed (outputs.Told request told) o.outputs }
+telling request told o = record o { outputs = with_output (outputs.Told request told) o.outputs }
 
 -- it answers the request that waits, which waits no more
 abbrev pub answering : ℕ → Told → Outcome → Outcome
@@ -88,12 +88,12 @@ abbrev pub restarting : Ticks → Outcome → Outcome
 restarting now o = record o {
   knows = record o.knows { begun = Some now };
   machine = record o.machine { server = status_restarted now o.machine.server };
-  outputs = listed (outputs.Restart (is_primary o.machine.server.state)) o.outputs;
+  outputs = with_output (outputs.Restart (is_primary o.machine.server.state)) o.outputs;
 }
 
 -- the server is wiped, and waits for a copy
 abbrev pub wiping : Outcome → Outcome
-wiping o = record o { machine = record o.machine { server = status_wiped o.machine.server }; outputs = listed outputs.Wipe o.outputs }
+wiping o = record o { machine = record o.machine { server = status_wiped o.machine.server }; outputs = with_output outputs.Wipe o.outputs }
 
 -- what an agent does on a request of this number, which passed its checks
 abbrev pub operated : Ticks → ℕ → OperatorRequest → Outcome → Outcome
@@ -189,7 +189,7 @@ is_asked_for None sequence = false
 is_asked_for (Some waiting) sequence = waiting.sequence == sequence
 
 -- the agent itself waits for the answer of this number
-abbrev pub awaits_number : Option Waited → ℕ → Bool
+abbrev pub awaits_number : Option PendingQuestion → ℕ → Bool
 awaits_number None sequence = false
 awaits_number (Some waited) sequence = waited.sequence == sequence
 

@@ -8,8 +8,8 @@ abbrev pub most_outputs : ℕ
 most_outputs = 40
 
 -- one more stands behind the others
-abbrev pub listed : Output → List Output → List Output
-listed output outputs = outputs ++ output ∷ []
+abbrev pub with_output : Output → List Output → List Output
+with_output output outputs = outputs ++ output ∷ []
 
 -- the watchdog gets its first deadline
 abbrev pub is_arming : Output → Bool
@@ -36,4 +36,4 @@ BeginsOnly P _ = Unit {0}
 -- P holds of the outputs before each one by which the server comes to accept writes; the first list stands before the second
 abbrev pub OutputsBeginBehind : (List Output → Type 0) → List Output → List Output → Type 0
 OutputsBeginBehind P before [] = Unit {0}
-OutputsBeginBehind P before (output ∷ later) = BeginsOnly (P before) output × OutputsBeginBehind P (listed output before) later
+OutputsBeginBehind P before (output ∷ later) = BeginsOnly (P before) output × OutputsBeginBehind P (with_output output before) later

@@ -14,8 +14,8 @@ use Rattle.agent_model.specs.declared.knowledge.Knowledge.{Knowledge}
 use Rattle.agent_model.specs.declared.output.Output.{Output}
 use Rattle.agent_model.specs.declared.output.Output.TheVariants as outputs
 use Rattle.agent_model.specs.Acting.{without_deadline}
-use Rattle.agent_model.specs.Agents.{Stray, Outcome}
-use Rattle.agent_model.specs.Outputs.{listed}
+use Rattle.agent_model.specs.Agents.{Unleased, Outcome}
+use Rattle.agent_model.specs.Outputs.{with_output}
 
 -- the cluster is paused, by the newest snapshot
 abbrev pub is_paused : Knowledge → Bool
@@ -35,17 +35,17 @@ ends_forks settings = not (settings.use_pg_rewind || settings.pause)
 
 -- a primary runs on without the leader key
 abbrev pub running_without_key : Outcome → Outcome
-running_without_key o = record o { role = Stray; outputs = listed outputs.RunsWithoutKey o.outputs }
+running_without_key o = record o { role = Unleased; outputs = with_output outputs.RunsWithoutKey o.outputs }
 
 -- a deadline that is removed is told; where that comes of a renewal, it is noted besides
-abbrev pub rest_told : Bool → Option Ticks → List Output → List Output
-rest_told renews None out = out
-rest_told true (Some deadline) out = listed outputs.DisablesWatchdog (listed outputs.Disarmed out)
-rest_told false (Some deadline) out = listed outputs.Disarmed out
+abbrev pub disabling_told : Bool → Option Ticks → List Output → List Output
+disabling_told renews None out = out
+disabling_told true (Some deadline) out = with_output outputs.DisablesWatchdog (with_output outputs.Disarmed out)
+disabling_told false (Some deadline) out = with_output outputs.Disarmed out
 
 -- a member leads without a watchdog: its deadline is removed, on a renewal or on the grant of a free key
-abbrev pub resting : Bool → Outcome → Outcome
-resting renews o = record o { machine = without_deadline o.machine; outputs = rest_told renews o.machine.watchdog.deadline o.outputs }
+abbrev pub disabling_watchdog : Bool → Outcome → Outcome
+disabling_watchdog renews o = record o { machine = without_deadline o.machine; outputs = disabling_told renews o.machine.watchdog.deadline o.outputs }
 
 -- the server runs as a replica
 abbrev pub is_replica : State → Bool

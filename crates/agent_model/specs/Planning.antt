@@ -18,7 +18,7 @@ use Rattle.agent_model.specs.declared.machine.Machine.{Machine}
 use Rattle.agent_model.specs.declared.knowledge.Question.TheVariants.{Syncing}
 use Rattle.agent_model.specs.declared.knowledge.Settling.{Settling}
 use Rattle.agent_model.specs.declared.knowledge.SyncRead.{SyncRead}
-use Rattle.agent_model.specs.declared.knowledge.Settling.TheVariants.{Stays, Lists, Empties}
+use Rattle.agent_model.specs.declared.knowledge.Settling.TheVariants.{KeepsList, NamesStandbys, ClearsList}
 use Rattle.agent_model.specs.Acting.{seconds_after, asking, requiring}
 use Rattle.agent_model.specs.Agents.{Outcome}
 use Rattle.agent_model.specs.Synchronous.{sync_read_if, expected_of, waiting_for}
@@ -26,7 +26,7 @@ use Rattle.agent_model.specs.Views.{view_of}
 
 -- what a leader shows of itself and of synchronous replication on its server, but for its newest snapshot, which stands beside it
 abbrev pub leader_view : Ticks → Knowledge → Machine → LeaderView
-leader_view now knows machine = record { view = view_of now words.Leader knows machine; required = machine.replication.required; connected = machine.replication.connected; noted = knows.noted }
+leader_view now knows machine = record { view = view_of now words.Leader knows machine; required = machine.replication.required; confirmed_positions = machine.replication.confirmed_positions; noted = knows.noted }
 
 -- the agent asks for a write of the sync key, and waits for the answer; with a grant the required list settles so
 abbrev pub writing_sync : Ticks → Settling → Txn → Outcome → Outcome
@@ -39,7 +39,7 @@ naming now revision settling standbys o = writing_sync now settling (txns.SetSyn
 -- it asks that the sync key be removed, which was read so
 abbrev pub switching_off : Ticks → ℕ → Option SyncRead → Outcome → Outcome
 switching_off now revision None o = o
-switching_off now revision (Some read) o = writing_sync now Empties (txns.DropSync revision read.revision) o
+switching_off now revision (Some read) o = writing_sync now ClearsList (txns.DropSync revision read.revision) o
 
 -- the end of the log is noted: who becomes a standby from now on must have confirmed it first
 abbrev pub noting : Outcome → Outcome
@@ -49,10 +49,10 @@ noting o = record o { knows = record o.knows { noted = o.machine.server.end } }
 abbrev pub planned_as : Ticks → ℕ → Plan → Outcome → Outcome
 planned_as now revision plans.Keep o = o
 planned_as now revision plans.SwitchOff o = switching_off now revision (sync_read_if o.knows.seen) o
-planned_as now revision plans.Mark o = naming now revision (Lists nobody) nobody o
-planned_as now revision (plans.Withdraw standbys) o = naming now revision (Lists standbys) standbys o
+planned_as now revision plans.Mark o = naming now revision (NamesStandbys nobody) nobody o
+planned_as now revision (plans.Withdraw standbys) o = naming now revision (NamesStandbys standbys) standbys o
 planned_as now revision (plans.AddRequired members) o = requiring (All members) (noting o)
-planned_as now revision (plans.Publish standbys) o = naming now revision Stays standbys o
+planned_as now revision (plans.Publish standbys) o = naming now revision KeepsList standbys o
 planned_as now revision (plans.DropRequired members) o = requiring (waiting_for o.knows.settings members) o
 
 -- the step that the newest snapshot calls for, if there is one
@@ -66,6 +66,6 @@ planned now revision o = planned_on now revision o.knows.seen o
 
 -- what the required list becomes once a write of the sync key is granted
 abbrev pub settled : Settling → Outcome → Outcome
-settled Stays o = o
-settled (Lists standbys) o = requiring (waiting_for o.knows.settings standbys) o
-settled Empties o = requiring Nobody o
+settled KeepsList o = o
+settled (NamesStandbys standbys) o = requiring (waiting_for o.knows.settings standbys) o
+settled ClearsList o = requiring Nobody o

@@ -14,14 +14,14 @@ use Rattle.cluster_config.specs.Snapshots.{SnapshotFacts}
 use Rattle.leader_race.specs.Eligibility.{eligibility_of}
 use Rattle.leader_race.specs.Outcome.{outcome_of}
 use Rattle.agent_model.specs.declared.knowledge.Knowledge.{Knowledge}
-use Rattle.agent_model.specs.declared.knowledge.Question.TheVariants.{Asking, Creating}
+use Rattle.agent_model.specs.declared.knowledge.Question.TheVariants.{ComparingPositions, Creating}
 use Rattle.agent_model.specs.declared.machine.Machine.{Machine}
 use Rattle.agent_model.specs.declared.output.Output.TheVariants as outputs
 use Rattle.agent_model.specs.Acting.{seconds_after, lease_span, counted, waiting, asking, touching, starting_replica, waiting_no_more}
 use Rattle.agent_model.specs.Agents.{Follower, Outcome}
 use Rattle.agent_model.specs.Answers.{asking_all, all_answered}
 use Rattle.agent_model.specs.Info.{info_of}
-use Rattle.agent_model.specs.Outputs.{listed}
+use Rattle.agent_model.specs.Outputs.{with_output}
 use Rattle.agent_model.specs.Pausing.{is_paused}
 use Rattle.agent_model.specs.Views.{view_of, shown}
 
@@ -44,7 +44,7 @@ creating now o = asking now Creating (seconds_after now o.knows.settings.retry_t
 
 -- a member that is barred tells by what, and tells of itself
 abbrev pub barred : Bar → Outcome → Outcome
-barred bar o = touching (record o { outputs = listed (outputs.DoesNotRace bar) o.outputs })
+barred bar o = touching (record o { outputs = with_output (outputs.DoesNotRace bar) o.outputs })
 
 -- what bars a member that shows this from winning, by the newest snapshot and these answers; nothing where there is no snapshot
 abbrev pub outcome_by : AgentView → Option SnapshotFacts → List PeerAnswer → Option Bar
@@ -74,7 +74,7 @@ answers_until now = record { 0 = now.0 + answer_ticks }
 
 -- the agent asks each other member how far its server is, all under one number, and waits for the answers
 abbrev pub asking_others : Ticks → Outcome → Outcome
-asking_others now o = record o { knows = waiting now Asking (answers_until now) (counted o.knows); outputs = asking_all o.knows.who (o.knows.sequence + 1) o.outputs }
+asking_others now o = record o { knows = waiting now ComparingPositions (answers_until now) (counted o.knows); outputs = asking_all o.knows.who (o.knows.sequence + 1) o.outputs }
 
 -- the agent forgets what it heard of other members
 abbrev pub unheard : Outcome → Outcome

@@ -10,7 +10,7 @@ use Rattle.agent_model.specs.declared.output.Output.TheVariants as outputs
 use Rattle.agent_model.specs.declared.output.Repair.{Repair}
 use Rattle.agent_model.specs.declared.output.Repair.TheVariants.{Rewind, Clone}
 use Rattle.agent_model.specs.Agents.{Outcome}
-use Rattle.agent_model.specs.Outputs.{listed}
+use Rattle.agent_model.specs.Outputs.{with_output}
 use Rattle.agent_model.specs.Pausing.{lets_rewind}
 
 -- the server follows this member's already
@@ -37,7 +37,7 @@ repair_of settings leader s = repair_in (lets_rewind settings) (is_upstream lead
 -- the agent has the log of its server repaired by this leader's. Whether that can be done shows where it is done, so the agent reckons with
 -- its server as it was
 abbrev pub repairing : MemberId → Repair → Outcome → Outcome
-repairing leader repair o = record o { outputs = listed (outputs.Repair leader repair) o.outputs }
+repairing leader repair o = record o { outputs = with_output (outputs.Repair leader repair) o.outputs }
 
 -- the same, if there is a repair
 abbrev pub repaired_if : MemberId → Option Repair → Outcome → Outcome

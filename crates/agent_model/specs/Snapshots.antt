@@ -22,10 +22,10 @@ use Rattle.cluster_config.specs.Snapshots.{SnapshotFacts, leader_in, settings_in
 use Rattle.agent_model.specs.declared.knowledge.Knowledge.{Knowledge}
 use Rattle.agent_model.specs.declared.knowledge.Question.{Question}
 use Rattle.agent_model.specs.declared.knowledge.Question.TheVariants.{Reading, Renewing}
-use Rattle.agent_model.specs.declared.knowledge.Waited.{Waited}
+use Rattle.agent_model.specs.declared.knowledge.PendingQuestion.{PendingQuestion}
 use Rattle.agent_model.specs.declared.why.Why.TheVariants.{Lost}
 use Rattle.agent_model.specs.Acting.{seconds_after, lease_span, asking, touching, waiting_no_more, ending_server, shutting_down, starting_replica, following_server, is_hold_active}
-use Rattle.agent_model.specs.Agents.{RoleFacts, Follower, Holder, Leader, Ending, Stray, Outcome}
+use Rattle.agent_model.specs.Agents.{RoleFacts, Follower, Holder, Leader, Ending, Unleased, Outcome}
 use Rattle.agent_model.specs.Info.{info_of}
 use Rattle.agent_model.specs.Repairs.{is_upstream, repair_of, repaired_if}
 use Rattle.agent_model.specs.Pausing.{is_paused, may_start_behind, ends_forks, running_without_key}
@@ -52,28 +52,28 @@ abbrev pub leader_loses_key : Ticks → ℕ → Outcome → Outcome
 leader_loses_key now revision o = record (ending_server now LeaderKeyLost o) { role = Ending revision Lost }
 
 -- so does one that has no lease while its server is live
-abbrev pub stray_loses_key : Ticks → Outcome → Outcome
-stray_loses_key now o = ending_server now LeaderKeyLost o
+abbrev pub unleased_loses_key : Ticks → Outcome → Outcome
+unleased_loses_key now o = ending_server now LeaderKeyLost o
 
 -- a leader doesn't have the leader key: in a pause its server runs on
 abbrev pub leader_without_key : Ticks → ℕ → Outcome → Outcome
 leader_without_key now revision o = if is_paused o.knows then running_without_key o else leader_loses_key now revision o
 
 -- so does that of one that has no lease
-abbrev pub stray_without_key : Ticks → Outcome → Outcome
-stray_without_key now o = if is_paused o.knows then running_without_key o else stray_loses_key now o
+abbrev pub unleased_without_key : Ticks → Outcome → Outcome
+unleased_without_key now o = if is_paused o.knows then running_without_key o else unleased_loses_key now o
 
 -- a server runs on while nobody leads, and its agent asks for the leader key
-abbrev pub asks_as_stray : Ticks → Outcome → Outcome
-asks_as_stray now o = creating now (running_without_key o)
+abbrev pub asks_as_unleased : Ticks → Outcome → Outcome
+asks_as_unleased now o = creating now (running_without_key o)
 
 -- a leader finds that nobody leads
 abbrev pub leader_finds_free : Ticks → ℕ → Outcome → Outcome
-leader_finds_free now revision o = if is_paused o.knows then asks_as_stray now o else leader_loses_key now revision o
+leader_finds_free now revision o = if is_paused o.knows then asks_as_unleased now o else leader_loses_key now revision o
 
 -- so does one that has no lease
-abbrev pub stray_finds_free : Ticks → Outcome → Outcome
-stray_finds_free now o = if is_paused o.knows then asks_as_stray now o else stray_loses_key now o
+abbrev pub unleased_finds_free : Ticks → Outcome → Outcome
+unleased_finds_free now o = if is_paused o.knows then asks_as_unleased now o else unleased_loses_key now o
 
 -- a primary tells where its log ends
 abbrev pub status_told : ServerStatus → Option Lsn
@@ -116,7 +116,7 @@ finds_own_key now points revision o = if is_hold_active now o.machine.hold && no
 -- the leader key is its own
 abbrev pub own_key : Ticks → List HistoryPoint → ℕ → RoleFacts → Outcome → Outcome
 own_key now points revision (Leader held) o = renewing now points revision o
-own_key now points revision Stray o = renewing now points revision o
+own_key now points revision Unleased o = renewing now points revision o
 own_key now points revision Follower o = finds_own_key now points revision o
 own_key now points revision (Holder held) o = finds_own_key now points revision o
 own_key now points revision _ o = o
@@ -157,7 +157,7 @@ follows now leader o =
 -- the leader key is another's
 abbrev pub others_key : Ticks → MemberId → RoleFacts → Outcome → Outcome
 others_key now leader (Leader held) o = leader_without_key now held o
-others_key now leader Stray o = stray_without_key now o
+others_key now leader Unleased o = unleased_without_key now o
 others_key now leader Follower o = follows now leader o
 others_key now leader (Holder held) o = follows now leader o
 others_key now leader _ o = o
@@ -165,7 +165,7 @@ others_key now leader _ o = o
 -- the leader key is absent
 abbrev pub no_key : Ticks → RoleFacts → Outcome → Outcome
 no_key now (Leader held) o = leader_finds_free now held o
-no_key now Stray o = stray_finds_free now o
+no_key now Unleased o = unleased_finds_free now o
 no_key now Follower o = finds_free now o
 no_key now (Holder held) o = finds_free now o
 no_key now _ o = o
@@ -191,7 +191,7 @@ is_read Reading = true
 is_read _ = false
 
 -- the answer to this read is waited for
-abbrev pub awaits_read : Option Waited → ℕ → Bool
+abbrev pub awaits_read : Option PendingQuestion → ℕ → Bool
 awaits_read None sequence = false
 awaits_read (Some waited) sequence = is_read waited.question && waited.sequence == sequence
 
@@ -204,5 +204,5 @@ abbrev pub accepted : Ticks → List HistoryPoint → SnapshotFacts → Outcome 
 accepted now points snapshot o = if is_active o.role then led now points (leader_in snapshot) (record o { knows = read_noted now snapshot o.knows }) else waiting_no_more o
 
 -- the answer to a read: what is waited for is used, and any other dropped
-abbrev pub got : Ticks → List HistoryPoint → ℕ → SnapshotFacts → Outcome → Outcome
-got now points sequence snapshot o = if awaits_read o.knows.waited sequence then accepted now points snapshot o else o
+abbrev pub read_answered : Ticks → List HistoryPoint → ℕ → SnapshotFacts → Outcome → Outcome
+read_answered now points sequence snapshot o = if awaits_read o.knows.waited sequence then accepted now points snapshot o else o

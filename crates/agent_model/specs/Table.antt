@@ -5,20 +5,20 @@ use Rattle.lease_store.specs.declared.granted.Granted.{Granted}
 use Rattle.cluster_config.specs.Snapshots.{SnapshotFacts}
 use Rattle.wal_model.specs.declared.entry.HistoryPoint.{HistoryPoint}
 use Rattle.agent_model.specs.declared.heard.Heard.{Heard}
-use Rattle.agent_model.specs.declared.heard.Heard.TheVariants.{Wake, Got, Granted as HeardGranted, Mismatch, Asked, Answered, Operated}
+use Rattle.agent_model.specs.declared.heard.Heard.TheVariants.{Wake, ReadAnswered, Granted as HeardGranted, Mismatch, Asked, Answered, Operated}
 use Rattle.agent_model.specs.Agents.{Outcome}
-use Rattle.agent_model.specs.Before.{before}
+use Rattle.agent_model.specs.Reconciling.{reconciled}
 use Rattle.agent_model.specs.Decisions.{granted, refused}
 use Rattle.agent_model.specs.Operators.{looked, operates, grants_operator, operator_granted, operator_refused, operated, given_up}
 use Rattle.agent_model.specs.Peers.{asked, answered}
-use Rattle.agent_model.specs.Snapshots.{got}
+use Rattle.agent_model.specs.Snapshots.{read_answered}
 use Rattle.agent_model.specs.Wake.{is_due, woken}
 
 -- what precedes an input's own rows: the role is brought to what is found of the server, and then an operator is answered that waits for this
 abbrev pub prepared : Ticks → Heard → Outcome → Outcome
-prepared now Wake o = if is_due now o.role o.knows o.machine then given_up now (before now o) else before now o
-prepared now (Got sequence snapshot) o = looked sequence snapshot (before now o)
-prepared now _ o = before now o
+prepared now Wake o = if is_due now o.role o.knows o.machine then given_up now (reconciled now o) else reconciled now o
+prepared now (ReadAnswered sequence snapshot) o = looked sequence snapshot (reconciled now o)
+prepared now _ o = reconciled now o
 
 -- a request was granted: what an operator wants, or the agent by itself
 abbrev pub granted_any : Ticks → ℕ → Granted → SnapshotFacts → Outcome → Outcome
@@ -31,9 +31,9 @@ refused_any now sequence o = if operates o.knows sequence then operator_refused 
 -- an input
 abbrev pub step : Ticks → List HistoryPoint → Heard → Outcome → Outcome
 step now points Wake o = woken now o
-step now points (Got sequence snapshot) o = got now points sequence snapshot (looked sequence snapshot (before now o))
-step now points (HeardGranted sequence grant snapshot) o = granted_any now sequence grant snapshot (before now o)
-step now points (Mismatch sequence key found) o = refused_any now sequence (before now o)
-step now points (Asked from run sequence) o = asked from run sequence (before now o)
-step now points (Answered sequence answer) o = answered now sequence answer (before now o)
-step now points (Operated action) o = operated now action.request action.asked (before now o)
+step now points (ReadAnswered sequence snapshot) o = read_answered now points sequence snapshot (looked sequence snapshot (reconciled now o))
+step now points (HeardGranted sequence grant snapshot) o = granted_any now sequence grant snapshot (reconciled now o)
+step now points (Mismatch sequence key found) o = refused_any now sequence (reconciled now o)
+step now points (Asked from incarnation sequence) o = asked from incarnation sequence (reconciled now o)
+step now points (Answered sequence answer) o = answered now sequence answer (reconciled now o)
+step now points (Operated action) o = operated now action.request action.asked (reconciled now o)

@@ -8,14 +8,14 @@ use Rattle.event_book.specs.declared.message.Body.TheVariants as bodies
 use Rattle.event_book.specs.declared.reason.Reason.TheVariants.{StoreOutOfReach}
 use Rattle.agent_model.specs.declared.knowledge.Knowledge.{Knowledge}
 use Rattle.agent_model.specs.declared.knowledge.Question.{Question}
-use Rattle.agent_model.specs.declared.knowledge.Question.TheVariants.{Reading, Asking, Creating, Renewing, Claiming, Syncing, Checking}
-use Rattle.agent_model.specs.declared.knowledge.Waited.{Waited}
+use Rattle.agent_model.specs.declared.knowledge.Question.TheVariants.{Reading, ComparingPositions, Creating, Renewing, Claiming, Syncing, FindingCandidate}
+use Rattle.agent_model.specs.declared.knowledge.PendingQuestion.{PendingQuestion}
 use Rattle.agent_model.specs.declared.machine.Machine.{Machine}
 use Rattle.agent_model.specs.declared.why.Why.TheVariants.{Lost}
 use Rattle.agent_model.specs.Acting.{seconds_after, asking, waiting_no_more, ending_server}
 use Rattle.agent_model.specs.Pausing.{is_paused}
-use Rattle.agent_model.specs.Agents.{RoleFacts, Leader, Ending, Stray, Outcome}
-use Rattle.agent_model.specs.Before.{before}
+use Rattle.agent_model.specs.Agents.{RoleFacts, Leader, Ending, Unleased, Outcome}
+use Rattle.agent_model.specs.Reconciling.{reconciled}
 use Rattle.agent_model.specs.Claiming.{claim_fails}
 use Rattle.agent_model.specs.HandingOver.{judged_if_leading}
 use Rattle.agent_model.specs.Operators.{given_up}
@@ -27,7 +27,7 @@ finds_ended (Ending revision why) state = not (live state)
 finds_ended _ state = false
 
 -- waiting has ended without an answer
-abbrev pub is_overdue : Ticks → Option Waited → Bool
+abbrev pub is_overdue : Ticks → Option PendingQuestion → Bool
 is_overdue now None = false
 is_overdue now (Some waited) = nat_le waited.until.0 now.0
 
@@ -40,7 +40,7 @@ abbrev pub is_due : Ticks → RoleFacts → Knowledge → Machine → Bool
 is_due now role knows machine = finds_ended role machine.server.state || (is_overdue now knows.waited || has_turn now knows)
 
 -- from when on an agent has something to do that waits so, or has its next turn then
-abbrev pub waits_until : Option Waited → Ticks → Ticks
+abbrev pub waits_until : Option PendingQuestion → Ticks → Ticks
 waits_until None next_turn = next_turn
 waits_until (Some waited) next_turn = waited.until
 
@@ -53,13 +53,13 @@ abbrev pub leader_out_of_reach : Ticks → ℕ → Outcome → Outcome
 leader_out_of_reach now revision o = record (ending_server now StoreOutOfReach o) { role = Ending revision Lost }
 
 -- so does one that has no lease while its server is live
-abbrev pub stray_out_of_reach : Ticks → Outcome → Outcome
-stray_out_of_reach now o = ending_server now StoreOutOfReach o
+abbrev pub unleased_out_of_reach : Ticks → Outcome → Outcome
+unleased_out_of_reach now o = ending_server now StoreOutOfReach o
 
 -- what each role does without an answer: who has a live server ends it
 abbrev pub out_of_reach_as : Ticks → RoleFacts → Outcome → Outcome
 out_of_reach_as now (Leader revision) o = leader_out_of_reach now revision o
-out_of_reach_as now Stray o = stray_out_of_reach now o
+out_of_reach_as now Unleased o = unleased_out_of_reach now o
 out_of_reach_as now _ o = o
 
 -- the key store is out of reach: nothing is waited for any more, and in a pause that is all
@@ -73,11 +73,11 @@ unanswered now Renewing o = out_of_reach now o
 unanswered now Creating o = waiting_no_more o
 unanswered now Claiming o = claim_fails (waiting_no_more o)
 unanswered now (Syncing settling) o = waiting_no_more o
-unanswered now Asking o = judged_if_racing now o
-unanswered now Checking o = judged_if_leading now o.role o
+unanswered now ComparingPositions o = judged_if_racing now o
+unanswered now FindingCandidate o = judged_if_leading now o.role o
 
 -- a deadline that has passed, by what is waited for
-abbrev pub overdue_for : Ticks → Option Waited → Outcome → Outcome
+abbrev pub overdue_for : Ticks → Option PendingQuestion → Outcome → Outcome
 overdue_for now None o = o
 overdue_for now (Some waited) o = if nat_le waited.until.0 now.0 then unanswered now waited.question o else o
 
@@ -97,7 +97,7 @@ is_stopping _ = false
 -- who ends its server only waits for that
 abbrev pub turn_as : Ticks → RoleFacts → Outcome → Outcome
 turn_as now (Ending revision why) o = o
-turn_as now Stray o = if is_stopping o.machine.server.state then o else reading now o
+turn_as now Unleased o = if is_stopping o.machine.server.state then o else reading now o
 turn_as now _ o = reading now o
 
 -- a turn began at this moment, and the next one is due `loop_wait` seconds after it
@@ -114,8 +114,8 @@ turned now o = if has_turn now o.knows then turn_begins now o else o
 
 -- a wake that finds something to do: operators whose time is over are answered first
 abbrev pub roused : Ticks → Outcome → Outcome
-roused now o = turned now (overdue now (given_up now (before now o)))
+roused now o = turned now (overdue now (given_up now (reconciled now o)))
 
 -- a wake
 abbrev pub woken : Ticks → Outcome → Outcome
-woken now o = if is_due now o.role o.knows o.machine then roused now o else before now o
+woken now o = if is_due now o.role o.knows o.machine then roused now o else reconciled now o

@@ -4,13 +4,13 @@ use cluster_config::Snapshot;
 use lease_store::{Expected, Granted, Key, OperatorAction};
 use pat_base::{MemberId, PeerAnswer};
 
-/// What comes to an agent: a wake, an answer of the key store or of another member to the question of this number in its run, a
+/// What comes to an agent: a wake, an answer of the key store or of another member to the question of this number in its incarnation, a
 /// question of another member, or what an operator asks.
 #[derive(Debug, Drop)]
 pub enum Heard {
     Wake,
     /// What the key store had when it answered.
-    Got {
+    ReadAnswered {
         sequence: u64,
         snapshot: Snapshot,
     },
@@ -26,10 +26,10 @@ pub enum Heard {
         key: Key,
         found: Expected,
     },
-    /// Another member asks how far the server is, under this number of that one's run.
+    /// Another member asks how far the server is, under this number of that one's incarnation.
     Asked {
         from: MemberId,
-        run: u64,
+        incarnation: u64,
         sequence: u64,
     },
     /// Another member answers.

@@ -9,11 +9,11 @@ use pat_base::{Lsn, MemberSet, Ticks};
 #[derive(Clone, Copy, Debug, PartialEq, Eq)]
 pub enum Settling {
     /// It stays.
-    Stays,
+    KeepsList,
     /// It names these standbys alone.
-    Lists(MemberSet),
+    NamesStandbys(MemberSet),
     /// It waits for nobody.
-    Empties,
+    ClearsList,
 }
 
 /// A question whose answer an agent may wait for.
@@ -22,7 +22,7 @@ pub enum Question {
     /// What does the key store hold?
     Reading,
     /// How far are the other members' servers?
-    Asking,
+    ComparingPositions,
     /// May it have the leader key, which is absent?
     Creating,
     /// May it have the leader key for longer?
@@ -32,7 +32,7 @@ pub enum Question {
     /// May it name the synchronous standbys, so that its required list becomes this?
     Syncing(Settling),
     /// Which other member may lead in its place?
-    Checking,
+    FindingCandidate,
 }
 
 /// A sync key that was read, with its revision.
@@ -42,10 +42,10 @@ pub struct SyncRead {
     pub revision: u64,
 }
 
-/// What an agent waits for: the question, its number in the agent's run, the moment at which waiting ends, the span of the
+/// What an agent waits for: the question, its number in the agent's incarnation, the moment at which waiting ends, the span of the
 /// leases that were asked for, and the moment of asking.
 #[derive(Clone, Copy, Debug, PartialEq, Eq)]
-pub struct Waited {
+pub struct PendingQuestion {
     pub question: Question,
     pub sequence: u64,
     pub until: Ticks,
@@ -57,12 +57,12 @@ pub struct Waited {
 #[derive(Debug, Drop)]
 pub struct Knowledge {
     pub who: Who,
-    /// The number of this run of the agent.
-    pub run: u64,
-    pub waited: Option<Waited>,
-    /// The number of the last message of this run.
+    /// The number of this incarnation of the agent.
+    pub incarnation: u64,
+    pub waited: Option<PendingQuestion>,
+    /// The number of the last message of this incarnation.
     pub sequence: u64,
-    /// When the last turn of this run began, and when the next one is due.
+    /// When the last turn of this incarnation began, and when the next one is due.
     pub last_turn: Option<Ticks>,
     pub next_turn: Ticks,
     /// When the last read was answered.
@@ -77,14 +77,14 @@ pub struct Knowledge {
     /// Where its log ended when a standby was last added to the required list, or the server taken over: who becomes a
     /// standby must have confirmed this position.
     pub noted: Option<Lsn>,
-    /// When this run began the server, or took it over.
+    /// When this incarnation began the server, or took it over.
     pub begun: Option<Ticks>,
     /// When a leader was first found without its server.
     pub crashed: Option<Ticks>,
-    /// The members that a failsafe key of a snapshot listed which this run accepted, and whether there was such a key.
+    /// The members that a failsafe key of a snapshot listed which this incarnation accepted, and whether there was such a key.
     pub known: MemberSet,
     pub informed: bool,
-    /// Whether this run ended its server to hand over, and read of no other leader since.
+    /// Whether this incarnation ended its server to hand over, and read of no other leader since.
     pub handed_over: bool,
     /// What other members answered since this one asked them last.
     pub answers: Answers,

@@ -9,7 +9,7 @@ use pg_model::ServerStatus;
 #[derive(Clone, Copy, Debug, PartialEq, Eq)]
 pub struct Replication {
     pub required: Required,
-    pub connected: [Option<Lsn>; MOST_MEMBERS],
+    pub confirmed_positions: [Option<Lsn>; MOST_MEMBERS],
 }
 
 /// What an agent sees of its machine, and reckons with in one input: its server, synchronous replication on it, its watchdog,

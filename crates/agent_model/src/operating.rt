@@ -16,7 +16,7 @@ pub enum Operation {
 /// A request of an operator that waits for its result.
 #[derive(Clone, Copy, Debug, PartialEq, Eq)]
 pub struct Operating {
-    /// Its number in the run.
+    /// Its number in the incarnation.
     pub request: u64,
     pub operation: Operation,
     /// The number of the agent's message that asked the key store.

@@ -24,16 +24,16 @@ pub enum Repair {
 /// What an agent does in an input: messages, orders to the own server, what it did to its watchdog and its hold, and notes.
 #[derive(Debug, Drop)]
 pub enum Output {
-    /// A message under this number of the agent's run.
+    /// A message under this number of the agent's incarnation.
     Send {
         to: Target,
         sequence: u64,
         body: Body,
     },
-    /// What it answers this member, to the ask of this number in that one's run.
+    /// What it answers this member, to the ask of this number in that one's incarnation.
     Answer {
         to: MemberId,
-        run: u64,
+        incarnation: u64,
         sequence: u64,
         answer: PeerAnswer,
     },
@@ -81,7 +81,7 @@ pub enum Output {
     /// The member needs a watchdog, and its device doesn't work.
     CannotArm,
     /// The member takes the leader key though the sync key doesn't name it: a failover by hand names it.
-    Passes,
+    ClaimsOutsideSync,
     /// The member keeps the leader key without beginning: its claim of the sync key failed.
     PostponesPromotion,
     /// In a pause: the deadline was removed on a renewal of the leader key.
@@ -96,7 +96,7 @@ pub enum Output {
     HandsOver {
         candidate: MemberId,
     },
-    /// What the agent answers the operator's request of this number in the run.
+    /// What the agent answers the operator's request of this number in the incarnation.
     Told {
         request: u64,
         told: Told,

@@ -17,7 +17,7 @@ use Rattle.leader_key.specs.Watchdog.{is_armable, timeout_of}
 use Rattle.agent_model.specs.declared.output.Repair.{Repair}
 use Rattle.agent_model.specs.Repairs.{repair_of, repairing}
 use Rattle.agent_model.specs.declared.heard.Heard.{Heard}
-use Rattle.agent_model.specs.declared.heard.Heard.TheVariants.{Wake, Got, Granted as HeardGranted, Mismatch, Asked, Answered, Operated as HearsOperator}
+use Rattle.agent_model.specs.declared.heard.Heard.TheVariants.{Wake, ReadAnswered, Granted as HeardGranted, Mismatch, Asked, Answered, Operated as HearsOperator}
 use Rattle.agent_model.specs.declared.knowledge.Knowledge.{Knowledge}
 use Rattle.agent_model.specs.declared.machine.Machine.{Machine}
 use Rattle.agent_model.specs.declared.output.Output.{Output}
@@ -26,17 +26,17 @@ use Rattle.agent_model.specs.declared.output.Target.TheVariants as targets
 use Rattle.agent_model.specs.declared.why.Why.{Why}
 use Rattle.agent_model.specs.declared.why.Why.TheVariants.{HandOver, Lost}
 use Rattle.agent_model.specs.Acting.{arming, requiring, feeding, armed, fed_until, disarmed, without_deadline, disarming, sending, touching, ending_server, starting_replica, following_server, is_refusing, shutting_down, waiting_no_more}
-use Rattle.agent_model.specs.Agents.{RoleFacts, Follower, Outcome, made}
-use Rattle.agent_model.specs.Before.{has_ended, before}
+use Rattle.agent_model.specs.Agents.{RoleFacts, Follower, Outcome, outcome_from}
+use Rattle.agent_model.specs.Reconciling.{has_ended, reconciled}
 use Rattle.agent_model.specs.Claiming.{begins, begins_or_claims, passing, postpones}
-use Rattle.agent_model.specs.Decisions.{leader_renewed, takes_over, stray_renewed, may_take, gives_back, arms, takes_key, granted, refused, takes_key_in_pause}
+use Rattle.agent_model.specs.Decisions.{leader_renewed, takes_over, unleased_renewed, may_take, gives_back, arms, takes_key, granted, refused, takes_key_in_pause}
 use Rattle.agent_model.specs.Planning.{noting}
 use Rattle.agent_model.specs.Synchronous.{unnamed}
 use Rattle.pat_base.specs.declared.server_state.Required.{Required}
 use Rattle.agent_outputs.specs.Orders.{machine_after_output, machine_after_outputs, IsOfTable, IsCarriedOut, EndsRepairing, RepairsLast}
 use Rattle.agent_roles.specs.Asks.{IsAsk}
-use Rattle.agent_model.specs.Outputs.{listed}
-use Rattle.agent_model.specs.Snapshots.{informed, follows, read_noted, got, follow_row, leader_loses_key, stray_loses_key, renewing, asks_as_stray, led_by_another}
+use Rattle.agent_model.specs.Outputs.{with_output}
+use Rattle.agent_model.specs.Snapshots.{informed, follows, read_noted, read_answered, follow_row, leader_loses_key, unleased_loses_key, renewing, asks_as_unleased, led_by_another}
 use Rattle.agent_model.specs.Racing.{finds_free, judged, unheard}
 use Rattle.agent_model.specs.HandingOver.{asking_whom}
 use Rattle.agent_model.specs.Operators.{looked, given_up, learned, operated, restarting, wiping}
@@ -48,7 +48,7 @@ use Rattle.agent_model.specs.Answers.{is_other, asking_one, asking_first}
 use Rattle.pat_base.specs.declared.member_id.TheConstants.{MOST_MEMBERS}
 use Rattle.agent_model.specs.Peers.{keeping, answered}
 use Rattle.agent_model.specs.declared.who.Who.{Who}
-use Rattle.agent_model.specs.Pausing.{may_start_behind, rest_told, resting, running_without_key}
+use Rattle.agent_model.specs.Pausing.{may_start_behind, disabling_told, disabling_watchdog, running_without_key}
 
 after-push : (now : Ticks) (machine : Machine) (outs : List Output) (output : Output) → machine_after_outputs now machine (outs ++ output ∷ []) ≡ machine_after_output now (machine_after_outputs now machine outs) output
 after-push now machine [] output = refl
@@ -147,7 +147,7 @@ ended-reaches : (now : Ticks) (start : Machine) (why : Why) (held : ℕ) (o : Ou
 ended-reaches now start HandOver held o r = send-reaches now start _ (disarming o) (disarm-reaches now start o r)
 ended-reaches now start Lost held o r = disarm-reaches now start o r
 
-before-reaches : (now : Ticks) (start : Machine) (o : Outcome) → Reaches now start o → Reaches now start (before now o)
+before-reaches : (now : Ticks) (start : Machine) (o : Outcome) → Reaches now start o → Reaches now start (reconciled now o)
 before-reaches now start o r = before-by (Reaches now start) now o (record {
   kept = λ _. r;
   leader = λ held _ _. disarm-reaches now start o r;
@@ -155,18 +155,18 @@ before-reaches now start o r = before-by (Reaches now start) now o (record {
   follower = λ _ _. r;
   holder = λ held _ _. r;
   ready = λ held _ _. disarm-reaches now start o r;
-  stray = λ _ _. disarm-reaches now start o r;
+  unleased = λ _ _. disarm-reaches now start o r;
 })
 
 judged-reaches : (now : Ticks) (start : Machine) (o : Outcome) → Reaches now start o → Reaches now start (judged now o)
 judged-reaches now start o r = judged-by (Reaches now start) now o (one-more now start o.machine o.outputs _ tt r)
-    (λ bar. touch-reaches now start (record (waiting_no_more o) { outputs = listed (outputs.DoesNotRace bar) o.outputs }) (one-more now start o.machine o.outputs (outputs.DoesNotRace bar) tt r))
+    (λ bar. touch-reaches now start (record (waiting_no_more o) { outputs = with_output (outputs.DoesNotRace bar) o.outputs }) (one-more now start o.machine o.outputs (outputs.DoesNotRace bar) tt r))
 
 -- asks of other members leave the machine alone
 ask-reaches : (now : Ticks) (start machine : Machine) (who : Who) (sequence : ℕ) (member : Option MemberId) (outs : List Output) → Reached now start machine outs → Reached now start machine (asking_one who sequence member outs)
 ask-reaches now start machine who sequence None outs r = r
 ask-reaches now start machine who sequence (Some member) outs r =
-    if-cases (Reached now start machine) (is_other who member) (listed (outputs.Send (targets.Member member) sequence bodies.Ask) outs) outs
+    if-cases (Reached now start machine) (is_other who member) (with_output (outputs.Send (targets.Member member) sequence bodies.Ask) outs) outs
     (λ _. one-more now start machine outs (outputs.Send (targets.Member member) sequence bodies.Ask) tt r) (λ _. r)
 
 asks-reach : (now : Ticks) (start machine : Machine) (who : Who) (sequence count : ℕ) (outs : List Output) → Reached now start machine outs → Reached now start machine (asking_first who sequence count outs)
@@ -185,7 +185,7 @@ handover-rows : (now : Ticks) (start : Machine) (revision : ℕ) (o : Outcome) �
 handover-rows now start revision o r = record {
   kept = r;
   clears = λ compared. send-reaches now start _ (waiting_no_more o) r;
-  hands = λ candidate. shut-reaches now start (record (waiting_no_more o) { outputs = listed (outputs.HandsOver candidate) o.outputs }) (one-more now start o.machine o.outputs (outputs.HandsOver candidate) tt r);
+  hands = λ candidate. shut-reaches now start (record (waiting_no_more o) { outputs = with_output (outputs.HandsOver candidate) o.outputs }) (one-more now start o.machine o.outputs (outputs.HandsOver candidate) tt r);
 }
 
 reply-rows : (now : Ticks) (start : Machine) (o : Outcome) → Reaches now start o → ReplyRows (Reaches now start) o
@@ -202,7 +202,7 @@ overdue-reaches now start o r = overdue-by (Reaches now start) now o (record {
   kept = r;
   quiet = r;
   leader = λ held _. end-reaches now start StoreOutOfReach o r;
-  stray = λ _. end-reaches now start StoreOutOfReach o r;
+  unleased = λ _. end-reaches now start StoreOutOfReach o r;
   judges = λ _. judged-reaches now start o r;
   ready = λ held _. postpone-reaches now start held (waiting_no_more o) r;
   checks = λ held _. handover-rows now start held o r;
@@ -213,8 +213,8 @@ turn-reaches now start o r = turn-by (Reaches now start) now o (record { kept = 
 
 wake-reaches : (now : Ticks) (start : Machine) (o : Outcome) → Reaches now start o → Reaches now start (woken now o)
 wake-reaches now start o r = let first = before-reaches now start o r in
-    let answers = given-up-by (Reaches now start) now (before now o) (reply-rows now start (before now o) first) in
-    wake-by (Reaches now start) now o first (turn-reaches now start (overdue now (given_up now (before now o))) (overdue-reaches now start (given_up now (before now o)) answers))
+    let answers = given-up-by (Reaches now start) now (reconciled now o) (reply-rows now start (reconciled now o) first) in
+    wake-by (Reaches now start) now o first (turn-reaches now start (overdue now (given_up now (reconciled now o))) (overdue-reaches now start (given_up now (reconciled now o)) answers))
 
 follow-carries : (now : Ticks) (start : Machine) (leader : MemberId) (o : Outcome) → Reaches now start o → IsCarriedOut now start (follows now leader o)
 follow-carries now start leader o r = let x : Outcome = led_by_another o in
@@ -229,7 +229,7 @@ free-reaches now start o r = let x : Outcome = record o { role = Follower } in
     free-by (Reaches now start) now x (record {
       starts = touch-reaches now start (starting_replica now None x) (start-reaches now start None x r);
       touches = touch-reaches now start x r;
-      bars = λ bar. touch-reaches now start (record x { outputs = listed (outputs.DoesNotRace bar) x.outputs }) (one-more now start o.machine o.outputs (outputs.DoesNotRace bar) tt r);
+      bars = λ bar. touch-reaches now start (record x { outputs = with_output (outputs.DoesNotRace bar) x.outputs }) (one-more now start o.machine o.outputs (outputs.DoesNotRace bar) tt r);
       judges = judged-reaches now start (unheard x) r;
       asks = asks-reach now start o.machine o.knows.who (o.knows.sequence + 1) MOST_MEMBERS o.outputs r;
     })
@@ -247,20 +247,20 @@ answered-reaches now start sequence answer o r = answered-by (Reaches now start)
 run-reaches : (now : Ticks) (start : Machine) (o : Outcome) → Reaches now start o → Reaches now start (running_without_key o)
 run-reaches now start o r = one-more now start o.machine o.outputs outputs.RunsWithoutKey tt r
 
-got-carries : (now : Ticks) (points : List HistoryPoint) (start : Machine) (sequence : ℕ) (snapshot : SnapshotFacts) (o : Outcome) → Reaches now start o → IsCarriedOut now start (got now points sequence snapshot o)
+got-carries : (now : Ticks) (points : List HistoryPoint) (start : Machine) (sequence : ℕ) (snapshot : SnapshotFacts) (o : Outcome) → Reaches now start o → IsCarriedOut now start (read_answered now points sequence snapshot o)
 got-carries now points start sequence snapshot o r = let read : Outcome = record o { knows = read_noted now snapshot o.knows } in
     got-by (IsCarriedOut now start) now points sequence snapshot o (record {
       kept = carried-out now start o r;
       quiet = carried-out now start (waiting_no_more o) r;
       other = carried-out now start read r;
       leader = λ held _. carried-out now start (leader_loses_key now held read) (end-reaches now start LeaderKeyLost read r);
-      stray = λ _. carried-out now start (stray_loses_key now read) (end-reaches now start LeaderKeyLost read r);
+      unleased = λ _. carried-out now start (unleased_loses_key now read) (end-reaches now start LeaderKeyLost read r);
       renews = λ _ leader _ _. carried-out now start (renewing now points leader.revision read) (one-more now start o.machine o.outputs _ tt r);
       touches = carried-out now start (touching read) (touch-reaches now start read r);
       follows = λ leader _ _. follow-carries now start leader.holder read r;
       free = λ _ _. carried-out now start (finds_free now read) (free-reaches now start read r);
       runs_on = λ _. carried-out now start (running_without_key read) (run-reaches now start read r);
-      asks_on = λ _. carried-out now start (asks_as_stray now read) (one-more now start (running_without_key read).machine (running_without_key read).outputs _ tt (run-reaches now start read r));
+      asks_on = λ _. carried-out now start (asks_as_unleased now read) (one-more now start (running_without_key read).machine (running_without_key read).outputs _ tt (run-reaches now start read r));
     })
 
 refused-reaches : (now : Ticks) (start : Machine) (sequence : ℕ) (o : Outcome) → Reaches now start o → Reaches now start (refused now sequence o)
@@ -268,7 +268,7 @@ refused-reaches now start sequence o r = refused-by (Reaches now start) now sequ
   kept = r;
   quiet = r;
   leader = λ held _. end-reaches now start LeaderKeyLost o r;
-  stray = λ _. end-reaches now start LeaderKeyLost o r;
+  unleased = λ _. end-reaches now start LeaderKeyLost o r;
   follower = λ held _. r;
   ready = λ held _. postpone-reaches now start held (waiting_no_more o) r;
   runs_on = λ _. run-reaches now start (waiting_no_more o) r;
@@ -294,16 +294,16 @@ renewed-reaches now ttl start revision o r = let led : Outcome = led_on now ttl 
     renewed-by (Reaches now start) now ttl revision o (end-reaches now start StartTooLong led fed) (duty-reaches now start revision led fed)
 
 -- a watchdog that rests
-rests : (now : Ticks) (start machine : Machine) (outs : List Output) (renews : Bool) (deadline : Option Ticks) → machine.watchdog.deadline ≡ deadline → Reached now start machine outs → Reached now start (without_deadline machine) (rest_told renews deadline outs)
-rests now start machine outs true (Some deadline) is r = one-more now start (without_deadline machine) (listed outputs.Disarmed outs) outputs.DisablesWatchdog tt (disarms now start machine outs (Some deadline) is r)
+rests : (now : Ticks) (start machine : Machine) (outs : List Output) (renews : Bool) (deadline : Option Ticks) → machine.watchdog.deadline ≡ deadline → Reached now start machine outs → Reached now start (without_deadline machine) (disabling_told renews deadline outs)
+rests now start machine outs true (Some deadline) is r = one-more now start (without_deadline machine) (with_output outputs.Disarmed outs) outputs.DisablesWatchdog tt (disarms now start machine outs (Some deadline) is r)
 rests now start machine outs false (Some deadline) is r = disarms now start machine outs (Some deadline) is r
 rests now start machine outs renews None is r = disarms now start machine outs None is r
 
-rest-reaches : (now : Ticks) (start : Machine) (renews : Bool) (o : Outcome) → Reaches now start o → Reaches now start (resting renews o)
+rest-reaches : (now : Ticks) (start : Machine) (renews : Bool) (o : Outcome) → Reaches now start o → Reaches now start (disabling_watchdog renews o)
 rest-reaches now start renews o r = rests now start o.machine o.outputs renews o.machine.watchdog.deadline refl r
 
-stray-reaches : (now ttl : Ticks) (start : Machine) (revision : ℕ) (o : Outcome) → Reaches now start o → Reaches now start (stray_renewed now ttl revision o)
-stray-reaches now ttl start revision o r =
+unleased-reaches : (now ttl : Ticks) (start : Machine) (revision : ℕ) (o : Outcome) → Reaches now start o → Reaches now start (unleased_renewed now ttl revision o)
+unleased-reaches now ttl start revision o r =
     if-cases (Reaches now start) (is_refusing o.machine.watchdog.mode o.machine.watchdog.works) (ending_server now WatchdogNotArmed o) (takes_over now revision (arming now ttl o))
     (λ _. end-reaches now start WatchdogNotArmed o r) (λ _. arm-reaches now ttl start o r)
 
@@ -311,12 +311,12 @@ begin-reaches : (now : Ticks) (start : Machine) (revision : ℕ) (o : Outcome) �
 begin-reaches now start revision o r = let waits : Outcome = requiring (unnamed o.knows.turn_settings) o in one-more now start waits.machine waits.outputs outputs.Begin tt (require-reaches now start (unnamed o.knows.turn_settings) o r)
 
 passing-reaches : (now : Ticks) (start : Machine) (o : Outcome) → Reaches now start o → Reaches now start (passing o)
-passing-reaches now start o r = passing-by (λ (outs : List Output). Reached now start o.machine outs) o r (one-more now start o.machine o.outputs outputs.Passes tt r)
+passing-reaches now start o r = passing-by (λ (outs : List Output). Reached now start o.machine outs) o r (one-more now start o.machine o.outputs outputs.ClaimsOutsideSync tt r)
 
 arms-reaches : (now ttl : Ticks) (start : Machine) (revision : ℕ) (o : Outcome) → Reaches now start o → Reaches now start (arms now ttl revision o)
 arms-reaches now ttl start revision o r =
     if-cases (Reaches now start) (is_refusing o.machine.watchdog.mode o.machine.watchdog.works) _ (begins_or_claims now revision (arming now ttl o))
-    (λ _. send-reaches now start (bodies.Request (txns.Release revision)) (record o { outputs = listed outputs.CannotArm o.outputs }) (one-more now start o.machine o.outputs outputs.CannotArm tt r))
+    (λ _. send-reaches now start (bodies.Request (txns.Release revision)) (record o { outputs = with_output outputs.CannotArm o.outputs }) (one-more now start o.machine o.outputs outputs.CannotArm tt r))
     (λ _. let arm : Outcome = arming now ttl o in let fed : Reaches now start arm = arm-reaches now ttl start o r in
     begins-or-claims-by (Reaches now start) now revision arm (begin-reaches now start revision arm fed) (send-reaches now start _ (passing arm) (passing-reaches now start arm fed)))
 
@@ -327,7 +327,7 @@ takes-reaches now ttl start revision o r =
 
 -- in a pause who is wanted takes the key with a watchdog that rests
 rested-reaches : (now : Ticks) (start : Machine) (renews : Bool) (revision : ℕ) (o : Outcome) → Reaches now start o → Reaches now start (takes_key_in_pause now renews revision o)
-rested-reaches now start renews revision o r = let rest : Outcome = resting renews o in let rested : Reaches now start rest = rest-reaches now start renews o r in
+rested-reaches now start renews revision o r = let rest : Outcome = disabling_watchdog renews o in let rested : Reaches now start rest = rest-reaches now start renews o r in
     takes-in-pause-by (Reaches now start) now renews revision o (one-more now start o.machine o.outputs _ tt r) (begin-reaches now start revision rest rested) (send-reaches now start _ (passing rest) (passing-reaches now start rest rested))
 
 granted-reaches : (now : Ticks) (start : Machine) (sequence : ℕ) (grant : Granted) (snapshot : SnapshotFacts) (o : Outcome) → Reaches now start o → Reaches now start (granted now sequence grant snapshot o)
@@ -336,10 +336,10 @@ granted-reaches now start sequence grant snapshot o r = let told : Outcome = rec
     (λ waited _ _. record {
       other = r;
       leader = λ held _. renewed-reaches now waited.ttl start grant.revision told r;
-      stray = λ _. stray-reaches now waited.ttl start grant.revision told r;
+      unleased = λ _. unleased-reaches now waited.ttl start grant.revision told r;
       takes = λ _. takes-reaches now waited.ttl start grant.revision told r;
       rests = λ renews _ held _. duties-of (Reaches now start) now grant.revision (rested_on renews grant.revision told) (duty-reaches now start grant.revision (rested_on renews grant.revision told) (rest-reaches now start renews told r));
-      stray_rests = λ renews _ _. rest-reaches now start renews told r;
+      unleased_rests = λ renews _ _. rest-reaches now start renews told r;
       takes_resting = λ renews _ _. rested-reaches now start renews grant.revision told r;
     })
     (record {
@@ -358,26 +358,26 @@ act-rows now start request o r = record {
 
 step-carries : (now : Ticks) (points : List HistoryPoint) (heard : Heard) (start : Machine) (o : Outcome) → Reaches now start o → IsCarriedOut now start (step now points heard o)
 step-carries now points Wake start o r = carried-out now start (woken now o) (wake-reaches now start o r)
-step-carries now points (Got sequence snapshot) start o r =
-    got-carries now points start sequence snapshot (looked sequence snapshot (before now o)) (looked-by (Reaches now start) sequence snapshot (before now o) (reply-rows now start (before now o) (before-reaches now start o r)))
+step-carries now points (ReadAnswered sequence snapshot) start o r =
+    got-carries now points start sequence snapshot (looked sequence snapshot (reconciled now o)) (looked-by (Reaches now start) sequence snapshot (reconciled now o) (reply-rows now start (reconciled now o) (before-reaches now start o r)))
 step-carries now points (HeardGranted sequence grant snapshot) start o r =
-    let first : Outcome = before now o in
+    let first : Outcome = reconciled now o in
     let fresh : Reaches now start first = before-reaches now start o r in
     carried-out now start (granted_any now sequence grant snapshot first)
     (granted-any-by (Reaches now start) now sequence grant snapshot first fresh (reply-rows now start (learned snapshot first) fresh) (granted-reaches now start sequence grant snapshot first fresh))
 step-carries now points (Mismatch sequence key found) start o r =
-    let first : Outcome = before now o in
+    let first : Outcome = reconciled now o in
     let fresh : Reaches now start first = before-reaches now start o r in
     carried-out now start (refused_any now sequence first)
     (refused-any-by (Reaches now start) now sequence first (reply-rows now start first fresh) (refused-reaches now start sequence first fresh))
-step-carries now points (Asked from run sequence) start o r =
-    carried-out now start (step now points (Asked from run sequence) o) (one-more now start (before now o).machine (before now o).outputs _ tt (before-reaches now start o r))
-step-carries now points (Answered sequence answer) start o r = carried-out now start (answered now sequence answer (before now o)) (answered-reaches now start sequence answer (before now o) (before-reaches now start o r))
-step-carries now points (HearsOperator action) start o r = let first : Outcome = before now o in
+step-carries now points (Asked from incarnation sequence) start o r =
+    carried-out now start (step now points (Asked from incarnation sequence) o) (one-more now start (reconciled now o).machine (reconciled now o).outputs _ tt (before-reaches now start o r))
+step-carries now points (Answered sequence answer) start o r = carried-out now start (answered now sequence answer (reconciled now o)) (answered-reaches now start sequence answer (reconciled now o) (before-reaches now start o r))
+step-carries now points (HearsOperator action) start o r = let first : Outcome = reconciled now o in
     carried-out now start (operated now action.request action.asked first) (operated-by (Reaches now start) now action.request action.asked first (act-rows now start action.request first (before-reaches now start o r)))
 
 nothing : (now : Ticks) (machine : Machine) → Reached now machine machine []
 nothing now machine = record { machine_is = refl; kinds = All-nil IsPlain }
 
-pub step-carried-out : (now : Ticks) (points : List HistoryPoint) (heard : Heard) (role : RoleFacts) (knows : Knowledge) (machine : Machine) → IsCarriedOut now machine (step now points heard (made role knows machine []))
-step-carried-out now points heard role knows machine = step-carries now points heard machine (made role knows machine []) (nothing now machine)
+pub step-carried-out : (now : Ticks) (points : List HistoryPoint) (heard : Heard) (role : RoleFacts) (knows : Knowledge) (machine : Machine) → IsCarriedOut now machine (step now points heard (outcome_from role knows machine []))
+step-carried-out now points heard role knows machine = step-carries now points heard machine (outcome_from role knows machine []) (nothing now machine)

@@ -21,14 +21,14 @@ use Rattle.sync_state.specs.declared.steps.Plan.{Plan}
 use Rattle.sync_state.specs.declared.steps.Plan.TheVariants as plans
 use Rattle.sync_state.specs.Plans.{plan_of}
 use Rattle.agent_model.specs.declared.heard.Heard.{Heard}
-use Rattle.agent_model.specs.declared.heard.Heard.TheVariants.{Wake, Got, Granted as HeardGranted, Mismatch, Asked, Answered, Operated}
+use Rattle.agent_model.specs.declared.heard.Heard.TheVariants.{Wake, ReadAnswered, Granted as HeardGranted, Mismatch, Asked, Answered, Operated}
 use Rattle.agent_model.specs.declared.knowledge.Knowledge.{Knowledge}
 use Rattle.agent_model.specs.declared.knowledge.Question.{Question}
-use Rattle.agent_model.specs.declared.knowledge.Question.TheVariants.{Reading, Asking, Checking, Creating, Renewing, Claiming, Syncing}
+use Rattle.agent_model.specs.declared.knowledge.Question.TheVariants.{Reading, ComparingPositions, FindingCandidate, Creating, Renewing, Claiming, Syncing}
 use Rattle.agent_model.specs.declared.knowledge.Settling.{Settling}
-use Rattle.agent_model.specs.declared.knowledge.Settling.TheVariants.{Stays, Lists, Empties}
+use Rattle.agent_model.specs.declared.knowledge.Settling.TheVariants.{KeepsList, NamesStandbys, ClearsList}
 use Rattle.agent_model.specs.declared.knowledge.SyncRead.{SyncRead}
-use Rattle.agent_model.specs.declared.knowledge.Waited.{Waited}
+use Rattle.agent_model.specs.declared.knowledge.PendingQuestion.{PendingQuestion}
 use Rattle.agent_model.specs.declared.machine.Machine.{Machine}
 use Rattle.agent_model.specs.declared.operating.Told.{Told}
 use Rattle.agent_model.specs.declared.output.Output.{Output}
@@ -37,20 +37,20 @@ use Rattle.agent_model.specs.declared.output.Target.TheVariants as targets
 use Rattle.agent_model.specs.declared.why.Why.{Why}
 use Rattle.agent_model.specs.declared.why.Why.TheVariants.{HandOver, Lost}
 use Rattle.agent_model.specs.Acting.{requiring, ending_server, seconds_after, lease_span, counted, arming, feeding, armed, fed_until, disarmed, disarming, sending, asking, touching, starting_replica, is_refusing, deadline_after, waiting, waiting_no_more}
-use Rattle.agent_model.specs.Agents.{RoleFacts, Follower, Ending, Outcome, made}
-use Rattle.agent_model.specs.Before.{has_ended, before}
+use Rattle.agent_model.specs.Agents.{RoleFacts, Follower, Ending, Outcome, outcome_from}
+use Rattle.agent_model.specs.Reconciling.{has_ended, reconciled}
 use Rattle.agent_model.specs.Claiming.{begins, claims, begins_or_claims, passing, postpones}
-use Rattle.agent_model.specs.Decisions.{asks_lease, asks_sync, is_start_too_long, leader_renewed, takes_over, stray_renewed, may_take, gives_back, arms, takes_key, granted, refused}
+use Rattle.agent_model.specs.Decisions.{asks_lease, asks_sync, is_start_too_long, leader_renewed, takes_over, unleased_renewed, may_take, gives_back, arms, takes_key, granted, refused}
 use Rattle.agent_model.specs.Planning.{writing_sync, switching_off, planned_as, planned_on, leader_view, noting}
 use Rattle.agent_model.specs.Synchronous.{expected_of, sync_read_if, unnamed, waiting_for}
 use Rattle.pat_base.specs.declared.server_state.Required.{Required}
 use Rattle.pat_base.specs.declared.server_state.Required.TheVariants as needs
 use Rattle.agent_model.specs.HandingOver.{asking_whom, checking, duties, hands_over}
 use Rattle.agent_model.specs.Operators.{answering, given_up, learned, looked, operated, operating, restarting, wiping}
-use Rattle.agent_model.specs.Outputs.{listed}
+use Rattle.agent_model.specs.Outputs.{with_output}
 use Rattle.agent_model.specs.Racing.{finds_free, judged, answers_until, asking_others, unheard}
 use Rattle.agent_model.specs.Repairs.{repair_of}
-use Rattle.agent_model.specs.Snapshots.{informed, follows, read_noted, got, follow_row, led_by_another}
+use Rattle.agent_model.specs.Snapshots.{informed, follows, read_noted, read_answered, follow_row, led_by_another}
 use Rattle.agent_model.specs.Table.{granted_any, refused_any, step}
 use Rattle.agent_model.specs.Wake.{turn_noted, overdue, turned, woken}
 use Rattle.agent_model.proofs.Rows.{HandoverRows, IsOperatorTxn, ReplyRows, dropping, led_on, if-cases, begins-or-claims-by, passing-by, before-by, duties-by, given-up-by, granted-any-by, looked-by, operated-by, overdue-by, refused-any-by, turn-by, wake-by, got-by, refused-by, follow-by, repaired-by, free-by, granted-by, judged-by, answered-by, rested_on, takes-in-pause-by}
@@ -61,7 +61,7 @@ use Rattle.agent_model.specs.Peers.{keeping, answered}
 use Rattle.lease_law.proofs.Tools.{both}
 use Rattle.agent_questions.specs.Questions.{IsPutBy, IsPutByBody, span_asked, SendsBetween, AsksFor, WaitsOn, Same, Nothing, New, AsksAnew}
 use Rattle.agent_roles.specs.Asks.{IsQuestion}
-use Rattle.agent_model.specs.Pausing.{may_start_behind, rest_told, resting, running_without_key}
+use Rattle.agent_model.specs.Pausing.{may_start_behind, disabling_told, disabling_watchdog, running_without_key}
 
 all-of : {X : Type 0} (P Q : X → Type 0) (xs : List X) → ((x : X) → P x → Q x) → All P xs → All Q xs
 all-of P Q xs more all = λ k d h. more _ (all k d h)
@@ -74,7 +74,7 @@ between-other : (low high : ℕ) (output : Output) → no-message output → Sen
 between-other low high (outputs.Send to sequence body) is = absurd is
 between-other low high _ is = tt
 
-asks-other : (waited : Waited) (output : Output) → no-message output → AsksFor waited output
+asks-other : (waited : PendingQuestion) (output : Output) → no-message output → AsksFor waited output
 asks-other waited (outputs.Send to sequence body) is = absurd is
 asks-other waited _ is = tt
 
@@ -83,7 +83,7 @@ between-later low high more h (outputs.Send to sequence body) is = (is.0, omega 
 between-later low high more h _ is = tt
 
 -- a number above all that were sent is none of theirs
-above-all : (low high : ℕ) (waited : Waited) → high < waited.sequence → (output : Output) → SendsBetween low high output → AsksFor waited output
+above-all : (low high : ℕ) (waited : PendingQuestion) → high < waited.sequence → (output : Output) → SendsBetween low high output → AsksFor waited output
 above-all low high waited h (outputs.Send to sequence body) is = λ e. absurd (omega (arith, e, h, is.1))
 above-all low high waited h _ is = tt
 
@@ -99,7 +99,7 @@ one-waits now known knows outs output other (New waited is later counts sent spa
 one-more : (now : Ticks) (known knows : Knowledge) (outs : List Output) (output : Output) → no-message output → AsksAnew now known knows outs → AsksAnew now known knows (outs ++ output ∷ [])
 one-more now known knows outs output other r = record {
   who = r.who;
-  run = r.run;
+  incarnation = r.incarnation;
   last = r.last;
   sends = All-push (SendsBetween known.sequence knows.sequence) outs output r.sends (between-other known.sequence knows.sequence output other);
   waits = one-waits now known knows outs output other r.waits;
@@ -111,20 +111,20 @@ same-waits now known knows after outs last waited (Same is) = Same (waited ∙ i
 same-waits now known knows after outs last waited (Nothing is) = Nothing (waited ∙ is)
 same-waits now known knows after outs last waited (New w is later counts sent span asks) = New w (waited ∙ is) later (omega (arith, counts, last)) sent span asks
 
-goes-on : (now : Ticks) (known knows after : Knowledge) (outs : List Output) → after.who ≡ knows.who → after.run ≡ knows.run → after.sequence ≡ knows.sequence → after.waited ≡ knows.waited → AsksAnew now known knows outs → AsksAnew now known after outs
-goes-on now known knows after outs who run last waited r = record {
+goes-on : (now : Ticks) (known knows after : Knowledge) (outs : List Output) → after.who ≡ knows.who → after.incarnation ≡ knows.incarnation → after.sequence ≡ knows.sequence → after.waited ≡ knows.waited → AsksAnew now known knows outs → AsksAnew now known after outs
+goes-on now known knows after outs who incarnation last waited r = record {
   who = who ∙ r.who;
-  run = run ∙ r.run;
+  incarnation = incarnation ∙ r.incarnation;
   last = omega (arith, r.last, last);
   sends = all-of (SendsBetween known.sequence knows.sequence) (SendsBetween known.sequence after.sequence) outs (between-later known.sequence knows.sequence after.sequence (omega (arith, last))) r.sends;
   waits = same-waits now known knows after outs last waited r.waits;
 }
 
 -- it waits for nothing any more
-rests : (now : Ticks) (known knows after : Knowledge) (outs : List Output) → after.who ≡ knows.who → after.run ≡ knows.run → after.sequence ≡ knows.sequence → after.waited ≡ None → AsksAnew now known knows outs → AsksAnew now known after outs
-rests now known knows after outs who run last waited r = record {
+rests : (now : Ticks) (known knows after : Knowledge) (outs : List Output) → after.who ≡ knows.who → after.incarnation ≡ knows.incarnation → after.sequence ≡ knows.sequence → after.waited ≡ None → AsksAnew now known knows outs → AsksAnew now known after outs
+rests now known knows after outs who incarnation last waited r = record {
   who = who ∙ r.who;
-  run = run ∙ r.run;
+  incarnation = incarnation ∙ r.incarnation;
   last = omega (arith, r.last, last);
   sends = all-of (SendsBetween known.sequence knows.sequence) (SendsBetween known.sequence after.sequence) outs (between-later known.sequence knows.sequence after.sequence (omega (arith, last))) r.sends;
   waits = Nothing waited;
@@ -148,7 +148,7 @@ next-waits now known knows outs body (New waited is later counts sent span asks)
 send-reaches : (now : Ticks) (known : Knowledge) (body : Body) (o : Outcome) → IsQuestion body → Reaches now known o → Reaches now known (sending body o)
 send-reaches now known body o span r = record {
   who = r.who;
-  run = r.run;
+  incarnation = r.incarnation;
   last = omega (arith, r.last);
   sends = next-sends known o.knows o.outputs body r.last span r.sends;
   waits = next-waits now known o.knows o.outputs body r.waits;
@@ -161,10 +161,10 @@ is-lease settings = record { least = omega (arith, settings.ttl_range.0); greate
 ask-reaches : (now : Ticks) (known : Knowledge) (question : Question) (until : Ticks) (body : Body) (o : Outcome) → IsQuestion body → (asks_lease question ≡ true → span_asked body ≡ (lease_span o.knows.settings).0)
     → (asks_sync question ≡ true → IsPutByBody question body) → Reaches now known o → Reaches now known (asking now question until body o)
 ask-reaches now known question until body o span asks puts r =
-    let waited : Waited = record { question = question; sequence = o.knows.sequence + 1; until = until; ttl = lease_span o.knows.settings; sent = now } in
+    let waited : PendingQuestion = record { question = question; sequence = o.knows.sequence + 1; until = until; ttl = lease_span o.knows.settings; sent = now } in
     record {
       who = r.who;
-      run = r.run;
+      incarnation = r.incarnation;
       last = omega (arith, r.last);
       sends = next-sends known o.knows o.outputs body r.last span r.sends;
       waits = New waited refl (omega (arith, r.last)) (omega arith) refl (is-lease o.knows.settings)
@@ -192,7 +192,7 @@ ended-reaches : (now : Ticks) (known : Knowledge) (why : Why) (held : ℕ) (o : 
 ended-reaches now known HandOver held o r = send-reaches now known (bodies.Request (txns.Release held)) (disarming o) tt (disarm-reaches now known o r)
 ended-reaches now known Lost held o r = disarm-reaches now known o r
 
-before-reaches : (now : Ticks) (known : Knowledge) (o : Outcome) → Reaches now known o → Reaches now known (before now o)
+before-reaches : (now : Ticks) (known : Knowledge) (o : Outcome) → Reaches now known o → Reaches now known (reconciled now o)
 before-reaches now known o r = before-by (Reaches now known) now o (record {
   kept = λ _. r;
   leader = λ held _ _. goes-on now known o.knows _ _ refl refl refl refl (disarm-reaches now known o r);
@@ -200,7 +200,7 @@ before-reaches now known o r = before-by (Reaches now known) now o (record {
   follower = λ _ _. r;
   holder = λ held _ _. r;
   ready = λ held _ _. disarm-reaches now known o r;
-  stray = λ _ _. disarm-reaches now known o r;
+  unleased = λ _ _. disarm-reaches now known o r;
 })
 
 is-spanned : (settings : Config) → 0 < (lease_span settings).0
@@ -212,13 +212,13 @@ judged-reaches now known o r =
     let quiet : Reaches now known (waiting_no_more o) = rests now known o.knows _ o.outputs refl refl refl refl r in
     judged-by (Reaches now known) now o
     (ask-reaches now known Creating (seconds_after now o.knows.settings.retry_timeout) _ (waiting_no_more o) (is-spanned o.knows.settings) (λ _. refl) (λ e. absurd (both e)) quiet)
-    (λ bar. send-reaches now known _ (record (waiting_no_more o) { outputs = listed (outputs.DoesNotRace bar) o.outputs }) tt (one-more now known (waiting_no_more o).knows o.outputs (outputs.DoesNotRace bar) tt quiet))
+    (λ bar. send-reaches now known _ (record (waiting_no_more o) { outputs = with_output (outputs.DoesNotRace bar) o.outputs }) tt (one-more now known (waiting_no_more o).knows o.outputs (outputs.DoesNotRace bar) tt quiet))
 
 -- the asks to other members, all under the next number
 ask-sends : (low high : ℕ) (who : Who) (sequence : ℕ) (member : Option MemberId) (outs : List Output) → low < sequence → sequence ≤ high → All (SendsBetween low high) outs → All (SendsBetween low high) (asking_one who sequence member outs)
 ask-sends low high who sequence None outs later less all = all
 ask-sends low high who sequence (Some member) outs later less all =
-    if-cases (λ (l : List Output). All (SendsBetween low high) l) (is_other who member) (listed (outputs.Send (targets.Member member) sequence bodies.Ask) outs) outs
+    if-cases (λ (l : List Output). All (SendsBetween low high) l) (is_other who member) (with_output (outputs.Send (targets.Member member) sequence bodies.Ask) outs) outs
     (λ _. All-push (SendsBetween low high) outs (outputs.Send (targets.Member member) sequence bodies.Ask) all (later, less, tt)) (λ _. all)
 
 asks-send : (low high : ℕ) (who : Who) (sequence count : ℕ) (outs : List Output) → low < sequence → sequence ≤ high → All (SendsBetween low high) outs → All (SendsBetween low high) (asking_first who sequence count outs)
@@ -226,7 +226,7 @@ asks-send low high who sequence zero outs later less all = all
 asks-send low high who sequence (suc count) outs later less all = ask-sends low high who sequence (member_of count) (asking_first who sequence count outs) later less (asks-send low high who sequence count outs later less all)
 
 -- they ask for no lease, and for no write
-asks-none : (waited : Waited) (output : Output) → asks_lease waited.question ≡ false → asks_sync waited.question ≡ false → AsksFor waited output
+asks-none : (waited : PendingQuestion) (output : Output) → asks_lease waited.question ≡ false → asks_sync waited.question ≡ false → AsksFor waited output
 asks-none waited (outputs.Send to sequence body) lease write = λ _. record {
   lease = λ leasing. absurd (both (sym lease ∙ leasing));
   write = λ writing. absurd (both (sym write ∙ writing));
@@ -238,10 +238,10 @@ peers-reach : (now : Ticks) (known : Knowledge) (question : Question) (o : Outco
     → (All (SendsBetween known.sequence (o.knows.sequence + 1)) o.outputs → All (SendsBetween known.sequence (o.knows.sequence + 1)) outs) → Reaches now known o
     → AsksAnew now known (waiting now question (answers_until now) (counted o.knows)) outs
 peers-reach now known question o outs lease write more r =
-    let waited : Waited = record { question = question; sequence = o.knows.sequence + 1; until = answers_until now; ttl = lease_span o.knows.settings; sent = now } in
+    let waited : PendingQuestion = record { question = question; sequence = o.knows.sequence + 1; until = answers_until now; ttl = lease_span o.knows.settings; sent = now } in
     record {
       who = r.who;
-      run = r.run;
+      incarnation = r.incarnation;
       last = omega (arith, r.last);
       sends = more (all-of (SendsBetween known.sequence o.knows.sequence) (SendsBetween known.sequence (o.knows.sequence + 1)) o.outputs (between-later known.sequence o.knows.sequence (o.knows.sequence + 1) (omega arith)) r.sends);
       waits = New waited refl (omega (arith, r.last)) (omega arith) refl (is-lease o.knows.settings) (λ k d h. asks-none waited _ lease write);
@@ -249,7 +249,7 @@ peers-reach now known question o outs lease write more r =
 
 others-reach : (now : Ticks) (known : Knowledge) (o : Outcome) → Reaches now known o → Reaches now known (asking_others now o)
 others-reach now known o r =
-    peers-reach now known Asking o (asking_all o.knows.who (o.knows.sequence + 1) o.outputs) refl refl
+    peers-reach now known ComparingPositions o (asking_all o.knows.who (o.knows.sequence + 1) o.outputs) refl refl
     (asks-send known.sequence (o.knows.sequence + 1) o.knows.who (o.knows.sequence + 1) MOST_MEMBERS o.outputs (omega (arith, r.last)) (omega arith)) r
 
 -- the asks of a leader that is to hand over have numbers in this span: to the candidate alone, or to all others
@@ -259,7 +259,7 @@ whom-send low high who (Some candidate) sequence outs later less all = ask-sends
 
 check-reaches : (now : Ticks) (known : Knowledge) (candidate : Option MemberId) (o : Outcome) → Reaches now known o → Reaches now known (checking now candidate o)
 check-reaches now known candidate o r =
-    peers-reach now known Checking o (asking_whom o.knows.who candidate (o.knows.sequence + 1) o.outputs) refl refl
+    peers-reach now known FindingCandidate o (asking_whom o.knows.who candidate (o.knows.sequence + 1) o.outputs) refl refl
     (whom-send known.sequence (o.knows.sequence + 1) o.knows.who candidate (o.knows.sequence + 1) o.outputs (omega (arith, r.last)) (omega arith)) r
 
 -- a failover key is to be removed
@@ -273,8 +273,8 @@ handover-reaches now known revision o r =
     record {
       kept = quiet;
       clears = λ compared. drop-reaches now known compared (waiting_no_more o) quiet;
-      hands = λ candidate. goes-on now known (waiting_no_more o).knows (hands_over now revision candidate (waiting_no_more o)).knows (listed outputs.ShutDown (listed (outputs.HandsOver candidate) o.outputs)) refl refl refl refl
-          (one-more now known (waiting_no_more o).knows (listed (outputs.HandsOver candidate) o.outputs) outputs.ShutDown tt (one-more now known (waiting_no_more o).knows o.outputs (outputs.HandsOver candidate) tt quiet));
+      hands = λ candidate. goes-on now known (waiting_no_more o).knows (hands_over now revision candidate (waiting_no_more o)).knows (with_output outputs.ShutDown (with_output (outputs.HandsOver candidate) o.outputs)) refl refl refl refl
+          (one-more now known (waiting_no_more o).knows (with_output (outputs.HandsOver candidate) o.outputs) outputs.ShutDown tt (one-more now known (waiting_no_more o).knows o.outputs (outputs.HandsOver candidate) tt quiet));
     }
 
 -- operators are answered
@@ -295,7 +295,7 @@ overdue-reaches now known o r =
       kept = r;
       quiet = quiet;
       leader = λ held _. one-more now known _ o.outputs _ tt quiet;
-      stray = λ _. one-more now known _ o.outputs _ tt quiet;
+      unleased = λ _. one-more now known _ o.outputs _ tt quiet;
       judges = λ _. judged-reaches now known o r;
       ready = λ held _. postpone-reaches now known held (waiting_no_more o) quiet;
       checks = λ held _. handover-reaches now known held o r;
@@ -309,9 +309,9 @@ turn-reaches now known o r =
 
 wake-reaches : (now : Ticks) (known : Knowledge) (o : Outcome) → Reaches now known o → Reaches now known (woken now o)
 wake-reaches now known o r = let first = before-reaches now known o r in
-    let told : Outcome = given_up now (before now o) in
+    let told : Outcome = given_up now (reconciled now o) in
     wake-by (Reaches now known) now o first
-    (turn-reaches now known (overdue now told) (overdue-reaches now known told (given-up-by (Reaches now known) now (before now o) (reply-reaches now known (before now o) first))))
+    (turn-reaches now known (overdue now told) (overdue-reaches now known told (given-up-by (Reaches now known) now (reconciled now o) (reply-reaches now known (reconciled now o) first))))
 
 touch-reaches : (now : Ticks) (known : Knowledge) (o : Outcome) → Reaches now known o → Reaches now known (touching o)
 touch-reaches now known o r = send-reaches now known _ o tt r
@@ -335,7 +335,7 @@ free-reaches now known o r = let x : Outcome = record o { role = Follower } in
     free-by (Reaches now known) now x (record {
       starts = touch-reaches now known (starting_replica now None x) (one-more now known o.knows o.outputs (outputs.StartReplica None) tt r);
       touches = touch-reaches now known x r;
-      bars = λ bar. touch-reaches now known (record x { outputs = listed (outputs.DoesNotRace bar) x.outputs }) (one-more now known o.knows o.outputs (outputs.DoesNotRace bar) tt r);
+      bars = λ bar. touch-reaches now known (record x { outputs = with_output (outputs.DoesNotRace bar) x.outputs }) (one-more now known o.knows o.outputs (outputs.DoesNotRace bar) tt r);
       judges = judged-reaches now known (unheard x) alone;
       asks = others-reach now known (unheard x) alone;
     })
@@ -351,7 +351,7 @@ answered-reaches now known sequence answer o r =
       checks = λ held _. handover-reaches now known held (keeping answer o) kept;
     })
 
-got-reaches : (now : Ticks) (points : List HistoryPoint) (known : Knowledge) (sequence : ℕ) (snapshot : SnapshotFacts) (o : Outcome) → Reaches now known o → Reaches now known (got now points sequence snapshot o)
+got-reaches : (now : Ticks) (points : List HistoryPoint) (known : Knowledge) (sequence : ℕ) (snapshot : SnapshotFacts) (o : Outcome) → Reaches now known o → Reaches now known (read_answered now points sequence snapshot o)
 got-reaches now points known sequence snapshot o r =
     let read : Outcome = record o { knows = read_noted now snapshot o.knows } in
     let told : Reaches now known read = rests now known o.knows read.knows o.outputs refl refl refl refl r in
@@ -360,7 +360,7 @@ got-reaches now points known sequence snapshot o r =
       quiet = rests now known o.knows _ o.outputs refl refl refl refl r;
       other = told;
       leader = λ held _. one-more now known read.knows o.outputs _ tt told;
-      stray = λ _. one-more now known read.knows o.outputs _ tt told;
+      unleased = λ _. one-more now known read.knows o.outputs _ tt told;
       renews = λ _ leader _ _. ask-reaches now known Renewing _ _ read tt (λ _. refl) (λ e. absurd (both e)) told;
       touches = touch-reaches now known read told;
       follows = λ leader _ _. follow-reaches now known leader.holder read told;
@@ -376,7 +376,7 @@ refused-reaches now known sequence o r =
       kept = r;
       quiet = quiet;
       leader = λ held _. one-more now known _ o.outputs _ tt quiet;
-      stray = λ _. one-more now known _ o.outputs _ tt quiet;
+      unleased = λ _. one-more now known _ o.outputs _ tt quiet;
       follower = λ held _. quiet;
       ready = λ held _. postpone-reaches now known held (waiting_no_more o) quiet;
       runs_on = λ _. one-more now known _ o.outputs outputs.RunsWithoutKey tt quiet;
@@ -390,9 +390,9 @@ arm-reaches now ttl known o r = arms-it now known o.knows o.outputs (deadline_af
 
 -- a write of the sync key, which says what it settles
 writes-question : (settling : Settling) (txn : Txn) → IsPutBy (Syncing settling) txn → IsQuestion (bodies.Request txn)
-writes-question Stays (txns.SetSync revision sync standbys) puts = tt
-writes-question (Lists set) (txns.SetSync revision sync standbys) puts = tt
-writes-question Empties (txns.DropSync revision sync) puts = tt
+writes-question KeepsList (txns.SetSync revision sync standbys) puts = tt
+writes-question (NamesStandbys set) (txns.SetSync revision sync standbys) puts = tt
+writes-question ClearsList (txns.DropSync revision sync) puts = tt
 writes-question _ _ puts = absurd puts
 
 write-reaches : (now : Ticks) (known : Knowledge) (settling : Settling) (txn : Txn) (o : Outcome) → IsPutBy (Syncing settling) txn → Reaches now known o → Reaches now known (writing_sync now settling txn o)
@@ -404,15 +404,15 @@ require-reaches now known required o r = one-more now known o.knows o.outputs (o
 -- a leader's step with its standbys
 off-reaches : (now : Ticks) (known : Knowledge) (revision : ℕ) (read : Option SyncRead) (o : Outcome) → Reaches now known o → Reaches now known (switching_off now revision read o)
 off-reaches now known revision None o r = r
-off-reaches now known revision (Some read) o r = write-reaches now known Empties (txns.DropSync revision read.revision) o tt r
+off-reaches now known revision (Some read) o r = write-reaches now known ClearsList (txns.DropSync revision read.revision) o tt r
 
 plan-reaches : (now : Ticks) (known : Knowledge) (revision : ℕ) (plan : Plan) (o : Outcome) → Reaches now known o → Reaches now known (planned_as now revision plan o)
 plan-reaches now known revision plans.Keep o r = r
 plan-reaches now known revision plans.SwitchOff o r = off-reaches now known revision (sync_read_if o.knows.seen) o r
-plan-reaches now known revision plans.Mark o r = write-reaches now known (Lists nobody) (txns.SetSync revision (expected_of (sync_read_if o.knows.seen)) nobody) o refl r
-plan-reaches now known revision (plans.Withdraw standbys) o r = write-reaches now known (Lists standbys) (txns.SetSync revision (expected_of (sync_read_if o.knows.seen)) standbys) o refl r
+plan-reaches now known revision plans.Mark o r = write-reaches now known (NamesStandbys nobody) (txns.SetSync revision (expected_of (sync_read_if o.knows.seen)) nobody) o refl r
+plan-reaches now known revision (plans.Withdraw standbys) o r = write-reaches now known (NamesStandbys standbys) (txns.SetSync revision (expected_of (sync_read_if o.knows.seen)) standbys) o refl r
 plan-reaches now known revision (plans.AddRequired members) o r = require-reaches now known (needs.All members) (noting o) (goes-on now known o.knows (noting o).knows o.outputs refl refl refl refl r)
-plan-reaches now known revision (plans.Publish standbys) o r = write-reaches now known Stays (txns.SetSync revision (expected_of (sync_read_if o.knows.seen)) standbys) o tt r
+plan-reaches now known revision (plans.Publish standbys) o r = write-reaches now known KeepsList (txns.SetSync revision (expected_of (sync_read_if o.knows.seen)) standbys) o tt r
 plan-reaches now known revision (plans.DropRequired members) o r = require-reaches now known (waiting_for o.knows.settings members) o r
 
 planned-reaches : (now : Ticks) (known : Knowledge) (revision : ℕ) (seen : Option SnapshotFacts) (o : Outcome) → Reaches now known o → Reaches now known (planned_on now revision seen o)
@@ -436,8 +436,8 @@ renewed-reaches now ttl known revision o r = let led : Outcome = led_on now ttl 
     if-cases (Reaches now known) (is_start_too_long now led.knows led.machine.server.state) (record (ending_server now StartTooLong led) { role = Ending revision HandOver }) (duties now revision led)
     (λ _. one-more now known led.knows led.outputs _ tt fed) (λ _. duties-reach now known revision led fed)
 
-stray-reaches : (now ttl : Ticks) (known : Knowledge) (revision : ℕ) (o : Outcome) → Reaches now known o → Reaches now known (stray_renewed now ttl revision o)
-stray-reaches now ttl known revision o r = let armed-now : Outcome = arming now ttl o in
+unleased-reaches : (now ttl : Ticks) (known : Knowledge) (revision : ℕ) (o : Outcome) → Reaches now known o → Reaches now known (unleased_renewed now ttl revision o)
+unleased-reaches now ttl known revision o r = let armed-now : Outcome = arming now ttl o in
     if-cases (Reaches now known) (is_refusing o.machine.watchdog.mode o.machine.watchdog.works) _ (takes_over now revision armed-now)
     (λ _. one-more now known o.knows o.outputs _ tt r) (λ _. goes-on now known armed-now.knows _ armed-now.outputs refl refl refl refl (arm-reaches now ttl known o r))
 
@@ -447,12 +447,12 @@ begin-reaches now known revision o r = goes-on now known o.knows _ _ refl refl r
 -- a claim, behind what is noted of the sync key
 claim-reaches : (now : Ticks) (known : Knowledge) (revision : ℕ) (o : Outcome) → Reaches now known o → Reaches now known (claims now revision (passing o))
 claim-reaches now known revision o r =
-    ask-reaches now known Claiming _ _ (passing o) tt (λ e. absurd (both e)) (λ _. tt) (passing-by (AsksAnew now known o.knows) o r (one-more now known o.knows o.outputs outputs.Passes tt r))
+    ask-reaches now known Claiming _ _ (passing o) tt (λ e. absurd (both e)) (λ _. tt) (passing-by (AsksAnew now known o.knows) o r (one-more now known o.knows o.outputs outputs.ClaimsOutsideSync tt r))
 
 arms-reaches : (now ttl : Ticks) (known : Knowledge) (revision : ℕ) (o : Outcome) → Reaches now known o → Reaches now known (arms now ttl revision o)
 arms-reaches now ttl known revision o r =
     if-cases (Reaches now known) (is_refusing o.machine.watchdog.mode o.machine.watchdog.works) _ (begins_or_claims now revision (arming now ttl o))
-    (λ _. send-reaches now known (bodies.Request (txns.Release revision)) (record o { outputs = listed outputs.CannotArm o.outputs }) tt (one-more now known o.knows o.outputs outputs.CannotArm tt r))
+    (λ _. send-reaches now known (bodies.Request (txns.Release revision)) (record o { outputs = with_output outputs.CannotArm o.outputs }) tt (one-more now known o.knows o.outputs outputs.CannotArm tt r))
     (λ _. let arm : Outcome = arming now ttl o in let fed : Reaches now known arm = arm-reaches now ttl known o r in
     begins-or-claims-by (Reaches now known) now revision arm (begin-reaches now known revision arm fed) (claim-reaches now known revision arm fed))
 
@@ -462,12 +462,12 @@ takes-reaches now ttl known revision o r =
     (λ _. arms-reaches now ttl known revision o r) (λ _. send-reaches now known (bodies.Request (txns.Release revision)) o tt r)
 
 -- a watchdog that rests
-rests-told : (now : Ticks) (known after : Knowledge) (renews : Bool) (deadline : Option Ticks) (outs : List Output) → AsksAnew now known after outs → AsksAnew now known after (rest_told renews deadline outs)
+rests-told : (now : Ticks) (known after : Knowledge) (renews : Bool) (deadline : Option Ticks) (outs : List Output) → AsksAnew now known after outs → AsksAnew now known after (disabling_told renews deadline outs)
 rests-told now known after renews None outs r = r
-rests-told now known after true (Some deadline) outs r = one-more now known after (listed outputs.Disarmed outs) outputs.DisablesWatchdog tt (one-more now known after outs outputs.Disarmed tt r)
+rests-told now known after true (Some deadline) outs r = one-more now known after (with_output outputs.Disarmed outs) outputs.DisablesWatchdog tt (one-more now known after outs outputs.Disarmed tt r)
 rests-told now known after false (Some deadline) outs r = one-more now known after outs outputs.Disarmed tt r
 
-rest-reaches : (now : Ticks) (known : Knowledge) (renews : Bool) (o : Outcome) → Reaches now known o → Reaches now known (resting renews o)
+rest-reaches : (now : Ticks) (known : Knowledge) (renews : Bool) (o : Outcome) → Reaches now known o → Reaches now known (disabling_watchdog renews o)
 rest-reaches now known renews o r = rests-told now known o.knows renews o.machine.watchdog.deadline o.outputs r
 
 granted-reaches : (now : Ticks) (known : Knowledge) (sequence : ℕ) (grant : Granted) (snapshot : SnapshotFacts) (o : Outcome) → Reaches now known o → Reaches now known (granted now sequence grant snapshot o)
@@ -478,11 +478,11 @@ granted-reaches now known sequence grant snapshot o r =
     (λ waited _ _. record {
       other = next;
       leader = λ held _. renewed-reaches now waited.ttl known grant.revision told next;
-      stray = λ _. stray-reaches now waited.ttl known grant.revision told next;
+      unleased = λ _. unleased-reaches now waited.ttl known grant.revision told next;
       takes = λ _. takes-reaches now waited.ttl known grant.revision told next;
       rests = λ renews _ held _. duties-reach now known grant.revision (rested_on renews grant.revision told) (rest-reaches now known renews told next);
-      stray_rests = λ renews _ _. goes-on now known told.knows _ (resting renews told).outputs refl refl refl refl (rest-reaches now known renews told next);
-      takes_resting = λ renews _ _. let rest : Outcome = resting renews told in let rested : Reaches now known rest = rest-reaches now known renews told next in
+      unleased_rests = λ renews _ _. goes-on now known told.knows _ (disabling_watchdog renews told).outputs refl refl refl refl (rest-reaches now known renews told next);
+      takes_resting = λ renews _ _. let rest : Outcome = disabling_watchdog renews told in let rested : Reaches now known rest = rest-reaches now known renews told next in
           takes-in-pause-by (Reaches now known) now renews grant.revision told (send-reaches now known (bodies.Request (txns.Release grant.revision)) told tt next) (begin-reaches now known grant.revision rest rested) (claim-reaches now known grant.revision rest rested);
     })
     (record {
@@ -520,15 +520,15 @@ operated-reaches now known request asked o r = operated-by (Reaches now known) n
 
 step-reaches : (now : Ticks) (points : List HistoryPoint) (heard : Heard) (known : Knowledge) (o : Outcome) → Reaches now known o → Reaches now known (step now points heard o)
 step-reaches now points Wake known o r = wake-reaches now known o r
-step-reaches now points (Got sequence snapshot) known o r =
-    got-reaches now points known sequence snapshot (looked sequence snapshot (before now o)) (looked-by (Reaches now known) sequence snapshot (before now o) (reply-reaches now known (before now o) (before-reaches now known o r)))
-step-reaches now points (HeardGranted sequence grant snapshot) known o r = granted-any-reaches now known sequence grant snapshot (before now o) (before-reaches now known o r)
-step-reaches now points (Mismatch sequence key found) known o r = refused-any-reaches now known sequence (before now o) (before-reaches now known o r)
-step-reaches now points (Asked from run sequence) known o r = one-more now known (before now o).knows (before now o).outputs _ tt (before-reaches now known o r)
-step-reaches now points (Answered sequence answer) known o r = answered-reaches now known sequence answer (before now o) (before-reaches now known o r)
-step-reaches now points (Operated action) known o r = operated-reaches now known action.request action.asked (before now o) (before-reaches now known o r)
+step-reaches now points (ReadAnswered sequence snapshot) known o r =
+    got-reaches now points known sequence snapshot (looked sequence snapshot (reconciled now o)) (looked-by (Reaches now known) sequence snapshot (reconciled now o) (reply-reaches now known (reconciled now o) (before-reaches now known o r)))
+step-reaches now points (HeardGranted sequence grant snapshot) known o r = granted-any-reaches now known sequence grant snapshot (reconciled now o) (before-reaches now known o r)
+step-reaches now points (Mismatch sequence key found) known o r = refused-any-reaches now known sequence (reconciled now o) (before-reaches now known o r)
+step-reaches now points (Asked from incarnation sequence) known o r = one-more now known (reconciled now o).knows (reconciled now o).outputs _ tt (before-reaches now known o r)
+step-reaches now points (Answered sequence answer) known o r = answered-reaches now known sequence answer (reconciled now o) (before-reaches now known o r)
+step-reaches now points (Operated action) known o r = operated-reaches now known action.request action.asked (reconciled now o) (before-reaches now known o r)
 
 pub step-asks-anew : (now : Ticks) (points : List HistoryPoint) (heard : Heard) (role : RoleFacts) (knows : Knowledge) (machine : Machine)
-    → let after = step now points heard (made role knows machine []) in AsksAnew now knows after.knows after.outputs
+    → let after = step now points heard (outcome_from role knows machine []) in AsksAnew now knows after.knows after.outputs
 step-asks-anew now points heard role knows machine =
-    step-reaches now points heard knows (made role knows machine []) (record { who = refl; run = refl; last = omega arith; sends = All-nil (SendsBetween knows.sequence knows.sequence); waits = Same refl })
+    step-reaches now points heard knows (outcome_from role knows machine []) (record { who = refl; incarnation = refl; last = omega arith; sends = All-nil (SendsBetween knows.sequence knows.sequence); waits = Same refl })

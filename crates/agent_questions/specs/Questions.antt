@@ -9,8 +9,8 @@ use Rattle.event_book.specs.declared.message.Body.TheVariants as bodies
 use Rattle.agent_model.specs.declared.knowledge.Knowledge.{Knowledge}
 use Rattle.agent_model.specs.declared.knowledge.Question.{Question}
 use Rattle.agent_model.specs.declared.knowledge.Question.TheVariants.{Claiming, Syncing}
-use Rattle.agent_model.specs.declared.knowledge.Settling.TheVariants.{Stays, Lists, Empties}
-use Rattle.agent_model.specs.declared.knowledge.Waited.{Waited}
+use Rattle.agent_model.specs.declared.knowledge.Settling.TheVariants.{KeepsList, NamesStandbys, ClearsList}
+use Rattle.agent_model.specs.declared.knowledge.PendingQuestion.{PendingQuestion}
 use Rattle.agent_model.specs.declared.output.Output.{Output}
 use Rattle.agent_model.specs.declared.output.Output.TheVariants as outputs
 use Rattle.agent_model.specs.declared.output.Target.{Target}
@@ -37,9 +37,9 @@ SendsBetween low high _ = Unit {0}
 -- the question is put by this request: a claim, or a write of the sync key that names the standbys to which the required list settles
 abbrev pub IsPutBy : Question → Txn → Type 0
 IsPutBy Claiming (txns.Claim revision sync) = Unit {0}
-IsPutBy (Syncing Stays) (txns.SetSync revision sync standbys) = Unit {0}
-IsPutBy (Syncing (Lists set)) (txns.SetSync revision sync standbys) = standbys ≡ set
-IsPutBy (Syncing Empties) (txns.DropSync revision sync) = Unit {0}
+IsPutBy (Syncing KeepsList) (txns.SetSync revision sync standbys) = Unit {0}
+IsPutBy (Syncing (NamesStandbys set)) (txns.SetSync revision sync standbys) = standbys ≡ set
+IsPutBy (Syncing ClearsList) (txns.DropSync revision sync) = Unit {0}
 IsPutBy _ _ = ⊥
 
 -- the question is put by what a message says: by the request in it
@@ -48,12 +48,12 @@ IsPutByBody question (bodies.Request txn) = IsPutBy question txn
 IsPutByBody question _ = ⊥
 
 -- a message says what is waited for: it asks for a lease of its span, or for that write of the sync key
-pub record SaysWaited (waited : Waited) (body : Body) : Type 0 where
+pub record SaysWaited (waited : PendingQuestion) (body : Body) : Type 0 where
   pub lease : asks_lease waited.question ≡ true → span_asked body ≡ waited.ttl.0
   pub write : asks_sync waited.question ≡ true → IsPutByBody waited.question body
 
 -- a message with the number of what is waited for says it
-abbrev pub AsksFor : Waited → Output → Type 0
+abbrev pub AsksFor : PendingQuestion → Output → Type 0
 AsksFor waited (outputs.Send to sequence body) = sequence ≡ waited.sequence → SaysWaited waited body
 AsksFor waited _ = Unit {0}
 
@@ -62,13 +62,13 @@ AsksFor waited _ = Unit {0}
 pub data WaitsOn (now : Ticks) (known knows : Knowledge) (outs : List Output) : Type 0 where
   Same : (is : knows.waited ≡ known.waited) → WaitsOn now known knows outs
   Nothing : (is : knows.waited ≡ None) → WaitsOn now known knows outs
-  New : (waited : Waited) → (is : knows.waited ≡ Some waited) → (later : known.sequence < waited.sequence) → (counted : waited.sequence ≤ knows.sequence) → (sent : waited.sent ≡ now) → (span : IsLeaseSpan waited.ttl.0)
+  New : (waited : PendingQuestion) → (is : knows.waited ≡ Some waited) → (later : known.sequence < waited.sequence) → (counted : waited.sequence ≤ knows.sequence) → (sent : waited.sent ≡ now) → (span : IsLeaseSpan waited.ttl.0)
       → (asks : All (AsksFor waited) outs) → WaitsOn now known knows outs
 
--- an input asks under new numbers: the agent goes on in its run, and waits for the same, for nothing, or for what it asks now
+-- an input asks under new numbers: the agent goes on in its incarnation, and waits for the same, for nothing, or for what it asks now
 pub record AsksAnew (now : Ticks) (known knows : Knowledge) (outs : List Output) : Type 0 where
   pub who : knows.who ≡ known.who
-  pub run : knows.run ≡ known.run
+  pub incarnation : knows.incarnation ≡ known.incarnation
   pub last : known.sequence ≤ knows.sequence
   pub sends : All (SendsBetween known.sequence knows.sequence) outs
   pub waits : WaitsOn now known knows outs

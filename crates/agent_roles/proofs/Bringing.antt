@@ -10,16 +10,16 @@ use Rattle.event_book.specs.Members.{server_id_of}
 use Rattle.agent_model.specs.declared.why.Why.{Why}
 use Rattle.agent_model.specs.declared.why.Why.TheVariants.{HandOver, Lost}
 use Rattle.agent_model.specs.Acting.{disarming, touching, shutting_down, starting_replica, following_server, upstream_of, waiting_no_more}
-use Rattle.agent_model.specs.Agents.{RoleFacts, Follower, Holder, Ready, Leader, Ending, Stray, Outcome, is_ready}
-use Rattle.agent_model.specs.Before.{leader_finds_ended, has_ended, finds_live, stray_finds_ended, before}
+use Rattle.agent_model.specs.Agents.{RoleFacts, Follower, Holder, Ready, Leader, Ending, Unleased, Outcome, is_ready}
+use Rattle.agent_model.specs.Reconciling.{leader_finds_ended, has_ended, finds_live, unleased_finds_ended, reconciled}
 use Rattle.agent_model.specs.Claiming.{postpones}
 use Rattle.agent_model.specs.Decisions.{refused}
 use Rattle.pg_model.specs.declared.status.ServerStatus.{ServerStatus}
 use Rattle.agent_roles.specs.Powers.{BringsNothing, lease_of, leads}
 use Rattle.agent_model.specs.Repairs.{repair_of}
-use Rattle.agent_model.specs.Snapshots.{leader_loses_key, stray_loses_key, renewing, follow_row, follows, read_noted, got, asks_as_stray, led_by_another}
+use Rattle.agent_model.specs.Snapshots.{leader_loses_key, unleased_loses_key, renewing, follow_row, follows, read_noted, read_answered, asks_as_unleased, led_by_another}
 use Rattle.agent_model.specs.Racing.{creating, barred, finds_free, judged, asking_others, unheard}
-use Rattle.agent_model.specs.Wake.{leader_out_of_reach, stray_out_of_reach, reading, turn_noted, overdue, turned, woken}
+use Rattle.agent_model.specs.Wake.{leader_out_of_reach, unleased_out_of_reach, reading, turn_noted, overdue, turned, woken}
 use Rattle.agent_model.specs.HandingOver.{hands_over}
 use Rattle.agent_model.specs.Operators.{answering, given_up, looked, operated, operating, restarting, telling, wiping}
 use Rattle.agent_model.specs.Table.{refused_any}
@@ -42,7 +42,7 @@ ready-leads (Leader held) e = refl
 ready-leads Follower e = e
 ready-leads (Holder held) e = e
 ready-leads (Ending held why) e = e
-ready-leads Stray e = e
+ready-leads Unleased e = e
 
 -- the role stays
 pub same-role : (o after : Outcome) → after.role ≡ o.role → Lives o after → BringsNothing o after
@@ -93,7 +93,7 @@ ended-brings : (why : Why) (held : ℕ) (o : Outcome) → BringsNothing o (has_e
 ended-brings HandOver held o = no-lease o (has_ended HandOver held o) refl refl (λ e. e)
 ended-brings Lost held o = no-lease o (has_ended Lost held o) refl refl (λ e. e)
 
-pub before-brings : (now : Ticks) (o : Outcome) → BringsNothing o (before now o)
+pub before-brings : (now : Ticks) (o : Outcome) → BringsNothing o (reconciled now o)
 before-brings now o = before-by (BringsNothing o) now o (record {
   kept = λ _. same-role o o refl (λ e. e);
   leader = λ held is _. keeps-lease o (leader_finds_ended now held o) held (leader-lease o held is) refl refl (λ e. e);
@@ -101,7 +101,7 @@ before-brings now o = before-by (BringsNothing o) now o (record {
   follower = λ _ _. no-lease o (finds_live o) refl refl (λ e. e);
   holder = λ held _ _. no-lease o (finds_live o) refl refl (λ e. e);
   ready = λ held _ _. no-lease o (finds_live (disarming o)) refl refl (λ e. e);
-  stray = λ _ _. no-lease o (stray_finds_ended o) refl refl (λ e. e);
+  unleased = λ _ _. no-lease o (unleased_finds_ended o) refl refl (λ e. e);
 })
 
 judged-brings : (now : Ticks) (o : Outcome) → BringsNothing o (judged now o)
@@ -133,7 +133,7 @@ overdue-brings now o = overdue-by (BringsNothing o) now o (record {
   kept = same-role o o refl (λ e. e);
   quiet = same-role o (waiting_no_more o) refl (λ e. e);
   leader = λ held is. keeps-lease o (leader_out_of_reach now held (waiting_no_more o)) held (leader-lease o held is) refl refl (stop-live now o.machine.server);
-  stray = λ _. same-role o (stray_out_of_reach now (waiting_no_more o)) refl (stop-live now o.machine.server);
+  unleased = λ _. same-role o (unleased_out_of_reach now (waiting_no_more o)) refl (stop-live now o.machine.server);
   judges = λ _. judged-brings now o;
   ready = λ held is. postpones-brings o held (waiting_no_more o) is refl;
   checks = λ held is. handover-brings now held o o is (same-role o o refl (λ e. e)) refl;
@@ -147,11 +147,11 @@ turn-brings now o = turn-by (BringsNothing o) now o (record {
 })
 
 -- an operator whose time is over is answered
-pub given-up-brings : (now : Ticks) (o : Outcome) → BringsNothing o (given_up now (before now o))
-given-up-brings now o = given-up-by (BringsNothing o) now (before now o) (told-brings o (before now o) (before-brings now o))
+pub given-up-brings : (now : Ticks) (o : Outcome) → BringsNothing o (given_up now (reconciled now o))
+given-up-brings now o = given-up-by (BringsNothing o) now (reconciled now o) (told-brings o (reconciled now o) (before-brings now o))
 
 pub wake-brings : (now : Ticks) (o : Outcome) → BringsNothing o (woken now o)
-wake-brings now o = let b : Outcome = given_up now (before now o) in
+wake-brings now o = let b : Outcome = given_up now (reconciled now o) in
     wake-by (BringsNothing o) now o (before-brings now o)
     (brings-then o (overdue now b) (turned now (overdue now b)) (brings-then o b (overdue now b) (given-up-brings now o) (overdue-brings now b)) (turn-brings now (overdue now b)))
 
@@ -180,20 +180,20 @@ free-brings now o = let x : Outcome = record o { role = Follower } in free-by (B
 read-then : (now : Ticks) (snapshot : SnapshotFacts) (o after : Outcome) → BringsNothing (record o { knows = read_noted now snapshot o.knows }) after → BringsNothing o after
 read-then now snapshot o after brings = record { live = brings.live; leads = brings.leads; ready = brings.ready; lease = brings.lease }
 
-pub got-brings : (now : Ticks) (points : List HistoryPoint) (sequence : ℕ) (snapshot : SnapshotFacts) (o : Outcome) → BringsNothing o (got now points sequence snapshot o)
+pub got-brings : (now : Ticks) (points : List HistoryPoint) (sequence : ℕ) (snapshot : SnapshotFacts) (o : Outcome) → BringsNothing o (read_answered now points sequence snapshot o)
 got-brings now points sequence snapshot o = let read : Outcome = record o { knows = read_noted now snapshot o.knows } in
     got-by (BringsNothing o) now points sequence snapshot o (record {
       kept = same-role o o refl (λ e. e);
       quiet = same-role o (waiting_no_more o) refl (λ e. e);
       other = same-role o read refl (λ e. e);
       leader = λ held is. keeps-lease o (leader_loses_key now held read) held (leader-lease o held is) refl refl (stop-live now o.machine.server);
-      stray = λ _. same-role o (stray_loses_key now read) refl (stop-live now o.machine.server);
+      unleased = λ _. same-role o (unleased_loses_key now read) refl (stop-live now o.machine.server);
       renews = λ _ leader _ _. same-role o (renewing now points leader.revision read) refl (λ e. e);
       touches = same-role o (touching read) refl (λ e. e);
       follows = λ leader _ _. read-then now snapshot o (follows now leader.holder read) (follow-brings now leader.holder read);
       free = λ _ _. read-then now snapshot o (finds_free now read) (free-brings now read);
       runs_on = λ _. no-lease o (running_without_key read) refl refl (λ e. e);
-      asks_on = λ _. no-lease o (asks_as_stray now read) refl refl (λ e. e);
+      asks_on = λ _. no-lease o (asks_as_unleased now read) refl refl (λ e. e);
     })
 
 pub refused-brings : (now : Ticks) (sequence : ℕ) (o : Outcome) → BringsNothing o (refused now sequence o)
@@ -201,23 +201,23 @@ refused-brings now sequence o = refused-by (BringsNothing o) now sequence o (rec
   kept = same-role o o refl (λ e. e);
   quiet = same-role o (waiting_no_more o) refl (λ e. e);
   leader = λ held is. keeps-lease o (leader_loses_key now held (waiting_no_more o)) held (leader-lease o held is) refl refl (stop-live now o.machine.server);
-  stray = λ _. same-role o (stray_loses_key now (waiting_no_more o)) refl (stop-live now o.machine.server);
+  unleased = λ _. same-role o (unleased_loses_key now (waiting_no_more o)) refl (stop-live now o.machine.server);
   follower = λ held _. no-lease o (record (waiting_no_more o) { role = Follower }) refl refl (λ e. e);
   ready = λ held is. postpones-brings o held (waiting_no_more o) is refl;
   runs_on = λ _. no-lease o (running_without_key (waiting_no_more o)) refl refl (λ e. e);
 })
 
 -- what the key store held when it answered a read
-pub read-brings : (now : Ticks) (points : List HistoryPoint) (sequence : ℕ) (snapshot : SnapshotFacts) (o : Outcome) → BringsNothing o (got now points sequence snapshot (looked sequence snapshot (before now o)))
-read-brings now points sequence snapshot o = let p : Outcome = looked sequence snapshot (before now o) in
-    brings-then o p (got now points sequence snapshot p) (looked-by (BringsNothing o) sequence snapshot (before now o) (told-brings o (before now o) (before-brings now o))) (got-brings now points sequence snapshot p)
+pub read-brings : (now : Ticks) (points : List HistoryPoint) (sequence : ℕ) (snapshot : SnapshotFacts) (o : Outcome) → BringsNothing o (read_answered now points sequence snapshot (looked sequence snapshot (reconciled now o)))
+read-brings now points sequence snapshot o = let p : Outcome = looked sequence snapshot (reconciled now o) in
+    brings-then o p (read_answered now points sequence snapshot p) (looked-by (BringsNothing o) sequence snapshot (reconciled now o) (told-brings o (reconciled now o) (before-brings now o))) (got-brings now points sequence snapshot p)
 
 -- a refusal
 pub any-refused-brings : (now : Ticks) (sequence : ℕ) (o : Outcome) → BringsNothing o (refused_any now sequence o)
 any-refused-brings now sequence o = refused-any-by (BringsNothing o) now sequence o (told-brings o o (same-role o o refl (λ e. e))) (refused-brings now sequence o)
 
-pub refusal-brings : (now : Ticks) (sequence : ℕ) (o : Outcome) → BringsNothing o (refused_any now sequence (before now o))
-refusal-brings now sequence o = brings-then o (before now o) (refused_any now sequence (before now o)) (before-brings now o) (any-refused-brings now sequence (before now o))
+pub refusal-brings : (now : Ticks) (sequence : ℕ) (o : Outcome) → BringsNothing o (refused_any now sequence (reconciled now o))
+refusal-brings now sequence o = brings-then o (reconciled now o) (refused_any now sequence (reconciled now o)) (before-brings now o) (any-refused-brings now sequence (reconciled now o))
 
 pub answer-brings : (now : Ticks) (sequence : ℕ) (answer : PeerAnswer) (o : Outcome) → BringsNothing o (answered now sequence answer o)
 answer-brings now sequence answer o = answered-by (BringsNothing o) now sequence answer o (record {
@@ -229,16 +229,16 @@ answer-brings now sequence answer o = answered-by (BringsNothing o) now sequence
 })
 
 -- the answer of another member
-pub answered-brings : (now : Ticks) (sequence : ℕ) (answer : PeerAnswer) (o : Outcome) → BringsNothing o (answered now sequence answer (before now o))
-answered-brings now sequence answer o = brings-then o (before now o) (answered now sequence answer (before now o)) (before-brings now o) (answer-brings now sequence answer (before now o))
+pub answered-brings : (now : Ticks) (sequence : ℕ) (answer : PeerAnswer) (o : Outcome) → BringsNothing o (answered now sequence answer (reconciled now o))
+answered-brings now sequence answer o = brings-then o (reconciled now o) (answered now sequence answer (reconciled now o)) (before-brings now o) (answer-brings now sequence answer (reconciled now o))
 
 -- the question of another member
-pub asked-brings : (now : Ticks) (from : MemberId) (run sequence : ℕ) (o : Outcome) → BringsNothing o (asked from run sequence (before now o))
-asked-brings now from run sequence o = brings-then o (before now o) (asked from run sequence (before now o)) (before-brings now o) (same-role (before now o) (asked from run sequence (before now o)) refl (λ e. e))
+pub asked-brings : (now : Ticks) (from : MemberId) (incarnation sequence : ℕ) (o : Outcome) → BringsNothing o (asked from incarnation sequence (reconciled now o))
+asked-brings now from incarnation sequence o = brings-then o (reconciled now o) (asked from incarnation sequence (reconciled now o)) (before-brings now o) (same-role (reconciled now o) (asked from incarnation sequence (reconciled now o)) refl (λ e. e))
 
 -- what an operator asks
 pub acting-brings : (now : Ticks) (action : OperatorAction) (o : Outcome) → BringsNothing o (operated now action.request action.asked o)
 acting-brings now action o = operated-by (BringsNothing o) now action.request action.asked o (acts-bring now action.request o)
 
-pub operated-brings : (now : Ticks) (action : OperatorAction) (o : Outcome) → BringsNothing o (operated now action.request action.asked (before now o))
-operated-brings now action o = let b : Outcome = before now o in brings-then o b (operated now action.request action.asked b) (before-brings now o) (acting-brings now action b)
+pub operated-brings : (now : Ticks) (action : OperatorAction) (o : Outcome) → BringsNothing o (operated now action.request action.asked (reconciled now o))
+operated-brings now action o = let b : Outcome = reconciled now o in brings-then o b (operated now action.request action.asked b) (before-brings now o) (acting-brings now action b)

@@ -4,9 +4,9 @@ use Rattle.pat_base.specs.declared.ticks.Ticks.{Ticks}
 use Rattle.pat_base.specs.ServerState.{live}
 use Rattle.agent_model.specs.declared.why.Why.{Why}
 use Rattle.agent_model.specs.declared.why.Why.TheVariants.{HandOver, Lost}
-use Rattle.agent_model.specs.Agents.{RoleFacts, Follower, Holder, Ready, Leader, Ending, Stray, Outcome, is_ready}
+use Rattle.agent_model.specs.Agents.{RoleFacts, Follower, Holder, Ready, Leader, Ending, Unleased, Outcome, is_ready}
 use Rattle.agent_model.specs.Decisions.{may_create}
-use Rattle.agent_model.specs.Before.{has_ended, before}
+use Rattle.agent_model.specs.Reconciling.{has_ended, reconciled}
 use Rattle.agent_model.specs.Fits.{Fits}
 use Rattle.agent_roles.proofs.Living.{no-way}
 use Rattle.agent_model.proofs.Rows.{before-by}
@@ -18,7 +18,7 @@ ended-fits : (why : Why) (revision : ℕ) (o : Outcome) → live o.machine.serve
 ended-fits HandOver revision o ended = ended
 ended-fits Lost revision o ended = ended
 
-pub before-fits : (now : Ticks) (o : Outcome) → FitsIn (before now o)
+pub before-fits : (now : Ticks) (o : Outcome) → FitsIn (reconciled now o)
 before-fits now o = before-by FitsIn now o (record {
   kept = λ fits. fits;
   leader = λ revision is ended. ended;
@@ -26,7 +26,7 @@ before-fits now o = before-by FitsIn now o (record {
   follower = λ is lives. lives;
   holder = λ revision is lives. lives;
   ready = λ revision is lives. lives;
-  stray = λ is ended. ended;
+  unleased = λ is ended. ended;
 })
 
 -- who may have asked for the leader key while it was absent has no live server
@@ -36,7 +36,7 @@ ended-for (Holder held) lives may fits = fits
 ended-for (Ready held) lives may fits = fits
 ended-for (Leader held) lives may fits = absurd (no-way may)
 ended-for (Ending held why) lives may fits = absurd (no-way may)
-ended-for Stray lives may fits = absurd (no-way may)
+ended-for Unleased lives may fits = absurd (no-way may)
 
 -- who is about to begin has none
 pub ready-ended : (role : RoleFacts) (lives : Bool) → is_ready role ≡ true → Fits role lives → lives ≡ false
@@ -45,14 +45,14 @@ ready-ended Follower lives ready fits = fits
 ready-ended (Holder held) lives ready fits = fits
 ready-ended (Leader held) lives ready fits = absurd (no-way ready)
 ready-ended (Ending held why) lives ready fits = absurd (no-way ready)
-ready-ended Stray lives ready fits = absurd (no-way ready)
+ready-ended Unleased lives ready fits = absurd (no-way ready)
 
 -- who is about to begin behind what comes before an input was so before, and its watchdog stays
 ended-unready : (why : Why) (held : ℕ) (o : Outcome) → is_ready (has_ended why held o).role ≡ false
 ended-unready HandOver held o = refl
 ended-unready Lost held o = refl
 
-pub ready-same : (now : Ticks) (o : Outcome) → is_ready (before now o).role ≡ true → (before now o).machine.watchdog ≡ o.machine.watchdog
+pub ready-same : (now : Ticks) (o : Outcome) → is_ready (reconciled now o).role ≡ true → (reconciled now o).machine.watchdog ≡ o.machine.watchdog
 ready-same now o = before-by (λ (x : Outcome). is_ready x.role ≡ true → x.machine.watchdog ≡ o.machine.watchdog) now o (record {
   kept = λ _ _. refl;
   leader = λ held _ _ e. absurd (no-way e);
@@ -60,5 +60,5 @@ ready-same now o = before-by (λ (x : Outcome). is_ready x.role ≡ true → x.m
   follower = λ _ _ e. absurd (no-way e);
   holder = λ held _ _ e. absurd (no-way e);
   ready = λ held _ _ e. absurd (no-way e);
-  stray = λ _ _ e. absurd (no-way e);
+  unleased = λ _ _ e. absurd (no-way e);
 })

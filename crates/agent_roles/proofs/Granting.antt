@@ -6,16 +6,16 @@ use Rattle.leader_key.specs.Watchdog.{is_armable, fed}
 use Rattle.cluster_config.specs.Snapshots.{SnapshotFacts, failsafe_in}
 use Rattle.event_book.specs.declared.reason.Reason.TheVariants.{StartTooLong, WatchdogNotArmed}
 use Rattle.pat_base.specs.ServerState.{live}
-use Rattle.agent_model.specs.declared.knowledge.Waited.{Waited}
+use Rattle.agent_model.specs.declared.knowledge.PendingQuestion.{PendingQuestion}
 use Rattle.agent_model.specs.declared.output.Output.{Output}
 use Rattle.agent_model.specs.declared.output.Output.TheVariants as outputs
 use Rattle.agent_model.specs.declared.why.Why.TheVariants.{HandOver}
 use Rattle.agent_model.specs.Acting.{armed, fed_until, arming, ending_server, requiring, is_hold_active, is_refusing, waiting_no_more}
 use Rattle.agent_model.specs.Agents.{Ending, Outcome, is_ready}
 use Rattle.agent_model.specs.Claiming.{begins_or_claims, passing, postpones}
-use Rattle.agent_model.specs.Decisions.{is_decision, is_lease_of, leader_renewed, takes_over, stray_renewed, can_begin, may_take, gives_back, arms, takes_key, granted, takes_key_in_pause}
+use Rattle.agent_model.specs.Decisions.{is_decision, is_lease_of, leader_renewed, takes_over, unleased_renewed, can_begin, may_take, gives_back, arms, takes_key, granted, takes_key_in_pause}
 use Rattle.agent_model.specs.Fits.{Fits}
-use Rattle.agent_model.specs.Outputs.{listed, is_feeding, has_one}
+use Rattle.agent_model.specs.Outputs.{with_output, is_feeding, has_one}
 use Rattle.agent_model.specs.Planning.{writing_sync, noting}
 use Rattle.agent_roles.specs.Powers.{IsAwaitedLease, GrantMay, BringsNothing, Acts, lease_of}
 use Rattle.agent_roles.specs.Powers.DeadlineMay.{Kept}
@@ -38,7 +38,7 @@ use Rattle.pat_base.specs.declared.member_id.MemberId.{MemberId}
 use Rattle.event_book.specs.declared.message.Body.TheVariants as bodies
 use Rattle.agent_model.specs.declared.output.Target.TheVariants as targets
 use Rattle.agent_model.proofs.Rows.{dropping, granted-any-by, SyncRows, led_on, if-cases, granted-by, renewed-by, passing-by, begins-or-claims-by, DutyRows, duties-of, rested_on}
-use Rattle.agent_model.specs.Pausing.{is_paused, is_wanted, resting}
+use Rattle.agent_model.specs.Pausing.{is_paused, is_wanted, disabling_watchdog}
 
 pub take-free : (held can : Bool) → not held && can ≡ true → held ≡ false
 take-free true can e = sym e
@@ -53,14 +53,14 @@ either-more true b c more e = refl
 either-more false b c more e = more e
 
 -- a test that a further output passes
-pub one-last : (test : Output → Bool) (outs : List Output) (output : Output) → test output ≡ true → has_one test (listed output outs) ≡ true
+pub one-last : (test : Output → Bool) (outs : List Output) (output : Output) → test output ≡ true → has_one test (with_output output outs) ≡ true
 one-last test [] output is = rw is refl
-one-last test (one ∷ outs) output is = either-true (test one) (has_one test (listed output outs)) (one-last test outs output is)
+one-last test (one ∷ outs) output is = either-true (test one) (has_one test (with_output output outs)) (one-last test outs output is)
 
 -- a test that one before it passes
-pub one-before : (test : Output → Bool) (outs : List Output) (output : Output) → has_one test outs ≡ true → has_one test (listed output outs) ≡ true
+pub one-before : (test : Output → Bool) (outs : List Output) (output : Output) → has_one test outs ≡ true → has_one test (with_output output outs) ≡ true
 one-before test [] output is = absurd (no-way is)
-one-before test (one ∷ outs) output is = either-more (test one) (has_one test outs) (has_one test (listed output outs)) (one-before test outs output) is
+one-before test (one ∷ outs) output is = either-more (test one) (has_one test outs) (has_one test (with_output output outs)) (one-before test outs output) is
 
 fed-told : (outs : List Output) (until : Ticks) (armable : Bool) → armable ≡ true → has_one is_feeding (fed_until (if armable then Some until else None) outs) ≡ true
 fed-told outs until true is = one-last is_feeding outs (outputs.Fed until) refl
@@ -88,7 +88,7 @@ leads-live now sequence grant snapshot o after awaited fed-is lease unready know
 -- asks stand behind what was told before
 ask-told : (who : Who) (sequence : ℕ) (member : Option MemberId) (outs : List Output) → has_one is_feeding outs ≡ true → has_one is_feeding (asking_one who sequence member outs) ≡ true
 ask-told who sequence None outs told = told
-ask-told who sequence (Some member) outs told = if-cases (λ (l : List Output). has_one is_feeding l ≡ true) (is_other who member) (listed (outputs.Send (targets.Member member) sequence bodies.Ask) outs) outs
+ask-told who sequence (Some member) outs told = if-cases (λ (l : List Output). has_one is_feeding l ≡ true) (is_other who member) (with_output (outputs.Send (targets.Member member) sequence bodies.Ask) outs) outs
     (λ _. one-before is_feeding outs (outputs.Send (targets.Member member) sequence bodies.Ask) told) (λ _. told)
 
 asks-told : (who : Who) (sequence count : ℕ) (outs : List Output) → has_one is_feeding outs ≡ true → has_one is_feeding (asking_first who sequence count outs) ≡ true
@@ -118,30 +118,30 @@ renewed-may now sequence grant snapshot o awaited = let led : Outcome = led_on n
         kept = leads-live now sequence grant snapshot o (waiting_no_more (unheard led)) awaited refl refl refl refl told (λ e. e);
         clears = λ compared. leads-live now sequence grant snapshot o (dropping compared (waiting_no_more (unheard led))) awaited refl refl refl refl (λ armable. one-before is_feeding led.outputs _ (told armable)) (λ e. e);
         hands = λ candidate. leads-live now sequence grant snapshot o (hands_over now grant.revision candidate (waiting_no_more (unheard led))) awaited refl refl refl refl
-            (λ armable. one-before is_feeding (listed (outputs.HandsOver candidate) led.outputs) outputs.ShutDown (one-before is_feeding led.outputs (outputs.HandsOver candidate) (told armable))) (stop-live now o.machine.server);
+            (λ armable. one-before is_feeding (with_output (outputs.HandsOver candidate) led.outputs) outputs.ShutDown (one-before is_feeding led.outputs (outputs.HandsOver candidate) (told armable))) (stop-live now o.machine.server);
       };
     })
 
-stray-may : (now : Ticks) (sequence : ℕ) (grant : Granted) (snapshot : SnapshotFacts) (o : Outcome) (awaited : IsAwaitedLease sequence grant o.knows) → GrantMay now sequence grant snapshot o (stray_renewed now awaited.waited.ttl grant.revision (Told snapshot o))
-stray-may now sequence grant snapshot o awaited = let over : Outcome = takes_over now grant.revision (arming now awaited.waited.ttl (Told snapshot o)) in
+unleased-may : (now : Ticks) (sequence : ℕ) (grant : Granted) (snapshot : SnapshotFacts) (o : Outcome) (awaited : IsAwaitedLease sequence grant o.knows) → GrantMay now sequence grant snapshot o (unleased_renewed now awaited.waited.ttl grant.revision (Told snapshot o))
+unleased-may now sequence grant snapshot o awaited = let over : Outcome = takes_over now grant.revision (arming now awaited.waited.ttl (Told snapshot o)) in
     if-cases (GrantMay now sequence grant snapshot o) (is_refusing o.machine.watchdog.mode o.machine.watchdog.works) (ending_server now WatchdogNotArmed (Told snapshot o)) over
     (λ _. Nothing (same-role o (ending_server now WatchdogNotArmed (Told snapshot o)) refl (stop-live now o.machine.server)) (Kept refl))
     (λ _. leads-live now sequence grant snapshot o over awaited refl refl refl refl (armed-told o.outputs _ (is_armable o.machine.watchdog.mode o.machine.watchdog.works)) (λ e. e))
 
 -- a note of the sync key takes nothing from what was fed
 passing-told : (o : Outcome) → has_one is_feeding o.outputs ≡ true → has_one is_feeding (passing o).outputs ≡ true
-passing-told o told = passing-by (λ (outs : List Output). has_one is_feeding outs ≡ true) o told (one-before is_feeding o.outputs outputs.Passes told)
+passing-told o told = passing-by (λ (outs : List Output). has_one is_feeding outs ≡ true) o told (one-before is_feeding o.outputs outputs.ClaimsOutsideSync told)
 
 arms-may : (now : Ticks) (sequence : ℕ) (grant : Granted) (snapshot : SnapshotFacts) (o : Outcome) (awaited : IsAwaitedLease sequence grant o.knows) → live o.machine.server.state ≡ false → is_hold_active now o.machine.hold ≡ false
     → GrantMay now sequence grant snapshot o (arms now awaited.waited.ttl grant.revision (Told snapshot o))
-arms-may now sequence grant snapshot o awaited ended free = let back : Outcome = gives_back grant.revision (record (Told snapshot o) { outputs = listed outputs.CannotArm o.outputs }) in
+arms-may now sequence grant snapshot o awaited ended free = let back : Outcome = gives_back grant.revision (record (Told snapshot o) { outputs = with_output outputs.CannotArm o.outputs }) in
     let arm : Outcome = arming now awaited.waited.ttl (Told snapshot o) in
     let told : is_armable o.machine.watchdog.mode o.machine.watchdog.works ≡ true → has_one is_feeding arm.outputs ≡ true = armed-told o.outputs _ (is_armable o.machine.watchdog.mode o.machine.watchdog.works) in
     if-cases (GrantMay now sequence grant snapshot o) (is_refusing o.machine.watchdog.mode o.machine.watchdog.works) back (begins_or_claims now grant.revision arm)
     (λ _. Nothing (no-lease o back refl refl (λ e. e)) (Kept refl))
     (λ ready. begins-or-claims-by (GrantMay now sequence grant snapshot o) now grant.revision arm
     (Leads awaited refl refl (λ e. absurd (no-way e)) refl
-    (λ armable. one-before is_feeding (listed (outputs.Require (unnamed arm.knows.turn_settings)) arm.outputs) outputs.Begin (one-before is_feeding arm.outputs (outputs.Require (unnamed arm.knows.turn_settings)) (told armable)))
+    (λ armable. one-before is_feeding (with_output (outputs.Require (unnamed arm.knows.turn_settings)) arm.outputs) outputs.Begin (one-before is_feeding arm.outputs (outputs.Require (unnamed arm.knows.turn_settings)) (told armable)))
     (λ _. inr free) (λ _. inr ready))
     (Leads awaited refl refl (λ _. ended) refl (λ armable. one-before is_feeding (passing arm).outputs _ (passing-told arm (told armable))) (λ _. inr free) (λ _. inr ready)))
 
@@ -181,7 +181,7 @@ rested-may now sequence grant snapshot renews o paused awaited = let led : Outco
 
 -- in a pause who is wanted takes the key, with no deadline
 takes-resting-may : (now : Ticks) (sequence : ℕ) (grant : Granted) (snapshot : SnapshotFacts) (renews : Bool) (o : Outcome) → is_paused (informed snapshot o.knows) ≡ true → IsAwaitedLease sequence grant o.knows → GrantMay now sequence grant snapshot o (takes_key_in_pause now renews grant.revision (Told snapshot o))
-takes-resting-may now sequence grant snapshot renews o paused awaited = let rest : Outcome = resting renews (Told snapshot o) in
+takes-resting-may now sequence grant snapshot renews o paused awaited = let rest : Outcome = disabling_watchdog renews (Told snapshot o) in
     let taken : Bool = may_take now o.knows o.machine in
     if-cases (GrantMay now sequence grant snapshot o) (is_wanted o.knows.who.me o.knows.turn_failover o.machine.server.state && taken) (begins_or_claims now grant.revision rest) (gives_back grant.revision (Told snapshot o))
     (λ may. let free : is_hold_active now o.machine.hold ≡ false = take-free (is_hold_active now o.machine.hold) (can_begin now o.knows o.machine.server o.machine.server.state && may_lead_in_sync o.knows) (both-true (is_wanted o.knows.who.me o.knows.turn_failover o.machine.server.state) taken may).1 in
@@ -198,7 +198,7 @@ sync-may now sequence grant snapshot o fits = record {
   settles = λ required _. Nothing (same-role o (requiring required (Told snapshot o)) refl (λ e. e)) (Kept refl);
 }
 
-abbrev pub awaited-lease : (sequence : ℕ) (grant : Granted) (o : Outcome) (waited : Waited) → o.knows.waited ≡ Some waited → is_decision waited sequence && is_lease_of o.knows.who.me grant ≡ true → IsAwaitedLease sequence grant o.knows
+abbrev pub awaited-lease : (sequence : ℕ) (grant : Granted) (o : Outcome) (waited : PendingQuestion) → o.knows.waited ≡ Some waited → is_decision waited sequence && is_lease_of o.knows.who.me grant ≡ true → IsAwaitedLease sequence grant o.knows
 awaited-lease sequence grant o waited is both = let parts : (is_decision waited sequence ≡ true) × (is_lease_of o.knows.who.me grant ≡ true) = both-true (is_decision waited sequence) (is_lease_of o.knows.who.me grant) both in
     record { waited = waited; is = is; decision = parts.0; mine = parts.1 }
 
@@ -209,10 +209,10 @@ granted-may now sequence grant snapshot o fits = granted-by (GrantMay now sequen
     (λ waited is decision. let awaited = awaited-lease sequence grant o waited is decision in record {
       other = Nothing (same-role o (Told snapshot o) refl (λ e. e)) (Kept refl);
       leader = λ held _. renewed-may now sequence grant snapshot o awaited;
-      stray = λ _. stray-may now sequence grant snapshot o awaited;
+      unleased = λ _. unleased-may now sequence grant snapshot o awaited;
       takes = λ may. takes-may now sequence grant snapshot o awaited (ended-for o.role (live o.machine.server.state) may fits);
       rests = λ renews paused held _. duties-of (GrantMay now sequence grant snapshot o) now grant.revision (rested_on renews grant.revision (Told snapshot o)) (rested-may now sequence grant snapshot renews o paused awaited);
-      stray_rests = λ renews paused _. rests-live now sequence grant snapshot o (takes_over now grant.revision (resting renews (Told snapshot o))) paused awaited refl refl refl (λ e. e);
+      unleased_rests = λ renews paused _. rests-live now sequence grant snapshot o (takes_over now grant.revision (disabling_watchdog renews (Told snapshot o))) paused awaited refl refl refl (λ e. e);
       takes_resting = λ renews paused _. takes-resting-may now sequence grant snapshot renews o paused awaited;
     })
     (sync-may now sequence grant snapshot o fits)

@@ -19,33 +19,33 @@ use Rattle.lease_law.specs.Leases.{LeaderSeen, FailsafeKey}
 use Rattle.event_book.specs.Functions.{set_members}
 use Rattle.lease_law.proofs.Tools.{some-is, none-some}
 use Rattle.agent_model.specs.declared.heard.Heard.{Heard}
-use Rattle.agent_model.specs.declared.heard.Heard.TheVariants.{Wake, Got, Granted as HeardGranted, Mismatch, Asked, Answered, Operated as HearsOperator}
-use Rattle.agent_model.specs.declared.knowledge.Waited.{Waited}
+use Rattle.agent_model.specs.declared.heard.Heard.TheVariants.{Wake, ReadAnswered, Granted as HeardGranted, Mismatch, Asked, Answered, Operated as HearsOperator}
+use Rattle.agent_model.specs.declared.knowledge.PendingQuestion.{PendingQuestion}
 use Rattle.agent_model.specs.declared.output.Output.{Output}
 use Rattle.agent_model.specs.declared.output.Output.TheVariants as outputs
 use Rattle.agent_model.specs.declared.why.Why.{Why}
 use Rattle.agent_model.specs.declared.why.Why.TheVariants.{HandOver, Lost}
 use Rattle.agent_model.specs.Acting.{disarming, arming, ending_server, requiring, shutting_down, touching, starting_replica, following_server, is_refusing, waiting_no_more}
-use Rattle.agent_model.specs.Agents.{EndsAlone, HasCounted, RoleFacts, Follower, Holder, Ready, Leader, Ending, Stray, Outcome}
-use Rattle.agent_model.specs.Before.{leader_finds_ended, has_ended, finds_live, stray_finds_ended, before}
-use Rattle.agent_model.specs.Decisions.{may_create, leader_renewed, takes_over, stray_renewed, may_take, gives_back, arms, takes_key, granted, refused, takes_key_in_pause}
+use Rattle.agent_model.specs.Agents.{EndsAlone, HasCounted, RoleFacts, Follower, Holder, Ready, Leader, Ending, Unleased, Outcome}
+use Rattle.agent_model.specs.Reconciling.{leader_finds_ended, has_ended, finds_live, unleased_finds_ended, reconciled}
+use Rattle.agent_model.specs.Decisions.{may_create, leader_renewed, takes_over, unleased_renewed, may_take, gives_back, arms, takes_key, granted, refused, takes_key_in_pause}
 use Rattle.agent_model.specs.Claiming.{begins, claims, begins_or_claims, passing, postpones}
 use Rattle.agent_model.specs.Planning.{writing_sync, noting}
-use Rattle.agent_model.specs.Outputs.{listed}
+use Rattle.agent_model.specs.Outputs.{with_output}
 use Rattle.agent_roles.specs.Seen.{lease_asked, leader_seen_if, failsafe_listed, failsafe_entry_seen, failsafe_seen_if}
 use Rattle.agent_model.specs.Repairs.{repair_of, repairing}
-use Rattle.agent_model.specs.Snapshots.{known_with, informed, is_active, renewing, follow_row, follows, leader_loses_key, stray_loses_key, read_noted, got, asks_as_stray, led_by_another}
+use Rattle.agent_model.specs.Snapshots.{known_with, informed, is_active, renewing, follow_row, follows, leader_loses_key, unleased_loses_key, read_noted, read_answered, asks_as_unleased, led_by_another}
 use Rattle.agent_model.specs.Racing.{creating, barred, finds_free, judged, asking_others, unheard}
 use Rattle.agent_model.specs.Peers.{asked, keeping, answered}
 use Rattle.agent_model.specs.HandingOver.{checking, hands_over}
 use Rattle.agent_model.specs.Operators.{answering, given_up, learned, looked, operated, operating, restarting, telling, wiping}
 use Rattle.agent_model.specs.Table.{step, granted_any, refused_any}
 use Rattle.event_book.specs.declared.message.Body.TheVariants as bodies
-use Rattle.agent_model.specs.Wake.{reading, turn_noted, leader_out_of_reach, stray_out_of_reach, overdue, turned, woken}
+use Rattle.agent_model.specs.Wake.{reading, turn_noted, leader_out_of_reach, unleased_out_of_reach, overdue, turned, woken}
 use Rattle.agent_roles.proofs.Granting.{Told}
 use Rattle.agent_roles.proofs.Living.{no-way}
 use Rattle.agent_model.proofs.Rows.{HandoverRows, ReplyRows, ActRows, dropping, looked-by, given-up-by, granted-any-by, refused-any-by, operated-by, led_on, if-cases, renewed-by, begins-or-claims-by, before-by, overdue-by, turn-by, wake-by, got-by, refused-by, follow-by, repaired-by, free-by, granted-by, judged-by, answered-by, DutyRows, duties-of, rested_on, takes-in-pause-by}
-use Rattle.agent_model.specs.Pausing.{is_paused, may_start_behind, resting, running_without_key}
+use Rattle.agent_model.specs.Pausing.{is_paused, may_start_behind, disabling_watchdog, running_without_key}
 use Rattle.lease_store.specs.Defaults.{default_config}
 use Rattle.lease_store.specs.declared.value.Value.{Value}
 use Rattle.lease_store.specs.declared.value.Value.TheVariants as values
@@ -57,15 +57,15 @@ use Rattle.lease_store.specs.declared.config.Config.{Config}
 abbrev pub IsAlone : Outcome → Type 0
 IsAlone o = is_active o.role ≡ false → o.knows.waited ≡ None
 
-alone-as : (role : RoleFacts) (waited : Option Waited) → EndsAlone role waited → is_active role ≡ false → waited ≡ None
+alone-as : (role : RoleFacts) (waited : Option PendingQuestion) → EndsAlone role waited → is_active role ≡ false → waited ≡ None
 alone-as (Ending held why) waited ends ending = ends
 alone-as Follower waited ends ending = absurd (no-way (sym ending))
 alone-as (Holder held) waited ends ending = absurd (no-way (sym ending))
 alone-as (Ready held) waited ends ending = absurd (no-way (sym ending))
 alone-as (Leader held) waited ends ending = absurd (no-way (sym ending))
-alone-as Stray waited ends ending = absurd (no-way (sym ending))
+alone-as Unleased waited ends ending = absurd (no-way (sym ending))
 
-ends-as : (role : RoleFacts) (waited : Option Waited) → (is_active role ≡ false → waited ≡ None) → EndsAlone role waited
+ends-as : (role : RoleFacts) (waited : Option PendingQuestion) → (is_active role ≡ false → waited ≡ None) → EndsAlone role waited
 ends-as (Ending held why) waited alone = alone refl
 ends-as _ waited alone = tt
 
@@ -81,11 +81,11 @@ abbrev pub tells_pause : Option SnapshotFacts → Bool
 tells_pause None = false
 tells_pause (Some snapshot) = (config_in snapshot).pause
 
--- an agent goes on: what it knows after is of the same run, its questions are the same ones or new ones, and what it knows of keys it
+-- an agent goes on: what it knows after is of the same incarnation, its questions are the same ones or new ones, and what it knows of keys it
 -- knew, or was told by this snapshot
 pub record Onward (told : Option SnapshotFacts) (o after : Outcome) : Type 0 where
   pub who : after.knows.who ≡ o.knows.who
-  pub run : after.knows.run ≡ o.knows.run
+  pub incarnation : after.knows.incarnation ≡ o.knows.incarnation
   pub last : o.knows.sequence ≤ after.knows.sequence
   pub waits : (n : ℕ) → lease_asked after.knows.waited ≡ Some n → (lease_asked o.knows.waited ≡ Some n) ⊎ (o.knows.sequence < n)
   pub known : (p : ℕ) → set_members o.knows.known p ≡ true → set_members after.knows.known p ≡ true
@@ -106,7 +106,7 @@ later first second = omega (arith, first, second)
 pub onward-then : (told : Option SnapshotFacts) (a b c : Outcome) → Onward told a b → Onward told b c → Onward told a c
 onward-then told a b c first second = record {
   who = second.who ∙ first.who;
-  run = second.run ∙ first.run;
+  incarnation = second.incarnation ∙ first.incarnation;
   last = omega (arith, first.last, second.last);
   waits = λ n e. elim (second.waits n e) [ inl before-it ↦ first.waits n before-it | inr new ↦ inr (later first.last new) ];
   known = λ p e. second.known p (first.known p e);
@@ -121,13 +121,13 @@ onward-then told a b c first second = record {
 
 -- what it knows of keys stays
 abbrev Keeps : (told : Option SnapshotFacts) (o after : Outcome) → Type 0
-Keeps told o after = after.knows.who ≡ o.knows.who → after.knows.run ≡ o.knows.run → after.knows.seen ≡ o.knows.seen → after.knows.known ≡ o.knows.known → after.knows.informed ≡ o.knows.informed → after.knows.settings ≡ o.knows.settings → o.knows.sequence ≤ after.knows.sequence
+Keeps told o after = after.knows.who ≡ o.knows.who → after.knows.incarnation ≡ o.knows.incarnation → after.knows.seen ≡ o.knows.seen → after.knows.known ≡ o.knows.known → after.knows.informed ≡ o.knows.informed → after.knows.settings ≡ o.knows.settings → o.knows.sequence ≤ after.knows.sequence
     → ((n : ℕ) → lease_asked after.knows.waited ≡ Some n → (lease_asked o.knows.waited ≡ Some n) ⊎ (o.knows.sequence < n)) → after.machine.hold ≡ o.machine.hold → (IsAlone o → IsAlone after) → (HasCounted o.knows → HasCounted after.knows) → Onward told o after
 
 keeps : (told : Option SnapshotFacts) (o after : Outcome) → Keeps told o after
-keeps told o after who run seen known informed settings last waits hold ends counts = record {
+keeps told o after who incarnation seen known informed settings last waits hold ends counts = record {
   who = who;
-  run = run;
+  incarnation = incarnation;
   last = last;
   waits = waits;
   known = λ p e. subst (λ (x : MemberSet). set_members x p ≡ true) (sym known) e;
@@ -145,16 +145,16 @@ same : (told : Option SnapshotFacts) (o : Outcome) → Onward told o o
 same told o = keeps told o o refl refl refl refl refl refl (omega arith) (λ n e. inl e) refl (λ alone. alone) (λ counted. counted)
 
 -- a step of a row that neither asks nor waits on: nothing is waited for after it
-rests : (told : Option SnapshotFacts) (o after : Outcome) → after.knows.who ≡ o.knows.who → after.knows.run ≡ o.knows.run → after.knows.seen ≡ o.knows.seen → after.knows.known ≡ o.knows.known → after.knows.informed ≡ o.knows.informed → after.knows.settings ≡ o.knows.settings
+rests : (told : Option SnapshotFacts) (o after : Outcome) → after.knows.who ≡ o.knows.who → after.knows.incarnation ≡ o.knows.incarnation → after.knows.seen ≡ o.knows.seen → after.knows.known ≡ o.knows.known → after.knows.informed ≡ o.knows.informed → after.knows.settings ≡ o.knows.settings
     → o.knows.sequence ≤ after.knows.sequence → after.knows.waited ≡ None → after.machine.hold ≡ o.machine.hold → Onward told o after
-rests told o after who run seen known informed settings last waited hold =
-    keeps told o after who run seen known informed settings last (λ n e. absurd (none-some _ (sym (ap (λ (w : Option Waited). lease_asked w) waited) ∙ e))) hold (λ _ _. waited) (λ _ one is. absurd (none-some one (sym waited ∙ is)))
+rests told o after who incarnation seen known informed settings last waited hold =
+    keeps told o after who incarnation seen known informed settings last (λ n e. absurd (none-some _ (sym (ap (λ (w : Option PendingQuestion). lease_asked w) waited) ∙ e))) hold (λ _ _. waited) (λ _ one is. absurd (none-some one (sym waited ∙ is)))
 
 -- a step that leaves alone what is waited for, in a role that doesn't end its server
-waits-on : (told : Option SnapshotFacts) (o after : Outcome) → after.knows.who ≡ o.knows.who → after.knows.run ≡ o.knows.run → after.knows.seen ≡ o.knows.seen → after.knows.known ≡ o.knows.known → after.knows.informed ≡ o.knows.informed → after.knows.settings ≡ o.knows.settings
+waits-on : (told : Option SnapshotFacts) (o after : Outcome) → after.knows.who ≡ o.knows.who → after.knows.incarnation ≡ o.knows.incarnation → after.knows.seen ≡ o.knows.seen → after.knows.known ≡ o.knows.known → after.knows.informed ≡ o.knows.informed → after.knows.settings ≡ o.knows.settings
     → o.knows.sequence ≤ after.knows.sequence → after.knows.waited ≡ o.knows.waited → after.machine.hold ≡ o.machine.hold → is_active after.role ≡ true → Onward told o after
-waits-on told o after who run seen known informed settings last waited hold active =
-    keeps told o after who run seen known informed settings last (λ n e. inl (subst (λ (w : Option Waited). lease_asked w ≡ Some n) waited e)) hold (λ _ ending. absurd (no-way (sym ending ∙ active))) (λ counted one is. at-most (counted one (sym waited ∙ is)) last)
+waits-on told o after who incarnation seen known informed settings last waited hold active =
+    keeps told o after who incarnation seen known informed settings last (λ n e. inl (subst (λ (w : Option PendingQuestion). lease_asked w ≡ Some n) waited e)) hold (λ _ ending. absurd (no-way (sym ending ∙ active))) (λ counted one is. at-most (counted one (sym waited ∙ is)) last)
 
 -- a bit is 0 or 1
 bit-small : (n i : ℕ) → bit_at n i ≤ 1
@@ -170,7 +170,7 @@ is-one : (n : ℕ) → n == 1 ≡ true → n ≡ 1
 is-one n e = grind (arith, nat_tests)
 
 -- known members aren't forgotten, and those that a failsafe key lists are known
-known-more : (known : MemberSet) (listed : Option MemberSet) (p : ℕ) → set_members known p ≡ true → set_members (known_with known listed) p ≡ true
+known-more : (known : MemberSet) (with_output : Option MemberSet) (p : ℕ) → set_members known p ≡ true → set_members (known_with known with_output) p ≡ true
 known-more known None p e = e
 known-more known (Some members) p e = rw (in-either known.bits members.bits p (is-one (bit_at known.bits p) e)) refl
 
@@ -201,7 +201,7 @@ told-pause settings (Some found) e = value-pause settings found.value e
 pub tells : (snapshot : SnapshotFacts) (o : Outcome) → Onward (Some snapshot) o (record o { knows = informed snapshot o.knows })
 tells snapshot o = record {
   who = refl;
-  run = refl;
+  incarnation = refl;
   last = omega arith;
   waits = λ n e. absurd (none-some _ e);
   known = λ p e. known-more o.knows.known (failsafe_in snapshot) p e;
@@ -218,7 +218,7 @@ tells snapshot o = record {
 pub learns : (snapshot : SnapshotFacts) (o : Outcome) → Onward (Some snapshot) o (learned snapshot o)
 learns snapshot o = let told : Onward (Some snapshot) o (record o { knows = informed snapshot o.knows }) = tells snapshot o in record {
   who = refl;
-  run = refl;
+  incarnation = refl;
   last = omega arith;
   waits = λ n e. inl e;
   known = told.known;
@@ -235,20 +235,20 @@ learns snapshot o = let told : Onward (Some snapshot) o (record o { knows = info
 asked-new : (was n : ℕ) → ◌≡◌ {A = Option ℕ} (Some (was + 1)) (Some n) → was < n
 asked-new was n e = let is : was + 1 ≡ n = cc in omega (arith, is)
 
-counts-asked : (asked one : Waited) (sequence : ℕ) → asked ≡ one → asked.sequence ≡ sequence → one.sequence ≤ sequence
-counts-asked asked one sequence same number = let e : asked.sequence ≡ one.sequence = ap (λ (w : Waited). w.sequence) same in omega (arith, e, number)
+counts-asked : (asked one : PendingQuestion) (sequence : ℕ) → asked ≡ one → asked.sequence ≡ sequence → one.sequence ≤ sequence
+counts-asked asked one sequence same number = let e : asked.sequence ≡ one.sequence = ap (λ (w : PendingQuestion). w.sequence) same in omega (arith, e, number)
 
 -- a step that asks for a lease, or reads
-pub asks-on : (told : Option SnapshotFacts) (o after : Outcome) → after.knows.who ≡ o.knows.who → after.knows.run ≡ o.knows.run → after.knows.seen ≡ o.knows.seen → after.knows.known ≡ o.knows.known → after.knows.informed ≡ o.knows.informed → after.knows.settings ≡ o.knows.settings
-    → o.knows.sequence ≤ after.knows.sequence → ((n : ℕ) → lease_asked after.knows.waited ≡ Some n → o.knows.sequence < n) → after.machine.hold ≡ o.machine.hold → is_active after.role ≡ true → (asked : Waited) → after.knows.waited ≡ Some asked → asked.sequence ≡ after.knows.sequence → Onward told o after
-asks-on told o after who run seen known informed settings last new hold active asked is number =
-    keeps told o after who run seen known informed settings last (λ n e. inr (new n e)) hold (λ _ ending. absurd (no-way (sym ending ∙ active))) (λ _ one one-is. counts-asked asked one after.knows.sequence (some-is asked one (sym is ∙ one-is)) number)
+pub asks-on : (told : Option SnapshotFacts) (o after : Outcome) → after.knows.who ≡ o.knows.who → after.knows.incarnation ≡ o.knows.incarnation → after.knows.seen ≡ o.knows.seen → after.knows.known ≡ o.knows.known → after.knows.informed ≡ o.knows.informed → after.knows.settings ≡ o.knows.settings
+    → o.knows.sequence ≤ after.knows.sequence → ((n : ℕ) → lease_asked after.knows.waited ≡ Some n → o.knows.sequence < n) → after.machine.hold ≡ o.machine.hold → is_active after.role ≡ true → (asked : PendingQuestion) → after.knows.waited ≡ Some asked → asked.sequence ≡ after.knows.sequence → Onward told o after
+asks-on told o after who incarnation seen known informed settings last new hold active asked is number =
+    keeps told o after who incarnation seen known informed settings last (λ n e. inr (new n e)) hold (λ _ ending. absurd (no-way (sym ending ∙ active))) (λ _ one one-is. counts-asked asked one after.knows.sequence (some-is asked one (sym is ∙ one-is)) number)
 
 ended-onward : (told : Option SnapshotFacts) (why : Why) (held : ℕ) (o : Outcome) → Onward told o (has_ended why held o)
 ended-onward told HandOver held o = waits-on told o (has_ended HandOver held o) refl refl refl refl refl refl (omega arith) refl refl refl
 ended-onward told Lost held o = waits-on told o (has_ended Lost held o) refl refl refl refl refl refl (omega arith) refl refl refl
 
-pub before-onward : (told : Option SnapshotFacts) (now : Ticks) (o : Outcome) → Onward told o (before now o)
+pub before-onward : (told : Option SnapshotFacts) (now : Ticks) (o : Outcome) → Onward told o (reconciled now o)
 before-onward told now o = before-by (Onward told o) now o (record {
   kept = λ _. same told o;
   leader = λ held _ _. waits-on told o (leader_finds_ended now held o) refl refl refl refl refl refl (omega arith) refl refl refl;
@@ -256,7 +256,7 @@ before-onward told now o = before-by (Onward told o) now o (record {
   follower = λ _ _. waits-on told o (finds_live o) refl refl refl refl refl refl (omega arith) refl refl refl;
   holder = λ held _ _. waits-on told o (finds_live o) refl refl refl refl refl refl (omega arith) refl refl refl;
   ready = λ held _ _. waits-on told o (finds_live (disarming o)) refl refl refl refl refl refl (omega arith) refl refl refl;
-  stray = λ _ _. waits-on told o (stray_finds_ended o) refl refl refl refl refl refl (omega arith) refl refl refl;
+  unleased = λ _ _. waits-on told o (unleased_finds_ended o) refl refl refl refl refl refl (omega arith) refl refl refl;
 })
 
 -- what was read last stays through what comes before an input
@@ -267,9 +267,9 @@ ended-read : (why : Why) (held : ℕ) (o : Outcome) → IsAsRead o (has_ended wh
 ended-read HandOver held o = (refl, refl)
 ended-read Lost held o = (refl, refl)
 
-pub before-read : (now : Ticks) (o : Outcome) → IsAsRead o (before now o)
+pub before-read : (now : Ticks) (o : Outcome) → IsAsRead o (reconciled now o)
 before-read now o = before-by (IsAsRead o) now o
-    (record { kept = λ _. (refl, refl); leader = λ _ _ _. (refl, refl); ending = λ held why _ _. ended-read why held o; follower = λ _ _. (refl, refl); holder = λ _ _ _. (refl, refl); ready = λ _ _ _. (refl, refl); stray = λ _ _. (refl, refl) })
+    (record { kept = λ _. (refl, refl); leader = λ _ _ _. (refl, refl); ending = λ held why _ _. ended-read why held o; follower = λ _ _. (refl, refl); holder = λ _ _ _. (refl, refl); ready = λ _ _ _. (refl, refl); unleased = λ _ _. (refl, refl) })
 
 pub creates-active : (role : RoleFacts) → may_create role ≡ true → is_active role ≡ true
 creates-active Follower may = refl
@@ -277,7 +277,7 @@ creates-active (Holder held) may = refl
 creates-active (Ready held) may = refl
 creates-active (Leader held) may = refl
 creates-active (Ending held why) may = absurd (no-way may)
-creates-active Stray may = refl
+creates-active Unleased may = refl
 
 judged-onward : (told : Option SnapshotFacts) (now : Ticks) (o : Outcome) → may_create o.role ≡ true → Onward told o (judged now o)
 judged-onward told now o may = judged-by (Onward told o) now o
@@ -312,7 +312,7 @@ overdue-onward told now o = overdue-by (Onward told o) now o (record {
   kept = same told o;
   quiet = rests told o (waiting_no_more o) refl refl refl refl refl refl (omega arith) refl refl;
   leader = λ held _. rests told o (leader_out_of_reach now held (waiting_no_more o)) refl refl refl refl refl refl (omega arith) refl refl;
-  stray = λ _. rests told o (stray_out_of_reach now (waiting_no_more o)) refl refl refl refl refl refl (omega arith) refl refl;
+  unleased = λ _. rests told o (unleased_out_of_reach now (waiting_no_more o)) refl refl refl refl refl refl (omega arith) refl refl;
   judges = λ may. judged-onward told now o may;
   ready = λ held _. rests told o (postpones held (waiting_no_more o)) refl refl refl refl refl refl (omega arith) refl refl;
   checks = λ held _. handover-onward told now held o o (same told o);
@@ -325,25 +325,25 @@ turn-onward told now o = turn-by (Onward told o) now o (record {
   reads = λ active. asks-on told o (reading now (record o { knows = turn_noted now o.knows })) refl refl refl refl refl refl (omega arith) (λ n e. absurd (none-some _ e)) refl active _ refl refl;
 })
 
-pub given-up-onward : (told : Option SnapshotFacts) (now : Ticks) (o : Outcome) → Onward told o (given_up now (before now o))
-given-up-onward told now o = given-up-by (Onward told o) now (before now o) (told-onward told o (before now o) (before-onward told now o))
+pub given-up-onward : (told : Option SnapshotFacts) (now : Ticks) (o : Outcome) → Onward told o (given_up now (reconciled now o))
+given-up-onward told now o = given-up-by (Onward told o) now (reconciled now o) (told-onward told o (reconciled now o) (before-onward told now o))
 
 pub wake-onward : (told : Option SnapshotFacts) (now : Ticks) (o : Outcome) → Onward told o (woken now o)
-wake-onward told now o = let b : Outcome = given_up now (before now o) in
+wake-onward told now o = let b : Outcome = given_up now (reconciled now o) in
     wake-by (Onward told o) now o (before-onward told now o)
     (onward-then told o (overdue now b) (turned now (overdue now b)) (onward-then told o b (overdue now b) (given-up-onward told now o) (overdue-onward told now b)) (turn-onward told now (overdue now b)))
 
 -- a row behind a snapshot that is the newest, which waits for nothing after it
-quiet-told : (snapshot : SnapshotFacts) (o after : Outcome) → after.knows.who ≡ o.knows.who → after.knows.run ≡ o.knows.run → after.knows.seen ≡ Some snapshot → after.knows.known ≡ (Told snapshot o).knows.known → after.knows.informed ≡ (Told snapshot o).knows.informed → after.knows.settings ≡ (Told snapshot o).knows.settings
+quiet-told : (snapshot : SnapshotFacts) (o after : Outcome) → after.knows.who ≡ o.knows.who → after.knows.incarnation ≡ o.knows.incarnation → after.knows.seen ≡ Some snapshot → after.knows.known ≡ (Told snapshot o).knows.known → after.knows.informed ≡ (Told snapshot o).knows.informed → after.knows.settings ≡ (Told snapshot o).knows.settings
     → o.knows.sequence ≤ after.knows.sequence → after.knows.waited ≡ None → after.machine.hold ≡ o.machine.hold → Onward (Some snapshot) o after
-quiet-told snapshot o after who run seen known inform settings last waited hold =
-    onward-then (Some snapshot) o (Told snapshot o) after (tells snapshot o) (rests (Some snapshot) (Told snapshot o) after who run seen known inform settings last waited hold)
+quiet-told snapshot o after who incarnation seen known inform settings last waited hold =
+    onward-then (Some snapshot) o (Told snapshot o) after (tells snapshot o) (rests (Some snapshot) (Told snapshot o) after who incarnation seen known inform settings last waited hold)
 
 -- a row behind it that asks for a lease
-asks-told : (snapshot : SnapshotFacts) (o after : Outcome) → after.knows.who ≡ o.knows.who → after.knows.run ≡ o.knows.run → after.knows.seen ≡ Some snapshot → after.knows.known ≡ (Told snapshot o).knows.known → after.knows.informed ≡ (Told snapshot o).knows.informed → after.knows.settings ≡ (Told snapshot o).knows.settings
-    → o.knows.sequence ≤ after.knows.sequence → lease_asked after.knows.waited ≡ Some (o.knows.sequence + 1) → after.machine.hold ≡ o.machine.hold → is_active after.role ≡ true → (asked : Waited) → after.knows.waited ≡ Some asked → asked.sequence ≡ after.knows.sequence → Onward (Some snapshot) o after
-asks-told snapshot o after who run seen known inform settings last waited hold active asked is number =
-    onward-then (Some snapshot) o (Told snapshot o) after (tells snapshot o) (asks-on (Some snapshot) (Told snapshot o) after who run seen known inform settings last (λ n e. asked-new o.knows.sequence n (sym waited ∙ e)) hold active asked is number)
+asks-told : (snapshot : SnapshotFacts) (o after : Outcome) → after.knows.who ≡ o.knows.who → after.knows.incarnation ≡ o.knows.incarnation → after.knows.seen ≡ Some snapshot → after.knows.known ≡ (Told snapshot o).knows.known → after.knows.informed ≡ (Told snapshot o).knows.informed → after.knows.settings ≡ (Told snapshot o).knows.settings
+    → o.knows.sequence ≤ after.knows.sequence → lease_asked after.knows.waited ≡ Some (o.knows.sequence + 1) → after.machine.hold ≡ o.machine.hold → is_active after.role ≡ true → (asked : PendingQuestion) → after.knows.waited ≡ Some asked → asked.sequence ≡ after.knows.sequence → Onward (Some snapshot) o after
+asks-told snapshot o after who incarnation seen known inform settings last waited hold active asked is number =
+    onward-then (Some snapshot) o (Told snapshot o) after (tells snapshot o) (asks-on (Some snapshot) (Told snapshot o) after who incarnation seen known inform settings last (λ n e. asked-new o.knows.sequence n (sym waited ∙ e)) hold active asked is number)
 
 follow-onward : (now : Ticks) (snapshot : SnapshotFacts) (leader : MemberId) (o : Outcome) → Onward (Some snapshot) o (follows now leader (record o { knows = read_noted now snapshot o.knows }))
 follow-onward now snapshot leader o = let read : Outcome = record o { knows = read_noted now snapshot o.knows } in
@@ -373,20 +373,20 @@ free-onward now snapshot o = let x : Outcome = record o { role = Follower; knows
           (asks-on (Some snapshot) (Told snapshot o) (asking_others now (unheard x)) refl refl refl refl refl refl (omega arith) (λ n e. absurd (none-some _ e)) refl refl _ refl refl);
     })
 
-pub got-onward : (now : Ticks) (points : List HistoryPoint) (sequence : ℕ) (snapshot : SnapshotFacts) (o : Outcome) → Onward (Some snapshot) o (got now points sequence snapshot o)
+pub got-onward : (now : Ticks) (points : List HistoryPoint) (sequence : ℕ) (snapshot : SnapshotFacts) (o : Outcome) → Onward (Some snapshot) o (read_answered now points sequence snapshot o)
 got-onward now points sequence snapshot o = let read : Outcome = record o { knows = read_noted now snapshot o.knows } in
     got-by (Onward (Some snapshot) o) now points sequence snapshot o (record {
       kept = same (Some snapshot) o;
       quiet = rests (Some snapshot) o (waiting_no_more o) refl refl refl refl refl refl (omega arith) refl refl;
       other = quiet-told snapshot o read refl refl refl refl refl refl (omega arith) refl refl;
       leader = λ held _. quiet-told snapshot o (leader_loses_key now held read) refl refl refl refl refl refl (omega arith) refl refl;
-      stray = λ _. quiet-told snapshot o (stray_loses_key now read) refl refl refl refl refl refl (omega arith) refl refl;
+      unleased = λ _. quiet-told snapshot o (unleased_loses_key now read) refl refl refl refl refl refl (omega arith) refl refl;
       renews = λ active leader _ _. asks-told snapshot o (renewing now points leader.revision read) refl refl refl refl refl refl (omega arith) refl refl active _ refl refl;
       touches = quiet-told snapshot o (touching read) refl refl refl refl refl refl (omega arith) refl refl;
       follows = λ leader _ _. follow-onward now snapshot leader.holder o;
       free = λ _ _. free-onward now snapshot o;
       runs_on = λ _. quiet-told snapshot o (running_without_key read) refl refl refl refl refl refl (omega arith) refl refl;
-      asks_on = λ _. asks-told snapshot o (asks_as_stray now read) refl refl refl refl refl refl (omega arith) refl refl refl _ refl refl;
+      asks_on = λ _. asks-told snapshot o (asks_as_unleased now read) refl refl refl refl refl refl (omega arith) refl refl refl _ refl refl;
     })
 
 pub refused-onward : (told : Option SnapshotFacts) (now : Ticks) (sequence : ℕ) (o : Outcome) → Onward told o (refused now sequence o)
@@ -394,17 +394,17 @@ refused-onward told now sequence o = refused-by (Onward told o) now sequence o (
   kept = same told o;
   quiet = rests told o (waiting_no_more o) refl refl refl refl refl refl (omega arith) refl refl;
   leader = λ held _. rests told o (leader_loses_key now held (waiting_no_more o)) refl refl refl refl refl refl (omega arith) refl refl;
-  stray = λ _. rests told o (stray_loses_key now (waiting_no_more o)) refl refl refl refl refl refl (omega arith) refl refl;
+  unleased = λ _. rests told o (unleased_loses_key now (waiting_no_more o)) refl refl refl refl refl refl (omega arith) refl refl;
   follower = λ held _. rests told o (record (waiting_no_more o) { role = Follower }) refl refl refl refl refl refl (omega arith) refl refl;
   ready = λ held _. rests told o (postpones held (waiting_no_more o)) refl refl refl refl refl refl (omega arith) refl refl;
   runs_on = λ _. rests told o (running_without_key (waiting_no_more o)) refl refl refl refl refl refl (omega arith) refl refl;
 })
 
 -- a row behind it that asks for another write
-writes-told : (snapshot : SnapshotFacts) (o after : Outcome) → after.knows.who ≡ o.knows.who → after.knows.run ≡ o.knows.run → after.knows.seen ≡ Some snapshot → after.knows.known ≡ (Told snapshot o).knows.known → after.knows.informed ≡ (Told snapshot o).knows.informed → after.knows.settings ≡ (Told snapshot o).knows.settings
-    → o.knows.sequence ≤ after.knows.sequence → lease_asked after.knows.waited ≡ None → after.machine.hold ≡ o.machine.hold → is_active after.role ≡ true → (asked : Waited) → after.knows.waited ≡ Some asked → asked.sequence ≡ after.knows.sequence → Onward (Some snapshot) o after
-writes-told snapshot o after who run seen known inform settings last none hold active asked is number =
-    onward-then (Some snapshot) o (Told snapshot o) after (tells snapshot o) (asks-on (Some snapshot) (Told snapshot o) after who run seen known inform settings last (λ n e. absurd (none-some _ (sym none ∙ e))) hold active asked is number)
+writes-told : (snapshot : SnapshotFacts) (o after : Outcome) → after.knows.who ≡ o.knows.who → after.knows.incarnation ≡ o.knows.incarnation → after.knows.seen ≡ Some snapshot → after.knows.known ≡ (Told snapshot o).knows.known → after.knows.informed ≡ (Told snapshot o).knows.informed → after.knows.settings ≡ (Told snapshot o).knows.settings
+    → o.knows.sequence ≤ after.knows.sequence → lease_asked after.knows.waited ≡ None → after.machine.hold ≡ o.machine.hold → is_active after.role ≡ true → (asked : PendingQuestion) → after.knows.waited ≡ Some asked → asked.sequence ≡ after.knows.sequence → Onward (Some snapshot) o after
+writes-told snapshot o after who incarnation seen known inform settings last none hold active asked is number =
+    onward-then (Some snapshot) o (Told snapshot o) after (tells snapshot o) (asks-on (Some snapshot) (Told snapshot o) after who incarnation seen known inform settings last (λ n e. absurd (none-some _ (sym none ∙ e))) hold active asked is number)
 
 -- what a leader owes its cluster, whatever became of its watchdog
 duty-onward : (now : Ticks) (revision : ℕ) (snapshot : SnapshotFacts) (o : Outcome) (machine : Machine) (outs : List Output) → machine.hold ≡ o.machine.hold → DutyRows (Onward (Some snapshot) o) now revision (record (Told snapshot o) { role = Leader revision; machine = machine; outputs = outs })
@@ -425,13 +425,13 @@ renewed-onward now ttl revision snapshot o = let led : Outcome = led_on now ttl 
     let ended : Outcome = record (ending_server now StartTooLong led) { role = Ending revision HandOver } in
     renewed-by (Onward (Some snapshot) o) now ttl revision (Told snapshot o) (quiet-told snapshot o ended refl refl refl refl refl refl (omega arith) refl refl) (duty-onward now revision snapshot o led.machine led.outputs refl)
 
-stray-onward : (now ttl : Ticks) (revision : ℕ) (snapshot : SnapshotFacts) (o : Outcome) → Onward (Some snapshot) o (stray_renewed now ttl revision (Told snapshot o))
-stray-onward now ttl revision snapshot o = let over : Outcome = takes_over now revision (arming now ttl (Told snapshot o)) in let ended : Outcome = ending_server now WatchdogNotArmed (Told snapshot o) in
+unleased-onward : (now ttl : Ticks) (revision : ℕ) (snapshot : SnapshotFacts) (o : Outcome) → Onward (Some snapshot) o (unleased_renewed now ttl revision (Told snapshot o))
+unleased-onward now ttl revision snapshot o = let over : Outcome = takes_over now revision (arming now ttl (Told snapshot o)) in let ended : Outcome = ending_server now WatchdogNotArmed (Told snapshot o) in
     if-cases (Onward (Some snapshot) o) (is_refusing o.machine.watchdog.mode o.machine.watchdog.works) ended over
     (λ _. quiet-told snapshot o ended refl refl refl refl refl refl (omega arith) refl refl) (λ _. quiet-told snapshot o over refl refl refl refl refl refl (omega arith) refl refl)
 
 arms-onward : (now ttl : Ticks) (revision : ℕ) (snapshot : SnapshotFacts) (o : Outcome) → Onward (Some snapshot) o (arms now ttl revision (Told snapshot o))
-arms-onward now ttl revision snapshot o = let back : Outcome = gives_back revision (record (Told snapshot o) { outputs = listed outputs.CannotArm o.outputs }) in let arm : Outcome = arming now ttl (Told snapshot o) in
+arms-onward now ttl revision snapshot o = let back : Outcome = gives_back revision (record (Told snapshot o) { outputs = with_output outputs.CannotArm o.outputs }) in let arm : Outcome = arming now ttl (Told snapshot o) in
     if-cases (Onward (Some snapshot) o) (is_refusing o.machine.watchdog.mode o.machine.watchdog.works) back (begins_or_claims now revision arm)
     (λ _. quiet-told snapshot o back refl refl refl refl refl refl (omega arith) refl refl)
     (λ _. begins-or-claims-by (Onward (Some snapshot) o) now revision arm (quiet-told snapshot o (begins now revision arm) refl refl refl refl refl refl (omega arith) refl refl)
@@ -443,7 +443,7 @@ takes-onward now ttl revision snapshot o = let back : Outcome = gives_back revis
     (λ _. arms-onward now ttl revision snapshot o) (λ _. quiet-told snapshot o back refl refl refl refl refl refl (omega arith) refl refl)
 
 rested-onward : (now : Ticks) (renews : Bool) (revision : ℕ) (snapshot : SnapshotFacts) (o : Outcome) → Onward (Some snapshot) o (takes_key_in_pause now renews revision (Told snapshot o))
-rested-onward now renews revision snapshot o = let rest : Outcome = resting renews (Told snapshot o) in
+rested-onward now renews revision snapshot o = let rest : Outcome = disabling_watchdog renews (Told snapshot o) in
     takes-in-pause-by (Onward (Some snapshot) o) now renews revision (Told snapshot o)
     (quiet-told snapshot o (gives_back revision (Told snapshot o)) refl refl refl refl refl refl (omega arith) refl refl)
     (quiet-told snapshot o (begins now revision rest) refl refl refl refl refl refl (omega arith) refl refl)
@@ -456,10 +456,10 @@ granted-onward now sequence grant snapshot o = granted-by (Onward (Some snapshot
     (λ waited _ _. record {
       other = tells snapshot o;
       leader = λ held _. renewed-onward now waited.ttl grant.revision snapshot o;
-      stray = λ _. stray-onward now waited.ttl grant.revision snapshot o;
+      unleased = λ _. unleased-onward now waited.ttl grant.revision snapshot o;
       takes = λ _. takes-onward now waited.ttl grant.revision snapshot o;
       rests = λ renews _ held _. let led : Outcome = rested_on renews grant.revision (Told snapshot o) in duties-of (Onward (Some snapshot) o) now grant.revision led (duty-onward now grant.revision snapshot o led.machine led.outputs refl);
-      stray_rests = λ renews _ _. quiet-told snapshot o (takes_over now grant.revision (resting renews (Told snapshot o))) refl refl refl refl refl refl (omega arith) refl refl;
+      unleased_rests = λ renews _ _. quiet-told snapshot o (takes_over now grant.revision (disabling_watchdog renews (Told snapshot o))) refl refl refl refl refl refl (omega arith) refl refl;
       takes_resting = λ renews _ _. rested-onward now renews grant.revision snapshot o;
     })
     (record {
@@ -480,22 +480,22 @@ answered-onward told now sequence answer o =
       checks = λ held _. handover-onward told now held o (keeping answer o) kept;
     })
 
-pub asked-onward : (told : Option SnapshotFacts) (from : MemberId) (run sequence : ℕ) (o : Outcome) → Onward told o (asked from run sequence o)
-asked-onward told from run sequence o = keeps told o (asked from run sequence o) refl refl refl refl refl refl (omega arith) (λ n e. inl e) refl (λ alone. alone) (λ counted. counted)
+pub asked-onward : (told : Option SnapshotFacts) (from : MemberId) (incarnation sequence : ℕ) (o : Outcome) → Onward told o (asked from incarnation sequence o)
+asked-onward told from incarnation sequence o = keeps told o (asked from incarnation sequence o) refl refl refl refl refl refl (omega arith) (λ n e. inl e) refl (λ alone. alone) (λ counted. counted)
 
 -- the snapshot that comes with what is heard
 abbrev pub told_by : Heard → Option SnapshotFacts
 told_by Wake = None
-told_by (Got sequence snapshot) = Some snapshot
+told_by (ReadAnswered sequence snapshot) = Some snapshot
 told_by (HeardGranted sequence grant snapshot) = Some snapshot
 told_by (Mismatch sequence key found) = None
-told_by (Asked from run sequence) = None
+told_by (Asked from incarnation sequence) = None
 told_by (Answered sequence answer) = None
 told_by (HearsOperator action) = None
 
 -- an operator is answered behind what precedes an input, by what is read
-pub looked-onward : (told : Option SnapshotFacts) (now : Ticks) (sequence : ℕ) (snapshot : SnapshotFacts) (o : Outcome) → Onward told o (looked sequence snapshot (before now o))
-looked-onward told now sequence snapshot o = looked-by (Onward told o) sequence snapshot (before now o) (told-onward told o (before now o) (before-onward told now o))
+pub looked-onward : (told : Option SnapshotFacts) (now : Ticks) (sequence : ℕ) (snapshot : SnapshotFacts) (o : Outcome) → Onward told o (looked sequence snapshot (reconciled now o))
+looked-onward told now sequence snapshot o = looked-by (Onward told o) sequence snapshot (reconciled now o) (told-onward told o (reconciled now o) (before-onward told now o))
 
 -- what an operator wants, or the agent by itself, is granted; or refused
 pub any-granted-onward : (now : Ticks) (sequence : ℕ) (grant : Granted) (snapshot : SnapshotFacts) (o : Outcome) → Onward (Some snapshot) o (granted_any now sequence grant snapshot o)
@@ -510,11 +510,11 @@ operated-onward now action o = operated-by (Onward None o) now action.request ac
 
 pub step-onward : (now : Ticks) (points : List HistoryPoint) (heard : Heard) (o : Outcome) → Onward (told_by heard) o (step now points heard o)
 step-onward now points Wake o = wake-onward None now o
-step-onward now points (Got sequence snapshot) o = let p : Outcome = looked sequence snapshot (before now o) in
-    onward-then (Some snapshot) o p (got now points sequence snapshot p) (looked-onward (Some snapshot) now sequence snapshot o) (got-onward now points sequence snapshot p)
-step-onward now points (HeardGranted sequence grant snapshot) o = let b : Outcome = before now o in
+step-onward now points (ReadAnswered sequence snapshot) o = let p : Outcome = looked sequence snapshot (reconciled now o) in
+    onward-then (Some snapshot) o p (read_answered now points sequence snapshot p) (looked-onward (Some snapshot) now sequence snapshot o) (got-onward now points sequence snapshot p)
+step-onward now points (HeardGranted sequence grant snapshot) o = let b : Outcome = reconciled now o in
     onward-then (Some snapshot) o b (granted_any now sequence grant snapshot b) (before-onward (Some snapshot) now o) (any-granted-onward now sequence grant snapshot b)
-step-onward now points (Mismatch sequence key found) o = let b : Outcome = before now o in onward-then None o b (refused_any now sequence b) (before-onward None now o) (any-refused-onward now sequence b)
-step-onward now points (Asked from run sequence) o = onward-then None o (before now o) (asked from run sequence (before now o)) (before-onward None now o) (asked-onward None from run sequence (before now o))
-step-onward now points (Answered sequence answer) o = onward-then None o (before now o) (answered now sequence answer (before now o)) (before-onward None now o) (answered-onward None now sequence answer (before now o))
-step-onward now points (HearsOperator action) o = let b : Outcome = before now o in onward-then None o b (operated now action.request action.asked b) (before-onward None now o) (operated-onward now action b)
+step-onward now points (Mismatch sequence key found) o = let b : Outcome = reconciled now o in onward-then None o b (refused_any now sequence b) (before-onward None now o) (any-refused-onward now sequence b)
+step-onward now points (Asked from incarnation sequence) o = onward-then None o (reconciled now o) (asked from incarnation sequence (reconciled now o)) (before-onward None now o) (asked-onward None from incarnation sequence (reconciled now o))
+step-onward now points (Answered sequence answer) o = onward-then None o (reconciled now o) (answered now sequence answer (reconciled now o)) (before-onward None now o) (answered-onward None now sequence answer (reconciled now o))
+step-onward now points (HearsOperator action) o = let b : Outcome = reconciled now o in onward-then None o b (operated now action.request action.asked b) (before-onward None now o) (operated-onward now action b)

@@ -17,11 +17,11 @@ use Rattle.agent_model.specs.Claiming.{postpones}
 use Rattle.agent_model.specs.Fits.{Fits}
 use Rattle.agent_roles.proofs.Fitting.{before-fits, ready-ended}
 use Rattle.agent_model.specs.Agents.{RoleFacts, Follower, Ready, Outcome, is_ready}
-use Rattle.agent_model.specs.Before.{leader_finds_ended, has_ended, stray_finds_ended, before}
+use Rattle.agent_model.specs.Reconciling.{leader_finds_ended, has_ended, unleased_finds_ended, reconciled}
 use Rattle.agent_model.specs.Decisions.{refused}
 use Rattle.agent_roles.specs.Powers.{BringsNothing, LeavesMachine, DeadlineMay, Acts}
 use Rattle.agent_roles.specs.Powers.DeadlineMay.{Kept, Removed, Undone}
-use Rattle.agent_model.specs.Snapshots.{follows, read_noted, got, follow_row, led_by_another}
+use Rattle.agent_model.specs.Snapshots.{follows, read_noted, read_answered, follow_row, led_by_another}
 use Rattle.agent_model.specs.Racing.{finds_free, judged, unheard}
 use Rattle.agent_model.specs.Peers.{asked, keeping, answered}
 use Rattle.agent_model.specs.Wake.{overdue, turned, woken}
@@ -95,7 +95,7 @@ ended-leaves Lost held o ended = record { deadline = Removed refl (rests-by (has
 pub ready-is : (role : RoleFacts) (held : ℕ) → role ≡ Ready held → is_ready role ≡ true
 ready-is role held is = rw is refl
 
-pub before-leaves : (now : Ticks) (o : Outcome) → LeavesMachine o (before now o)
+pub before-leaves : (now : Ticks) (o : Outcome) → LeavesMachine o (reconciled now o)
 before-leaves now o = before-by (LeavesMachine o) now o (record {
   kept = λ _. record { deadline = Kept refl; hold = refl };
   leader = λ held _ ended. record { deadline = Removed refl (rests-by (leader_finds_ended now held o) ended refl); hold = refl };
@@ -103,7 +103,7 @@ before-leaves now o = before-by (LeavesMachine o) now o (record {
   follower = λ _ _. record { deadline = Kept refl; hold = refl };
   holder = λ held _ _. record { deadline = Kept refl; hold = refl };
   ready = λ held is lives. record { deadline = Undone refl (ready-is o.role held is) lives; hold = refl };
-  stray = λ _ ended. record { deadline = Removed refl (rests-by (stray_finds_ended o) ended refl); hold = refl };
+  unleased = λ _ ended. record { deadline = Removed refl (rests-by (unleased_finds_ended o) ended refl); hold = refl };
 })
 
 judged-stays : (now : Ticks) (o : Outcome) → Stays o (judged now o)
@@ -131,30 +131,30 @@ acts-stay : (now : Ticks) (request : ℕ) (o : Outcome) → ActRows (Stays o) no
 acts-stay now request o = record { asks = λ operation txn _. record { watchdog = Same refl; hold = refl }; restarts = λ told. record { watchdog = Same refl; hold = refl }; wipes = λ told. record { watchdog = Same refl; hold = refl } }
 
 overdue-stays : (now : Ticks) (o : Outcome) → Fits o.role (live o.machine.server.state) → Stays o (overdue now o)
-overdue-stays now o fits = overdue-by (Stays o) now o (record { ready = λ held is. postpones-stays o held (waiting_no_more o) is fits refl; kept = stays; quiet = record { watchdog = Same refl; hold = refl }; leader = λ held _. record { watchdog = Same refl; hold = refl }; stray = λ _. record { watchdog = Same refl; hold = refl }; judges = λ _. judged-stays now o; checks = λ held _. handover-stays now held o o refl })
+overdue-stays now o fits = overdue-by (Stays o) now o (record { ready = λ held is. postpones-stays o held (waiting_no_more o) is fits refl; kept = stays; quiet = record { watchdog = Same refl; hold = refl }; leader = λ held _. record { watchdog = Same refl; hold = refl }; unleased = λ _. record { watchdog = Same refl; hold = refl }; judges = λ _. judged-stays now o; checks = λ held _. handover-stays now held o o refl })
 
 turn-stays : (now : Ticks) (o : Outcome) → Stays o (turned now o)
 turn-stays now o = turn-by (Stays o) now o (record { kept = stays; quiet = record { watchdog = Same refl; hold = refl }; reads = λ _. record { watchdog = Same refl; hold = refl } })
 
 -- who is answered behind what precedes an input
-told-leaves : (now : Ticks) (o : Outcome) → ReplyRows (LeavesMachine o) (before now o)
-told-leaves now o = let b : Outcome = before now o in record {
+told-leaves : (now : Ticks) (o : Outcome) → ReplyRows (LeavesMachine o) (reconciled now o)
+told-leaves now o = let b : Outcome = reconciled now o in record {
   kept = before-leaves now o;
   answers = λ request told. behind o b (answering request told b) (before-leaves now o) (record { watchdog = Same refl; hold = refl }) (same-role b (answering request told b) refl (λ e. e));
 }
 
-given-up-leaves : (now : Ticks) (o : Outcome) → LeavesMachine o (given_up now (before now o))
-given-up-leaves now o = given-up-by (LeavesMachine o) now (before now o) (told-leaves now o)
+given-up-leaves : (now : Ticks) (o : Outcome) → LeavesMachine o (given_up now (reconciled now o))
+given-up-leaves now o = given-up-by (LeavesMachine o) now (reconciled now o) (told-leaves now o)
 
 -- the role fits the server then, as before
-pub told-fits : (now : Ticks) (o : Outcome) → ReplyRows (λ (x : Outcome). Fits x.role (live x.machine.server.state)) (before now o)
+pub told-fits : (now : Ticks) (o : Outcome) → ReplyRows (λ (x : Outcome). Fits x.role (live x.machine.server.state)) (reconciled now o)
 told-fits now o = record { kept = before-fits now o; answers = λ request told. before-fits now o }
 
-pub given-up-fits : (now : Ticks) (o : Outcome) → Fits (given_up now (before now o)).role (live (given_up now (before now o)).machine.server.state)
-given-up-fits now o = given-up-by (λ (x : Outcome). Fits x.role (live x.machine.server.state)) now (before now o) (told-fits now o)
+pub given-up-fits : (now : Ticks) (o : Outcome) → Fits (given_up now (reconciled now o)).role (live (given_up now (reconciled now o)).machine.server.state)
+given-up-fits now o = given-up-by (λ (x : Outcome). Fits x.role (live x.machine.server.state)) now (reconciled now o) (told-fits now o)
 
 pub wake-leaves : (now : Ticks) (o : Outcome) → LeavesMachine o (woken now o)
-wake-leaves now o = let b : Outcome = given_up now (before now o) in
+wake-leaves now o = let b : Outcome = given_up now (reconciled now o) in
     wake-by (LeavesMachine o) now o (before-leaves now o)
     (behind o (overdue now b) (turned now (overdue now b)) (behind o b (overdue now b) (given-up-leaves now o) (overdue-stays now b (given-up-fits now o)) (overdue-brings now b)) (turn-stays now (overdue now b)) (turn-brings now (overdue now b)))
 
@@ -172,14 +172,14 @@ free-stays now o = let x : Outcome = record o { role = Follower } in let race : 
 stays-read : (now : Ticks) (snapshot : SnapshotFacts) (o after : Outcome) → Stays (record o { knows = read_noted now snapshot o.knows }) after → Stays o after
 stays-read now snapshot o after stay = record { watchdog = stay.watchdog; hold = stay.hold }
 
-got-stays : (now : Ticks) (points : List HistoryPoint) (sequence : ℕ) (snapshot : SnapshotFacts) (o : Outcome) → Stays o (got now points sequence snapshot o)
+got-stays : (now : Ticks) (points : List HistoryPoint) (sequence : ℕ) (snapshot : SnapshotFacts) (o : Outcome) → Stays o (read_answered now points sequence snapshot o)
 got-stays now points sequence snapshot o = let read : Outcome = record o { knows = read_noted now snapshot o.knows } in
     got-by (Stays o) now points sequence snapshot o (record {
       kept = stays;
       quiet = record { watchdog = Same refl; hold = refl };
       other = record { watchdog = Same refl; hold = refl };
       leader = λ held _. record { watchdog = Same refl; hold = refl };
-      stray = λ _. record { watchdog = Same refl; hold = refl };
+      unleased = λ _. record { watchdog = Same refl; hold = refl };
       renews = λ _ leader _ _. record { watchdog = Same refl; hold = refl };
       touches = record { watchdog = Same refl; hold = refl };
       follows = λ leader _ _. stays-read now snapshot o (follows now leader.holder read) (follow-stays now leader.holder read);
@@ -194,29 +194,29 @@ refused-stays now sequence o fits = refused-by (Stays o) now sequence o (record 
   kept = stays;
   quiet = record { watchdog = Same refl; hold = refl };
   leader = λ held _. record { watchdog = Same refl; hold = refl };
-  stray = λ _. record { watchdog = Same refl; hold = refl };
+  unleased = λ _. record { watchdog = Same refl; hold = refl };
   follower = λ held _. record { watchdog = Same refl; hold = refl };
   runs_on = λ _. record { watchdog = Same refl; hold = refl };
 })
 
-pub read-leaves : (now : Ticks) (points : List HistoryPoint) (sequence : ℕ) (snapshot : SnapshotFacts) (o : Outcome) → LeavesMachine o (got now points sequence snapshot (looked sequence snapshot (before now o)))
-read-leaves now points sequence snapshot o = let p : Outcome = looked sequence snapshot (before now o) in
-    behind o p (got now points sequence snapshot p) (looked-by (LeavesMachine o) sequence snapshot (before now o) (told-leaves now o)) (got-stays now points sequence snapshot p) (got-brings now points sequence snapshot p)
+pub read-leaves : (now : Ticks) (points : List HistoryPoint) (sequence : ℕ) (snapshot : SnapshotFacts) (o : Outcome) → LeavesMachine o (read_answered now points sequence snapshot (looked sequence snapshot (reconciled now o)))
+read-leaves now points sequence snapshot o = let p : Outcome = looked sequence snapshot (reconciled now o) in
+    behind o p (read_answered now points sequence snapshot p) (looked-by (LeavesMachine o) sequence snapshot (reconciled now o) (told-leaves now o)) (got-stays now points sequence snapshot p) (got-brings now points sequence snapshot p)
 
-pub refusal-leaves : (now : Ticks) (sequence : ℕ) (o : Outcome) → LeavesMachine o (refused_any now sequence (before now o))
-refusal-leaves now sequence o = let b : Outcome = before now o in
+pub refusal-leaves : (now : Ticks) (sequence : ℕ) (o : Outcome) → LeavesMachine o (refused_any now sequence (reconciled now o))
+refusal-leaves now sequence o = let b : Outcome = reconciled now o in
     refused-any-by (LeavesMachine o) now sequence b (told-leaves now o) (behind o b (refused now sequence b) (before-leaves now o) (refused-stays now sequence b (before-fits now o)) (refused-brings now sequence b))
 
 answer-stays : (now : Ticks) (sequence : ℕ) (answer : PeerAnswer) (o : Outcome) → Stays o (answered now sequence answer o)
 answer-stays now sequence answer o = let race : Stays (keeping answer o) (judged now (keeping answer o)) = judged-stays now (keeping answer o) in
     answered-by (Stays o) now sequence answer o (record { kept = stays; quiet = record { watchdog = Same refl; hold = refl }; keeps = record { watchdog = Same refl; hold = refl }; judges = λ _. record { watchdog = race.watchdog; hold = race.hold }; checks = λ held _. handover-stays now held o (keeping answer o) refl })
 
-pub answered-leaves : (now : Ticks) (sequence : ℕ) (answer : PeerAnswer) (o : Outcome) → LeavesMachine o (answered now sequence answer (before now o))
-answered-leaves now sequence answer o = behind o (before now o) (answered now sequence answer (before now o)) (before-leaves now o) (answer-stays now sequence answer (before now o)) (answer-brings now sequence answer (before now o))
+pub answered-leaves : (now : Ticks) (sequence : ℕ) (answer : PeerAnswer) (o : Outcome) → LeavesMachine o (answered now sequence answer (reconciled now o))
+answered-leaves now sequence answer o = behind o (reconciled now o) (answered now sequence answer (reconciled now o)) (before-leaves now o) (answer-stays now sequence answer (reconciled now o)) (answer-brings now sequence answer (reconciled now o))
 
-pub asked-leaves : (now : Ticks) (from : MemberId) (run sequence : ℕ) (o : Outcome) → LeavesMachine o (asked from run sequence (before now o))
-asked-leaves now from run sequence o = behind o (before now o) (asked from run sequence (before now o)) (before-leaves now o) (record { watchdog = Same refl; hold = refl }) (same-role (before now o) (asked from run sequence (before now o)) refl (λ e. e))
+pub asked-leaves : (now : Ticks) (from : MemberId) (incarnation sequence : ℕ) (o : Outcome) → LeavesMachine o (asked from incarnation sequence (reconciled now o))
+asked-leaves now from incarnation sequence o = behind o (reconciled now o) (asked from incarnation sequence (reconciled now o)) (before-leaves now o) (record { watchdog = Same refl; hold = refl }) (same-role (reconciled now o) (asked from incarnation sequence (reconciled now o)) refl (λ e. e))
 
-pub operated-leaves : (now : Ticks) (action : OperatorAction) (o : Outcome) → LeavesMachine o (operated now action.request action.asked (before now o))
-operated-leaves now action o = let b : Outcome = before now o in
+pub operated-leaves : (now : Ticks) (action : OperatorAction) (o : Outcome) → LeavesMachine o (operated now action.request action.asked (reconciled now o))
+operated-leaves now action o = let b : Outcome = reconciled now o in
     behind o b (operated now action.request action.asked b) (before-leaves now o) (operated-by (Stays b) now action.request action.asked b (acts-stay now action.request b)) (acting-brings now action b)

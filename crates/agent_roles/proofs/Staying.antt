@@ -9,7 +9,7 @@ use Rattle.agent_model.specs.declared.heard.Heard.{Heard}
 use Rattle.agent_model.specs.declared.why.Why.{Why}
 use Rattle.agent_model.specs.declared.why.Why.TheVariants.{HandOver, Lost}
 use Rattle.agent_model.specs.Agents.{EndsAlone, HasCounted, Outcome}
-use Rattle.agent_model.specs.Before.{has_ended, before}
+use Rattle.agent_model.specs.Reconciling.{has_ended, reconciled}
 use Rattle.agent_model.specs.Snapshots.{informed}
 use Rattle.agent_model.specs.Table.{step}
 use Rattle.agent_roles.proofs.Knowing.{alone-of, ends-of, step-onward, told-pause, before-read}
@@ -24,7 +24,7 @@ ended-waits : (why : Why) (held : ℕ) (o : Outcome) → (has_ended why held o).
 ended-waits HandOver held o = refl
 ended-waits Lost held o = refl
 
-pub before-waits : (now : Ticks) (o : Outcome) → (before now o).knows.waited ≡ o.knows.waited
+pub before-waits : (now : Ticks) (o : Outcome) → (reconciled now o).knows.waited ≡ o.knows.waited
 before-waits now o = before-by (λ (x : Outcome). x.knows.waited ≡ o.knows.waited) now o (record {
   kept = λ _. refl;
   leader = λ _ _ _. refl;
@@ -32,12 +32,12 @@ before-waits now o = before-by (λ (x : Outcome). x.knows.waited ≡ o.knows.wai
   follower = λ _ _. refl;
   holder = λ _ _ _. refl;
   ready = λ _ _ _. refl;
-  stray = λ _ _. refl;
+  unleased = λ _ _. refl;
 })
 
 -- an agent that reads of no pause behind what precedes an input isn't paused after it
-pub stays-unpaused : (now : Ticks) (snapshot : SnapshotFacts) (o : Outcome) → is_paused o.knows ≡ false → (config_in snapshot).pause ≡ false → is_paused (informed snapshot (before now o).knows) ≡ false
-stays-unpaused now snapshot o was told = let settings : Config = (before now o).knows.settings in
+pub stays-unpaused : (now : Ticks) (snapshot : SnapshotFacts) (o : Outcome) → is_paused o.knows ≡ false → (config_in snapshot).pause ≡ false → is_paused (informed snapshot (reconciled now o).knows) ≡ false
+stays-unpaused now snapshot o was told = let settings : Config = (reconciled now o).knows.settings in
     false_from_ne_true (settings_in settings snapshot).pause (λ e. elim (told-pause settings (entry_in keys.Config snapshot) e) [
       | inl before-it ↦ no-way (sym (ap (λ (c : Config). c.pause) (before-read now o).0 ∙ was) ∙ before-it)
       | inr new ↦ no-way (sym told ∙ new)

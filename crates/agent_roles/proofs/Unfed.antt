@@ -8,17 +8,17 @@ use Rattle.wal_model.specs.declared.entry.HistoryPoint.{HistoryPoint}
 use Rattle.agent_model.specs.declared.heard.Heard.TheVariants.{Operated, Wake}
 use Rattle.agent_model.specs.declared.knowledge.Knowledge.{Knowledge}
 use Rattle.agent_model.specs.declared.knowledge.Question.{Question}
-use Rattle.agent_model.specs.declared.knowledge.Question.TheVariants.{Asking, Checking, Creating, Reading, Renewing, Claiming, Syncing}
-use Rattle.agent_model.specs.declared.knowledge.Waited.{Waited}
+use Rattle.agent_model.specs.declared.knowledge.Question.TheVariants.{ComparingPositions, FindingCandidate, Creating, Reading, Renewing, Claiming, Syncing}
+use Rattle.agent_model.specs.declared.knowledge.PendingQuestion.{PendingQuestion}
 use Rattle.agent_model.specs.declared.machine.Machine.{Machine}
 use Rattle.agent_model.specs.declared.output.Output.{Output}
 use Rattle.agent_model.specs.declared.output.Output.TheVariants as outputs
 use Rattle.agent_model.specs.declared.why.Why.{Why}
 use Rattle.agent_model.specs.declared.why.Why.TheVariants.{HandOver, Lost}
 use Rattle.agent_model.specs.Acting.{disarmed, waiting_no_more}
-use Rattle.agent_model.specs.Agents.{RoleFacts, Follower, Holder, Ready, Leader, Ending, Stray, Outcome, made}
+use Rattle.agent_model.specs.Agents.{RoleFacts, Follower, Holder, Ready, Leader, Ending, Unleased, Outcome, outcome_from}
 use Rattle.agent_model.proofs.Rows.{HandoverRows, given-up-by, handover-by, judged-by, operated-by}
-use Rattle.agent_model.specs.Before.{before, before_as, has_ended}
+use Rattle.agent_model.specs.Reconciling.{reconciled, before_as, has_ended}
 use Rattle.agent_model.specs.Claiming.{claim_fails_as}
 use Rattle.agent_model.specs.Decisions.{may_create}
 use Rattle.agent_model.specs.HandingOver.{judged_if_leading}
@@ -55,11 +55,11 @@ none-before now (Ending revision why) o all = none-if (live o.machine.server.sta
 none-before now Follower o all = none-if (live o.machine.server.state) _ o all all
 none-before now (Holder revision) o all = none-if (live o.machine.server.state) _ o all all
 none-before now (Ready revision) o all = none-if (live o.machine.server.state) _ o (none-disarmed o.machine.watchdog.deadline o.outputs all) all
-none-before now Stray o all = none-if (live o.machine.server.state) o _ all (none-disarmed o.machine.watchdog.deadline o.outputs all)
+none-before now Unleased o all = none-if (live o.machine.server.state) o _ all (none-disarmed o.machine.watchdog.deadline o.outputs all)
 
 none-reach : (now : Ticks) (role : RoleFacts) (o : Outcome) → NoneFed o → NoneFed (out_of_reach_as now role o)
 none-reach now (Leader revision) o all = All-push FeedsNone _ _ all tt
-none-reach now Stray o all = All-push FeedsNone _ _ all tt
+none-reach now Unleased o all = All-push FeedsNone _ _ all tt
 none-reach now _ o all = all
 
 none-judged : (now : Ticks) (o : Outcome) → NoneFed o → NoneFed (judged now o)
@@ -89,16 +89,16 @@ none-unanswered now Renewing o all = none-if (is_paused o.knows) (waiting_no_mor
 none-unanswered now Creating o all = all
 none-unanswered now Claiming o all = none-failed o.role (waiting_no_more o) all
 none-unanswered now (Syncing settling) o all = all
-none-unanswered now Checking o all = none-leading now o.role o all
-none-unanswered now Asking o all = none-if (may_create o.role) (judged now o) (waiting_no_more o) (none-judged now o all) all
+none-unanswered now FindingCandidate o all = none-leading now o.role o all
+none-unanswered now ComparingPositions o all = none-if (may_create o.role) (judged now o) (waiting_no_more o) (none-judged now o all) all
 
-none-overdue : (now : Ticks) (waited : Option Waited) (o : Outcome) → NoneFed o → NoneFed (overdue_for now waited o)
+none-overdue : (now : Ticks) (waited : Option PendingQuestion) (o : Outcome) → NoneFed o → NoneFed (overdue_for now waited o)
 none-overdue now None o all = all
 none-overdue now (Some waited) o all = none-if (is_overdue now (Some waited)) (unanswered now waited.question o) o (none-unanswered now waited.question o all) all
 
 none-turn : (now : Ticks) (role : RoleFacts) (o : Outcome) → NoneFed o → NoneFed (turn_as now role o)
 none-turn now (Ending revision why) o all = all
-none-turn now Stray o all = none-if (is_stopping o.machine.server.state) o _ all (All-push FeedsNone _ _ all tt)
+none-turn now Unleased o all = none-if (is_stopping o.machine.server.state) o _ all (All-push FeedsNone _ _ all tt)
 none-turn now _ o all = All-push FeedsNone _ _ all tt
 
 none-turned : (now : Ticks) (o : Outcome) → NoneFed o → NoneFed (turned now o)
@@ -106,18 +106,18 @@ none-turned now o all = none-if (has_turn now o.knows) (turn_begins now o) o (no
 
 none-woken : (now : Ticks) (o : Outcome) → NoneFed o → NoneFed (woken now o)
 none-woken now o all =
-    let first : NoneFed (before now o) = none-before now o.role o all in
-    let told : Outcome = given_up now (before now o) in
-    none-if (is_due now o.role o.knows o.machine) (roused now o) (before now o) (none-turned now (overdue now told) (none-overdue now told.knows.waited told (none-given now (before now o) first))) first
+    let first : NoneFed (reconciled now o) = none-before now o.role o all in
+    let told : Outcome = given_up now (reconciled now o) in
+    none-if (is_due now o.role o.knows o.machine) (roused now o) (reconciled now o) (none-turned now (overdue now told) (none-overdue now told.knows.waited told (none-given now (reconciled now o) first))) first
 
-pub wakes-feed-none : (now : Ticks) (points : List HistoryPoint) (role : RoleFacts) (knows : Knowledge) (machine : Machine) → All FeedsNone (step now points Wake (made role knows machine [])).outputs
-wakes-feed-none now points role knows machine = none-woken now (made role knows machine []) (All-nil FeedsNone)
+pub wakes-feed-none : (now : Ticks) (points : List HistoryPoint) (role : RoleFacts) (knows : Knowledge) (machine : Machine) → All FeedsNone (step now points Wake (outcome_from role knows machine [])).outputs
+wakes-feed-none now points role knows machine = none-woken now (outcome_from role knows machine []) (All-nil FeedsNone)
 
-pub actions-feed-none : (now : Ticks) (points : List HistoryPoint) (action : OperatorAction) (role : RoleFacts) (knows : Knowledge) (machine : Machine) → All FeedsNone (step now points (Operated action) (made role knows machine [])).outputs
+pub actions-feed-none : (now : Ticks) (points : List HistoryPoint) (action : OperatorAction) (role : RoleFacts) (knows : Knowledge) (machine : Machine) → All FeedsNone (step now points (Operated action) (outcome_from role knows machine [])).outputs
 actions-feed-none now points action role knows machine =
-    let o : Outcome = made role knows machine [] in
-    let first : NoneFed (before now o) = none-before now role o (All-nil FeedsNone) in
-    operated-by NoneFed now action.request action.asked (before now o) (record {
+    let o : Outcome = outcome_from role knows machine [] in
+    let first : NoneFed (reconciled now o) = none-before now role o (All-nil FeedsNone) in
+    operated-by NoneFed now action.request action.asked (reconciled now o) (record {
       asks = λ operation txn is. All-push FeedsNone _ _ first tt;
       restarts = λ told. All-push FeedsNone _ _ (All-push FeedsNone _ _ first tt) tt;
       wipes = λ told. All-push FeedsNone _ _ (All-push FeedsNone _ _ first tt) tt;

@@ -6,7 +6,7 @@ use Rattle.lease_store.specs.declared.granted.Granted.{Granted}
 use Rattle.leader_key.specs.Watchdog.{fed, is_armable}
 use Rattle.cluster_config.specs.Snapshots.{SnapshotFacts, failsafe_in}
 use Rattle.agent_model.specs.declared.knowledge.Knowledge.{Knowledge}
-use Rattle.agent_model.specs.declared.knowledge.Waited.{Waited}
+use Rattle.agent_model.specs.declared.knowledge.PendingQuestion.{PendingQuestion}
 use Rattle.agent_model.specs.Acting.{is_hold_active, is_refusing}
 use Rattle.agent_model.specs.Agents.{RoleFacts, Holder, Ready, Leader, Ending, Outcome, is_ready}
 use Rattle.agent_model.specs.Decisions.{is_decision, is_lease_of}
@@ -54,7 +54,7 @@ pub record LeavesMachine (o after : Outcome) : Type 0 where
 
 -- the answer of this number grants this member the lease of the leader key that it waits for
 pub record IsAwaitedLease (sequence : ℕ) (grant : Granted) (knows : Knowledge) : Type 0 where
-  pub waited : Waited
+  pub waited : PendingQuestion
   pub is : knows.waited ≡ Some waited
   pub decision : is_decision waited sequence ≡ true
   pub mine : is_lease_of knows.who.me grant ≡ true

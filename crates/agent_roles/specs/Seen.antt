@@ -11,14 +11,14 @@ use Rattle.lease_law.specs.Leases.{LeaderSeen, FailsafeKey}
 use Rattle.event_book.specs.Functions.{set_members}
 use Rattle.lease_law.specs.States.{Agent as AgentSeen, Machine as MachineSeen}
 use Rattle.agent_model.specs.declared.knowledge.Knowledge.{Knowledge}
-use Rattle.agent_model.specs.declared.knowledge.Waited.{Waited}
+use Rattle.agent_model.specs.declared.knowledge.PendingQuestion.{PendingQuestion}
 use Rattle.agent_model.specs.declared.machine.Machine.{Machine}
 use Rattle.agent_model.specs.Agents.{RoleFacts, is_ready}
 use Rattle.agent_model.specs.Decisions.{asks_lease}
 use Rattle.agent_roles.specs.Powers.{lease_of, leads}
 
 -- the number of what is waited for, if that is a create or a renewal
-abbrev pub lease_asked : Option Waited → Option ℕ
+abbrev pub lease_asked : Option PendingQuestion → Option ℕ
 lease_asked None = None
 lease_asked (Some waited) = if asks_lease waited.question then Some waited.sequence else None
 
@@ -59,7 +59,7 @@ failsafe_seen_if (Some snapshot) = failsafe_seen snapshot
 -- one's; it doesn't wait for acknowledgements
 abbrev pub agent_seen : RoleFacts → Knowledge → AgentSeen
 agent_seen role knows = record {
-  run = knows.run;
+  incarnation = knows.incarnation;
   last = knows.sequence;
   waits = lease_asked knows.waited;
   lease = lease_of role;
@@ -82,7 +82,7 @@ abbrev pub hold_seen : Option Ticks → ℕ
 hold_seen None = 0
 hold_seen (Some hold) = hold.0
 
--- what the law sees of a machine, by its agent if that runs, by whether acknowledgements set its deadline last, and by how many runs
+-- what the law sees of a machine, by its agent if that runs, by whether acknowledgements set its deadline last, and by how many incarnations
 -- have begun
 abbrev pub machine_with : Option AgentSeen → Machine → Bool → ℕ → MachineSeen
 machine_with agent machine by_failsafe runs = record {

@@ -13,7 +13,7 @@ ghost use Rattle.cluster_config.specs.Snapshots.{SnapshotFacts};
 ghost use Rattle.agent_model.specs.declared.heard.Heard.{Heard};
 ghost use Rattle.agent_model.specs.declared.heard.Heard.TheVariants as heard;
 ghost use Rattle.agent_model.specs.Agents.{Outcome, EndsAlone, HasCounted};
-ghost use Rattle.agent_model.specs.Before.{before};
+ghost use Rattle.agent_model.specs.Reconciling.{reconciled};
 ghost use Rattle.agent_model.specs.Fits.{Fits};
 ghost use Rattle.agent_roles.specs.Powers.{BringsNothing, GrantMay, LeavesMachine};
 ghost use Rattle.agent_model.specs.Table.{step};
@@ -21,16 +21,16 @@ ghost use Rattle.agent_model.specs.Table.{step};
 /// What comes before an input makes the role fit the server: nobody is about to lead, or follows, whose server is live, and
 /// nobody leads whose server has ended.
 pub fn role_fits_server()
-    ensures { (now : Ticks) (o : Outcome) → Fits (before now o).role (live (before now o).machine.server.state) }
+    ensures { (now : Ticks) (o : Outcome) → Fits (reconciled now o).role (live (reconciled now o).machine.server.state) }
 {}
 
 /// Only a grant lets an agent lead: after any other input no server is live that wasn't live before, nobody leads who didn't lead
 /// before, and nobody has a lease that it didn't have before.
 pub fn only_a_grant_lets_lead()
     ensures wake { (now : Ticks) (points : List HistoryPoint) (o : Outcome) → BringsNothing o (step now points heard.Wake o) }
-    ensures read { (now : Ticks) (points : List HistoryPoint) (sequence : ℕ) (snapshot : SnapshotFacts) (o : Outcome) → BringsNothing o (step now points (heard.Got sequence snapshot) o) }
+    ensures read { (now : Ticks) (points : List HistoryPoint) (sequence : ℕ) (snapshot : SnapshotFacts) (o : Outcome) → BringsNothing o (step now points (heard.ReadAnswered sequence snapshot) o) }
     ensures refusal { (now : Ticks) (points : List HistoryPoint) (sequence : ℕ) (key : Key) (found : Expected) (o : Outcome) → BringsNothing o (step now points (heard.Mismatch sequence key found) o) }
-    ensures ask { (now : Ticks) (points : List HistoryPoint) (from : MemberId) (run sequence : ℕ) (o : Outcome) → BringsNothing o (step now points (heard.Asked from run sequence) o) }
+    ensures ask { (now : Ticks) (points : List HistoryPoint) (from : MemberId) (incarnation sequence : ℕ) (o : Outcome) → BringsNothing o (step now points (heard.Asked from incarnation sequence) o) }
     ensures answer { (now : Ticks) (points : List HistoryPoint) (sequence : ℕ) (answer : PeerAnswer) (o : Outcome) → BringsNothing o (step now points (heard.Answered sequence answer) o) }
     ensures action { (now : Ticks) (points : List HistoryPoint) (action : OperatorAction) (o : Outcome) → BringsNothing o (step now points (heard.Operated action) o) }
 {}
@@ -39,9 +39,9 @@ pub fn only_a_grant_lets_lead()
 /// where nobody acts after it, or where an agent that was about to begin found its server live.
 pub fn only_a_grant_sets_deadlines()
     ensures wake { (now : Ticks) (points : List HistoryPoint) (o : Outcome) → LeavesMachine o (step now points heard.Wake o) }
-    ensures read { (now : Ticks) (points : List HistoryPoint) (sequence : ℕ) (snapshot : SnapshotFacts) (o : Outcome) → LeavesMachine o (step now points (heard.Got sequence snapshot) o) }
+    ensures read { (now : Ticks) (points : List HistoryPoint) (sequence : ℕ) (snapshot : SnapshotFacts) (o : Outcome) → LeavesMachine o (step now points (heard.ReadAnswered sequence snapshot) o) }
     ensures refusal { (now : Ticks) (points : List HistoryPoint) (sequence : ℕ) (key : Key) (found : Expected) (o : Outcome) → LeavesMachine o (step now points (heard.Mismatch sequence key found) o) }
-    ensures ask { (now : Ticks) (points : List HistoryPoint) (from : MemberId) (run sequence : ℕ) (o : Outcome) → LeavesMachine o (step now points (heard.Asked from run sequence) o) }
+    ensures ask { (now : Ticks) (points : List HistoryPoint) (from : MemberId) (incarnation sequence : ℕ) (o : Outcome) → LeavesMachine o (step now points (heard.Asked from incarnation sequence) o) }
     ensures answer { (now : Ticks) (points : List HistoryPoint) (sequence : ℕ) (answer : PeerAnswer) (o : Outcome) → LeavesMachine o (step now points (heard.Answered sequence answer) o) }
     ensures action { (now : Ticks) (points : List HistoryPoint) (action : OperatorAction) (o : Outcome) → LeavesMachine o (step now points (heard.Operated action) o) }
 {}
@@ -49,7 +49,7 @@ pub fn only_a_grant_sets_deadlines()
 /// A grant gives at most the lease of its revision, where that is waited for, with the watchdog fed on it for the span that was
 /// asked for. A server becomes live by it only where no hold is active, and where the watchdog was armed or isn't needed.
 pub fn a_grant_feeds_the_watchdog()
-    ensures { (now : Ticks) (points : List HistoryPoint) (sequence : ℕ) (grant : Granted) (snapshot : SnapshotFacts) (o : Outcome) → GrantMay now sequence grant snapshot (before now o) (step now points (heard.Granted sequence grant snapshot) o) }
+    ensures { (now : Ticks) (points : List HistoryPoint) (sequence : ℕ) (grant : Granted) (snapshot : SnapshotFacts) (o : Outcome) → GrantMay now sequence grant snapshot (reconciled now o) (step now points (heard.Granted sequence grant snapshot) o) }
 {}
 
 /// Who ends its server goes on waiting for no answer, and what is waited for has a number that is counted.

@@ -11,10 +11,10 @@ ghost use Rattle.agent_model.specs.declared.knowledge.Question.TheVariants as qu
 ghost use Rattle.agent_model.specs.declared.output.Output.TheVariants as outputs;
 ghost use Rattle.agent_model.specs.declared.output.Target.TheVariants as targets;
 ghost use Rattle.agent_model.specs.Acting.{counted, lease_span, seconds_after, waiting, waiting_no_more};
-ghost use Rattle.agent_model.specs.Agents.{IsSound, IsWithin, RoleFacts, made, word_of};
+ghost use Rattle.agent_model.specs.Agents.{IsSound, IsWithin, RoleFacts, outcome_from, word_of};
 ghost use Rattle.agent_model.specs.Decisions.{may_create};
 ghost use Rattle.agent_model.specs.Info.{info_of, runs};
-ghost use Rattle.agent_model.specs.Outputs.{listed};
+ghost use Rattle.agent_model.specs.Outputs.{with_output};
 ghost use Rattle.agent_model.specs.Peers.{accepted_answer, answered, answered_for, awaits_answer, awaits_check, is_asking, is_checking, judged_if_all, judged_if_racing, keeping};
 ghost use Rattle.agent_model.specs.Views.{shown, view_of};
 

@@ -2,7 +2,7 @@
 //! "Replication modes").
 ghost use Rattle.std.specs.Prelude.{◌≡◌};
 ghost use Rattle.agent_turn.specs.Turns.{ComesTo, HasLeft, Spent, reached};
-ghost use Rattle.agent_model.specs.Agents.{Follower, Holder, IsSound, IsWithin, Ready, made};
+ghost use Rattle.agent_model.specs.Agents.{Follower, Holder, IsSound, IsWithin, Ready, outcome_from};
 ghost use Rattle.agent_model.specs.Acting.{armed, counted, disarmed, seconds_after, waiting, without_deadline};
 ghost use Rattle.leader_key.specs.Lease.{armed_revision};
 ghost use Rattle.agent_model.specs.Claiming.{begins, begins_or_claims, can_begin_on_claim, claim_fails, claim_granted, claims, may_begin_on_claim, passing, postpones, told_passing};
@@ -13,7 +13,7 @@ ghost use Rattle.agent_model.specs.declared.knowledge.Question.TheVariants as qu
 ghost use Rattle.agent_model.specs.declared.output.Output.TheVariants as outputs;
 ghost use Rattle.agent_model.specs.declared.output.Target.TheVariants as targets;
 ghost use Rattle.pat_base.specs.Moments.{latest};
-ghost use Rattle.agent_model.specs.Outputs.{listed};
+ghost use Rattle.agent_model.specs.Outputs.{with_output};
 ghost use Rattle.agent_model.specs.Synchronous.{expected_of, is_named_if};
 
 use agent_model::{Knowledge, Output, Question};
@@ -46,7 +46,7 @@ fn tell_passing(turn: &mut Turn)
     ensures left { Spent 1 0 turn.old turn.new }
 {
     if !is_named_if(turn.knows.who.me, turn.knows.turn_sync) {
-        turn.out.put(Output::Passes);
+        turn.out.put(Output::ClaimsOutsideSync);
     }
 }
 

@@ -2,8 +2,8 @@
 ghost use Rattle.std.specs.Prelude.{true, ◌≡◌};
 ghost use Rattle.agent_turn.specs.Turns.{HasLeft, Spent, reached};
 ghost use Rattle.leader_key.specs.Watchdog.{IsLeaseSpan};
-ghost use Rattle.agent_model.specs.Agents.{Follower, IsSound, IsWithin, Leader, Stray, made};
-ghost use Rattle.agent_model.specs.Decisions.{accepted_grant, accepted_sync, arms, asks_in_pause, asks_lease, asks_renewal, asks_sync, awaits_decision, belongs, create_refused, follower_for, gives_back, granted, granted_for, granted_in_pause, has_lasted, is_decision, is_lease_of, is_start_too_long, is_sync_decision, is_write_of, judges_start, leader_renewed, lease_granted, lease_used, may_create, may_take, refused, refused_as, refused_for, renewal_refused, stray_renewed, takes_key, takes_key_in_pause, takes_over, uses_lease};
+ghost use Rattle.agent_model.specs.Agents.{Follower, IsSound, IsWithin, Leader, Unleased, outcome_from};
+ghost use Rattle.agent_model.specs.Decisions.{accepted_grant, accepted_sync, arms, asks_in_pause, asks_lease, asks_renewal, asks_sync, awaits_decision, belongs, create_refused, follower_for, gives_back, granted, granted_for, granted_in_pause, has_lasted, is_decision, is_lease_of, is_start_too_long, is_sync_decision, is_write_of, judges_start, leader_renewed, lease_granted, lease_used, may_create, may_take, refused, refused_as, refused_for, renewal_refused, unleased_renewed, takes_key, takes_key_in_pause, takes_over, uses_lease};
 ghost use Rattle.agent_model.specs.Answers.{most_grant_outputs};
 ghost use Rattle.agent_turn.specs.Roles.{role_of};
 ghost use Rattle.agent_model.specs.Acting.{is_hold_active, is_refusing, waiting_no_more};
@@ -12,12 +12,12 @@ ghost use Rattle.agent_model.specs.declared.knowledge.Knowledge.{Knowledge};
 ghost use Rattle.pat_base.specs.Moments.{latest};
 
 use crate::claiming::{claim_fails, claim_granted};
-use crate::keyless::{leader_without_key, stray_without_key};
+use crate::keyless::{leader_without_key, unleased_without_key};
 use crate::leading::{
-    leader_renewed, leader_rested, stray_renewed, stray_rested, take_key, take_key_in_pause,
+    leader_renewed, leader_rested, take_key, take_key_in_pause, unleased_renewed, unleased_rested,
 };
 use crate::planning::settle;
-use agent_model::{Question, Waited};
+use agent_model::{PendingQuestion, Question};
 use agent_turn::{Role, Turn, belongs, inform, is_lease_of, is_paused, is_write_of};
 use cluster_config::Snapshot;
 use leader_key::Lease;
@@ -51,7 +51,7 @@ pub(crate) fn granted(
 
 /// A grant of the leader key that is waited for is used where its question belongs to the role; its snapshot is then the newest.
 fn accept_grant(
-    waited: Waited,
+    waited: PendingQuestion,
     role: Role,
     turn: &mut Turn,
     grant: Granted,
@@ -88,7 +88,7 @@ fn uses_lease(paused: bool, question: Question, role: &Role) -> bool
 fn asks_in_pause(question: Question, role: &Role) -> bool
     ensures { result ≡ asks_in_pause question (role_of role.now) }
 {
-    matches!((question, role), (Question::Creating, Role::Stray))
+    matches!((question, role), (Question::Creating, Role::Unleased))
 }
 
 fn asks_renewal(question: Question) -> bool
@@ -108,7 +108,7 @@ fn granted_in_pause(role: Role, turn: &mut Turn, question: Question, grant: Gran
     let renews = asks_renewal(question);
     match role {
         Role::Leader(writer) => leader_rested(writer, turn, renews, grant),
-        Role::Stray => stray_rested(Lease::of(grant), turn, renews),
+        Role::Unleased => unleased_rested(Lease::of(grant), turn, renews),
         Role::Follower => take_key_in_pause(Lease::of(grant), turn, renews),
         Role::Holder(lease) => {
             lease.lost();
@@ -119,7 +119,7 @@ fn granted_in_pause(role: Role, turn: &mut Turn, question: Question, grant: Gran
 }
 
 /// So is the grant of a write of the sync key.
-fn accept_sync(waited: Waited, role: Role, turn: &mut Turn, snapshot: Snapshot) -> Role
+fn accept_sync(waited: PendingQuestion, role: Role, turn: &mut Turn, snapshot: Snapshot) -> Role
     requires turn { HasLeft 2 0 turn.old }
     requires server { IsWithin turn.old.machine.now.server }
     ensures outcome { reached (role_of result) turn.new ≡ accepted_sync turn.old.moment waited snapshot (reached (role_of role) turn.old) }
@@ -141,7 +141,7 @@ fn accept_sync(waited: Waited, role: Role, turn: &mut Turn, snapshot: Snapshot) 
 }
 
 /// The decision on this request for the leader key is waited for.
-fn is_decision(waited: Waited, sequence: u64) -> bool
+fn is_decision(waited: PendingQuestion, sequence: u64) -> bool
     ensures { result ≡ is_decision waited sequence }
 {
     asks_lease(waited.question) && waited.sequence == sequence
@@ -154,7 +154,7 @@ fn asks_lease(question: Question) -> bool
 }
 
 /// The decision on this write of the sync key is waited for.
-fn is_sync_decision(waited: Waited, sequence: u64) -> bool
+fn is_sync_decision(waited: PendingQuestion, sequence: u64) -> bool
     ensures { result ≡ is_sync_decision waited sequence }
 {
     asks_sync(waited.question) && waited.sequence == sequence
@@ -177,7 +177,7 @@ fn lease_granted(role: Role, turn: &mut Turn, ttl: Ticks, grant: Granted) -> Rol
 {
     match role {
         Role::Leader(writer) => leader_renewed(writer, turn, ttl, grant),
-        Role::Stray => stray_renewed(Lease::of(grant), turn, ttl),
+        Role::Unleased => unleased_renewed(Lease::of(grant), turn, ttl),
         Role::Follower => take_key(Lease::of(grant), turn, ttl),
         Role::Holder(lease) => {
             lease.lost();
@@ -215,7 +215,10 @@ fn refused_as(question: Question, role: Role, turn: &mut Turn) -> Role
         Question::Creating => create_refused(role),
         Question::Renewing => renewal_refused(role, turn),
         Question::Claiming => claim_fails(role, turn),
-        Question::Reading | Question::Asking | Question::Syncing(_) | Question::Checking => role,
+        Question::Reading
+        | Question::ComparingPositions
+        | Question::Syncing(_)
+        | Question::FindingCandidate => role,
     }
 }
 
@@ -241,7 +244,7 @@ fn renewal_refused(role: Role, turn: &mut Turn) -> Role
 {
     match role {
         Role::Leader(writer) => leader_without_key(writer, turn),
-        Role::Stray => stray_without_key(turn),
+        Role::Unleased => unleased_without_key(turn),
         Role::Holder(lease) => {
             lease.lost();
             Role::Follower

@@ -1,7 +1,7 @@
 //! What the server of a member does under another leader, or under none.
 ghost use Rattle.std.specs.Prelude.{◌≡◌};
 ghost use Rattle.agent_turn.specs.Turns.{ComesTo, HasLeft, Spent, reached};
-ghost use Rattle.agent_model.specs.Agents.{Follower, IsWithin, made};
+ghost use Rattle.agent_model.specs.Agents.{Follower, IsWithin, outcome_from};
 ghost use Rattle.agent_model.specs.Snapshots.{ends_fork, follow_row, follows_anew, starts_behind, starts_if};
 ghost use Rattle.event_book.specs.Members.{server_id_of};
 ghost use Rattle.agent_model.specs.Acting.{starting_replica, upstream_of};
@@ -9,7 +9,7 @@ ghost use Rattle.pg_model.specs.Status.{status_following, status_replica_started
 ghost use Rattle.agent_model.specs.declared.knowledge.Knowledge.{Knowledge};
 ghost use Rattle.agent_model.specs.declared.output.Output.TheVariants as outputs;
 ghost use Rattle.pat_base.specs.Moments.{latest};
-ghost use Rattle.agent_model.specs.Outputs.{listed};
+ghost use Rattle.agent_model.specs.Outputs.{with_output};
 
 use crate::repairing::is_upstream;
 use agent_model::Output;

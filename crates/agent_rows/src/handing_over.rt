@@ -2,7 +2,7 @@
 //! "Switchover and failover endpoints").
 ghost use Rattle.std.specs.Prelude.{option_copied, ◌≡◌};
 ghost use Rattle.agent_turn.specs.Turns.{ComesTo, HasLeft, Spent, reached};
-ghost use Rattle.agent_model.specs.Agents.{Ending, IsSound, IsWithin, Leader, RoleFacts, made};
+ghost use Rattle.agent_model.specs.Agents.{Ending, IsSound, IsWithin, Leader, RoleFacts, outcome_from};
 ghost use Rattle.pat_base.specs.declared.member_id.TheConstants.{MOST_MEMBERS};
 ghost use Rattle.agent_model.specs.HandingOver.{asking_whom, check_answered, checking, checks, checks_unless_paused, clearing, clearing_under, duties, duty_on, failover_duty, handover_judged, hands_over, hands_over_to, is_done, is_near, is_standby_in, is_successor, judged_if_leading, judged_if_whom, leader_revision, may_follow_in_sync, names_another, plans_unless_paused, position_of, successor_by, whom_answered};
 ghost use Rattle.cluster_config.specs.Naming.{is_member};
@@ -15,12 +15,12 @@ ghost use Rattle.agent_model.specs.declared.knowledge.Question.TheVariants as qu
 ghost use Rattle.agent_model.specs.declared.output.Output.TheVariants as outputs;
 ghost use Rattle.agent_model.specs.Acting.{counted, waiting};
 ghost use Rattle.pat_base.specs.Moments.{latest};
-ghost use Rattle.agent_model.specs.Outputs.{listed};
+ghost use Rattle.agent_model.specs.Outputs.{with_output};
 ghost use Rattle.agent_model.specs.Racing.{answers_until, unheard};
 
 use crate::asking::{all_answered, answers_until, ask_all, ask_one, is_settled};
 use crate::planning::take_step;
-use agent_model::{Answers, Knowledge, Output, Question, SyncRead, Waited, Who, Why};
+use agent_model::{Answers, Knowledge, Output, PendingQuestion, Question, SyncRead, Who, Why};
 use agent_turn::{Role, Turn, is_paused};
 use cluster_config::{Snapshot, candidate_of, is_standby};
 use event_book::Body;
@@ -151,8 +151,8 @@ fn ask_successors(candidate: Option<MemberId>, turn: &mut Turn)
         None => ask_all(&who, turn.knows.sequence, turn.out),
         Some(_) => ask_one(&who, turn.knows.sequence, candidate, turn.out),
     }
-    turn.knows.waited = Some(Waited {
-        question: Question::Checking,
+    turn.knows.waited = Some(PendingQuestion {
+        question: Question::FindingCandidate,
         sequence: turn.knows.sequence,
         until: answers_until(turn.moment),
         ttl: turn.knows.settings.ttl_ticks(),

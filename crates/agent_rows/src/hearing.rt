@@ -6,12 +6,12 @@ ghost use Rattle.agent_model.specs.Outputs.{most_outputs};
 ghost use Rattle.agent_turn.specs.Roles.{role_of};
 ghost use Rattle.agent_model.specs.Table.{step};
 
-use crate::before::before;
 use crate::decisions::{granted, refused};
 use crate::operators::{
     grants_operator, look, operate, operates, operator_granted, operator_refused,
 };
 use crate::peers::{answered, asked};
+use crate::reconciling::reconcile;
 use crate::snapshots::got;
 use crate::wake::wake;
 use agent_model::Heard;
@@ -28,8 +28,8 @@ pub fn take_input(role: Role, turn: &mut Turn, heard: Heard, history: &History) 
 {
     match heard {
         Heard::Wake => wake(role, turn),
-        Heard::Got { sequence, snapshot } => {
-            let role = before(role, turn);
+        Heard::ReadAnswered { sequence, snapshot } => {
+            let role = reconcile(role, turn);
             look(&role, turn, sequence, &snapshot);
             got(role, turn, history, sequence, snapshot)
         }
@@ -38,7 +38,7 @@ pub fn take_input(role: Role, turn: &mut Turn, heard: Heard, history: &History) 
             granted: grant,
             snapshot,
         } => {
-            let role = before(role, turn);
+            let role = reconcile(role, turn);
             if grants_operator(sequence, &grant, turn.knows) {
                 operator_granted(turn, snapshot);
                 return role;
@@ -46,7 +46,7 @@ pub fn take_input(role: Role, turn: &mut Turn, heard: Heard, history: &History) 
             granted(role, turn, sequence, grant, snapshot)
         }
         Heard::Mismatch { sequence, .. } => {
-            let role = before(role, turn);
+            let role = reconcile(role, turn);
             if operates(turn.knows, sequence) {
                 operator_refused(turn);
                 return role;
@@ -55,19 +55,19 @@ pub fn take_input(role: Role, turn: &mut Turn, heard: Heard, history: &History) 
         }
         Heard::Asked {
             from,
-            run,
+            incarnation,
             sequence,
         } => {
-            let role = before(role, turn);
-            asked(turn, from, run, sequence);
+            let role = reconcile(role, turn);
+            asked(turn, from, incarnation, sequence);
             role
         }
         Heard::Answered { sequence, answer } => {
-            let role = before(role, turn);
+            let role = reconcile(role, turn);
             answered(role, turn, sequence, answer)
         }
         Heard::Operated { action } => {
-            let role = before(role, turn);
+            let role = reconcile(role, turn);
             operate(action.request, action.asked, turn);
             role
         }

@@ -1,8 +1,8 @@
 //! What an agent does whose server is live without the leader key.
 ghost use Rattle.std.specs.Prelude.{◌≡◌};
 ghost use Rattle.agent_turn.specs.Turns.{ComesTo, HasLeft, Spent, reached};
-ghost use Rattle.agent_model.specs.Agents.{Follower, IsSound, IsWithin, Leader, Stray, made};
-ghost use Rattle.agent_model.specs.Snapshots.{accepted, asks_as_stray, awaits_read, ends_fork, finds_own_key, follow_row, follows, follows_anew, got, informed, is_active, is_read, known_with, leader_finds_free, leader_without_key, led, led_by, led_by_another, missing_point, missing_row, no_key, others_key, own_key, read_noted, renewal, renewing, row_at, row_told, starts_behind, status_told, stray_finds_free, stray_without_key, turn_start};
+ghost use Rattle.agent_model.specs.Agents.{Follower, IsSound, IsWithin, Leader, Unleased, outcome_from};
+ghost use Rattle.agent_model.specs.Snapshots.{accepted, asks_as_unleased, awaits_read, ends_fork, finds_own_key, follow_row, follows, follows_anew, read_answered, informed, is_active, is_read, known_with, leader_finds_free, leader_without_key, led, led_by, led_by_another, missing_point, missing_row, no_key, others_key, own_key, read_noted, renewal, renewing, row_at, row_told, starts_behind, status_told, unleased_finds_free, unleased_without_key, turn_start};
 ghost use Rattle.agent_turn.specs.Roles.{role_of};
 ghost use Rattle.leader_key.specs.Lease.{writer_revision};
 ghost use Rattle.lease_store.specs.declared.txn.Txn.TheVariants as txns;
@@ -15,7 +15,7 @@ ghost use Rattle.agent_model.specs.Acting.{counted, is_hold_active, lease_span, 
 ghost use Rattle.pat_base.specs.Moments.{latest};
 ghost use Rattle.pat_base.specs.declared.member_id.TheConstants.{MOST_MEMBERS};
 ghost use Rattle.agent_model.specs.Info.{info_of};
-ghost use Rattle.agent_model.specs.Outputs.{listed};
+ghost use Rattle.agent_model.specs.Outputs.{with_output};
 ghost use Rattle.agent_model.specs.Pausing.{is_paused, may_start_behind, running_without_key};
 ghost use Rattle.agent_model.specs.Racing.{finds_free};
 
@@ -40,24 +40,24 @@ pub(crate) fn leader_without_key(writer: Writer, turn: &mut Turn) -> Role
 }
 
 /// So does one that has no lease while its server is live.
-pub(crate) fn stray_without_key(turn: &mut Turn) -> Role
+pub(crate) fn unleased_without_key(turn: &mut Turn) -> Role
     requires turn { HasLeft 1 0 turn.old }
     requires server { IsWithin turn.old.machine.now.server }
-    ensures outcome { reached (role_of result) turn.new ≡ stray_without_key turn.old.moment (reached Stray turn.old) }
+    ensures outcome { reached (role_of result) turn.new ≡ unleased_without_key turn.old.moment (reached Unleased turn.old) }
     ensures left { Spent 1 0 turn.old turn.new }
 {
     if is_paused(turn.knows) {
         return turn.run_without_key();
     }
     turn.end_server(Reason::LeaderKeyLost);
-    Role::Stray
+    Role::Unleased
 }
 
 /// In a pause a server runs on while nobody leads, and its agent asks for the leader key.
-fn ask_as_stray(turn: &mut Turn) -> Role
+fn ask_as_unleased(turn: &mut Turn) -> Role
     requires { HasLeft 2 1 turn.old }
-    ensures role { role_of result ≡ Stray }
-    ensures outcome { ComesTo (asks_as_stray turn.old.moment) turn.old turn.new }
+    ensures role { role_of result ≡ Unleased }
+    ensures outcome { ComesTo (asks_as_unleased turn.old.moment) turn.old turn.new }
     ensures left { Spent 2 1 turn.old turn.new }
 {
     let role = turn.run_without_key();
@@ -74,22 +74,22 @@ pub(crate) fn leader_finds_free(writer: Writer, turn: &mut Turn) -> Role
 {
     if is_paused(turn.knows) {
         writer.wreck();
-        ask_as_stray(turn)
+        ask_as_unleased(turn)
     } else {
         turn.lose(writer, Reason::LeaderKeyLost)
     }
 }
 
 /// So does one that has no lease while its server is live.
-pub(crate) fn stray_finds_free(turn: &mut Turn) -> Role
+pub(crate) fn unleased_finds_free(turn: &mut Turn) -> Role
     requires turn { HasLeft 2 1 turn.old }
     requires server { IsWithin turn.old.machine.now.server }
-    ensures outcome { reached (role_of result) turn.new ≡ stray_finds_free turn.old.moment (reached Stray turn.old) }
+    ensures outcome { reached (role_of result) turn.new ≡ unleased_finds_free turn.old.moment (reached Unleased turn.old) }
     ensures left { Spent 2 1 turn.old turn.new }
 {
     if is_paused(turn.knows) {
-        return ask_as_stray(turn);
+        return ask_as_unleased(turn);
     }
     turn.end_server(Reason::LeaderKeyLost);
-    Role::Stray
+    Role::Unleased
 }

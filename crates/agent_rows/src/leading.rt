@@ -1,10 +1,10 @@
 //! What an agent does with a lease that it gets.
 ghost use Rattle.std.specs.Prelude.{true, ◌≡◌};
-ghost use Rattle.agent_model.specs.Agents.{Follower, IsSound, IsWithin, Leader, Stray, made};
+ghost use Rattle.agent_model.specs.Agents.{Follower, IsSound, IsWithin, Leader, Unleased, outcome_from};
 ghost use Rattle.agent_turn.specs.Turns.{HasLeft, Spent, reached};
 ghost use Rattle.leader_key.specs.Watchdog.{IsLeaseSpan};
 ghost use Rattle.pat_base.specs.declared.member_id.TheConstants.{MOST_MEMBERS};
-ghost use Rattle.agent_model.specs.Decisions.{arms, can_begin, gives_back, granted_in_pause, has_lasted, is_start_too_long, judges_start, leader_renewed, may_start_again, may_take, since_crash, stray_renewed, takes_key, takes_key_in_pause, takes_over};
+ghost use Rattle.agent_model.specs.Decisions.{arms, can_begin, gives_back, granted_in_pause, has_lasted, is_start_too_long, judges_start, leader_renewed, may_start_again, may_take, since_crash, unleased_renewed, takes_key, takes_key_in_pause, takes_over};
 ghost use Rattle.leader_key.specs.Lease.{armed_revision, lease_revision, writer_revision};
 ghost use Rattle.agent_model.specs.Answers.{most_grant_outputs};
 ghost use Rattle.agent_turn.specs.Roles.{role_of};
@@ -63,7 +63,7 @@ fn is_start_too_long(now: Ticks, knows: &Knowledge, state: State) -> bool
     }
 }
 
-/// So many ticks have passed since this run began the server, or took it over.
+/// So many ticks have passed since this incarnation began the server, or took it over.
 fn has_lasted(now: Ticks, span: Ticks, begun: Option<Ticks>) -> bool
     ensures { result ≡ has_lasted now span.0 begun }
 {
@@ -74,11 +74,11 @@ fn has_lasted(now: Ticks, span: Ticks, begun: Option<Ticks>) -> bool
 }
 
 /// An agent whose server is live without a lease gets one: it leads, once its watchdog is armed.
-pub(crate) fn stray_renewed(lease: Lease, turn: &mut Turn, ttl: Ticks) -> Role
+pub(crate) fn unleased_renewed(lease: Lease, turn: &mut Turn, ttl: Ticks) -> Role
     requires turn { HasLeft 1 0 turn.old }
     requires span { IsLeaseSpan ttl.0 }
     requires server { IsWithin turn.old.machine.now.server }
-    ensures outcome { reached (role_of result) turn.new ≡ stray_renewed turn.old.moment ttl (lease_revision lease) (reached Stray turn.old) }
+    ensures outcome { reached (role_of result) turn.new ≡ unleased_renewed turn.old.moment ttl (lease_revision lease) (reached Unleased turn.old) }
     ensures left { Spent 1 0 turn.old turn.new }
 {
     match turn.arm(lease, ttl) {
@@ -90,7 +90,7 @@ pub(crate) fn stray_renewed(lease: Lease, turn: &mut Turn, ttl: Ticks) -> Role
         Err(lease) => {
             turn.end_server(Reason::WatchdogNotArmed);
             lease.lost();
-            Role::Stray
+            Role::Unleased
         }
     }
 }
@@ -125,17 +125,17 @@ pub(crate) fn leader_rested(writer: Writer, turn: &mut Turn, renews: bool, grant
     ensures outcome { reached (role_of result) turn.new ≡ granted_in_pause turn.old.moment renews grant.revision (Leader (writer_revision writer)) (reached (Leader (writer_revision writer)) turn.old) }
     ensures left { Spent most_grant_outputs 1 turn.old turn.new }
 {
-    let writer = turn.rest_writer(writer, renews, grant);
+    let writer = turn.renew_without_watchdog(writer, renews, grant);
     do_duties(writer, turn)
 }
 
 /// An agent whose server is live without a lease gets one in a pause: it leads without a watchdog.
-pub(crate) fn stray_rested(lease: Lease, turn: &mut Turn, renews: bool) -> Role
+pub(crate) fn unleased_rested(lease: Lease, turn: &mut Turn, renews: bool) -> Role
     requires { HasLeft 2 0 turn.old }
-    ensures outcome { reached (role_of result) turn.new ≡ granted_in_pause turn.old.moment renews (lease_revision lease) Stray (reached Stray turn.old) }
+    ensures outcome { reached (role_of result) turn.new ≡ granted_in_pause turn.old.moment renews (lease_revision lease) Unleased (reached Unleased turn.old) }
     ensures left { Spent 2 0 turn.old turn.new }
 {
-    let armed = turn.rest(lease, renews);
+    let armed = turn.arm_without_watchdog(lease, renews);
     turn.knows.begun = Some(turn.moment);
     turn.knows.noted = turn.machine.server.end;
     Role::Leader(Writer::begin(armed))
@@ -157,7 +157,7 @@ pub(crate) fn take_key_in_pause(lease: Lease, turn: &mut Turn, renews: bool) -> 
         turn.release(lease);
         return Role::Follower;
     }
-    let armed = turn.rest(lease, renews);
+    let armed = turn.arm_without_watchdog(lease, renews);
     begin_or_claim(armed, turn)
 }
 

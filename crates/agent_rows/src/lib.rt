@@ -2,7 +2,6 @@
 #![tactic(auto)]
 
 mod asking;
-mod before;
 mod claiming;
 mod decisions;
 mod following;
@@ -14,6 +13,7 @@ mod operators;
 mod peers;
 mod planning;
 mod racing;
+mod reconciling;
 mod renewing;
 mod repairing;
 mod snapshots;

@@ -1,7 +1,7 @@
 //! What an agent does for operators, and what it answers them (Patroni's documentation of the REST API).
 ghost use Rattle.std.specs.Prelude.{option_copied, ◌≡◌, ◌≤◌};
 ghost use Rattle.agent_turn.specs.Turns.{ComesTo, HasLeft, Spent, reached};
-ghost use Rattle.agent_model.specs.Agents.{IsSound, IsWithin, RoleFacts, made};
+ghost use Rattle.agent_model.specs.Agents.{IsSound, IsWithin, RoleFacts, outcome_from};
 ghost use Rattle.agent_model.specs.Operators.{answering, answering_if, awaits_number, config_revision, done_by, done_text, failed_by, failed_text, failover_result, given_up, given_up_by, granted_as, grants_operator, holder_if, holder_in, is_asked_for, is_same_member, late_answer, learned, looked, looked_by, name_in, operated, operates, operating, operator_granted, operator_refused, operator_until, owing, refusal_of, restarting, result_as, revision_of_entry, telling, uses_read, wiping};
 ghost use Rattle.agent_model.specs.Peers.{asked};
 ghost use Rattle.event_book.specs.declared.message.Body.TheVariants as bodies;
@@ -14,10 +14,10 @@ ghost use Rattle.pg_model.specs.Status.{status_restarted, status_wiped};
 ghost use Rattle.lease_store.specs.declared.txn.Txn.TheVariants as txns;
 ghost use Rattle.agent_model.specs.declared.output.Output.TheVariants as outputs;
 ghost use Rattle.agent_model.specs.declared.output.Target.TheVariants as targets;
-ghost use Rattle.agent_model.specs.Outputs.{listed};
+ghost use Rattle.agent_model.specs.Outputs.{with_output};
 
 use crate::snapshots::awaits_read;
-use agent_model::{Knowledge, Operating, Operation, Output, Told, Waited};
+use agent_model::{Knowledge, Operating, Operation, Output, PendingQuestion, Told};
 use agent_turn::{Role, Turn, inform, is_active, is_write_of};
 use cluster_config::Snapshot;
 use event_book::Body;
@@ -316,7 +316,7 @@ fn is_asked_for(waiting: Option<Operating>, sequence: u64) -> bool
 }
 
 /// The agent itself waits for the answer of this number.
-fn awaits_number(waited: Option<Waited>, sequence: u64) -> bool
+fn awaits_number(waited: Option<PendingQuestion>, sequence: u64) -> bool
     ensures { result ≡ awaits_number waited sequence }
 {
     match waited {

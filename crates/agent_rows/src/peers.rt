@@ -1,9 +1,9 @@
 //! What members ask one another, and the race for a free leader key that is judged by what they answer.
 ghost use Rattle.std.specs.Prelude.{◌≡◌};
 ghost use Rattle.agent_turn.specs.Turns.{ComesTo, HasLeft, Spent, reached};
-ghost use Rattle.agent_model.specs.Agents.{IsSound, IsWithin, RoleFacts, made, word_of};
+ghost use Rattle.agent_model.specs.Agents.{IsSound, IsWithin, RoleFacts, outcome_from, word_of};
 ghost use Rattle.agent_model.specs.Peers.{asked, accepted_answer, answered, answered_for, awaits_answer, awaits_check, is_asking, is_checking, judged_if_all, judged_if_racing, keeping};
-ghost use Rattle.agent_model.specs.Outputs.{listed};
+ghost use Rattle.agent_model.specs.Outputs.{with_output};
 ghost use Rattle.agent_model.specs.declared.output.Output.TheVariants as outputs;
 ghost use Rattle.agent_model.specs.Answers.{all_answered, asking_all, asking_first, asking_one, first_answered, has_answered, is_other, is_settled, peer_answer_of, with_answer};
 ghost use Rattle.agent_turn.specs.Roles.{role_of};
@@ -23,21 +23,21 @@ ghost use Rattle.agent_model.specs.Views.{shown, view_of};
 use crate::asking::all_answered;
 use crate::handing_over::hear_successor;
 use crate::racing::judge;
-use agent_model::{Output, Question, Waited, Who};
+use agent_model::{Output, PendingQuestion, Question, Who};
 use agent_turn::{Role, Turn, may_create, runs, word_of};
 use pat_base::{MemberId, PeerAnswer};
 use pg_model::ServerStatus;
 
 /// Another member asks: it is answered at once.
-pub(crate) fn asked(turn: &mut Turn, from: MemberId, run: u64, sequence: u64)
+pub(crate) fn asked(turn: &mut Turn, from: MemberId, incarnation: u64, sequence: u64)
     requires { HasLeft 1 0 turn.old }
-    ensures outcome { ComesTo (asked from run sequence) turn.old turn.new }
+    ensures outcome { ComesTo (asked from incarnation sequence) turn.old turn.new }
     ensures left { Spent 1 0 turn.old turn.new }
 {
     let answer = peer_answer_of(&turn.knows.who, &turn.machine.server);
     turn.out.put(Output::Answer {
         to: from,
-        run,
+        incarnation,
         sequence,
         answer,
     });
@@ -76,7 +76,7 @@ pub(crate) fn answered(role: Role, turn: &mut Turn, sequence: u64, answer: PeerA
 }
 
 /// A leader waits for answers of this number.
-fn awaits_check(waited: Waited, sequence: u64) -> bool
+fn awaits_check(waited: PendingQuestion, sequence: u64) -> bool
     ensures { result ≡ awaits_check waited sequence }
 {
     is_checking(waited.question) && waited.sequence == sequence
@@ -85,11 +85,11 @@ fn awaits_check(waited: Waited, sequence: u64) -> bool
 fn is_checking(question: Question) -> bool
     ensures { result ≡ is_checking question }
 {
-    matches!(question, Question::Checking)
+    matches!(question, Question::FindingCandidate)
 }
 
 /// Answers of this number are waited for in a race.
-fn awaits_answer(waited: Waited, sequence: u64) -> bool
+fn awaits_answer(waited: PendingQuestion, sequence: u64) -> bool
     ensures { result ≡ awaits_answer waited sequence }
 {
     is_asking(waited.question) && waited.sequence == sequence
@@ -98,7 +98,7 @@ fn awaits_answer(waited: Waited, sequence: u64) -> bool
 fn is_asking(question: Question) -> bool
     ensures { result ≡ is_asking question }
 {
-    matches!(question, Question::Asking)
+    matches!(question, Question::ComparingPositions)
 }
 
 /// An answer that is waited for counts in a role that races.

@@ -1,7 +1,7 @@
 //! How a leader changes its synchronous standbys, a step with each renewal (Patroni documentation, "Replication modes").
 ghost use Rattle.std.specs.Prelude.{None, ◌≡◌};
 ghost use Rattle.agent_turn.specs.Turns.{ComesTo, HasLeft, Spent, reached};
-ghost use Rattle.agent_model.specs.Agents.{IsSound, Leader, RoleFacts, made};
+ghost use Rattle.agent_model.specs.Agents.{IsSound, Leader, RoleFacts, outcome_from};
 ghost use Rattle.agent_model.specs.Planning.{leader_view, naming, planned, planned_as, settled, switching_off, writing_sync};
 ghost use Rattle.agent_model.specs.Table.{step};
 ghost use Rattle.lease_store.specs.declared.txn.Txn.TheVariants as txns;
@@ -11,7 +11,7 @@ ghost use Rattle.agent_model.specs.declared.output.Output.TheVariants as outputs
 ghost use Rattle.agent_model.specs.declared.output.Target.TheVariants as targets;
 ghost use Rattle.agent_model.specs.Acting.{counted, seconds_after, waiting};
 ghost use Rattle.pat_base.specs.Moments.{latest};
-ghost use Rattle.agent_model.specs.Outputs.{listed};
+ghost use Rattle.agent_model.specs.Outputs.{with_output};
 ghost use Rattle.agent_model.specs.Synchronous.{expected_of, sync_read_if};
 
 use agent_model::{Knowledge, Machine, Question, Settling, SyncRead};
@@ -44,7 +44,7 @@ fn leader_view<'a>(knows: &'a Knowledge, machine: &Machine, now: Ticks) -> Leade
     LeaderView {
         view: view_of(now, RoleWord::Leader, knows, machine),
         required: machine.replication.required,
-        connected: machine.replication.connected,
+        confirmed_positions: machine.replication.confirmed_positions,
         noted: knows.noted,
     }
 }
@@ -63,12 +63,12 @@ fn take(step: Plan, revision: u64, turn: &mut Turn)
         }
         Plan::Mark => {
             let nobody = MemberSet::empty();
-            name(revision, Settling::Lists(nobody), nobody, turn);
+            name(revision, Settling::NamesStandbys(nobody), nobody, turn);
         }
         Plan::Withdraw(standbys) => {
-            name(revision, Settling::Lists(standbys), standbys, turn);
+            name(revision, Settling::NamesStandbys(standbys), standbys, turn);
         }
-        Plan::Publish(standbys) => name(revision, Settling::Stays, standbys, turn),
+        Plan::Publish(standbys) => name(revision, Settling::KeepsList, standbys, turn),
         Plan::AddRequired(members) => {
             turn.knows.noted = turn.machine.server.end;
             turn.require(Required::All(members));
@@ -105,7 +105,7 @@ fn switch_off(revision: u64, read: Option<SyncRead>, turn: &mut Turn)
             revision,
             sync: read.revision,
         };
-        write_sync(Settling::Empties, write, turn);
+        write_sync(Settling::ClearsList, write, turn);
     }
 }
 
@@ -126,11 +126,11 @@ pub(crate) fn settle(settling: Settling, turn: &mut Turn)
     ensures left { Spent 1 0 turn.old turn.new }
 {
     match settling {
-        Settling::Stays => {}
-        Settling::Lists(standbys) => {
+        Settling::KeepsList => {}
+        Settling::NamesStandbys(standbys) => {
             let required = waiting_for(&turn.knows.settings, standbys);
             turn.require(required);
         }
-        Settling::Empties => turn.require(Required::Nobody),
+        Settling::ClearsList => turn.require(Required::Nobody),
     }
 }

@@ -1,7 +1,7 @@
 //! What a member without a lease does about a free leader key: it races for it where nothing bars it.
 ghost use Rattle.std.specs.Prelude.{◌≡◌};
 ghost use Rattle.agent_turn.specs.Turns.{ComesTo, HasLeft, Spent, reached};
-ghost use Rattle.agent_model.specs.Agents.{Follower, IsSound, IsWithin, RoleFacts, made, word_of};
+ghost use Rattle.agent_model.specs.Agents.{Follower, IsSound, IsWithin, RoleFacts, outcome_from, word_of};
 ghost use Rattle.pat_base.specs.declared.member_id.TheConstants.{MOST_MEMBERS};
 ghost use Rattle.agent_model.specs.Racing.{answers_until, asking_others, asks_or_judged, bar_by, bar_of, barred, can_start, creating, finds_free, free_key, judged, judged_as, outcome_at, outcome_by, races, races_unless, starts_alone, unheard};
 ghost use Rattle.agent_model.specs.Peers.{accepted_answer, answered, answered_for, awaits_answer, awaits_check, is_asking, is_checking, judged_if_all, judged_if_racing, keeping};
@@ -21,11 +21,11 @@ ghost use Rattle.agent_model.specs.Acting.{counted, lease_span, seconds_after, w
 ghost use Rattle.agent_model.specs.Answers.{all_answered, asking_all, asking_first, asking_one, first_answered, has_answered, is_other, is_settled, peer_answer_of, with_answer};
 ghost use Rattle.agent_model.specs.Decisions.{may_create};
 ghost use Rattle.agent_model.specs.Info.{info_of, runs};
-ghost use Rattle.agent_model.specs.Outputs.{listed};
+ghost use Rattle.agent_model.specs.Outputs.{with_output};
 
 use crate::asking::{all_answered, answers_until, ask_all};
 use crate::following::start_replica;
-use agent_model::{Knowledge, Machine, Output, Question, Waited};
+use agent_model::{Knowledge, Machine, Output, PendingQuestion, Question};
 use agent_turn::{Role, Turn, info_of, is_paused, may_create, view_of, word_of};
 use cluster_config::RoleWord;
 use event_book::Body;
@@ -177,8 +177,8 @@ pub(crate) fn ask_others(turn: &mut Turn)
     let who = turn.knows.who;
     turn.knows.sequence += 1;
     ask_all(&who, turn.knows.sequence, turn.out);
-    turn.knows.waited = Some(Waited {
-        question: Question::Asking,
+    turn.knows.waited = Some(PendingQuestion {
+        question: Question::ComparingPositions,
         sequence: turn.knows.sequence,
         until: answers_until(turn.moment),
         ttl: turn.knows.settings.ttl_ticks(),

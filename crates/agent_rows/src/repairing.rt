@@ -4,7 +4,7 @@ ghost use Rattle.agent_turn.specs.Turns.{ComesTo, HasLeft, Spent};
 ghost use Rattle.agent_model.specs.Snapshots.{follows};
 ghost use Rattle.agent_model.specs.Repairs.{is_upstream, repair_in, repair_of, repaired_if, rewind_if};
 ghost use Rattle.agent_model.specs.declared.knowledge.Knowledge.{Knowledge};
-ghost use Rattle.agent_model.specs.Agents.{RoleFacts, made};
+ghost use Rattle.agent_model.specs.Agents.{RoleFacts, outcome_from};
 
 use agent_model::{Output, Repair};
 use agent_turn::{Turn, lets_rewind};

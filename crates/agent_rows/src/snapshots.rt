@@ -1,9 +1,9 @@
 //! What an agent does once it has read what the key store holds.
 ghost use Rattle.std.specs.Prelude.{◌≡◌};
-ghost use Rattle.agent_model.specs.Agents.{Follower, IsSound, IsWithin, Leader, Stray, made};
+ghost use Rattle.agent_model.specs.Agents.{Follower, IsSound, IsWithin, Leader, Unleased, outcome_from};
 ghost use Rattle.agent_turn.specs.Turns.{HasLeft, Spent, reached};
 ghost use Rattle.pat_base.specs.declared.member_id.TheConstants.{MOST_MEMBERS};
-ghost use Rattle.agent_model.specs.Snapshots.{accepted, asks_as_stray, awaits_read, ends_fork, finds_own_key, follow_row, follows, follows_anew, got, informed, is_active, is_read, known_with, leader_finds_free, leader_without_key, led, led_by, led_by_another, missing_point, missing_row, no_key, others_key, own_key, read_noted, renewal, renewing, row_at, row_told, starts_behind, status_told, stray_finds_free, stray_without_key, turn_start};
+ghost use Rattle.agent_model.specs.Snapshots.{accepted, asks_as_unleased, awaits_read, ends_fork, finds_own_key, follow_row, follows, follows_anew, read_answered, informed, is_active, is_read, known_with, leader_finds_free, leader_without_key, led, led_by, led_by_another, missing_point, missing_row, no_key, others_key, own_key, read_noted, renewal, renewing, row_at, row_told, starts_behind, status_told, unleased_finds_free, unleased_without_key, turn_start};
 ghost use Rattle.agent_turn.specs.Roles.{role_of};
 ghost use Rattle.lease_store.specs.declared.txn.Txn.TheVariants as txns;
 ghost use Rattle.leader_key.specs.Lease.{writer_revision};
@@ -15,16 +15,18 @@ ghost use Rattle.agent_model.specs.declared.output.Target.TheVariants as targets
 ghost use Rattle.agent_model.specs.Acting.{counted, is_hold_active, lease_span, seconds_after, upstream_of, waiting};
 ghost use Rattle.pat_base.specs.Moments.{latest};
 ghost use Rattle.agent_model.specs.Info.{info_of};
-ghost use Rattle.agent_model.specs.Outputs.{listed};
+ghost use Rattle.agent_model.specs.Outputs.{with_output};
 ghost use Rattle.agent_model.specs.Pausing.{is_paused, may_start_behind, running_without_key};
 ghost use Rattle.agent_model.specs.Racing.{finds_free};
 
 use crate::following::follow_row;
-use crate::keyless::{leader_finds_free, leader_without_key, stray_finds_free, stray_without_key};
+use crate::keyless::{
+    leader_finds_free, leader_without_key, unleased_finds_free, unleased_without_key,
+};
 use crate::racing::finds_free;
 use crate::renewing::renew;
 use crate::repairing::{put_repair, repair_of};
-use agent_model::{Question, Waited};
+use agent_model::{PendingQuestion, Question};
 use agent_turn::{
     Role, Turn, inform, is_active, is_hold_active, is_paused, may_start_behind, sync_read_in,
 };
@@ -33,7 +35,7 @@ use pat_base::MemberId;
 use wal_model::History;
 
 /// The answer to a read: what is waited for is used, and any other dropped.
-pub(crate) fn got(
+pub(crate) fn read_answered(
     role: Role,
     turn: &mut Turn,
     history: &History,
@@ -42,7 +44,7 @@ pub(crate) fn got(
 ) -> Role
     requires turn { HasLeft MOST_MEMBERS 1 turn.old }
     requires server { IsWithin turn.old.machine.now.server }
-    ensures outcome { reached (role_of result) turn.new ≡ got turn.old.moment history.now.points sequence snapshot (reached (role_of role) turn.old) }
+    ensures outcome { reached (role_of result) turn.new ≡ read_answered turn.old.moment history.now.points sequence snapshot (reached (role_of role) turn.old) }
     ensures left { Spent MOST_MEMBERS 1 turn.old turn.new }
 {
     if !awaits_read(turn.knows.waited, sequence) {
@@ -62,7 +64,7 @@ pub(crate) fn got(
 }
 
 /// The answer to this read is waited for.
-pub(crate) fn awaits_read(waited: Option<Waited>, sequence: u64) -> bool
+pub(crate) fn awaits_read(waited: Option<PendingQuestion>, sequence: u64) -> bool
     ensures { result ≡ awaits_read waited sequence }
 {
     match waited {
@@ -101,7 +103,7 @@ fn own_key(role: &Role, turn: &mut Turn, history: &History, revision: u64)
     ensures left { Spent 1 1 turn.old turn.new }
 {
     match role {
-        Role::Leader(_) | Role::Stray => renew(turn, history, revision),
+        Role::Leader(_) | Role::Unleased => renew(turn, history, revision),
         Role::Follower | Role::Holder(_) => { finds_own_key(turn, history, revision) }
         Role::Ready(_) | Role::Ending(_, _) => {}
     }
@@ -130,7 +132,7 @@ fn others_key(role: Role, turn: &mut Turn, leader: MemberId) -> Role
 {
     match role {
         Role::Leader(writer) => leader_without_key(writer, turn),
-        Role::Stray => stray_without_key(turn),
+        Role::Unleased => unleased_without_key(turn),
         Role::Follower => follows(turn, leader),
         Role::Holder(lease) => {
             lease.lost();
@@ -166,7 +168,7 @@ fn no_key(role: Role, turn: &mut Turn) -> Role
 {
     match role {
         Role::Leader(writer) => leader_finds_free(writer, turn),
-        Role::Stray => stray_finds_free(turn),
+        Role::Unleased => unleased_finds_free(turn),
         Role::Follower => finds_free(turn),
         Role::Holder(lease) => {
             lease.lost();

@@ -2,8 +2,8 @@
 //! due.
 ghost use Rattle.std.specs.Prelude.{◌≡◌};
 ghost use Rattle.agent_turn.specs.Turns.{ComesTo, HasLeft, Spent, reached};
-ghost use Rattle.agent_model.specs.Agents.{Ending, IsSound, IsWithin, made};
-ghost use Rattle.agent_model.specs.Wake.{due_from, finds_ended, has_turn, is_due, is_overdue, is_stopping, leader_out_of_reach, out_of_reach, out_of_reach_as, overdue, overdue_for, reading, roused, stray_out_of_reach, turn_as, turn_begins, turn_noted, turned, unanswered, waits_until, woken};
+ghost use Rattle.agent_model.specs.Agents.{Ending, IsSound, IsWithin, outcome_from};
+ghost use Rattle.agent_model.specs.Wake.{due_from, finds_ended, has_turn, is_due, is_overdue, is_stopping, leader_out_of_reach, out_of_reach, out_of_reach_as, overdue, overdue_for, reading, roused, unleased_out_of_reach, turn_as, turn_begins, turn_noted, turned, unanswered, waits_until, woken};
 ghost use Rattle.agent_turn.specs.Roles.{role_of};
 ghost use Rattle.event_book.specs.declared.message.Body.TheVariants as bodies;
 ghost use Rattle.event_book.specs.declared.reason.Reason.TheVariants as reasons;
@@ -14,14 +14,14 @@ ghost use Rattle.agent_model.specs.declared.output.Target.TheVariants as targets
 ghost use Rattle.agent_model.specs.declared.why.Why.TheVariants as whys;
 ghost use Rattle.agent_model.specs.Acting.{counted, seconds_after, waiting};
 ghost use Rattle.pat_base.specs.Moments.{latest};
-ghost use Rattle.agent_model.specs.Outputs.{listed};
+ghost use Rattle.agent_model.specs.Outputs.{with_output};
 
-use crate::before::before;
 use crate::claiming::claim_fails;
 use crate::handing_over::judge_if_leading;
 use crate::operators::give_up;
 use crate::racing::judge_if_racing;
-use agent_model::{Knowledge, Machine, Question, Waited};
+use crate::reconciling::reconcile;
+use agent_model::{Knowledge, Machine, PendingQuestion, Question};
 use agent_turn::{Role, Turn, is_paused};
 use event_book::{Body, Reason};
 use pat_base::{State, Ticks};
@@ -34,7 +34,7 @@ pub(crate) fn wake(role: Role, turn: &mut Turn) -> Role
     ensures left { Spent 6 3 turn.old turn.new }
 {
     let due = is_due(&role, turn.knows, turn.machine, turn.moment);
-    let role = before(role, turn);
+    let role = reconcile(role, turn);
     if !due {
         return role;
     }
@@ -61,7 +61,7 @@ fn finds_ended(role: &Role, state: State) -> bool
     }
 }
 
-fn is_overdue(now: Ticks, waited: Option<Waited>) -> bool
+fn is_overdue(now: Ticks, waited: Option<PendingQuestion>) -> bool
     ensures { result ≡ is_overdue now waited }
 {
     match waited {
@@ -86,7 +86,7 @@ pub fn due_from(role: &Role, knows: &Knowledge, state: State) -> Ticks
     waits_until(knows.waited, knows.next_turn)
 }
 
-fn waits_until(waited: Option<Waited>, next_turn: Ticks) -> Ticks
+fn waits_until(waited: Option<PendingQuestion>, next_turn: Ticks) -> Ticks
     ensures { result ≡ waits_until waited next_turn }
 {
     match waited {
@@ -120,11 +120,11 @@ fn unanswered(question: Question, role: Role, turn: &mut Turn) -> Role
 {
     match question {
         Question::Reading | Question::Renewing => out_of_reach(role, turn),
-        Question::Asking => {
+        Question::ComparingPositions => {
             judge_if_racing(&role, turn);
             role
         }
-        Question::Checking => judge_if_leading(role, turn),
+        Question::FindingCandidate => judge_if_leading(role, turn),
         Question::Claiming => {
             turn.knows.waited = None;
             claim_fails(role, turn)
@@ -150,9 +150,9 @@ fn out_of_reach(role: Role, turn: &mut Turn) -> Role
     }
     match role {
         Role::Leader(writer) => turn.lose(writer, Reason::StoreOutOfReach),
-        Role::Stray => {
+        Role::Unleased => {
             turn.end_server(Reason::StoreOutOfReach);
-            Role::Stray
+            Role::Unleased
         }
         role => role,
     }
@@ -179,7 +179,7 @@ fn turn_begins(role: &Role, turn: &mut Turn)
     turn.knows.next_turn = turn.moment + turn.knows.settings.loop_wait_ticks();
     match role {
         Role::Ending(_, _) => {}
-        Role::Stray if is_stopping(turn.machine.server.state) => {}
+        Role::Unleased if is_stopping(turn.machine.server.state) => {}
         _ => read(turn),
     }
 }

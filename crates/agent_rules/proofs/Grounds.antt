@@ -27,7 +27,7 @@ use Rattle.leader_key.specs.Watchdog.{is_armable, timeout_of}
 use Rattle.agent_model.specs.declared.heard.Heard.{Heard}
 use Rattle.agent_model.specs.declared.heard.Heard.TheVariants as heards
 use Rattle.agent_model.specs.declared.knowledge.Knowledge.{Knowledge}
-use Rattle.agent_model.specs.declared.knowledge.Waited.{Waited}
+use Rattle.agent_model.specs.declared.knowledge.PendingQuestion.{PendingQuestion}
 use Rattle.agent_model.specs.declared.machine.Machine.{Machine}
 use Rattle.agent_model.specs.declared.operating.Told.{Told}
 use Rattle.agent_model.specs.declared.output.Output.{Output}
@@ -37,20 +37,20 @@ use Rattle.agent_model.specs.declared.who.Who.{Who}
 use Rattle.agent_model.specs.declared.why.Why.{Why}
 use Rattle.agent_model.specs.declared.why.Why.TheVariants.{HandOver, Lost}
 use Rattle.agent_model.specs.Acting.{arming, requiring, feeding, armed, fed_until, deadline_after, disarmed, ending_server, starting_replica, following_server, is_refusing, shutting_down, touching, waiting_no_more}
-use Rattle.agent_model.specs.Agents.{RoleFacts, Follower, Holder, Ready, Leader, Ending, Stray, Outcome, EndsAlone, IsSoundAgent, made}
+use Rattle.agent_model.specs.Agents.{RoleFacts, Follower, Holder, Ready, Leader, Ending, Unleased, Outcome, EndsAlone, IsSoundAgent, outcome_from}
 use Rattle.agent_model.specs.Answers.{is_other, asking_one, asking_first}
-use Rattle.agent_model.specs.Before.{has_ended, before}
+use Rattle.agent_model.specs.Reconciling.{has_ended, reconciled}
 use Rattle.agent_model.specs.Claiming.{begins, begins_or_claims, claims, passing, postpones}
-use Rattle.agent_model.specs.Decisions.{arms, gives_back, granted, has_primary, is_decision, is_lease_of, may_create, may_take, refused, stray_renewed, takes_key, takes_key_in_pause, takes_over, leader_renewed}
+use Rattle.agent_model.specs.Decisions.{arms, gives_back, granted, has_primary, is_decision, is_lease_of, may_create, may_take, refused, unleased_renewed, takes_key, takes_key_in_pause, takes_over, leader_renewed}
 use Rattle.agent_model.specs.HandingOver.{asking_whom}
 use Rattle.agent_model.specs.Operators.{given_up, learned, looked, operated, restarting, telling, wiping}
-use Rattle.agent_model.specs.Outputs.{listed}
-use Rattle.agent_model.specs.Pausing.{is_paused, is_wanted, may_start_behind, rest_told, resting, running_without_key}
+use Rattle.agent_model.specs.Outputs.{with_output}
+use Rattle.agent_model.specs.Pausing.{is_paused, is_wanted, may_start_behind, disabling_told, disabling_watchdog, running_without_key}
 use Rattle.agent_model.specs.Peers.{answered, asked, awaits_others, keeping}
 use Rattle.agent_model.specs.Planning.{noting}
 use Rattle.agent_model.specs.Racing.{finds_free, judged, unheard}
 use Rattle.agent_model.specs.Repairs.{repairing}
-use Rattle.agent_model.specs.Snapshots.{asks_as_stray, follow_row, follows, got, informed, led_by_another, read_noted}
+use Rattle.agent_model.specs.Snapshots.{asks_as_unleased, follow_row, follows, read_answered, informed, led_by_another, read_noted}
 use Rattle.agent_model.specs.Synchronous.{expected_of, unnamed}
 use Rattle.agent_model.specs.Table.{step, granted_any, refused_any}
 use Rattle.agent_model.specs.Wake.{overdue, turn_noted, turned, woken}
@@ -73,11 +73,11 @@ module _ (now : Ticks) (heard : Heard) (b : Outcome) where
   Ground output = HasGround now heard b output
 
   -- the other members are waited for since a turn read that nobody leads
-  abbrev AsksSince : Option Waited → Type 0
+  abbrev AsksSince : Option PendingQuestion → Type 0
   AsksSince waited = awaits_others waited ≡ true → (awaits_others b.knows.waited ≡ true) ⊎ (HearsNoLeader heard × (may_create b.role ≡ true))
 
   -- outputs so far, the role behind them, and what is waited for: where a lease was given back there is none
-  record Sofar (outs : List Output) (role : RoleFacts) (waited : Option Waited) : Type 0 where
+  record Sofar (outs : List Output) (role : RoleFacts) (waited : Option PendingQuestion) : Type 0 where
     grounds : All Ground outs
     keeps : All KeepsLeases outs ⊎ (lease_of role ≡ None)
     asks : AsksSince waited
@@ -85,70 +85,70 @@ module _ (now : Ticks) (heard : Heard) (b : Outcome) where
   abbrev So : Outcome → Type 0
   So x = Sofar x.outputs x.role x.knows.waited
 
-  more : (outs : List Output) (role : RoleFacts) (waited : Option Waited) (output : Output) → Ground output → KeepsLeases output → Sofar outs role waited → Sofar (listed output outs) role waited
+  more : (outs : List Output) (role : RoleFacts) (waited : Option PendingQuestion) (output : Output) → Ground output → KeepsLeases output → Sofar outs role waited → Sofar (with_output output outs) role waited
   more outs role waited output ground keeps s = record {
     grounds = All-push Ground outs output s.grounds ground;
     keeps = elim s.keeps [ inl all ↦ inl (All-push KeepsLeases outs output all keeps) | inr none ↦ inr none ];
     asks = s.asks;
   }
 
-  waits : (outs : List Output) (role : RoleFacts) (was waited : Option Waited) → awaits_others waited ≡ false → Sofar outs role was → Sofar outs role waited
+  waits : (outs : List Output) (role : RoleFacts) (was waited : Option PendingQuestion) → awaits_others waited ≡ false → Sofar outs role was → Sofar outs role waited
   waits outs role was waited other s = record { grounds = s.grounds; keeps = s.keeps; asks = λ e. absurd (no-way (sym other ∙ e)) }
 
   -- without a lease from now on
-  without : (outs : List Output) (was role : RoleFacts) (waited : Option Waited) → lease_of role ≡ None → Sofar outs was waited → Sofar outs role waited
+  without : (outs : List Output) (was role : RoleFacts) (waited : Option PendingQuestion) → lease_of role ≡ None → Sofar outs was waited → Sofar outs role waited
   without outs was role waited none s = record { grounds = s.grounds; keeps = inr none; asks = s.asks }
 
   -- who has a lease gave none back
-  kept-by : (outs : List Output) (role : RoleFacts) (waited : Option Waited) (revision : ℕ) → lease_of role ≡ Some revision → Sofar outs role waited → All KeepsLeases outs
+  kept-by : (outs : List Output) (role : RoleFacts) (waited : Option PendingQuestion) (revision : ℕ) → lease_of role ≡ Some revision → Sofar outs role waited → All KeepsLeases outs
   kept-by outs role waited revision has s = elim s.keeps [ inl all ↦ all | inr none ↦ absurd (none-some revision (sym none ∙ has)) ]
 
-  with-role : (outs : List Output) (was role : RoleFacts) (waited : Option Waited) → All KeepsLeases outs → Sofar outs was waited → Sofar outs role waited
+  with-role : (outs : List Output) (was role : RoleFacts) (waited : Option PendingQuestion) → All KeepsLeases outs → Sofar outs was waited → Sofar outs role waited
   with-role outs was role waited all s = record { grounds = s.grounds; keeps = inl all; asks = s.asks }
 
-  from-lease : (outs : List Output) (was role : RoleFacts) (waited : Option Waited) (revision : ℕ) → lease_of was ≡ Some revision → Sofar outs was waited → Sofar outs role waited
+  from-lease : (outs : List Output) (was role : RoleFacts) (waited : Option PendingQuestion) (revision : ℕ) → lease_of was ≡ Some revision → Sofar outs was waited → Sofar outs role waited
   from-lease outs was role waited revision has s = with-role outs was role waited (kept-by outs was waited revision has s) s
 
   quiet : (x : Outcome) → So x → So (waiting_no_more x)
   quiet x s = waits x.outputs x.role x.knows.waited None refl s
 
-  disarm-so : (outs : List Output) (role : RoleFacts) (waited : Option Waited) (deadline : Option Ticks) → Sofar outs role waited → Sofar (disarmed deadline outs) role waited
+  disarm-so : (outs : List Output) (role : RoleFacts) (waited : Option PendingQuestion) (deadline : Option Ticks) → Sofar outs role waited → Sofar (disarmed deadline outs) role waited
   disarm-so outs role waited None s = s
   disarm-so outs role waited (Some deadline) s = more outs role waited outputs.Disarmed tt tt s
 
-  arm-so : (outs : List Output) (role : RoleFacts) (waited : Option Waited) (until : Ticks) (armable : Bool) → (armable ≡ true → is_armable b.machine.watchdog.mode b.machine.watchdog.works ≡ true)
+  arm-so : (outs : List Output) (role : RoleFacts) (waited : Option PendingQuestion) (until : Ticks) (armable : Bool) → (armable ≡ true → is_armable b.machine.watchdog.mode b.machine.watchdog.works ≡ true)
       → Sofar outs role waited → Sofar (armed (if armable then Some until else None) outs) role waited
   arm-so outs role waited until true is s = more outs role waited (outputs.Armed until) (is refl) tt s
   arm-so outs role waited until false is s = s
 
-  feed-so : (outs : List Output) (role : RoleFacts) (waited : Option Waited) (until : Ticks) (armable : Bool) → (armable ≡ true → is_armable b.machine.watchdog.mode b.machine.watchdog.works ≡ true)
+  feed-so : (outs : List Output) (role : RoleFacts) (waited : Option PendingQuestion) (until : Ticks) (armable : Bool) → (armable ≡ true → is_armable b.machine.watchdog.mode b.machine.watchdog.works ≡ true)
       → Sofar outs role waited → Sofar (fed_until (if armable then Some until else None) outs) role waited
   feed-so outs role waited until true is s = more outs role waited (outputs.Fed until) (is refl) tt s
   feed-so outs role waited until false is s = s
 
-  rest-so : (outs : List Output) (role : RoleFacts) (waited : Option Waited) (renews : Bool) (deadline : Option Ticks) → Sofar outs role waited → Sofar (rest_told renews deadline outs) role waited
+  rest-so : (outs : List Output) (role : RoleFacts) (waited : Option PendingQuestion) (renews : Bool) (deadline : Option Ticks) → Sofar outs role waited → Sofar (disabling_told renews deadline outs) role waited
   rest-so outs role waited renews None s = s
-  rest-so outs role waited true (Some deadline) s = more (listed outputs.Disarmed outs) role waited outputs.DisablesWatchdog tt tt (more outs role waited outputs.Disarmed tt tt s)
+  rest-so outs role waited true (Some deadline) s = more (with_output outputs.Disarmed outs) role waited outputs.DisablesWatchdog tt tt (more outs role waited outputs.Disarmed tt tt s)
   rest-so outs role waited false (Some deadline) s = more outs role waited outputs.Disarmed tt tt s
 
   touch-so : (x : Outcome) → So x → So (touching x)
   touch-so x s = more x.outputs x.role x.knows.waited _ tt tt s
 
-  end-so : (reason : Reason) (x : Outcome) → So x → Sofar (listed (outputs.Stop reason) x.outputs) x.role x.knows.waited
+  end-so : (reason : Reason) (x : Outcome) → So x → Sofar (with_output (outputs.Stop reason) x.outputs) x.role x.knows.waited
   end-so reason x s = more x.outputs x.role x.knows.waited (outputs.Stop reason) tt tt s
 
   -- asks of other members
-  ask-so : (who : Who) (sequence : ℕ) (member : Option MemberId) (outs : List Output) (role : RoleFacts) (waited : Option Waited) → Sofar outs role waited → Sofar (asking_one who sequence member outs) role waited
+  ask-so : (who : Who) (sequence : ℕ) (member : Option MemberId) (outs : List Output) (role : RoleFacts) (waited : Option PendingQuestion) → Sofar outs role waited → Sofar (asking_one who sequence member outs) role waited
   ask-so who sequence None outs role waited s = s
   ask-so who sequence (Some member) outs role waited s =
-      if-cases (λ (l : List Output). Sofar l role waited) (is_other who member) (listed (outputs.Send (targets.Member member) sequence bodies.Ask) outs) outs
+      if-cases (λ (l : List Output). Sofar l role waited) (is_other who member) (with_output (outputs.Send (targets.Member member) sequence bodies.Ask) outs) outs
       (λ _. more outs role waited (outputs.Send (targets.Member member) sequence bodies.Ask) tt tt s) (λ _. s)
 
-  asks-so : (who : Who) (sequence count : ℕ) (outs : List Output) (role : RoleFacts) (waited : Option Waited) → Sofar outs role waited → Sofar (asking_first who sequence count outs) role waited
+  asks-so : (who : Who) (sequence count : ℕ) (outs : List Output) (role : RoleFacts) (waited : Option PendingQuestion) → Sofar outs role waited → Sofar (asking_first who sequence count outs) role waited
   asks-so who sequence zero outs role waited s = s
   asks-so who sequence (suc count) outs role waited s = ask-so who sequence (member_of count) (asking_first who sequence count outs) role waited (asks-so who sequence count outs role waited s)
 
-  whom-so : (who : Who) (candidate : Option MemberId) (sequence : ℕ) (outs : List Output) (role : RoleFacts) (waited : Option Waited) → Sofar outs role waited → Sofar (asking_whom who candidate sequence outs) role waited
+  whom-so : (who : Who) (candidate : Option MemberId) (sequence : ℕ) (outs : List Output) (role : RoleFacts) (waited : Option PendingQuestion) → Sofar outs role waited → Sofar (asking_whom who candidate sequence outs) role waited
   whom-so who None sequence outs role waited s = asks-so who sequence MOST_MEMBERS outs role waited s
   whom-so who (Some candidate) sequence outs role waited s = ask-so who sequence (Some candidate) outs role waited s
 
@@ -156,7 +156,7 @@ module _ (now : Ticks) (heard : Heard) (b : Outcome) where
   judged-so : (x : Outcome) → CreateGround heard b → So x → So (judged now x)
   judged-so x may s = judged-by So now x
       (waits _ x.role None _ refl (more x.outputs x.role None _ may tt (quiet x s)))
-      (λ bar. touch-so (record (waiting_no_more x) { outputs = listed (outputs.DoesNotRace bar) x.outputs }) (more x.outputs x.role None (outputs.DoesNotRace bar) tt tt (quiet x s)))
+      (λ bar. touch-so (record (waiting_no_more x) { outputs = with_output (outputs.DoesNotRace bar) x.outputs }) (more x.outputs x.role None (outputs.DoesNotRace bar) tt tt (quiet x s)))
 
   -- a leader hands over
   handover-so : (revision : ℕ) (x : Outcome) → All KeepsLeases x.outputs → So x → HandoverRows So now revision x
@@ -164,9 +164,9 @@ module _ (now : Ticks) (heard : Heard) (b : Outcome) where
     kept = quiet x s;
     clears = λ compared. more x.outputs x.role None _ tt tt (quiet x s);
     hands = λ candidate.
-        let told : List Output = listed (outputs.HandsOver candidate) x.outputs in
+        let told : List Output = with_output (outputs.HandsOver candidate) x.outputs in
         let again : All KeepsLeases told = All-push KeepsLeases x.outputs (outputs.HandsOver candidate) all tt in
-        with-role (listed outputs.ShutDown told) x.role (Ending revision HandOver) None (All-push KeepsLeases told outputs.ShutDown again tt)
+        with-role (with_output outputs.ShutDown told) x.role (Ending revision HandOver) None (All-push KeepsLeases told outputs.ShutDown again tt)
         (more told x.role None outputs.ShutDown tt tt (more x.outputs x.role None (outputs.HandsOver candidate) tt tt (quiet x s)));
   }
 
@@ -176,14 +176,14 @@ module _ (now : Ticks) (heard : Heard) (b : Outcome) where
   postpone-so : (held : ℕ) (x : Outcome) → lease_of x.role ≡ Some held → So x → So (postpones held x)
   postpone-so held x has s =
       let outs : List Output = disarmed x.machine.watchdog.deadline x.outputs in
-      from-lease (listed outputs.PostponesPromotion outs) x.role (Holder held) x.knows.waited held has
+      from-lease (with_output outputs.PostponesPromotion outs) x.role (Holder held) x.knows.waited held has
       (more outs x.role x.knows.waited outputs.PostponesPromotion tt tt (disarm-so x.outputs x.role x.knows.waited x.machine.watchdog.deadline s))
 
   begin-so : (revision : ℕ) (x : Outcome) → Ground outputs.Begin → All KeepsLeases x.outputs → So x → So (begins now revision x)
   begin-so revision x may all s =
       let required : Output = outputs.Require (unnamed x.knows.turn_settings) in
-      let outs : List Output = listed required x.outputs in
-      with-role (listed outputs.Begin outs) x.role (Leader revision) x.knows.waited (All-push KeepsLeases outs outputs.Begin (All-push KeepsLeases x.outputs required all tt) tt)
+      let outs : List Output = with_output required x.outputs in
+      with-role (with_output outputs.Begin outs) x.role (Leader revision) x.knows.waited (All-push KeepsLeases outs outputs.Begin (All-push KeepsLeases x.outputs required all tt) tt)
       (more outs x.role x.knows.waited outputs.Begin may tt (more x.outputs x.role x.knows.waited required tt tt s))
 
   follow-so : (x : Outcome) (leader : MemberId) → x.machine ≡ b.machine → So x → So (follows now leader x)
@@ -204,7 +204,7 @@ module _ (now : Ticks) (heard : Heard) (b : Outcome) where
       free-by So now y (record {
         starts = touch-so (starting_replica now None y) (more x.outputs Follower x.knows.waited (outputs.StartReplica None) tt tt z);
         touches = touch-so y z;
-        bars = λ bar. touch-so (record y { outputs = listed (outputs.DoesNotRace bar) y.outputs }) (more x.outputs Follower x.knows.waited (outputs.DoesNotRace bar) tt tt z);
+        bars = λ bar. touch-so (record y { outputs = with_output (outputs.DoesNotRace bar) y.outputs }) (more x.outputs Follower x.knows.waited (outputs.DoesNotRace bar) tt tt z);
         judges = judged-so (unheard y) (Finds free may) z;
         asks = record { grounds = (asks-so x.knows.who (x.knows.sequence + 1) MOST_MEMBERS x.outputs Follower x.knows.waited z).grounds; keeps = inr refl; asks = λ e. inr (free, may) };
       })
@@ -248,7 +248,7 @@ module _ (now : Ticks) (heard : Heard) (b : Outcome) where
     kept = s;
     quiet = quiet x s;
     leader = λ held is _. from-lease _ x.role (Ending held Lost) None held (rw is refl) (end-so _ (waiting_no_more x) (quiet x s));
-    stray = λ _ _. end-so _ (waiting_no_more x) (quiet x s);
+    unleased = λ _ _. end-so _ (waiting_no_more x) (quiet x s);
     judges = λ asked may. judged-so x (creates x like asked may) s;
     ready = λ held is. postpone-so held (waiting_no_more x) (rw is refl) (quiet x s);
     checks = λ held is. handover-so held x (kept-by x.outputs x.role x.knows.waited held (rw is refl) s) s;
@@ -271,17 +271,17 @@ module _ (now : Ticks) (heard : Heard) (b : Outcome) where
     kept = s;
     quiet = quiet x s;
     leader = λ held is _. from-lease _ x.role (Ending held Lost) None held (rw is refl) (end-so _ (waiting_no_more x) (quiet x s));
-    stray = λ _ _. end-so _ (waiting_no_more x) (quiet x s);
+    unleased = λ _ _. end-so _ (waiting_no_more x) (quiet x s);
     follower = λ held _. without x.outputs x.role Follower None refl (quiet x s);
     ready = λ held is. postpone-so held (waiting_no_more x) (rw is refl) (quiet x s);
-    runs_on = λ _. without _ x.role Stray None refl (more x.outputs x.role None outputs.RunsWithoutKey tt tt (quiet x s));
+    runs_on = λ _. without _ x.role Unleased None refl (more x.outputs x.role None outputs.RunsWithoutKey tt tt (quiet x s));
   })
 
   -- ---- the answer to a read
   paused-by : (x : Outcome) (snapshot : SnapshotFacts) → Like x → is_paused (read_noted now snapshot x.knows) ≡ true → is_paused (informed snapshot b.knows) ≡ true
   paused-by x snapshot like paused = ap (λ (c : Config). (settings_in c snapshot).pause) (sym like.settings) ∙ paused
 
-  got-so : (points : List HistoryPoint) (sequence : ℕ) (snapshot : SnapshotFacts) (x : Outcome) → heard ≡ heards.Got sequence snapshot → Like x → So x → So (got now points sequence snapshot x)
+  got-so : (points : List HistoryPoint) (sequence : ℕ) (snapshot : SnapshotFacts) (x : Outcome) → heard ≡ heards.ReadAnswered sequence snapshot → Like x → So x → So (read_answered now points sequence snapshot x)
   got-so points sequence snapshot x is like s =
       let read : Outcome = record x { knows = read_noted now snapshot x.knows } in
       let r : So read = quiet x s in
@@ -291,15 +291,15 @@ module _ (now : Ticks) (heard : Heard) (b : Outcome) where
         quiet = r;
         other = r;
         leader = λ held role _. from-lease _ x.role (Ending held Lost) None held (rw role refl) (end-so _ read r);
-        stray = λ _ _. end-so _ read r;
+        unleased = λ _ _. end-so _ read r;
         renews = λ _ leader _ _. waits _ x.role None _ refl (more x.outputs x.role None _ tt tt r);
         touches = touch-so read r;
         follows = λ leader _ _. follow-so read leader.holder like.machine r;
         free = λ none may. free-so read (free none) (ap may_create (sym like.role) ∙ may) r;
-        runs_on = λ _. without _ x.role Stray None refl (more x.outputs x.role None outputs.RunsWithoutKey tt tt r);
+        runs_on = λ _. without _ x.role Unleased None refl (more x.outputs x.role None outputs.RunsWithoutKey tt tt r);
         asks_on = λ none primary paused.
-            let runs : So (running_without_key read) = without _ x.role Stray None refl (more x.outputs x.role None outputs.RunsWithoutKey tt tt r) in
-            waits _ Stray None _ refl (more (listed outputs.RunsWithoutKey x.outputs) Stray None _ (RunsOn (free none) (ap has_primary (sym like.role) ∙ primary) (paused-by x snapshot like paused)) tt runs);
+            let runs : So (running_without_key read) = without _ x.role Unleased None refl (more x.outputs x.role None outputs.RunsWithoutKey tt tt r) in
+            waits _ Unleased None _ refl (more (with_output outputs.RunsWithoutKey x.outputs) Unleased None _ (RunsOn (free none) (ap has_primary (sym like.role) ∙ primary) (paused-by x snapshot like paused)) tt runs);
       })
 
   -- ---- a grant
@@ -307,9 +307,9 @@ module _ (now : Ticks) (heard : Heard) (b : Outcome) where
   armed-keeps outs None all = all
   armed-keeps outs (Some until) all = All-push KeepsLeases outs (outputs.Armed until) all tt
 
-  rest-keeps : (outs : List Output) (renews : Bool) (deadline : Option Ticks) → All KeepsLeases outs → All KeepsLeases (rest_told renews deadline outs)
+  rest-keeps : (outs : List Output) (renews : Bool) (deadline : Option Ticks) → All KeepsLeases outs → All KeepsLeases (disabling_told renews deadline outs)
   rest-keeps outs renews None all = all
-  rest-keeps outs true (Some deadline) all = All-push KeepsLeases (listed outputs.Disarmed outs) outputs.DisablesWatchdog (All-push KeepsLeases outs outputs.Disarmed all tt) tt
+  rest-keeps outs true (Some deadline) all = All-push KeepsLeases (with_output outputs.Disarmed outs) outputs.DisablesWatchdog (All-push KeepsLeases outs outputs.Disarmed all tt) tt
   rest-keeps outs false (Some deadline) all = All-push KeepsLeases outs outputs.Disarmed all tt
 
   -- where one is waited for, nothing was given back before
@@ -322,8 +322,8 @@ module _ (now : Ticks) (heard : Heard) (b : Outcome) where
       let leads : So led = with-role led.outputs x.role (Leader revision) x.knows.waited all fed in
       renewed-by So now ttl revision x (from-lease _ (Leader revision) (Ending revision HandOver) x.knows.waited revision refl (end-so StartTooLong led leads)) (duty-so revision led all leads)
 
-  stray-so : (ttl : Ticks) (revision : ℕ) (x : Outcome) → x.machine ≡ b.machine → All KeepsLeases x.outputs → So x → So (stray_renewed now ttl revision x)
-  stray-so ttl revision x same all s =
+  unleased-so : (ttl : Ticks) (revision : ℕ) (x : Outcome) → x.machine ≡ b.machine → All KeepsLeases x.outputs → So x → So (unleased_renewed now ttl revision x)
+  unleased-so ttl revision x same all s =
       if-cases So (is_refusing x.machine.watchdog.mode x.machine.watchdog.works) (ending_server now WatchdogNotArmed x) (takes_over now revision (arming now ttl x))
       (λ _. end-so WatchdogNotArmed x s)
       (λ _. with-role (arming now ttl x).outputs x.role (Leader revision) x.knows.waited (armed-keeps x.outputs (deadline_after now ttl x.machine.watchdog) all)
@@ -338,7 +338,7 @@ module _ (now : Ticks) (heard : Heard) (b : Outcome) where
       if-cases So x.knows.turn_settings.synchronous_mode (claims now revision (passing x)) (begins now revision x)
       (λ on. let y : Outcome = passing x in
       let both : Sofar y.outputs x.role x.knows.waited × All KeepsLeases y.outputs =
-      passing-by (λ (outs : List Output). Sofar outs x.role x.knows.waited × All KeepsLeases outs) x (s, all) (more x.outputs x.role x.knows.waited outputs.Passes tt tt s, All-push KeepsLeases x.outputs outputs.Passes all tt) in
+      passing-by (λ (outs : List Output). Sofar outs x.role x.knows.waited × All KeepsLeases outs) x (s, all) (more x.outputs x.role x.knows.waited outputs.ClaimsOutsideSync tt tt s, All-push KeepsLeases x.outputs outputs.ClaimsOutsideSync all tt) in
       with-role (claims now revision y).outputs x.role (Ready revision) _ (All-push KeepsLeases y.outputs _ both.1 tt)
       (waits _ x.role x.knows.waited _ refl (more y.outputs x.role x.knows.waited _ (takes, ap (λ (c : Config). c.synchronous_mode) (sym settings) ∙ on, ap expected_of sync) tt both.0)))
       (λ off. begin-so revision x (Takes revision takes (ap (λ (c : Config). c.synchronous_mode) (sym settings) ∙ off)) all s)
@@ -351,8 +351,8 @@ module _ (now : Ticks) (heard : Heard) (b : Outcome) where
     takes-so ttl decides unpaused all s =
         let r : So Heard_so = quiet b s in
         if-cases So (may_take now (informed snapshot b.knows) b.machine) (arms now ttl grant.revision Heard_so) (gives_back grant.revision Heard_so)
-        (λ may. if-cases So (is_refusing b.machine.watchdog.mode b.machine.watchdog.works) (gives_back grant.revision (record Heard_so { outputs = listed outputs.CannotArm b.outputs })) (begins_or_claims now grant.revision (arming now ttl Heard_so))
-        (λ _. gives-so grant.revision (record Heard_so { outputs = listed outputs.CannotArm b.outputs }) (more b.outputs b.role None outputs.CannotArm tt tt r))
+        (λ may. if-cases So (is_refusing b.machine.watchdog.mode b.machine.watchdog.works) (gives_back grant.revision (record Heard_so { outputs = with_output outputs.CannotArm b.outputs })) (begins_or_claims now grant.revision (arming now ttl Heard_so))
+        (λ _. gives-so grant.revision (record Heard_so { outputs = with_output outputs.CannotArm b.outputs }) (more b.outputs b.role None outputs.CannotArm tt tt r))
         (λ works. begins-or-claims-so grant.revision (arming now ttl Heard_so)
         (subst (λ (h : Heard). TakeGround now h b grant.revision) (sym is) (may-take now sequence grant snapshot b decides may (λ _. works) (λ paused. absurd (no-way (sym unpaused ∙ paused))))) refl refl
         (armed-keeps b.outputs (deadline_after now ttl b.machine.watchdog) all)
@@ -362,8 +362,8 @@ module _ (now : Ticks) (heard : Heard) (b : Outcome) where
     takes-resting-so : (renews : Bool) → Decides sequence grant b → is_paused (informed snapshot b.knows) ≡ true → All KeepsLeases b.outputs → So b → So (takes_key_in_pause now renews grant.revision Heard_so)
     takes-resting-so renews decides paused all s =
         let r : So Heard_so = quiet b s in
-        if-cases So (is_wanted b.knows.who.me b.knows.turn_failover b.machine.server.state && may_take now (informed snapshot b.knows) b.machine) (begins_or_claims now grant.revision (resting renews Heard_so)) (gives_back grant.revision Heard_so)
-        (λ both. begins-or-claims-so grant.revision (resting renews Heard_so)
+        if-cases So (is_wanted b.knows.who.me b.knows.turn_failover b.machine.server.state && may_take now (informed snapshot b.knows) b.machine) (begins_or_claims now grant.revision (disabling_watchdog renews Heard_so)) (gives_back grant.revision Heard_so)
+        (λ both. begins-or-claims-so grant.revision (disabling_watchdog renews Heard_so)
         (subst (λ (h : Heard). TakeGround now h b grant.revision) (sym is)
         (may-take now sequence grant snapshot b decides (second-true (is_wanted b.knows.who.me b.knows.turn_failover b.machine.server.state) _ both) (λ unpaused. absurd (no-way (sym unpaused ∙ paused)))
         (λ _. first-true (is_wanted b.knows.who.me b.knows.turn_failover b.machine.server.state) _ both))) refl refl
@@ -374,18 +374,18 @@ module _ (now : Ticks) (heard : Heard) (b : Outcome) where
     granted-so : (All KeepsLeases b.outputs ⊎ (b.knows.waited ≡ None)) → So b → So (granted now sequence grant snapshot b)
     granted-so fresh s =
         let r : So Heard_so = quiet b s in
-        let front : (asked : Waited) → b.knows.waited ≡ Some asked → All KeepsLeases b.outputs = λ asked waits. elim fresh [ inl all ↦ all | inr none ↦ absurd (none-some asked (sym none ∙ waits)) ] in
+        let front : (asked : PendingQuestion) → b.knows.waited ≡ Some asked → All KeepsLeases b.outputs = λ asked waits. elim fresh [ inl all ↦ all | inr none ↦ absurd (none-some asked (sym none ∙ waits)) ] in
         granted-when So now sequence grant snapshot b s (quiet b s)
         (λ asked waited decision. let all : All KeepsLeases b.outputs = front asked waited in record {
           other = r;
           leader = λ held _ role. renewed-so asked.ttl grant.revision held Heard_so refl (rw role refl) r;
-          stray = λ _ _. stray-so asked.ttl grant.revision Heard_so refl all r;
+          unleased = λ _ _. unleased-so asked.ttl grant.revision Heard_so refl all r;
           takes = λ unpaused may. takes-so asked.ttl (record { asked = asked; is = waited; decision = decision; role = may }) unpaused all s;
           rests = λ renews _ held _.
               let led : Outcome = rested_on renews grant.revision Heard_so in
               let rested : All KeepsLeases led.outputs = rest-keeps b.outputs renews b.machine.watchdog.deadline all in
               duties-of So now grant.revision led (duty-so grant.revision led rested (with-role led.outputs b.role (Leader grant.revision) None rested (rest-so b.outputs b.role None renews b.machine.watchdog.deadline r)));
-          stray_rests = λ renews _ _. with-role _ b.role (Leader grant.revision) None (rest-keeps b.outputs renews b.machine.watchdog.deadline all) (rest-so b.outputs b.role None renews b.machine.watchdog.deadline r);
+          unleased_rests = λ renews _ _. with-role _ b.role (Leader grant.revision) None (rest-keeps b.outputs renews b.machine.watchdog.deadline all) (rest-so b.outputs b.role None renews b.machine.watchdog.deadline r);
           takes_resting = λ renews paused may. takes-resting-so renews (record { asked = asked; is = waited; decision = decision; role = may }) paused all s;
         })
         (record {
@@ -435,7 +435,7 @@ ended-grounds : (now : Ticks) (heard : Heard) (b : Outcome) (why : Why) (held : 
 ended-grounds now heard b HandOver held o all = All-push (HasGround now heard b) _ _ (disarmed-all (HasGround now heard b) tt o.machine.watchdog.deadline o.outputs all) tt
 ended-grounds now heard b Lost held o all = disarmed-all (HasGround now heard b) tt o.machine.watchdog.deadline o.outputs all
 
-before-grounds : (now : Ticks) (heard : Heard) (b o : Outcome) → All (HasGround now heard b) o.outputs → All (HasGround now heard b) (before now o).outputs
+before-grounds : (now : Ticks) (heard : Heard) (b o : Outcome) → All (HasGround now heard b) o.outputs → All (HasGround now heard b) (reconciled now o).outputs
 before-grounds now heard b o all =
     let rest : All (HasGround now heard b) (disarmed o.machine.watchdog.deadline o.outputs) = disarmed-all (HasGround now heard b) tt o.machine.watchdog.deadline o.outputs all in
     before-by (λ (x : Outcome). All (HasGround now heard b) x.outputs) now o (record {
@@ -445,14 +445,14 @@ before-grounds now heard b o all =
       follower = λ _ _. all;
       holder = λ held _ _. all;
       ready = λ held _ _. rest;
-      stray = λ _ _. rest;
+      unleased = λ _ _. rest;
     })
 
 ended-fresh : (why : Why) (held : ℕ) (o : Outcome) → o.knows.waited ≡ None → All KeepsLeases o.outputs → Fresh (has_ended why held o)
 ended-fresh HandOver held o none all = inr (refl, none)
 ended-fresh Lost held o none all = inl (disarmed-all KeepsLeases tt o.machine.watchdog.deadline o.outputs all)
 
-before-fresh : (now : Ticks) (o : Outcome) → EndsAlone o.role o.knows.waited → All KeepsLeases o.outputs → Fresh (before now o)
+before-fresh : (now : Ticks) (o : Outcome) → EndsAlone o.role o.knows.waited → All KeepsLeases o.outputs → Fresh (reconciled now o)
 before-fresh now o alone all =
     let rest : All KeepsLeases (disarmed o.machine.watchdog.deadline o.outputs) = disarmed-all KeepsLeases tt o.machine.watchdog.deadline o.outputs all in
     before-by Fresh now o (record {
@@ -462,7 +462,7 @@ before-fresh now o alone all =
       follower = λ _ _. inl all;
       holder = λ held _ _. inl all;
       ready = λ held _ _. inl rest;
-      stray = λ _ _. inl rest;
+      unleased = λ _ _. inl rest;
     })
 
 -- a wipe leaves a live server as it is
@@ -474,10 +474,10 @@ operated-wipes now request asked b is lives = ap (λ (a : OperatorRequest). (ope
 
 module _ (now : Ticks) (points : List HistoryPoint) (role : RoleFacts) (knows : Knowledge) (machine : Machine) (sound : IsSoundAgent role knows) where
   abbrev Start : Outcome
-  Start = made role knows machine []
+  Start = outcome_from role knows machine []
 
   abbrev First : Outcome
-  First = before now Start
+  First = reconciled now Start
 
   fresh : Fresh First
   fresh = before-fresh now Start sound.ends (All-nil KeepsLeases)
@@ -497,9 +497,9 @@ module _ (now : Ticks) (points : List HistoryPoint) (role : RoleFacts) (knows : 
       wake-by (So now heards.Wake First) now Start s
       (turn-so now heards.Wake First (overdue now told) (overdue-so now heards.Wake First told (given-up-by (Like now heards.Wake First) now First (told-like now heards.Wake First)) t))
 
-  read-so : (sequence : ℕ) (snapshot : SnapshotFacts) → So now (heards.Got sequence snapshot) First (got now points sequence snapshot (looked sequence snapshot First))
+  read-so : (sequence : ℕ) (snapshot : SnapshotFacts) → So now (heards.ReadAnswered sequence snapshot) First (read_answered now points sequence snapshot (looked sequence snapshot First))
   read-so sequence snapshot =
-      let heard : Heard = heards.Got sequence snapshot in
+      let heard : Heard = heards.ReadAnswered sequence snapshot in
       got-so now heard First points sequence snapshot (looked sequence snapshot First) refl (looked-by (Like now heard First) sequence snapshot First (told-like now heard First))
       (looked-by (So now heard First) sequence snapshot First (reply-so now heard First First (first-so heard)))
 
@@ -512,14 +512,14 @@ module _ (now : Ticks) (points : List HistoryPoint) (role : RoleFacts) (knows : 
 
   pub input-has-grounds-of : (heard : Heard) → HasGrounds now heard First (step now points heard Start)
   input-has-grounds-of heards.Wake = unwiped now heards.Wake First _ (λ e. e) woken-so
-  input-has-grounds-of (heards.Got sequence snapshot) = unwiped now (heards.Got sequence snapshot) First _ (λ e. e) (read-so sequence snapshot)
+  input-has-grounds-of (heards.ReadAnswered sequence snapshot) = unwiped now (heards.ReadAnswered sequence snapshot) First _ (λ e. e) (read-so sequence snapshot)
   input-has-grounds-of (heards.Granted sequence grant snapshot) = unwiped now (heards.Granted sequence grant snapshot) First _ (λ e. e) (grant-so sequence grant snapshot)
   input-has-grounds-of (heards.Mismatch sequence key found) =
       let heard : Heard = heards.Mismatch sequence key found in
       unwiped now heard First _ (λ e. e)
       (refused-any-by (So now heard First) now sequence First (reply-so now heard First First (first-so heard)) (refused-so now heard First sequence First (first-so heard)))
-  input-has-grounds-of (heards.Asked from run sequence) =
-      let heard : Heard = heards.Asked from run sequence in unwiped now heard First _ (λ e. e) (more now heard First First.outputs First.role First.knows.waited _ tt tt (first-so heard))
+  input-has-grounds-of (heards.Asked from incarnation sequence) =
+      let heard : Heard = heards.Asked from incarnation sequence in unwiped now heard First _ (λ e. e) (more now heard First First.outputs First.role First.knows.waited _ tt tt (first-so heard))
   input-has-grounds-of (heards.Answered sequence answer) =
       let heard : Heard = heards.Answered sequence answer in unwiped now heard First _ (λ e. e) (answered-so now heard First sequence answer First (like-self now heard First) (first-so heard))
   input-has-grounds-of (heards.Operated action) =
@@ -529,11 +529,11 @@ module _ (now : Ticks) (points : List HistoryPoint) (role : RoleFacts) (knows : 
       grounds-of now heard First after s
       (λ wipes lives. operated-wipes now action.request action.asked First (All-contains (HasGround now heard First) after.outputs outputs.Wipe s.grounds wipes) lives)
 
-pub input-has-grounds : (now : Ticks) (points : List HistoryPoint) (heard : Heard) (role : RoleFacts) (knows : Knowledge) (machine : Machine) → IsSoundAgent role knows → HasGrounds now heard (before now (made role knows machine [])) (step now points heard (made role knows machine []))
+pub input-has-grounds : (now : Ticks) (points : List HistoryPoint) (heard : Heard) (role : RoleFacts) (knows : Knowledge) (machine : Machine) → IsSoundAgent role knows → HasGrounds now heard (reconciled now (outcome_from role knows machine [])) (step now points heard (outcome_from role knows machine []))
 input-has-grounds now points heard role knows machine sound = input-has-grounds-of now points role knows machine sound heard
 
 -- the same of what is made of an input, where no output stood before
-pub input-has-grounds-as : (now : Ticks) (points : List HistoryPoint) (heard : Heard) (role : RoleFacts) (knows : Knowledge) (machine : Machine) (outs : List Output) (after : Outcome) → after ≡ step now points heard (made role knows machine outs) → IsSoundAgent role knows
-    → outs ≡ [] → HasGrounds now heard (before now (made role knows machine [])) after
+pub input-has-grounds-as : (now : Ticks) (points : List HistoryPoint) (heard : Heard) (role : RoleFacts) (knows : Knowledge) (machine : Machine) (outs : List Output) (after : Outcome) → after ≡ step now points heard (outcome_from role knows machine outs) → IsSoundAgent role knows
+    → outs ≡ [] → HasGrounds now heard (reconciled now (outcome_from role knows machine [])) after
 input-has-grounds-as now points heard role knows machine outs after is sound none =
-    subst (λ (x : Outcome). HasGrounds now heard (before now (made role knows machine [])) x) (sym (is ∙ ap (λ (l : List Output). step now points heard (made role knows machine l)) none)) (input-has-grounds now points heard role knows machine sound)
+    subst (λ (x : Outcome). HasGrounds now heard (reconciled now (outcome_from role knows machine [])) x) (sym (is ∙ ap (λ (l : List Output). step now points heard (outcome_from role knows machine l)) none)) (input-has-grounds now points heard role knows machine sound)

@@ -19,7 +19,7 @@ use Rattle.leader_key.specs.declared.watchdog.Mode.TheVariants as modes
 use Rattle.agent_model.specs.declared.heard.Heard.TheVariants as heards
 use Rattle.agent_model.specs.declared.knowledge.Knowledge.{Knowledge}
 use Rattle.agent_model.specs.declared.knowledge.SyncRead.{SyncRead}
-use Rattle.agent_model.specs.declared.knowledge.Waited.{Waited}
+use Rattle.agent_model.specs.declared.knowledge.PendingQuestion.{PendingQuestion}
 use Rattle.agent_model.specs.declared.output.Repair.{Repair}
 use Rattle.agent_model.specs.declared.output.Repair.TheVariants.{Rewind, Clone}
 use Rattle.agent_model.specs.Acting.{is_hold_active, is_refusing}
@@ -87,7 +87,7 @@ replica (states.Stopping was_primary at) e = absurd (no-way e)
 
 -- what the grant of a lease that is waited for, to a follower or a holder, comes to by the tests of the table
 pub record Decides (sequence : ℕ) (grant : Granted) (o : Outcome) : Type 0 where
-  pub asked : Waited
+  pub asked : PendingQuestion
   pub is : o.knows.waited ≡ Some asked
   pub decision : is_decision asked sequence && is_lease_of o.knows.who.me grant ≡ true
   pub role : may_create o.role ≡ true

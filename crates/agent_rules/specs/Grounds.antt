@@ -38,7 +38,7 @@ use Rattle.agent_roles.specs.Powers.{IsAwaitedLease, lease_of}
 pub record HearsNoLeader (heard : Heard) : Type 0 where
   pub sequence : ℕ
   pub snapshot : SnapshotFacts
-  pub is : heard ≡ heards.Got sequence snapshot
+  pub is : heard ≡ heards.ReadAnswered sequence snapshot
   pub free : leader_in snapshot ≡ None
 
 -- who asks for the leader key: a follower, or a holder whose server has ended, when its turn reads that nobody leads, or when it judges what the

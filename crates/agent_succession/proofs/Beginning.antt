@@ -6,19 +6,19 @@ use Rattle.lease_store.specs.declared.granted.Granted.{Granted}
 use Rattle.wal_model.specs.declared.entry.HistoryPoint.{HistoryPoint}
 use Rattle.cluster_config.specs.Snapshots.{SnapshotFacts}
 use Rattle.agent_model.specs.declared.heard.Heard.{Heard}
-use Rattle.agent_model.specs.declared.heard.Heard.TheVariants.{Wake, Got, Granted as HeardGranted, Mismatch, Asked, Answered, Operated as HearsOperator}
+use Rattle.agent_model.specs.declared.heard.Heard.TheVariants.{Wake, ReadAnswered, Granted as HeardGranted, Mismatch, Asked, Answered, Operated as HearsOperator}
 use Rattle.agent_model.specs.declared.knowledge.Question.{Question}
-use Rattle.agent_model.specs.declared.knowledge.Question.TheVariants.{Reading, Asking, Creating, Renewing, Claiming, Syncing, Checking}
-use Rattle.agent_model.specs.declared.knowledge.Waited.{Waited}
+use Rattle.agent_model.specs.declared.knowledge.Question.TheVariants.{Reading, ComparingPositions, Creating, Renewing, Claiming, Syncing, FindingCandidate}
+use Rattle.agent_model.specs.declared.knowledge.PendingQuestion.{PendingQuestion}
 use Rattle.agent_model.specs.declared.knowledge.Knowledge.{Knowledge}
 use Rattle.agent_model.specs.declared.output.Output.TheVariants as outputs
 use Rattle.agent_model.specs.Acting.{arming, is_refusing, waiting_no_more}
-use Rattle.agent_model.specs.Agents.{RoleFacts, Follower, Holder, Ready, Leader, Ending, Stray, Outcome, is_ready}
-use Rattle.agent_model.specs.Before.{before}
+use Rattle.agent_model.specs.Agents.{RoleFacts, Follower, Holder, Ready, Leader, Ending, Unleased, Outcome, is_ready}
+use Rattle.agent_model.specs.Reconciling.{reconciled}
 use Rattle.agent_model.specs.Claiming.{begins, begins_or_claims, can_begin_on_claim, claims, passing, postpones}
 use Rattle.agent_model.specs.Decisions.{accepted_grant, accepted_sync, arms, asks_lease, asks_sync, belongs, gives_back, granted, granted_for, granted_write, is_decision, is_lease_of, is_sync_decision, is_write_of, lease_granted, may_create, may_take, sync_granted, takes_key, asks_in_pause, asks_renewal, granted_in_pause, lease_used}
 use Rattle.agent_succession.specs.FreeKey.{AsksWhereFree, AsksWhereWon, BeginsOn, ClaimsOn, IsAwaitedClaim, BeginsWhereGranted}
-use Rattle.agent_model.specs.Outputs.{listed}
+use Rattle.agent_model.specs.Outputs.{with_output}
 use Rattle.agent_roles.specs.Powers.{IsAwaitedLease}
 use Rattle.agent_model.specs.Snapshots.{informed}
 use Rattle.agent_model.specs.Operators.{looked, is_asked_for, awaits_number, grants_operator, operator_granted}
@@ -42,17 +42,17 @@ first-true false b e = absurd (no-way e)
 -- who may create the key may use either lease of it
 may-use : (question : Question) (role : RoleFacts) → asks_lease question ≡ true → may_create role ≡ true → belongs question role ≡ true
 may-use Reading role asks may = absurd (no-way asks)
-may-use Asking role asks may = may
+may-use ComparingPositions role asks may = may
 may-use Creating role asks may = may
 may-use Claiming role asks may = absurd (no-way asks)
 may-use (Syncing settling) role asks may = absurd (no-way asks)
-may-use Checking role asks may = absurd (no-way asks)
+may-use FindingCandidate role asks may = absurd (no-way asks)
 may-use Renewing Follower asks may = refl
 may-use Renewing (Holder held) asks may = refl
 may-use Renewing (Ready held) asks may = refl
 may-use Renewing (Leader held) asks may = refl
 may-use Renewing (Ending held why) asks may = absurd (no-way may)
-may-use Renewing Stray asks may = refl
+may-use Renewing Unleased asks may = refl
 
 either-true : (a b : Bool) → a ≡ true → a || b ≡ true
 either-true true b e = refl
@@ -64,7 +64,7 @@ takes-it now ttl revision (Holder held) o may = refl
 takes-it now ttl revision (Ready held) o may = absurd (no-way may)
 takes-it now ttl revision (Leader held) o may = absurd (no-way may)
 takes-it now ttl revision (Ending held why) o may = absurd (no-way may)
-takes-it now ttl revision Stray o may = absurd (no-way may)
+takes-it now ttl revision Unleased o may = absurd (no-way may)
 
 abbrev Told : SnapshotFacts → Outcome → Outcome
 Told snapshot o = record o { knows = informed snapshot o.knows }
@@ -74,13 +74,13 @@ takes-then : (now : Ticks) (sequence : ℕ) (grant : Granted) (snapshot : Snapsh
 takes-then now sequence grant snapshot o unpaused awaited may take armed =
     let waited = awaited.waited in
     let told : Outcome = Told snapshot o in
-    ap (λ (w : Option Waited). granted_for now sequence grant snapshot w o) awaited.is
+    ap (λ (w : Option PendingQuestion). granted_for now sequence grant snapshot w o) awaited.is
     ∙ ap (λ (b : Bool). cond b (accepted_grant now waited grant.revision snapshot o) (granted_write now sequence grant snapshot waited o)) (both-true (is_decision waited sequence) (is_lease_of o.knows.who.me grant) awaited.decision awaited.mine)
     ∙ ap (λ (b : Bool). cond b (lease_used now waited grant.revision told) (waiting_no_more o)) (either-true (belongs waited.question o.role) (is_paused told.knows && asks_in_pause waited.question o.role) (may-use waited.question o.role (first-true (asks_lease waited.question) _ awaited.decision) may))
     ∙ ap (λ (b : Bool). cond b (granted_in_pause now (asks_renewal waited.question) grant.revision o.role told) (lease_granted now waited.ttl grant.revision o.role told)) unpaused
     ∙ takes-it now waited.ttl grant.revision o.role told may
     ∙ ap (λ (b : Bool). cond b (arms now waited.ttl grant.revision told) (gives_back grant.revision told)) take
-    ∙ ap (λ (b : Bool). cond b (gives_back grant.revision (let barred : Outcome = record told { outputs = listed outputs.CannotArm told.outputs } in barred)) (begins_or_claims now grant.revision (arming now waited.ttl told))) armed
+    ∙ ap (λ (b : Bool). cond b (gives_back grant.revision (let barred : Outcome = record told { outputs = with_output outputs.CannotArm told.outputs } in barred)) (begins_or_claims now grant.revision (arming now waited.ttl told))) armed
 
 lease-begins : (now : Ticks) (sequence : ℕ) (grant : Granted) (snapshot : SnapshotFacts) (o : Outcome) → (awaited : IsAwaitedLease sequence grant o.knows) → granted now sequence grant snapshot o ≡ begins_or_claims now grant.revision (arming now awaited.waited.ttl (Told snapshot o))
     → (o.knows.turn_settings.synchronous_mode ≡ false → BeginsOn now grant.revision o (granted now sequence grant snapshot o)) × (o.knows.turn_settings.synchronous_mode ≡ true → ClaimsOn grant.revision o (granted now sequence grant snapshot o))
@@ -100,7 +100,7 @@ claim-then now sequence grant snapshot o revision unpaused awaited role can =
     let waited = awaited.waited in
     let told : Outcome = Told snapshot o in
     let unleased : is_decision waited sequence ≡ false = first-false (asks_lease waited.question) _ (ap asks_lease awaited.asks) in
-    ap (λ (w : Option Waited). granted_for now sequence grant snapshot w o) awaited.is
+    ap (λ (w : Option PendingQuestion). granted_for now sequence grant snapshot w o) awaited.is
     ∙ ap (λ (b : Bool). cond b (accepted_grant now waited grant.revision snapshot o) (granted_write now sequence grant snapshot waited o)) (first-false (is_decision waited sequence) (is_lease_of o.knows.who.me grant) unleased)
     ∙ ap (λ (b : Bool). cond b (accepted_sync now waited snapshot o) o) (both-true (is_sync_decision waited sequence) (is_write_of o.knows.who.me grant) (both-true (asks_sync waited.question) _ (ap asks_sync awaited.asks) awaited.number) awaited.mine)
     ∙ ap (λ (b : Bool). cond b (sync_granted now waited.question o.role told) (waiting_no_more o)) (ap (λ (q : Question). belongs q o.role) awaited.asks ∙ ap is_ready role)
@@ -116,9 +116,9 @@ granted-begins now sequence grant snapshot o = (
 )
 
 -- ---- a grant is the agent's own
-awaits-own : (waited : Option Waited) (asked : Waited) (sequence : ℕ) → waited ≡ Some asked → asked.sequence == sequence ≡ true → awaits_number waited sequence ≡ true
+awaits-own : (waited : Option PendingQuestion) (asked : PendingQuestion) (sequence : ℕ) → waited ≡ Some asked → asked.sequence == sequence ≡ true → awaits_number waited sequence ≡ true
 awaits-own None asked sequence is same = absurd (none-some asked is)
-awaits-own (Some waited) asked sequence is same = subst (λ (w : Waited). w.sequence == sequence ≡ true) (sym (some-is waited asked is)) same
+awaits-own (Some waited) asked sequence is same = subst (λ (w : PendingQuestion). w.sequence == sequence ≡ true) (sym (some-is waited asked is)) same
 
 not-own : (asked own write : Bool) → own ≡ true → (asked && not own) && write ≡ false
 not-own true true write e = refl
@@ -126,7 +126,7 @@ not-own false own write e = refl
 not-own true false write e = absurd (no-way e)
 
 -- the answer that the agent waits for is its own
-own-grant : (sequence : ℕ) (grant : Granted) (knows : Knowledge) (asked : Waited) → knows.waited ≡ Some asked → asked.sequence == sequence ≡ true → grants_operator sequence grant knows ≡ false
+own-grant : (sequence : ℕ) (grant : Granted) (knows : Knowledge) (asked : PendingQuestion) → knows.waited ≡ Some asked → asked.sequence == sequence ≡ true → grants_operator sequence grant knows ≡ false
 own-grant sequence grant knows asked is same = not-own (is_asked_for knows.operating sequence) (awaits_number knows.waited sequence) (is_write_of knows.who.me grant) (awaits-own knows.waited asked sequence is same)
 
 second-true : (a b : Bool) → a && b ≡ true → b ≡ true
@@ -150,28 +150,28 @@ any-begins now sequence grant snapshot o = let begin = granted-begins now sequen
 
 -- ---- of every input
 pub step-asks : (now : Ticks) (points : List HistoryPoint) (heard : Heard) (o : Outcome) → AsksWhereFree now heard (prepared now heard o) (step now points heard o)
-step-asks now points (Got sequence snapshot) o = let p : Outcome = looked sequence snapshot (before now o) in λ hears is. (free-asks now points sequence snapshot p hears is, free-alone now points sequence snapshot p hears is)
+step-asks now points (ReadAnswered sequence snapshot) o = let p : Outcome = looked sequence snapshot (reconciled now o) in λ hears is. (free-asks now points sequence snapshot p hears is, free-alone now points sequence snapshot p hears is)
 step-asks now points Wake o = tt
 step-asks now points (HeardGranted sequence grant snapshot) o = tt
 step-asks now points (Mismatch sequence key found) o = tt
-step-asks now points (Asked from run sequence) o = tt
+step-asks now points (Asked from incarnation sequence) o = tt
 step-asks now points (Answered sequence answer) o = tt
 step-asks now points (HearsOperator action) o = tt
 
 pub step-wins : (now : Ticks) (points : List HistoryPoint) (heard : Heard) (o : Outcome) → AsksWhereWon now heard (prepared now heard o) (step now points heard o)
-step-wins now points (Answered sequence answer) o = λ waited snapshot hears is. last-won now waited sequence answer snapshot (before now o) hears is
+step-wins now points (Answered sequence answer) o = λ waited snapshot hears is. last-won now waited sequence answer snapshot (reconciled now o) hears is
 step-wins now points Wake o = λ waited snapshot runs is. late-won now waited snapshot o runs is
-step-wins now points (Got sequence snapshot) o = tt
+step-wins now points (ReadAnswered sequence snapshot) o = tt
 step-wins now points (HeardGranted sequence grant snapshot) o = tt
 step-wins now points (Mismatch sequence key found) o = tt
-step-wins now points (Asked from run sequence) o = tt
+step-wins now points (Asked from incarnation sequence) o = tt
 step-wins now points (HearsOperator action) o = tt
 
 pub step-begins : (now : Ticks) (points : List HistoryPoint) (heard : Heard) (o : Outcome) → BeginsWhereGranted now heard (prepared now heard o) (step now points heard o)
-step-begins now points (HeardGranted sequence grant snapshot) o = any-begins now sequence grant snapshot (before now o)
+step-begins now points (HeardGranted sequence grant snapshot) o = any-begins now sequence grant snapshot (reconciled now o)
 step-begins now points Wake o = tt
-step-begins now points (Got sequence snapshot) o = tt
+step-begins now points (ReadAnswered sequence snapshot) o = tt
 step-begins now points (Mismatch sequence key found) o = tt
-step-begins now points (Asked from run sequence) o = tt
+step-begins now points (Asked from incarnation sequence) o = tt
 step-begins now points (Answered sequence answer) o = tt
 step-begins now points (HearsOperator action) o = tt

@@ -22,25 +22,25 @@ use Rattle.leader_race.specs.Eligibility.{eligibility_of}
 use Rattle.leader_race.specs.Outcome.{unless, outcome_of}
 use Rattle.leader_race.proofs.Winning.{race-replica}
 use Rattle.agent_model.specs.declared.knowledge.Question.{Question}
-use Rattle.agent_model.specs.declared.knowledge.Question.TheVariants.{Reading, Asking, Creating, Renewing, Claiming, Syncing, Checking}
-use Rattle.agent_model.specs.declared.knowledge.Waited.{Waited}
+use Rattle.agent_model.specs.declared.knowledge.Question.TheVariants.{Reading, ComparingPositions, Creating, Renewing, Claiming, Syncing, FindingCandidate}
+use Rattle.agent_model.specs.declared.knowledge.PendingQuestion.{PendingQuestion}
 use Rattle.agent_model.specs.declared.output.Output.{Output}
 use Rattle.agent_model.specs.declared.output.Output.TheVariants as outputs
 use Rattle.agent_model.specs.declared.output.Target.TheVariants as targets
 use Rattle.agent_model.specs.declared.heard.Heard.TheVariants.{Wake}
 use Rattle.agent_model.specs.declared.who.Who.{Who}
 use Rattle.agent_model.specs.Acting.{touching, waiting_no_more}
-use Rattle.agent_model.specs.Agents.{RoleFacts, Follower, Holder, Ready, Leader, Ending, Stray, Outcome}
+use Rattle.agent_model.specs.Agents.{RoleFacts, Follower, Holder, Ready, Leader, Ending, Unleased, Outcome}
 use Rattle.agent_model.specs.Answers.{is_other, with_answer, asking_one, asking_first, all_answered}
 use Rattle.pat_base.specs.declared.member_id.TheConstants.{MOST_MEMBERS}
-use Rattle.agent_model.specs.Before.{before}
+use Rattle.agent_model.specs.Reconciling.{reconciled}
 use Rattle.agent_model.specs.Decisions.{may_create}
 use Rattle.agent_succession.specs.FreeKey.{HearsFree, StaysOut, AsksForKey, AsksOthers, HearsLast, RunsLate, LosesRace, LosesAndTurns}
-use Rattle.agent_model.specs.Outputs.{listed}
+use Rattle.agent_model.specs.Outputs.{with_output}
 use Rattle.agent_model.specs.HandingOver.{check_answered}
 use Rattle.agent_model.specs.Peers.{is_asking, awaits_answer, awaits_check, judged_if_all, keeping, accepted_answer, answered_for, answered}
 use Rattle.agent_model.specs.Racing.{can_start, bar_of, outcome_by, judged_as, judged, asking_others, unheard, races, races_unless, finds_free, starts_alone}
-use Rattle.agent_model.specs.Snapshots.{no_key, led, is_active, awaits_read, read_noted, accepted, got}
+use Rattle.agent_model.specs.Snapshots.{no_key, led, is_active, awaits_read, read_noted, accepted, read_answered}
 use Rattle.agent_model.specs.Views.{shown}
 use Rattle.agent_model.specs.Operators.{given_up}
 use Rattle.agent_model.specs.Table.{prepared}
@@ -57,10 +57,10 @@ no-key-free now (Holder held) o may = refl
 no-key-free now (Ready held) o may = absurd (no-way may)
 no-key-free now (Leader held) o may = absurd (no-way may)
 no-key-free now (Ending held why) o may = absurd (no-way may)
-no-key-free now Stray o may = absurd (no-way may)
+no-key-free now Unleased o may = absurd (no-way may)
 
 -- the agent finds that nobody leads
-got-free : (now : Ticks) (points : List HistoryPoint) (sequence : ℕ) (snapshot : SnapshotFacts) (o : Outcome) → HearsFree sequence snapshot o → got now points sequence snapshot o ≡ finds_free now (record o { knows = read_noted now snapshot o.knows })
+got-free : (now : Ticks) (points : List HistoryPoint) (sequence : ℕ) (snapshot : SnapshotFacts) (o : Outcome) → HearsFree sequence snapshot o → read_answered now points sequence snapshot o ≡ finds_free now (record o { knows = read_noted now snapshot o.knows })
 got-free now points sequence snapshot o hears = let read : Outcome = record o { knows = read_noted now snapshot o.knows } in
     if-true (awaits_read o.knows.waited sequence) (accepted now points snapshot o) o hears.awaited
     ∙ if-true (is_active o.role) (led now points (leader_in snapshot) read) (waiting_no_more o) (creates-active o.role hears.role)
@@ -79,7 +79,7 @@ replica-runs : (state : State) (diverged : Bool) → state ≡ states.Replica �
 replica-runs state diverged is = rw is refl
 
 pub barred-out : (now : Ticks) (points : List HistoryPoint) (sequence : ℕ) (snapshot : SnapshotFacts) (bar : Bar) (o : Outcome) → HearsFree sequence snapshot o → can_start o.machine.server ≡ false → eligibility_of (shown now o) snapshot ≡ Some bar
-    → StaysOut snapshot bar o (got now points sequence snapshot o)
+    → StaysOut snapshot bar o (read_answered now points sequence snapshot o)
 barred-out now points sequence snapshot bar o hears down is = let x : Outcome = record o { role = Follower; knows = read_noted now snapshot o.knows } in
     subst (λ (after : Outcome). StaysOut snapshot bar o after) (sym (got-free now points sequence snapshot o hears ∙ free-raced now snapshot o (Some bar) down is))
     (record { role = refl; machine = refl; waits = refl; outputs_are = refl })
@@ -99,12 +99,12 @@ judged-is now snapshot bar o seen is =
 
 -- an agent that nothing bars races
 free-races : (now : Ticks) (points : List HistoryPoint) (sequence : ℕ) (snapshot : SnapshotFacts) (o : Outcome) → HearsFree sequence snapshot o → eligibility_of (shown now o) snapshot ≡ None
-    → got now points sequence snapshot o ≡ races now (record o { role = Follower; knows = read_noted now snapshot o.knows })
+    → read_answered now points sequence snapshot o ≡ races now (record o { role = Follower; knows = read_noted now snapshot o.knows })
 free-races now points sequence snapshot o hears is =
     got-free now points sequence snapshot o hears ∙ free-raced now snapshot o None (replica-runs o.machine.server.state o.machine.server.diverged (race-replica (shown now o) snapshot is)) is
 
 pub free-alone : (now : Ticks) (points : List HistoryPoint) (sequence : ℕ) (snapshot : SnapshotFacts) (o : Outcome) → HearsFree sequence snapshot o → eligibility_of (shown now o) snapshot ≡ None → all_answered o.knows.who [] ≡ true
-    → AsksForKey o (got now points sequence snapshot o)
+    → AsksForKey o (read_answered now points sequence snapshot o)
 free-alone now points sequence snapshot o hears is alone = let x : Outcome = unheard (record o { role = Follower; knows = read_noted now snapshot o.knows }) in
     subst (λ (after : Outcome). AsksForKey o after)
     (sym (free-races now points sequence snapshot o hears is ∙ if-true (all_answered o.knows.who []) (judged now x) (asking_others now x) alone ∙ judged-is now snapshot None x refl (alone-wins (shown now x) snapshot)))
@@ -114,11 +114,11 @@ free-alone now points sequence snapshot o hears is alone = let x : Outcome = unh
 ask-keeps : (who : Who) (sequence : ℕ) (member : Option MemberId) (outs : List Output) (output : Output) → Contains outs output → Contains (asking_one who sequence member outs) output
 ask-keeps who sequence None outs output among = among
 ask-keeps who sequence (Some member) outs output among =
-    if-cases (λ (l : List Output). Contains l output) (is_other who member) (listed (outputs.Send (targets.Member member) sequence bodies.Ask) outs) outs (λ _. Contains-append_left outs (outputs.Send (targets.Member member) sequence bodies.Ask ∷ []) output among) (λ _. among)
+    if-cases (λ (l : List Output). Contains l output) (is_other who member) (with_output (outputs.Send (targets.Member member) sequence bodies.Ask) outs) outs (λ _. Contains-append_left outs (outputs.Send (targets.Member member) sequence bodies.Ask ∷ []) output among) (λ _. among)
 
 ask-sent : (who : Who) (sequence : ℕ) (member : MemberId) (outs : List Output) → is_other who member ≡ true → Contains (asking_one who sequence (Some member) outs) (outputs.Send (targets.Member member) sequence bodies.Ask)
 ask-sent who sequence member outs other = subst (λ (l : List Output). Contains l (outputs.Send (targets.Member member) sequence bodies.Ask))
-    (sym (if-true (is_other who member) (listed (outputs.Send (targets.Member member) sequence bodies.Ask) outs) outs other)) (Contains-push outs (outputs.Send (targets.Member member) sequence bodies.Ask))
+    (sym (if-true (is_other who member) (with_output (outputs.Send (targets.Member member) sequence bodies.Ask) outs) outs other)) (Contains-push outs (outputs.Send (targets.Member member) sequence bodies.Ask))
 
 below-or : (a n : ℕ) → a < suc n → (a < n) ⊎ (a ≡ n)
 below-or a n less = grind (arith, less)
@@ -133,7 +133,7 @@ each-asked who sequence (suc count) member outs other less = elim (below-or memb
 ]
 
 pub free-asks : (now : Ticks) (points : List HistoryPoint) (sequence : ℕ) (snapshot : SnapshotFacts) (o : Outcome) → HearsFree sequence snapshot o → eligibility_of (shown now o) snapshot ≡ None → all_answered o.knows.who [] ≡ false
-    → AsksOthers now o (got now points sequence snapshot o)
+    → AsksOthers now o (read_answered now points sequence snapshot o)
 free-asks now points sequence snapshot o hears is others = let x : Outcome = unheard (record o { role = Follower; knows = read_noted now snapshot o.knows }) in
     subst (λ (after : Outcome). AsksOthers now o after)
     (sym (free-races now points sequence snapshot o hears is ∙ if-false (all_answered o.knows.who []) (judged now x) (asking_others now x) others))
@@ -149,71 +149,71 @@ free-asks now points sequence snapshot o hears is others = let x : Outcome = unh
     })
 
 -- the last answer
-last-judged : (now : Ticks) (waited : Waited) (sequence : ℕ) (answer : PeerAnswer) (snapshot : SnapshotFacts) (bar : Option Bar) (o : Outcome) → HearsLast waited sequence answer snapshot o → outcome_of (shown now o) snapshot (with_answer answer o.knows.answers) ≡ bar
+last-judged : (now : Ticks) (waited : PendingQuestion) (sequence : ℕ) (answer : PeerAnswer) (snapshot : SnapshotFacts) (bar : Option Bar) (o : Outcome) → HearsLast waited sequence answer snapshot o → outcome_of (shown now o) snapshot (with_answer answer o.knows.answers) ≡ bar
     → answered now sequence answer o ≡ judged_as now bar (waiting_no_more (keeping answer o))
 last-judged now waited sequence answer snapshot bar o hears is = let x : Outcome = keeping answer o in
-    ap (λ (w : Option Waited). answered_for now sequence answer w o) hears.awaits.waits
+    ap (λ (w : Option PendingQuestion). answered_for now sequence answer w o) hears.awaits.waits
     ∙ if-true (awaits_answer waited sequence) (accepted_answer now answer o) (if awaits_check waited sequence then check_answered now answer o.role o else o) hears.number
     ∙ if-true (may_create o.role) (judged_if_all now x) (waiting_no_more o) hears.awaits.role
     ∙ if-true (all_answered o.knows.who (with_answer answer o.knows.answers)) (judged now x) x hears.all
     ∙ judged-is now snapshot bar x hears.awaits.seen is
 
-pub last-won : (now : Ticks) (waited : Waited) (sequence : ℕ) (answer : PeerAnswer) (snapshot : SnapshotFacts) (o : Outcome) → HearsLast waited sequence answer snapshot o → outcome_of (shown now o) snapshot (with_answer answer o.knows.answers) ≡ None
+pub last-won : (now : Ticks) (waited : PendingQuestion) (sequence : ℕ) (answer : PeerAnswer) (snapshot : SnapshotFacts) (o : Outcome) → HearsLast waited sequence answer snapshot o → outcome_of (shown now o) snapshot (with_answer answer o.knows.answers) ≡ None
     → AsksForKey o (answered now sequence answer o)
 last-won now waited sequence answer snapshot o hears is = subst (λ (after : Outcome). AsksForKey o after) (sym (last-judged now waited sequence answer snapshot None o hears is)) (record { waited = _; waits = refl; asks = refl; outputs_are = refl })
 
-pub last-lost : (now : Ticks) (waited : Waited) (sequence : ℕ) (answer : PeerAnswer) (snapshot : SnapshotFacts) (bar : Bar) (o : Outcome) → HearsLast waited sequence answer snapshot o → outcome_of (shown now o) snapshot (with_answer answer o.knows.answers) ≡ Some bar
+pub last-lost : (now : Ticks) (waited : PendingQuestion) (sequence : ℕ) (answer : PeerAnswer) (snapshot : SnapshotFacts) (bar : Bar) (o : Outcome) → HearsLast waited sequence answer snapshot o → outcome_of (shown now o) snapshot (with_answer answer o.knows.answers) ≡ Some bar
     → LosesRace bar o (answered now sequence answer o)
 last-lost now waited sequence answer snapshot bar o hears is = subst (λ (after : Outcome). LosesRace bar o after) (sym (last-judged now waited sequence answer snapshot (Some bar) o hears is)) (record { role = refl; machine = refl; waits = refl; outputs_are = refl })
 
 -- the time for answers is over
 asking-late : (now : Ticks) (question : Question) (o : Outcome) → is_asking question ≡ true → may_create o.role ≡ true → unanswered now question o ≡ judged now o
-asking-late now Asking o asking may = if-true (may_create o.role) (judged now o) (waiting_no_more o) may
+asking-late now ComparingPositions o asking may = if-true (may_create o.role) (judged now o) (waiting_no_more o) may
 asking-late now Reading o asking may = absurd (no-way asking)
 asking-late now Creating o asking may = absurd (no-way asking)
 asking-late now Renewing o asking may = absurd (no-way asking)
 asking-late now Claiming o asking may = absurd (no-way asking)
 asking-late now (Syncing settling) o asking may = absurd (no-way asking)
-asking-late now Checking o asking may = absurd (no-way asking)
+asking-late now FindingCandidate o asking may = absurd (no-way asking)
 
 either-late : (a b c : Bool) → b ≡ true → a || (b || c) ≡ true
 either-late true b c e = refl
 either-late false true c e = refl
 either-late false false c e = absurd (no-way e)
 
-late-due : (now : Ticks) (waited : Waited) (o : Outcome) → o.knows.waited ≡ Some waited → nat_le waited.until.0 now.0 ≡ true → is_due now o.role o.knows o.machine ≡ true
-late-due now waited o waits late = either-late (finds_ended o.role o.machine.server.state) (is_overdue now o.knows.waited) (has_turn now o.knows) (ap (λ (w : Option Waited). is_overdue now w) waits ∙ late)
+late-due : (now : Ticks) (waited : PendingQuestion) (o : Outcome) → o.knows.waited ≡ Some waited → nat_le waited.until.0 now.0 ≡ true → is_due now o.role o.knows o.machine ≡ true
+late-due now waited o waits late = either-late (finds_ended o.role o.machine.server.state) (is_overdue now o.knows.waited) (has_turn now o.knows) (ap (λ (w : Option PendingQuestion). is_overdue now w) waits ∙ late)
 
 -- what precedes a wake leaves what is waited for
 given-waits : (now : Ticks) (o : Outcome) → (given_up now o).knows.waited ≡ o.knows.waited
 given-waits now o = given-up-by (λ (x : Outcome). x.knows.waited ≡ o.knows.waited) now o (record { kept = refl; answers = λ request told. refl })
 
 roused-waits : (now : Ticks) (o : Outcome) → (prepared now Wake o).knows.waited ≡ o.knows.waited
-roused-waits now o = if-cases (λ (x : Outcome). x.knows.waited ≡ o.knows.waited) (is_due now o.role o.knows o.machine) (given_up now (before now o)) (before now o)
-    (λ _. given-waits now (before now o) ∙ before-waits now o) (λ _. before-waits now o)
+roused-waits now o = if-cases (λ (x : Outcome). x.knows.waited ≡ o.knows.waited) (is_due now o.role o.knows o.machine) (given_up now (reconciled now o)) (reconciled now o)
+    (λ _. given-waits now (reconciled now o) ∙ before-waits now o) (λ _. before-waits now o)
 
 -- an agent whose time for answers is over has something to do
-late-prepared : (now : Ticks) (waited : Waited) (snapshot : SnapshotFacts) (o : Outcome) → RunsLate now waited snapshot (prepared now Wake o) → is_due now o.role o.knows o.machine ≡ true
+late-prepared : (now : Ticks) (waited : PendingQuestion) (snapshot : SnapshotFacts) (o : Outcome) → RunsLate now waited snapshot (prepared now Wake o) → is_due now o.role o.knows o.machine ≡ true
 late-prepared now waited snapshot o runs = late-due now waited o (sym (roused-waits now o) ∙ runs.awaits.waits) runs.late
 
-late-judged : (now : Ticks) (waited : Waited) (snapshot : SnapshotFacts) (bar : Option Bar) (o : Outcome) → RunsLate now waited snapshot (prepared now Wake o) → outcome_of (shown now (prepared now Wake o)) snapshot (prepared now Wake o).knows.answers ≡ bar
+late-judged : (now : Ticks) (waited : PendingQuestion) (snapshot : SnapshotFacts) (bar : Option Bar) (o : Outcome) → RunsLate now waited snapshot (prepared now Wake o) → outcome_of (shown now (prepared now Wake o)) snapshot (prepared now Wake o).knows.answers ≡ bar
     → woken now o ≡ turned now (judged_as now bar (waiting_no_more (prepared now Wake o)))
 late-judged now waited snapshot bar o runs is =
     let due : is_due now o.role o.knows o.machine ≡ true = late-prepared now waited snapshot o runs in
     let p : Outcome = prepared now Wake o in
-    if-true (is_due now o.role o.knows o.machine) (roused now o) (before now o) due
-    ∙ ap (λ (x : Outcome). turned now (overdue now x)) (sym (if-true (is_due now o.role o.knows o.machine) (given_up now (before now o)) (before now o) due))
+    if-true (is_due now o.role o.knows o.machine) (roused now o) (reconciled now o) due
+    ∙ ap (λ (x : Outcome). turned now (overdue now x)) (sym (if-true (is_due now o.role o.knows o.machine) (given_up now (reconciled now o)) (reconciled now o) due))
     ∙ ap (λ (x : Outcome). turned now x)
-    (ap (λ (w : Option Waited). overdue_for now w p) runs.awaits.waits
+    (ap (λ (w : Option PendingQuestion). overdue_for now w p) runs.awaits.waits
     ∙ if-true (nat_le waited.until.0 now.0) (unanswered now waited.question p) p runs.late
     ∙ asking-late now waited.question p runs.awaits.asking runs.awaits.role
     ∙ judged-is now snapshot bar p runs.awaits.seen is)
 
-pub late-won : (now : Ticks) (waited : Waited) (snapshot : SnapshotFacts) (o : Outcome) → RunsLate now waited snapshot (prepared now Wake o) → outcome_of (shown now (prepared now Wake o)) snapshot (prepared now Wake o).knows.answers ≡ None
+pub late-won : (now : Ticks) (waited : PendingQuestion) (snapshot : SnapshotFacts) (o : Outcome) → RunsLate now waited snapshot (prepared now Wake o) → outcome_of (shown now (prepared now Wake o)) snapshot (prepared now Wake o).knows.answers ≡ None
     → AsksForKey (prepared now Wake o) (woken now o)
 late-won now waited snapshot o runs is = subst (λ (after : Outcome). AsksForKey (prepared now Wake o) after) (sym (late-judged now waited snapshot None o runs is)) (record { waited = _; waits = refl; asks = refl; outputs_are = refl })
 
-pub late-lost : (now : Ticks) (waited : Waited) (snapshot : SnapshotFacts) (bar : Bar) (o : Outcome) → RunsLate now waited snapshot (prepared now Wake o) → outcome_of (shown now (prepared now Wake o)) snapshot (prepared now Wake o).knows.answers ≡ Some bar
+pub late-lost : (now : Ticks) (waited : PendingQuestion) (snapshot : SnapshotFacts) (bar : Bar) (o : Outcome) → RunsLate now waited snapshot (prepared now Wake o) → outcome_of (shown now (prepared now Wake o)) snapshot (prepared now Wake o).knows.answers ≡ Some bar
     → LosesAndTurns now bar (prepared now Wake o) (woken now o)
 late-lost now waited snapshot bar o runs is = record {
   lost = judged_as now (Some bar) (waiting_no_more (prepared now Wake o));

@@ -19,7 +19,7 @@ use Rattle.agent_model.specs.Acting.{waiting_no_more}
 use Rattle.agent_model.specs.Agents.{Outcome}
 use Rattle.agent_model.specs.HandingOver.{clearing, handover_judged, hands_over_to, is_near, is_standby_in, is_successor, may_follow_in_sync, position_of, successor_by}
 use Rattle.agent_succession.specs.Handovers.{HandsOverTo, MayLeadNext}
-use Rattle.agent_model.specs.Outputs.{listed}
+use Rattle.agent_model.specs.Outputs.{with_output}
 use Rattle.agent_roles.proofs.Granting.{both-true}
 use Rattle.agent_roles.proofs.Living.{no-way}
 use Rattle.agent_model.proofs.Rows.{clearing-by, if-cases}
@@ -91,7 +91,7 @@ may-lead o failover candidate found =
     }
 
 -- ---- a handover that is judged
-asks-nobody : (sent : Output) (o : Outcome) (candidate : MemberId) → (sent ≡ outputs.HandsOver candidate → ⊥) → Contains (listed sent o.outputs) (outputs.HandsOver candidate) → Contains o.outputs (outputs.HandsOver candidate)
+asks-nobody : (sent : Output) (o : Outcome) (candidate : MemberId) → (sent ≡ outputs.HandsOver candidate → ⊥) → Contains (with_output sent o.outputs) (outputs.HandsOver candidate) → Contains o.outputs (outputs.HandsOver candidate)
 asks-nobody sent o candidate other among = elim (Contains-push_cases o.outputs sent (outputs.HandsOver candidate) among) [ inl before-it ↦ before-it | inr is ↦ absurd (other is) ]
 
 same-candidate : (member candidate : MemberId) → ◌≡◌ {A = Output} (outputs.HandsOver member) (outputs.HandsOver candidate) → member ≡ candidate
@@ -109,7 +109,7 @@ module _ (now : Ticks) (revision : ℕ) (candidate : MemberId) (o : Outcome) whe
 
   hands : (failover : FailoverKey) (member : MemberId) → o.knows.turn_failover ≡ Some failover → first_of (is_successor o.knows o.machine.server failover) o.knows.answers ≡ Some member → Right (hands_over_to now revision (Some member) (waiting_no_more o))
   hands failover member asked is among =
-      let noted : List Output = listed (outputs.HandsOver member) o.outputs in
+      let noted : List Output = with_output (outputs.HandsOver member) o.outputs in
       elim (Contains-push_cases o.outputs (outputs.HandsOver member) (outputs.HandsOver candidate) (asks-nobody outputs.ShutDown (record o { outputs = noted }) candidate (ends-nobody candidate) among)) [
         | inl before-it ↦ inl before-it
         | inr same ↦ inr (record {

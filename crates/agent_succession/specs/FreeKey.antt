@@ -11,10 +11,10 @@ use Rattle.leader_race.specs.Outcome.{outcome_of}
 use Rattle.event_book.specs.declared.message.Body.TheVariants as bodies
 use Rattle.cluster_config.specs.Snapshots.{SnapshotFacts, leader_in, settings_in}
 use Rattle.agent_model.specs.declared.heard.Heard.{Heard}
-use Rattle.agent_model.specs.declared.heard.Heard.TheVariants.{Wake, Got, Granted as HeardGranted, Answered}
+use Rattle.agent_model.specs.declared.heard.Heard.TheVariants.{Wake, ReadAnswered, Granted as HeardGranted, Answered}
 use Rattle.agent_model.specs.declared.knowledge.Knowledge.{Knowledge}
-use Rattle.agent_model.specs.declared.knowledge.Question.TheVariants.{Asking, Creating, Claiming}
-use Rattle.agent_model.specs.declared.knowledge.Waited.{Waited}
+use Rattle.agent_model.specs.declared.knowledge.Question.TheVariants.{ComparingPositions, Creating, Claiming}
+use Rattle.agent_model.specs.declared.knowledge.PendingQuestion.{PendingQuestion}
 use Rattle.agent_model.specs.declared.output.Output.TheVariants as outputs
 use Rattle.agent_model.specs.declared.output.Target.TheVariants as targets
 use Rattle.agent_model.specs.Acting.{is_refusing, lease_span, status_begun}
@@ -23,7 +23,7 @@ use Rattle.agent_model.specs.Answers.{is_other, with_answer, asking_all, all_ans
 use Rattle.agent_model.specs.Claiming.{can_begin_on_claim}
 use Rattle.agent_model.specs.Decisions.{may_create, may_take, is_write_of}
 use Rattle.agent_model.specs.Info.{info_of}
-use Rattle.agent_model.specs.Outputs.{listed}
+use Rattle.agent_model.specs.Outputs.{with_output}
 use Rattle.agent_model.specs.Pausing.{is_paused}
 use Rattle.agent_model.specs.Peers.{is_asking, awaits_answer}
 use Rattle.agent_roles.specs.Powers.{IsAwaitedLease}
@@ -44,21 +44,21 @@ pub record StaysOut (snapshot : SnapshotFacts) (bar : Bar) (o after : Outcome) :
   pub role : after.role ≡ Follower
   pub machine : after.machine ≡ o.machine
   pub waits : after.knows.waited ≡ None
-  pub outputs_are : after.outputs ≡ listed (outputs.Send targets.Store (o.knows.sequence + 1) (bodies.Request (txns.Touch (info_of o.knows.who o.machine.server) (lease_span (settings_in o.knows.settings snapshot))))) (listed (outputs.DoesNotRace bar) o.outputs)
+  pub outputs_are : after.outputs ≡ with_output (outputs.Send targets.Store (o.knows.sequence + 1) (bodies.Request (txns.Touch (info_of o.knows.who o.machine.server) (lease_span (settings_in o.knows.settings snapshot))))) (with_output (outputs.DoesNotRace bar) o.outputs)
 
 -- the agent asks for the leader key, and waits for the answer
 pub record AsksForKey (o after : Outcome) : Type 0 where
-  pub waited : Waited
+  pub waited : PendingQuestion
   pub waits : after.knows.waited ≡ Some waited
   pub asks : waited.question ≡ Creating
-  pub outputs_are : after.outputs ≡ listed (outputs.Send targets.Store waited.sequence (bodies.Request (txns.Create (info_of o.knows.who o.machine.server) waited.ttl None None))) o.outputs
+  pub outputs_are : after.outputs ≡ with_output (outputs.Send targets.Store waited.sequence (bodies.Request (txns.Create (info_of o.knows.who o.machine.server) waited.ttl None None))) o.outputs
 
 -- the agent asks each other member how far its server is, and nobody else, all under one new number. It waits for the answers, of
 -- which it has none yet
 pub record AsksOthers (now : Ticks) (o after : Outcome) : Type 0 where
-  pub waited : Waited
+  pub waited : PendingQuestion
   pub waits : after.knows.waited ≡ Some waited
-  pub asks : waited.question ≡ Asking
+  pub asks : waited.question ≡ ComparingPositions
   pub later : o.knows.sequence < waited.sequence
   pub until : waited.until ≡ answers_until now
   pub unheard : after.knows.answers ≡ []
@@ -66,20 +66,20 @@ pub record AsksOthers (now : Ticks) (o after : Outcome) : Type 0 where
   pub outputs_are : after.outputs ≡ asking_all o.knows.who waited.sequence o.outputs
 
 -- the agent waits for the answers of the others, and its newest snapshot is this one
-pub record AwaitsAnswers (waited : Waited) (snapshot : SnapshotFacts) (o : Outcome) : Type 0 where
+pub record AwaitsAnswers (waited : PendingQuestion) (snapshot : SnapshotFacts) (o : Outcome) : Type 0 where
   pub waits : o.knows.waited ≡ Some waited
   pub asking : is_asking waited.question ≡ true
   pub role : may_create o.role ≡ true
   pub seen : o.knows.seen ≡ Some snapshot
 
 -- this is the last answer that it waits for
-pub record HearsLast (waited : Waited) (sequence : ℕ) (answer : PeerAnswer) (snapshot : SnapshotFacts) (o : Outcome) : Type 0 where
+pub record HearsLast (waited : PendingQuestion) (sequence : ℕ) (answer : PeerAnswer) (snapshot : SnapshotFacts) (o : Outcome) : Type 0 where
   pub awaits : AwaitsAnswers waited snapshot o
   pub number : awaits_answer waited sequence ≡ true
   pub all : all_answered o.knows.who (with_answer answer o.knows.answers) ≡ true
 
 -- the time for the answers that it waits for is over
-pub record RunsLate (now : Ticks) (waited : Waited) (snapshot : SnapshotFacts) (o : Outcome) : Type 0 where
+pub record RunsLate (now : Ticks) (waited : PendingQuestion) (snapshot : SnapshotFacts) (o : Outcome) : Type 0 where
   pub awaits : AwaitsAnswers waited snapshot o
   pub late : nat_le waited.until.0 now.0 ≡ true
 
@@ -88,7 +88,7 @@ pub record LosesRace (bar : Bar) (o after : Outcome) : Type 0 where
   pub role : after.role ≡ o.role
   pub machine : after.machine ≡ o.machine
   pub waits : after.knows.waited ≡ None
-  pub outputs_are : after.outputs ≡ listed (outputs.Send targets.Store (o.knows.sequence + 1) (bodies.Request (txns.Touch (info_of o.knows.who o.machine.server) (lease_span o.knows.settings)))) (listed (outputs.DoesNotRace bar) o.outputs)
+  pub outputs_are : after.outputs ≡ with_output (outputs.Send targets.Store (o.knows.sequence + 1) (bodies.Request (txns.Touch (info_of o.knows.who o.machine.server) (lease_span o.knows.settings)))) (with_output (outputs.DoesNotRace bar) o.outputs)
 
 -- it loses the race, and then a turn begins that is due
 pub record LosesAndTurns (now : Ticks) (bar : Bar) (o after : Outcome) : Type 0 where
@@ -99,13 +99,13 @@ pub record LosesAndTurns (now : Ticks) (bar : Bar) (o after : Outcome) : Type 0 
 -- an input that finds the leader key free, behind what precedes it: a member that nothing bars asks each other one how far its server is,
 -- and where there is no other asks for the key
 abbrev pub AsksWhereFree : Ticks → Heard → Outcome → Outcome → Type 0
-AsksWhereFree now (Got sequence snapshot) o after = HearsFree sequence snapshot o → eligibility_of (shown now o) snapshot ≡ None → (all_answered o.knows.who [] ≡ false → AsksOthers now o after) × (all_answered o.knows.who [] ≡ true → AsksForKey o after)
+AsksWhereFree now (ReadAnswered sequence snapshot) o after = HearsFree sequence snapshot o → eligibility_of (shown now o) snapshot ≡ None → (all_answered o.knows.who [] ≡ false → AsksOthers now o after) × (all_answered o.knows.who [] ≡ true → AsksForKey o after)
 AsksWhereFree now _ o after = Unit {0}
 
 -- an input that judges a race, since the last answer came or the time for them is over: who wins asks for the key
 abbrev pub AsksWhereWon : Ticks → Heard → Outcome → Outcome → Type 0
-AsksWhereWon now (Answered sequence answer) o after = (waited : Waited) (snapshot : SnapshotFacts) → HearsLast waited sequence answer snapshot o → outcome_of (shown now o) snapshot (with_answer answer o.knows.answers) ≡ None → AsksForKey o after
-AsksWhereWon now Wake o after = (waited : Waited) (snapshot : SnapshotFacts) → RunsLate now waited snapshot o → outcome_of (shown now o) snapshot o.knows.answers ≡ None → AsksForKey o after
+AsksWhereWon now (Answered sequence answer) o after = (waited : PendingQuestion) (snapshot : SnapshotFacts) → HearsLast waited sequence answer snapshot o → outcome_of (shown now o) snapshot (with_answer answer o.knows.answers) ≡ None → AsksForKey o after
+AsksWhereWon now Wake o after = (waited : PendingQuestion) (snapshot : SnapshotFacts) → RunsLate now waited snapshot o → outcome_of (shown now o) snapshot o.knows.answers ≡ None → AsksForKey o after
 AsksWhereWon now _ o after = Unit {0}
 
 -- the agent leads by the lease of this revision, and its server begins to accept writes, at once or when its start is complete
@@ -118,14 +118,14 @@ pub record BeginsOn (now : Ticks) (revision : ℕ) (o after : Outcome) : Type 0 
 pub record ClaimsOn (revision : ℕ) (o after : Outcome) : Type 0 where
   pub role : after.role ≡ Ready revision
   pub server : after.machine.server ≡ o.machine.server
-  pub waited : Waited
+  pub waited : PendingQuestion
   pub waits : after.knows.waited ≡ Some waited
   pub asks : waited.question ≡ Claiming
   pub claims : Contains after.outputs (outputs.Send targets.Store waited.sequence (bodies.Request (txns.Claim revision (expected_of o.knows.turn_sync))))
 
 -- the answer of this number grants this member the claim that it waits for
 pub record IsAwaitedClaim (sequence : ℕ) (grant : Granted) (knows : Knowledge) : Type 0 where
-  pub waited : Waited
+  pub waited : PendingQuestion
   pub is : knows.waited ≡ Some waited
   pub asks : waited.question ≡ Claiming
   pub number : waited.sequence == sequence ≡ true

@@ -11,11 +11,11 @@ ghost use Rattle.leader_race.specs.Eligibility.{eligibility_of};
 ghost use Rattle.leader_race.specs.Outcome.{outcome_of};
 ghost use Rattle.agent_model.specs.declared.heard.Heard.{Heard};
 ghost use Rattle.agent_model.specs.declared.heard.Heard.TheVariants as heard;
-ghost use Rattle.agent_model.specs.declared.knowledge.Waited.{Waited};
+ghost use Rattle.agent_model.specs.declared.knowledge.PendingQuestion.{PendingQuestion};
 ghost use Rattle.agent_model.specs.declared.output.Output.TheVariants as outputs;
 ghost use Rattle.agent_model.specs.Agents.{Outcome};
 ghost use Rattle.agent_model.specs.Answers.{with_answer, all_answered};
-ghost use Rattle.agent_model.specs.Before.{before};
+ghost use Rattle.agent_model.specs.Reconciling.{reconciled};
 ghost use Rattle.agent_succession.specs.FreeKey.{HearsFree, StaysOut, AsksForKey, AsksOthers, HearsLast, RunsLate, LosesRace, LosesAndTurns, AsksWhereFree, AsksWhereWon, BeginsWhereGranted};
 ghost use Rattle.agent_model.specs.HandingOver.{handover_judged};
 ghost use Rattle.agent_succession.specs.Handovers.{HandsOverTo};
@@ -33,28 +33,28 @@ pub fn a_leader_hands_over_to_who_may_lead()
 /// Who is barred doesn't ask for a free leader key: where the answer to its read tells that nobody leads, an agent without a
 /// server that can start tells what bars it, tells of itself, and does nothing else.
 pub fn who_is_barred_stays_out()
-    ensures { (now : Ticks) (points : List HistoryPoint) (sequence : ℕ) (snapshot : SnapshotFacts) (bar : Bar) (o : Outcome) → HearsFree sequence snapshot (prepared now (heard.Got sequence snapshot) o) → can_start (prepared now (heard.Got sequence snapshot) o).machine.server ≡ false → eligibility_of (shown now (prepared now (heard.Got sequence snapshot) o)) snapshot ≡ Some bar → StaysOut snapshot bar (prepared now (heard.Got sequence snapshot) o) (step now points (heard.Got sequence snapshot) o) }
+    ensures { (now : Ticks) (points : List HistoryPoint) (sequence : ℕ) (snapshot : SnapshotFacts) (bar : Bar) (o : Outcome) → HearsFree sequence snapshot (prepared now (heard.ReadAnswered sequence snapshot) o) → can_start (prepared now (heard.ReadAnswered sequence snapshot) o).machine.server ≡ false → eligibility_of (shown now (prepared now (heard.ReadAnswered sequence snapshot) o)) snapshot ≡ Some bar → StaysOut snapshot bar (prepared now (heard.ReadAnswered sequence snapshot) o) (step now points (heard.ReadAnswered sequence snapshot) o) }
 {}
 
 /// A free leader key is raced for: where the answer to its read tells that nobody leads, an agent that nothing bars asks every
 /// other member how far its server is, and waits for the answers. Where there is none, it asks for the key at once, and waits
 /// for the answer. Only a running replica is barred by nothing.
 pub fn a_free_key_is_asked_for()
-    ensures others { (now : Ticks) (points : List HistoryPoint) (sequence : ℕ) (snapshot : SnapshotFacts) (o : Outcome) → HearsFree sequence snapshot (prepared now (heard.Got sequence snapshot) o) → eligibility_of (shown now (prepared now (heard.Got sequence snapshot) o)) snapshot ≡ None → all_answered (prepared now (heard.Got sequence snapshot) o).knows.who [] ≡ false → AsksOthers now (prepared now (heard.Got sequence snapshot) o) (step now points (heard.Got sequence snapshot) o) }
-    ensures alone { (now : Ticks) (points : List HistoryPoint) (sequence : ℕ) (snapshot : SnapshotFacts) (o : Outcome) → HearsFree sequence snapshot (prepared now (heard.Got sequence snapshot) o) → eligibility_of (shown now (prepared now (heard.Got sequence snapshot) o)) snapshot ≡ None → all_answered (prepared now (heard.Got sequence snapshot) o).knows.who [] ≡ true → AsksForKey (prepared now (heard.Got sequence snapshot) o) (step now points (heard.Got sequence snapshot) o) }
+    ensures others { (now : Ticks) (points : List HistoryPoint) (sequence : ℕ) (snapshot : SnapshotFacts) (o : Outcome) → HearsFree sequence snapshot (prepared now (heard.ReadAnswered sequence snapshot) o) → eligibility_of (shown now (prepared now (heard.ReadAnswered sequence snapshot) o)) snapshot ≡ None → all_answered (prepared now (heard.ReadAnswered sequence snapshot) o).knows.who [] ≡ false → AsksOthers now (prepared now (heard.ReadAnswered sequence snapshot) o) (step now points (heard.ReadAnswered sequence snapshot) o) }
+    ensures alone { (now : Ticks) (points : List HistoryPoint) (sequence : ℕ) (snapshot : SnapshotFacts) (o : Outcome) → HearsFree sequence snapshot (prepared now (heard.ReadAnswered sequence snapshot) o) → eligibility_of (shown now (prepared now (heard.ReadAnswered sequence snapshot) o)) snapshot ≡ None → all_answered (prepared now (heard.ReadAnswered sequence snapshot) o).knows.who [] ≡ true → AsksForKey (prepared now (heard.ReadAnswered sequence snapshot) o) (step now points (heard.ReadAnswered sequence snapshot) o) }
 {}
 
 /// A race is judged by the answers of the others, as soon as each of them answered: who wins asks for the key, and waits for the
 /// answer; who loses tells what bars it, tells of itself, and does nothing else.
 pub fn the_last_answer_decides()
-    ensures won { (now : Ticks) (points : List HistoryPoint) (waited : Waited) (sequence : ℕ) (answer : PeerAnswer) (snapshot : SnapshotFacts) (o : Outcome) → HearsLast waited sequence answer snapshot (before now o) → outcome_of (shown now (before now o)) snapshot (with_answer answer (before now o).knows.answers) ≡ None → AsksForKey (before now o) (step now points (heard.Answered sequence answer) o) }
-    ensures lost { (now : Ticks) (points : List HistoryPoint) (waited : Waited) (sequence : ℕ) (answer : PeerAnswer) (snapshot : SnapshotFacts) (bar : Bar) (o : Outcome) → HearsLast waited sequence answer snapshot (before now o) → outcome_of (shown now (before now o)) snapshot (with_answer answer (before now o).knows.answers) ≡ Some bar → LosesRace bar (before now o) (step now points (heard.Answered sequence answer) o) }
+    ensures won { (now : Ticks) (points : List HistoryPoint) (waited : PendingQuestion) (sequence : ℕ) (answer : PeerAnswer) (snapshot : SnapshotFacts) (o : Outcome) → HearsLast waited sequence answer snapshot (reconciled now o) → outcome_of (shown now (reconciled now o)) snapshot (with_answer answer (reconciled now o).knows.answers) ≡ None → AsksForKey (reconciled now o) (step now points (heard.Answered sequence answer) o) }
+    ensures lost { (now : Ticks) (points : List HistoryPoint) (waited : PendingQuestion) (sequence : ℕ) (answer : PeerAnswer) (snapshot : SnapshotFacts) (bar : Bar) (o : Outcome) → HearsLast waited sequence answer snapshot (reconciled now o) → outcome_of (shown now (reconciled now o)) snapshot (with_answer answer (reconciled now o).knows.answers) ≡ Some bar → LosesRace bar (reconciled now o) (step now points (heard.Answered sequence answer) o) }
 {}
 
 /// Once their time is over, a race is judged by the answers that there are, in the same way.
 pub fn late_answers_are_not_waited_for()
-    ensures won { (now : Ticks) (points : List HistoryPoint) (waited : Waited) (snapshot : SnapshotFacts) (o : Outcome) → RunsLate now waited snapshot (prepared now heard.Wake o) → outcome_of (shown now (prepared now heard.Wake o)) snapshot (prepared now heard.Wake o).knows.answers ≡ None → AsksForKey (prepared now heard.Wake o) (step now points heard.Wake o) }
-    ensures lost { (now : Ticks) (points : List HistoryPoint) (waited : Waited) (snapshot : SnapshotFacts) (bar : Bar) (o : Outcome) → RunsLate now waited snapshot (prepared now heard.Wake o) → outcome_of (shown now (prepared now heard.Wake o)) snapshot (prepared now heard.Wake o).knows.answers ≡ Some bar → LosesAndTurns now bar (prepared now heard.Wake o) (step now points heard.Wake o) }
+    ensures won { (now : Ticks) (points : List HistoryPoint) (waited : PendingQuestion) (snapshot : SnapshotFacts) (o : Outcome) → RunsLate now waited snapshot (prepared now heard.Wake o) → outcome_of (shown now (prepared now heard.Wake o)) snapshot (prepared now heard.Wake o).knows.answers ≡ None → AsksForKey (prepared now heard.Wake o) (step now points heard.Wake o) }
+    ensures lost { (now : Ticks) (points : List HistoryPoint) (waited : PendingQuestion) (snapshot : SnapshotFacts) (bar : Bar) (o : Outcome) → RunsLate now waited snapshot (prepared now heard.Wake o) → outcome_of (shown now (prepared now heard.Wake o)) snapshot (prepared now heard.Wake o).knows.answers ≡ Some bar → LosesAndTurns now bar (prepared now heard.Wake o) (step now points heard.Wake o) }
 {}
 
 /// A free leader key is asked for, by whom nothing bars and who wins; and whom it is granted to begins.

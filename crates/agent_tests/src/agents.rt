@@ -68,7 +68,7 @@ impl Workplace {
                 server: Server::new(alloc, 83_886_080)?.status(),
                 replication: Replication {
                     required: Required::Nobody,
-                    connected: [None; 16],
+                    confirmed_positions: [None; 16],
                 },
                 watchdog: Watchdog::new(Mode::Automatic, true, Some(Ticks(50))),
                 hold: None,
@@ -113,7 +113,7 @@ fn snapshot(alloc: Global, who: &Who, store: &Store, at: Ticks) -> Result<Snapsh
 }
 
 fn got(sequence: u64, snapshot: Snapshot) -> Heard {
-    Heard::Got { sequence, snapshot }
+    Heard::ReadAnswered { sequence, snapshot }
 }
 
 /// What the store answers the first read, the create on that, and the next read.

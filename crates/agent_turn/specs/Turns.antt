@@ -3,12 +3,12 @@ use Rattle.std.specs.Prelude.{ℕ, ◌≡◌, ◌≤◌, ◌+◌}
 use Rattle.pat_base.specs.Moments.{latest}
 use Rattle.agent_model.specs.declared.knowledge.Knowledge.{Knowledge}
 use Rattle.agent_model.specs.declared.machine.Machine.{Machine}
-use Rattle.agent_model.specs.Agents.{RoleFacts, Follower, IsSound, Outcome, made, most_messages}
+use Rattle.agent_model.specs.Agents.{RoleFacts, Follower, IsSound, Outcome, outcome_from, most_messages}
 use Rattle.agent_turn.specs.declared.turn.Turn.{Turn}
 
 -- what an input has come to so far, with its agent in this role
 abbrev pub reached : RoleFacts → Turn → Outcome
-reached role turn = made role turn.knows.now turn.machine.now turn.out.now.outputs
+reached role turn = outcome_from role turn.knows.now turn.machine.now turn.out.now.outputs
 
 -- room for so many outputs, and numbers for so many messages; the moment is one that is reckoned with, and what the agent knows is sound
 pub record HasLeft (most numbers : ℕ) (turn : Turn) : Type 0 where

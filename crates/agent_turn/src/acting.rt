@@ -9,9 +9,9 @@ ghost use Rattle.leader_key.specs.Watchdog.{IsLeaseSpan, is_armable};
 ghost use Rattle.agent_model.specs.declared.output.Output.TheVariants as outputs;
 ghost use Rattle.agent_model.specs.declared.why.Why.TheVariants as whys;
 ghost use Rattle.agent_model.specs.Acting.{sending, asking, touching, releasing, ending_server, requiring, disarming, arming, feeding, armed, disarmed, fed_until, is_refusing, is_hold_active, waiting_no_more};
-ghost use Rattle.agent_model.specs.Agents.{IsSound, IsWithin, Ending, Stray, Outcome};
-ghost use Rattle.agent_model.specs.Outputs.{listed};
-ghost use Rattle.agent_model.specs.Pausing.{rest_told, resting, running_without_key};
+ghost use Rattle.agent_model.specs.Agents.{IsSound, IsWithin, Ending, Unleased, Outcome};
+ghost use Rattle.agent_model.specs.Outputs.{with_output};
+ghost use Rattle.agent_model.specs.Pausing.{disabling_told, disabling_watchdog, running_without_key};
 ghost use Rattle.agent_turn.specs.Roles.{role_of};
 ghost use Rattle.agent_turn.specs.Turns.{HasLeft, Spent, ComesTo};
 
@@ -19,7 +19,7 @@ use crate::info::info_of;
 use crate::outputs::Outputs;
 use crate::role::Role;
 use crate::turn::Turn;
-use agent_model::{Output, Question, Target, Waited, Why};
+use agent_model::{Output, PendingQuestion, Question, Target, Why};
 use event_book::{Body, Reason};
 use leader_key::{Armed, Lease, Mode, NotArmed, Watchdog, Writer};
 use lease_store::{Granted, Txn};
@@ -47,7 +47,7 @@ impl Turn<'_> {
         ensures left { Spent 1 1 self.old self.new }
     {
         self.send(body);
-        self.knows.waited = Some(Waited {
+        self.knows.waited = Some(PendingQuestion {
             question,
             sequence: self.knows.sequence,
             until,
@@ -192,11 +192,11 @@ impl Turn<'_> {
     }
 
     /// A leader whose lease was renewed goes on without a watchdog.
-    pub fn rest_writer(&mut self, writer: Writer, renews: bool, grant: Granted) -> Writer
+    pub fn renew_without_watchdog(&mut self, writer: Writer, renews: bool, grant: Granted) -> Writer
         requires turn { HasLeft 2 0 self.old }
         requires leased { grant.leased ≡ true }
         ensures revision { writer_revision result ≡ grant.revision }
-        ensures outcome { ComesTo (resting renews) self.old self.new }
+        ensures outcome { ComesTo (disabling_watchdog renews) self.old self.new }
         ensures left { Spent 2 0 self.old self.new }
     {
         let deadline = self.machine.watchdog.deadline();
@@ -205,10 +205,10 @@ impl Turn<'_> {
     }
 
     /// A member leads without a watchdog, on a lease that it gets by a renewal or as the key was free.
-    pub fn rest(&mut self, lease: Lease, renews: bool) -> Armed
+    pub fn arm_without_watchdog(&mut self, lease: Lease, renews: bool) -> Armed
         requires { HasLeft 2 0 self.old }
         ensures revision { armed_revision result ≡ lease_revision lease }
-        ensures outcome { ComesTo (resting renews) self.old self.new }
+        ensures outcome { ComesTo (disabling_watchdog renews) self.old self.new }
         ensures left { Spent 2 0 self.old self.new }
     {
         let deadline = self.machine.watchdog.deadline();
@@ -219,12 +219,12 @@ impl Turn<'_> {
     /// A primary runs on without the leader key.
     pub fn run_without_key(&mut self) -> Role
         requires { HasLeft 1 0 self.old }
-        ensures role { role_of result ≡ Stray }
+        ensures role { role_of result ≡ Unleased }
         ensures outcome { ComesTo running_without_key self.old self.new }
         ensures left { Spent 1 0 self.old self.new }
     {
         self.out.put(Output::RunsWithoutKey);
-        Role::Stray
+        Role::Unleased
     }
 }
 
@@ -284,7 +284,7 @@ pub fn is_hold_active(now: Ticks, hold: Option<Ticks>) -> bool
 /// Tells that a deadline is removed, and notes it where that comes of a renewal.
 fn tell_rest(out: &mut Outputs, renews: bool, deadline: Option<Ticks>)
     requires { 2 ≤ out.old.spare }
-    ensures out { out.new.outputs ≡ rest_told renews deadline out.old.outputs }
+    ensures out { out.new.outputs ≡ disabling_told renews deadline out.old.outputs }
     ensures room { out.old.spare ≤ out.new.spare + 2 }
 {
     if deadline.is_none() {

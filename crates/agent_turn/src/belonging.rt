@@ -35,9 +35,9 @@ pub fn belongs(question: Question, role: &Role) -> bool
     ensures { result ≡ belongs question (role_of role.now) }
 {
     match question {
-        Question::Asking | Question::Creating => may_create(role),
+        Question::ComparingPositions | Question::Creating => may_create(role),
         Question::Claiming => matches!(role, Role::Ready(_)),
-        Question::Syncing(_) | Question::Checking => matches!(role, Role::Leader(_)),
+        Question::Syncing(_) | Question::FindingCandidate => matches!(role, Role::Leader(_)),
         Question::Reading | Question::Renewing => is_active(role),
     }
 }

@@ -1,7 +1,7 @@
 //! Lists of outputs, with room taken before.
 ghost use Rattle.std.specs.Prelude.{◌≡◌, ◌≤◌, ◌+◌, ◌++◌, [], OnOk, OnErr, option_to_list, IsNone, ◌↔◌};
 ghost use Rattle.std.specs.VecDeque.{deque_len, deque_capacity};
-ghost use Rattle.agent_model.specs.Outputs.{listed};
+ghost use Rattle.agent_model.specs.Outputs.{with_output};
 ghost use Rattle.agent_turn.specs.Room.{OutputsFacts};
 
 use agent_model::Output;
@@ -63,7 +63,7 @@ impl Outputs {
     /// One more, behind the others.
     pub fn put(&mut self, output: Output)
         requires { 1 ≤ self.old.spare }
-        ensures outputs { self.new.outputs ≡ listed output self.old.outputs }
+        ensures outputs { self.new.outputs ≡ with_output output self.old.outputs }
         ensures room { self.old.spare ≤ self.new.spare + 1 }
     {
         self.outputs.push_back_reserved(output);

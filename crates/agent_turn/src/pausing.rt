@@ -4,10 +4,10 @@ ghost use Rattle.std.specs.Prelude.{◌≡◌, ◌≤◌, ◌+◌, Some, None, t
 ghost use Rattle.leader_key.specs.Lease.{armed_revision, lease_revision, writer_revision};
 ghost use Rattle.agent_model.specs.declared.output.Output.TheVariants as outputs;
 ghost use Rattle.agent_model.specs.Acting.{without_deadline};
-ghost use Rattle.agent_model.specs.Agents.{Stray};
+ghost use Rattle.agent_model.specs.Agents.{Unleased};
 ghost use Rattle.agent_turn.specs.Roles.{role_of};
-ghost use Rattle.agent_model.specs.Outputs.{listed};
-ghost use Rattle.agent_model.specs.Pausing.{ends_forks, is_paused, is_replica, is_wanted, is_wanted_by, lets_rewind, may_start_behind, rest_told};
+ghost use Rattle.agent_model.specs.Outputs.{with_output};
+ghost use Rattle.agent_model.specs.Pausing.{ends_forks, is_paused, is_replica, is_wanted, is_wanted_by, lets_rewind, may_start_behind, disabling_told};
 
 use crate::Outputs;
 use crate::role::Role;

@@ -17,5 +17,5 @@ pub enum Role {
     /// It ends its server, and has the leader key until that has ended.
     Ending(Writer, Why),
     /// Its server accepts writes, or will, while it has no lease.
-    Stray,
+    Unleased,
 }

@@ -52,6 +52,6 @@ pub fn word_of(role: &Role) -> RoleWord
         Role::Ready(_) => RoleWord::Ready,
         Role::Leader(_) => RoleWord::Leader,
         Role::Ending(_, _) => RoleWord::Ending,
-        Role::Stray => RoleWord::Stray,
+        Role::Unleased => RoleWord::Unleased,
     }
 }

@@ -57,7 +57,7 @@ pub struct LeaderView<'a> {
     pub required: Required,
     /// By member number, the confirmed position of each connected member: one that receives from this server, and of which
     /// the server keeps a confirmed position.
-    pub connected: [Option<Lsn>; MOST_MEMBERS],
+    pub confirmed_positions: [Option<Lsn>; MOST_MEMBERS],
     /// The position that was noted last, when the required list last changed.
     pub noted: Option<Lsn>,
 }

@@ -40,7 +40,7 @@ agent_facts_without agents member = with_changed agents member.id.number (λ age
 -- the agents of a cluster of this name with these members, of whom these options are declared, at this moment, after one ended or started
 abbrev pub agent_facts_moved : Name → List MemberOptions → List Member → ℕ → List (Option AgentFacts) → AgentEvent → List (Option AgentFacts)
 agent_facts_moved scope options members now known (agents.Killed member) = agent_facts_without known member
-agent_facts_moved scope options members now known (agents.Started member run) = with_changed known member.id.number (λ agent. Some (starting_agent (who_of scope options members member) now run))
+agent_facts_moved scope options members now known (agents.Started member incarnation) = with_changed known member.id.number (λ agent. Some (starting_agent (who_of scope options members member) now incarnation))
 agent_facts_moved scope options members now known _ = known
 
 -- the agents after one was woken, did what an operator asked, ended or started

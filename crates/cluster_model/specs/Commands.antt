@@ -64,7 +64,7 @@ disarm_of member (Some machine) = if live machine.server.state then None else di
 
 -- an agent that doesn't run is started, in its next run; of one that runs it is said that it does
 abbrev pub agent_started : Member → AgentProcess → EventKind
-agent_started member process = if process.running then kinds.Note (AlreadyRunning member) else kinds.Agent (Started member (process.run + 1))
+agent_started member process = if process.running then kinds.Note (AlreadyRunning member) else kinds.Agent (Started member (process.incarnation + 1))
 
 -- an agent that starts does that to its watchdog; one that runs already doesn't
 abbrev pub disarm_at_start : Member → AgentProcess → Option Machine → Option EventKind

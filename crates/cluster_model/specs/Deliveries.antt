@@ -26,7 +26,7 @@ is_answer _ = false
 
 -- it answers a question of another run of the agent
 abbrev pub is_stale : Message → AgentProcess → Bool
-is_stale message state = is_answer message.body && not (message.run == state.run)
+is_stale message state = is_answer message.body && not (message.incarnation == state.incarnation)
 
 -- what stands between a message and the agent that it is for, where their link is joined
 abbrev pub delivery_to_agent : Message → Option AgentProcess → Delivery

@@ -34,10 +34,10 @@ member_at_end (link_ends.Member member) = Some member.id
 
 -- what a message with these words says to an agent: what the key store answers, and what other members ask and answer
 abbrev pub heard_in : Cluster → InFlightFacts → Body → Option Heard
-heard_in cluster message bodies.Snapshot = Some (heard.Got message.message.sequence (snapshot_in cluster message))
+heard_in cluster message bodies.Snapshot = Some (heard.ReadAnswered message.message.sequence (snapshot_in cluster message))
 heard_in cluster message (bodies.Granted request leased) = option_map (λ grant. heard.Granted message.message.sequence grant (snapshot_in cluster message)) message.grant
 heard_in cluster message (bodies.Refused request key found) = Some (heard.Mismatch message.message.sequence key found)
-heard_in cluster message bodies.Ask = option_map (λ from. heard.Asked from message.message.run message.message.sequence) (member_at_end message.message.from)
+heard_in cluster message bodies.Ask = option_map (λ from. heard.Asked from message.message.incarnation message.message.sequence) (member_at_end message.message.from)
 heard_in cluster message (bodies.Answer answer) = Some (heard.Answered message.message.sequence answer)
 heard_in cluster message _ = None
 

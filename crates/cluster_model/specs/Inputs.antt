@@ -8,7 +8,7 @@ use Rattle.agent_model.specs.declared.heard.Heard.{Heard}
 use Rattle.agent_model.specs.declared.machine.Machine.{Machine}
 use Rattle.agent_model.specs.declared.output.Output.{Output}
 use Rattle.agent_model.specs.declared.who.Who.{Who}
-use Rattle.agent_model.specs.Agents.{AgentFacts, Follower, Outcome, fresh_knowledge, made}
+use Rattle.agent_model.specs.Agents.{AgentFacts, Follower, Outcome, fresh_knowledge, outcome_from}
 use Rattle.agent_model.specs.Table.{step}
 use Rattle.agent_model.specs.Wake.{is_due}
 use Rattle.cluster_model.specs.Machines.{machine_of, points_of}
@@ -24,7 +24,7 @@ agent_at agents place = option_and_then (λ agent. agent) (slice_get agents plac
 
 -- an agent with its machine, before an input: it has done nothing yet
 abbrev pub standing : Option AgentFacts → Option Machine → Option Outcome
-standing (Some agent) (Some machine) = Some (made agent.role agent.knows machine [])
+standing (Some agent) (Some machine) = Some (outcome_from agent.role agent.knows machine [])
 standing _ _ = None
 
 -- the agent of a member with its machine, where one runs
@@ -62,6 +62,6 @@ may_act process = process.running && not process.suspended
 abbrev pub is_to_wake : Ticks → AgentProcess → Option Outcome → Bool
 is_to_wake now process o = may_act process && has_work now o
 
--- an agent that starts at this moment, in its run of this number: its first turn is due in the next tick
+-- an agent that starts at this moment, in its incarnation of this number: its first turn is due in the next tick
 abbrev pub starting_agent : Who → ℕ → ℕ → AgentFacts
-starting_agent who now run = record { role = Follower; knows = fresh_knowledge who (record { 0 = now + 1 }) run }
+starting_agent who now incarnation = record { role = Follower; knows = fresh_knowledge who (record { 0 = now + 1 }) incarnation }

@@ -52,7 +52,7 @@ nothing_confirmed = replicate MOST_MEMBERS None
 -- synchronous replication on this server of a member: whom its commits wait for, and how far each connected member has confirmed. To a
 -- server that accepts no writes nobody is connected
 abbrev pub replication_of : List Member → List ServerFacts → CutLinks → Member → ServerFacts → Replication
-replication_of members servers cuts member s = record { required = s.required; connected = if writes s.state then connected_ends members servers cuts member s.confirmed else nothing_confirmed }
+replication_of members servers cuts member s = record { required = s.required; confirmed_positions = if writes s.state then connected_ends members servers cuts member s.confirmed else nothing_confirmed }
 
 -- a machine of these parts; its server receives, or not
 abbrev pub machine_from : Bool → Option Replication → Option MemberOptions → Option (Option Ticks) → Option (Option Ticks) → Option ServerFacts → Option Machine

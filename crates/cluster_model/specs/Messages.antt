@@ -66,9 +66,9 @@ abbrev pub send_events : Cluster → Message → List Event
 send_events cluster message =
     events_of cluster (kinds.Message (Sent (cluster.facts.sent + 1) message) ∷ lost_at_once (nat_le most_in_flight (length cluster.facts.flight)) (cluster.facts.sent + 1))
 
--- the message of a member's agent to this end of a link, in its run of this number
+-- the message of a member's agent to this end of a link, in its incarnation of this number
 abbrev pub agent_message : Member → LinkEnd → ℕ → ℕ → Body → Message
-agent_message member to run sequence body = record { from = link_ends.Member member; to = to; run = run; sequence = sequence; body = body }
+agent_message member to incarnation sequence body = record { from = link_ends.Member member; to = to; incarnation = incarnation; sequence = sequence; body = body }
 
 -- whom an agent writes to, if that is declared
 abbrev pub receiver_of : List Member → Target → Option LinkEnd
@@ -77,13 +77,13 @@ receiver_of members (targets.Member id) = option_map (λ (member : Member). link
 
 -- what an agent sends, in the run in which it is
 abbrev pub sending_events : Cluster → Member → Option AgentProcess → Option LinkEnd → ℕ → Body → List Event
-sending_events cluster member (Some process) (Some to) sequence body = send_events cluster (agent_message member to process.run sequence body)
+sending_events cluster member (Some process) (Some to) sequence body = send_events cluster (agent_message member to process.incarnation sequence body)
 sending_events cluster member _ _ sequence body = []
 
 -- what an agent answers another member, in the run in which that one asked
 abbrev pub replying_events : Cluster → Member → Option LinkEnd → ℕ → ℕ → Body → List Event
-replying_events cluster member None run sequence body = []
-replying_events cluster member (Some to) run sequence body = send_events cluster (agent_message member to run sequence body)
+replying_events cluster member None incarnation sequence body = []
+replying_events cluster member (Some to) incarnation sequence body = send_events cluster (agent_message member to incarnation sequence body)
 
 -- the server of a member starts as a replica, where it is down
 abbrev pub replica_start_events : Cluster → Member → Option Member → List Event
@@ -112,7 +112,7 @@ server_order_events cluster member order = events_of cluster (kinds_of (option_a
 -- what an output of the agent of a member comes to, on the message that it heard
 abbrev pub output_events : Member → HeardMessage → Cluster → Output → List Event
 output_events member heard cluster (outputs.Send to sequence body) = sending_events cluster member (slice_get cluster.facts.processes member.id.number) (receiver_of cluster.facts.members to) sequence body
-output_events member heard cluster (outputs.Answer to run sequence answer) = replying_events cluster member (receiver_of cluster.facts.members (targets.Member to)) run sequence (bodies.Answer answer)
+output_events member heard cluster (outputs.Answer to incarnation sequence answer) = replying_events cluster member (receiver_of cluster.facts.members (targets.Member to)) incarnation sequence (bodies.Answer answer)
 output_events member heard cluster outputs.Begin = begin_events cluster member
 output_events member heard cluster (outputs.StartReplica leader) = replica_start_events cluster member (declared_member cluster.facts.members leader)
 output_events member heard cluster (outputs.Stop reason) = stop_events cluster member reason
@@ -126,14 +126,14 @@ output_events member heard cluster (outputs.Armed until) = events_of cluster (fe
 output_events member heard cluster (outputs.Fed until) = events_of cluster (feed_kinds member heard (feeding member until heard))
 output_events member heard cluster outputs.Disarmed = event_of cluster (kinds.Watchdog (Disarmed member))
 output_events member heard cluster outputs.CannotArm = event_of cluster (kinds.Note (CannotArm member))
-output_events member heard cluster outputs.Passes = event_of cluster (kinds.Agent (Passed member))
+output_events member heard cluster outputs.ClaimsOutsideSync = event_of cluster (kinds.Agent (Passed member))
 output_events member heard cluster outputs.PostponesPromotion = event_of cluster (kinds.Note (PostponesPromotion member))
 output_events member heard cluster outputs.DisablesWatchdog = event_of cluster (kinds.Note (DisablesWatchdog member))
 output_events member heard cluster outputs.RunsWithoutKey = event_of cluster (kinds.Note (RunsWithoutKey member))
 output_events member heard cluster (outputs.DoesNotRace bar) = event_of cluster (not_racing cluster.facts.members member bar)
 output_events member heard cluster (outputs.HandsOver candidate) = events_of cluster (kinds_of (option_map (handing_over member) (slice_get cluster.facts.members candidate.number)))
 output_events member heard cluster (outputs.Told request told) = events_of cluster (kinds_of (told_kind member (agent_at cluster.agents member.id.number) told))
-output_events member heard cluster (outputs.HoldTaken until from sequence) = events_of cluster (kinds_of (option_map (hold_taken member until heard.run sequence) (slice_get cluster.facts.members from.number)))
+output_events member heard cluster (outputs.HoldTaken until from sequence) = events_of cluster (kinds_of (option_map (hold_taken member until heard.incarnation sequence) (slice_get cluster.facts.members from.number)))
 
 -- what the outputs of an input come to, one after another
 abbrev pub input_events : Cluster → Member → HeardMessage → Option Outcome → List Event
@@ -141,7 +141,7 @@ input_events cluster member heard outcome = each (output_events member heard) cl
 
 -- no message is heard by an agent that is woken
 abbrev pub no_message : HeardMessage
-no_message = record { number = 0; run = 0; sent = record { 0 = 0 } }
+no_message = record { number = 0; incarnation = 0; sent = record { 0 = 0 } }
 
 -- an input that no message brings to the agent of a member, as this event: it acts on what it hears by it
 abbrev pub own_input_events : Cluster → Member → AgentEvent → Heard → List Event
@@ -169,7 +169,7 @@ wake_events cluster member = for_some (slice_get cluster.facts.processes member.
 
 -- an answer of the key store
 abbrev pub answer_message : Message → Body → Message
-answer_message message body = record { from = link_ends.Store; to = message.from; run = message.run; sequence = message.sequence; body = body }
+answer_message message body = record { from = link_ends.Store; to = message.from; incarnation = message.incarnation; sequence = message.sequence; body = body }
 
 -- the agent of a member does what an operator asks
 abbrev pub operate_events : Cluster → Member → OperatorAction → List Event
@@ -231,7 +231,7 @@ answer_events cluster number message = answer_events_by cluster number message m
 
 -- the message of this number, as its receiver hears it
 abbrev pub heard_message : ℕ → InFlightFacts → HeardMessage
-heard_message number message = record { number = number; run = message.message.run; sent = message.sent }
+heard_message number message = record { number = number; incarnation = message.message.incarnation; sent = message.sent }
 
 -- the agent of a member acts on a message that comes
 abbrev pub hear_events : Cluster → ℕ → InFlightFacts → Member → List Event

@@ -102,7 +102,7 @@ require_of members member required s =
 
 -- a member promises another one not to take the leader key before a moment, on its failsafe request
 abbrev pub hold_taken : Member → Ticks → ℕ → ℕ → Member → EventKind
-hold_taken member until run sequence from = kinds.Watchdog (watchdogs.HoldTaken member until from run sequence)
+hold_taken member until incarnation sequence from = kinds.Watchdog (watchdogs.HoldTaken member until from incarnation sequence)
 
 -- the log of a member's server was rewound to what it has in common with this leader's
 abbrev pub rewinding : Member → Member → Rewound → EventKind

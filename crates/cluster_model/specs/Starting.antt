@@ -18,7 +18,7 @@ options_of head = map (λ (member : MemberText). member.options) head.members
 abbrev pub cluster_without_agents : HeadText → Cluster
 cluster_without_agents head = record { scope = head.cluster; options = options_of head; facts = start_of head.config (names_of head) head.base; agents = [] }
 
--- the agent of a member at the beginning, in its first run: that of member number i has its first turn at tick i + 1
+-- the agent of a member at the beginning, in its first incarnation: that of member number i has its first turn at tick i + 1
 abbrev pub first_agent : Name → List MemberOptions → List Member → Member → Option AgentFacts
 first_agent scope options members member = Some (starting_agent (who_of scope options members member) member.id.number 1)
 

@@ -9,6 +9,6 @@ pub enum Delivery {
     Cut,
     /// The receiver is suspended.
     Suspended,
-    /// The agent that it is meant for has ended: none runs, or it answers a question of an earlier run.
+    /// The agent that it is meant for has ended: none runs, or it answers a question of an earlier incarnation.
     Gone,
 }

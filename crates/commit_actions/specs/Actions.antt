@@ -28,8 +28,8 @@ pub data Action : Type 0 where
   -- the key store: a create that compares no sync key is granted; a renewal is, which may carry a set for the failsafe key; the
   -- leader key expires; it is released; another key is written; a snapshot is sent; a request that compares the sync key is
   -- decided on; a message is lost
-  Create : (m run sequence number : ℕ) → Action
-  Renew : (m run sequence number : ℕ) → (carries : Bool) → Action
+  Create : (m incarnation sequence number : ℕ) → Action
+  Renew : (m incarnation sequence number : ℕ) → (carries : Bool) → Action
   Expire : Action
   Release : Action
   OtherWrite : Action
@@ -37,7 +37,7 @@ pub data Action : Type 0 where
   Decide : (number answer : ℕ) → Action
   Lose : (number : ℕ) → Action
   -- a member answers another in a race; an agent starts; it is killed
-  AnswerRace : (by m run sequence number : ℕ) → Action
+  AnswerRace : (by m incarnation sequence number : ℕ) → Action
   Start : (m : ℕ) → Action
   Kill : (m : ℕ) → Action
   -- all else that commits don't depend on; one input of an agent
@@ -95,7 +95,7 @@ sync_key_by m r (PublishStandbys standbys quorum) = record { leader = m; standby
 
 -- the grant of such a request
 abbrev pub sync_grant_by : ℕ → SyncRequest → SyncGrant
-sync_grant_by r request = record { member = request.member; run = request.run; sequence = request.sequence; key = sync_key_by request.member r request.aim }
+sync_grant_by r request = record { member = request.member; incarnation = request.incarnation; sequence = request.sequence; key = sync_key_by request.member r request.aim }
 
 -- a request writes the sync key, and its grant is sent
 abbrev pub with_sync_grant : State → ℕ → ℕ → SyncRequest → State
@@ -107,7 +107,7 @@ with_sync_grant s i j request = record s {
 
 -- the grant of a create or a renewal under the next revision
 abbrev pub lease_grant_by : State → ℕ → ℕ → ℕ → LeaseGrant
-lease_grant_by s m run sequence = record { member = m; run = run; sequence = sequence; revision = s.revision + 1; sync = s.sync }
+lease_grant_by s m incarnation sequence = record { member = m; incarnation = incarnation; sequence = sequence; revision = s.revision + 1; sync = s.sync }
 
 -- a request creates the leader key, and its grant is sent
 abbrev pub with_leader_created : State → ℕ → ℕ → SyncRequest → State
@@ -116,7 +116,7 @@ with_leader_created s i j request = record s {
   holder = request.member;
   holder_was_live = false;
   revision = s.revision + 1;
-  flight = put_at (put_at s.flight i None) j (Some (LeaseGranted (lease_grant_by s request.member request.run request.sequence)));
+  flight = put_at (put_at s.flight i None) j (Some (LeaseGranted (lease_grant_by s request.member request.incarnation request.sequence)));
 }
 
 -- a request is granted
@@ -139,9 +139,9 @@ abbrev pub failsafe_revision_if : Bool → ℕ → Option ℕ → Option ℕ
 failsafe_revision_if true r before = Some r
 failsafe_revision_if false r before = before
 
--- an agent at the beginning of a run
+-- an agent at the beginning of an incarnation
 abbrev pub fresh_agent : ℕ → Agent
-fresh_agent run = record { run = run; last = 0; waits = None; turn = None; race = None; won = false; ready = false; leads = false; noted = 0 }
+fresh_agent incarnation = record { incarnation = incarnation; last = 0; waits = None; turn = None; race = None; won = false; ready = false; leads = false; noted = 0 }
 
 -- the messages in flight with what an input sends, if anything
 abbrev pub send : Option Sending → (ℕ → Option Flying) → ℕ → Option Flying
@@ -164,24 +164,24 @@ act s (Wipe m) = with_log s m None
 act s (Accept m) = with_machine s m (record (s.members m) { writes = true; confirmed = λ n. None })
 act s (Cease m) = with_machine s m (record (s.members m) { writes = false })
 act s (End m) = with_machine s m (record (s.members m) { live = false; writes = false })
-act s (Create m run sequence number) = record s { leader = Some (s.revision + 1); holder = m; holder_was_live = false; revision = s.revision + 1; flight = put_at s.flight number (Some (LeaseGranted (lease_grant_by s m run sequence))) }
-act s (Renew m run sequence number carries) = record s { leader = Some (s.revision + 1); failsafe_revision = failsafe_revision_if carries (s.revision + 1) s.failsafe_revision; revision = s.revision + 1; flight = put_at s.flight number (Some (LeaseGranted (lease_grant_by s m run sequence))) }
+act s (Create m incarnation sequence number) = record s { leader = Some (s.revision + 1); holder = m; holder_was_live = false; revision = s.revision + 1; flight = put_at s.flight number (Some (LeaseGranted (lease_grant_by s m incarnation sequence))) }
+act s (Renew m incarnation sequence number carries) = record s { leader = Some (s.revision + 1); failsafe_revision = failsafe_revision_if carries (s.revision + 1) s.failsafe_revision; revision = s.revision + 1; flight = put_at s.flight number (Some (LeaseGranted (lease_grant_by s m incarnation sequence))) }
 act s Expire = record s { leader = None; holder = 0 }
 act s Release = record s { leader = None; holder = 0; revision = s.revision + 1 }
 act s OtherWrite = record s { revision = s.revision + 1 }
 act s (SendSnapshot keyless leaderless number) = record s { flight = put_at s.flight number (Some (SnapshotSent (record { sync = s.sync; keyless = keyless; leaderless = leaderless; failsafe_revision = s.failsafe_revision }))) }
 act s (Decide number answer) = decide_at s number answer (s.flight number)
 act s (Lose number) = record s { flight = put_at s.flight number None }
-act s (AnswerRace by m run sequence number) = record s { flight = put_at s.flight number (Some (RaceAnswered (record { member = m; run = run; sequence = sequence; by = by; end = end_of (entries_of (s.members by).log) }))) }
+act s (AnswerRace by m incarnation sequence number) = record s { flight = put_at s.flight number (Some (RaceAnswered (record { member = m; incarnation = incarnation; sequence = sequence; by = by; end = end_of (entries_of (s.members by).log) }))) }
 act s (Start m) = with_machine s m (record (s.members m) { agent = Some (fresh_agent ((s.members m).runs + 1)); runs = (s.members m).runs + 1 })
 act s (Kill m) = with_machine s m (record (s.members m) { agent = None })
 act s Note = s
 act s (Input m input) = record s { holder_was_live = input.holder_was_live; flight = send input.sends (forget input.heard s.flight); members = put_at s.members m (machine_after (s.members m) input) }
 
--- a run and a number that this machine's agents gave before
-pub record IsNumbered (x : Machine) (run sequence : ℕ) : Type 0 where
-  pub run_old : run ≤ x.runs
-  pub sequence_old : (agent : Agent) → x.agent ≡ Some agent → agent.run ≡ run → sequence ≤ agent.last
+-- an incarnation and a number that this machine's agents gave before
+pub record IsNumbered (x : Machine) (incarnation sequence : ℕ) : Type 0 where
+  pub run_old : incarnation ≤ x.runs
+  pub sequence_old : (agent : Agent) → x.agent ≡ Some agent → agent.incarnation ≡ incarnation → sequence ≤ agent.last
 
 -- a server that isn't live copies from one that accepts writes: else a log that has what was acknowledged is cut to one that lacks
 -- it
@@ -237,10 +237,10 @@ IsAllowed s (Rewind m from) = CopiesFrom s m from
 IsAllowed s (Clone m from) = MayClone s m from
 IsAllowed s (Wipe m) = (s.members m).live ≡ false
 IsAllowed s (Accept m) = (s.members m).live ≡ true
-IsAllowed s (Create m run sequence number) = IsNumbered (s.members m) run sequence × (s.creates_compare ≡ false)
-IsAllowed s (Renew m run sequence number carries) = IsNumbered (s.members m) run sequence × MayRenew s carries
+IsAllowed s (Create m incarnation sequence number) = IsNumbered (s.members m) incarnation sequence × (s.creates_compare ≡ false)
+IsAllowed s (Renew m incarnation sequence number carries) = IsNumbered (s.members m) incarnation sequence × MayRenew s carries
 IsAllowed s (SendSnapshot keyless leaderless number) = (keyless ≡ true → (n : ℕ) → Acts (s.members n) → ⊥) × (leaderless ≡ true → (s.leader ≡ None) × ((n : ℕ) → is_ready (s.members n).agent ≡ true → ⊥))
-IsAllowed s (AnswerRace by m run sequence number) = HasLog (s.members by).log × IsNumbered (s.members m) run sequence
+IsAllowed s (AnswerRace by m incarnation sequence number) = HasLog (s.members by).log × IsNumbered (s.members m) incarnation sequence
 IsAllowed s (Input m input) = (law : IsLawful s m input) × IsGivenByLease s m input law.was law.does
 IsAllowed s _ = Unit {0}
 

@@ -69,7 +69,7 @@ IsAimKept member_count acknowledged_log members sync m (PublishStandbys standbys
 
 -- a request in flight that compares the sync key
 pub record IsRequestSound (member_count : ℕ) (acknowledged_log : List Entry) (members : ℕ → Machine) (sync : Option SyncKey) (leader : Option ℕ) (revision : ℕ) (w : SyncRequest) : Type 0 where
-  pub numbered : IsNumbered (members w.member) w.run w.sequence
+  pub numbered : IsNumbered (members w.member) w.incarnation w.sequence
   pub leader_bound : w.leader ≤ revision
   pub sync_bound : (r : ℕ) → w.sync ≡ Some r → r ≤ revision
   -- while the leader key is as it compares, nobody acts but its sender
@@ -84,7 +84,7 @@ IsRequestKept s w = IsRequestSound s.member_count s.acknowledged_log s.members s
 
 -- the grant of a create or a renewal in flight
 pub record IsLeaseGrantKept (s : State) (i : ℕ) (g : LeaseGrant) : Type 0 where
-  pub numbered : IsNumbered (s.members g.member) g.run g.sequence
+  pub numbered : IsNumbered (s.members g.member) g.incarnation g.sequence
   pub given : 1 ≤ g.revision
   pub bound : g.revision ≤ s.revision
   pub read : IsRead s.sync s.revision g.sync
@@ -94,27 +94,27 @@ pub record IsLeaseGrantKept (s : State) (i : ℕ) (g : LeaseGrant) : Type 0 wher
   pub single : (j : ℕ) (h : LeaseGrant) → s.flight j ≡ Some (LeaseGranted h) → h.revision ≡ g.revision → j ≡ i
   -- while it is waited for, the requests of its member are older, and where that member acts the sync key is as its snapshot
   -- shows it
-  pub older : Waits (s.members g.member) g.run g.sequence → (j : ℕ) (w : SyncRequest) → s.flight j ≡ Some (Requested w) → w.member ≡ g.member → w.leader < g.revision
-  pub current : Waits (s.members g.member) g.run g.sequence → Acts (s.members g.member) → s.sync ≡ g.sync
+  pub older : Waits (s.members g.member) g.incarnation g.sequence → (j : ℕ) (w : SyncRequest) → s.flight j ≡ Some (Requested w) → w.member ≡ g.member → w.leader < g.revision
+  pub current : Waits (s.members g.member) g.incarnation g.sequence → Acts (s.members g.member) → s.sync ≡ g.sync
 
 -- the grant of a write of the sync key in flight
 pub record IsSyncGrantKept (s : State) (a : SyncGrant) : Type 0 where
-  pub numbered : IsNumbered (s.members a.member) a.run a.sequence
+  pub numbered : IsNumbered (s.members a.member) a.incarnation a.sequence
   pub leader : a.key.leader ≡ a.member
   pub bound : a.key.revision ≤ s.revision
   -- while it is waited for and its member acts, the sync key is what it wrote, and no request of its member compares that
-  pub current : Waits (s.members a.member) a.run a.sequence → Acts (s.members a.member) → s.sync ≡ Some a.key
-  pub last : Waits (s.members a.member) a.run a.sequence → (j : ℕ) (w : SyncRequest) → s.flight j ≡ Some (Requested w) → w.member ≡ a.member → w.sync ≡ Some a.key.revision → ⊥
+  pub current : Waits (s.members a.member) a.incarnation a.sequence → Acts (s.members a.member) → s.sync ≡ Some a.key
+  pub last : Waits (s.members a.member) a.incarnation a.sequence → (j : ℕ) (w : SyncRequest) → s.flight j ≡ Some (Requested w) → w.member ≡ a.member → w.sync ≡ Some a.key.revision → ⊥
 
 -- a race, while the sync key is as its agent read it: nobody is live; of the standbys but a few, each is complete, and where it
 -- answered its log ended no earlier than what was acknowledged
-pub record IsRaceKept (member_count : ℕ) (acknowledged_log : List Entry) (flight : ℕ → Option Flying) (members : ℕ → Machine) (m run : ℕ) (race : Race) (key : SyncKey) : Type 0 where
+pub record IsRaceKept (member_count : ℕ) (acknowledged_log : List Entry) (flight : ℕ → Option Flying) (members : ℕ → Machine) (m incarnation : ℕ) (race : Race) (key : SyncKey) : Type 0 where
   pub unled : IsUnled flight members key.revision
   pub spared : ℕ → Bool
   pub few : count member_count spared ≤ key.quorum
   pub complete : (n : ℕ) → key.standbys n ≡ true → spared n ≡ false → IsComplete acknowledged_log members n
   pub heard : (n end : ℕ) → key.standbys n ≡ true → spared n ≡ false → race.ends n ≡ Some end → end_of acknowledged_log ≤ end
-  pub coming : (i : ℕ) (r : RaceAnswer) → flight i ≡ Some (RaceAnswered r) → r.member ≡ m → r.run ≡ run → r.sequence ≡ race.sequence → key.standbys r.by ≡ true → spared r.by ≡ false → end_of acknowledged_log ≤ r.end
+  pub coming : (i : ℕ) (r : RaceAnswer) → flight i ≡ Some (RaceAnswered r) → r.member ≡ m → r.incarnation ≡ incarnation → r.sequence ≡ race.sequence → key.standbys r.by ≡ true → spared r.by ≡ false → end_of acknowledged_log ≤ r.end
 
 -- a race that was won, while the sync key is as its agent read it
 pub record IsWonKept (acknowledged_log : List Entry) (flight : ℕ → Option Flying) (members : ℕ → Machine) (m : ℕ) (key : SyncKey) : Type 0 where
@@ -127,7 +127,7 @@ pub record IsWonKept (acknowledged_log : List Entry) (flight : ℕ → Option Fl
 pub record HolderIsNotLive (flight : ℕ → Option Flying) (members : ℕ → Machine) (leader : Option ℕ) (holder : ℕ) (holder_was_live : Bool) (revision : ℕ) : Type 0 where
   pub holder_not_live : (r : ℕ) → leader ≡ Some r → (members holder).live ≡ false
   pub was_not_live : (r : ℕ) → leader ≡ Some r → holder_was_live ≡ false
-  pub nobody_ready : (i : ℕ) (a : SyncGrant) → flight i ≡ Some (SyncGranted a) → a.key.revision ≡ revision → Waits (members a.member) a.run a.sequence → is_ready (members a.member).agent ≡ true → ⊥
+  pub nobody_ready : (i : ℕ) (a : SyncGrant) → flight i ≡ Some (SyncGranted a) → a.key.revision ≡ revision → Waits (members a.member) a.incarnation a.sequence → is_ready (members a.member).agent ≡ true → ⊥
 
 -- a snapshot in flight. Where it shows neither a leader key nor a failsafe key, nobody is live while its sync key is the present one.
 -- Where it shows no leader key and creates compare the sync key, a leader key that is there then is of a member that isn't live, so
@@ -140,13 +140,13 @@ pub record IsSnapshotKept (creates_compare : Bool) (leader : Option ℕ) (holder
 
 -- what holds of an agent's turn
 pub record IsTurnKept (member_count : ℕ) (acknowledged_log : List Entry) (sync : Option SyncKey) (flight : ℕ → Option Flying) (members : ℕ → Machine) (m : ℕ) (agent : Agent) : Type 0 where
-  pub race : (race : Race) (key now : SyncKey) → agent.race ≡ Some race → agent.turn ≡ Some key → sync ≡ Some now → now.revision ≡ key.revision → IsRaceKept member_count acknowledged_log flight members m agent.run race key
+  pub race : (race : Race) (key now : SyncKey) → agent.race ≡ Some race → agent.turn ≡ Some key → sync ≡ Some now → now.revision ≡ key.revision → IsRaceKept member_count acknowledged_log flight members m agent.incarnation race key
   pub counted : (race : Race) → agent.race ≡ Some race → race.sequence ≤ agent.last
   pub won : (key now : SyncKey) → agent.won ≡ true → agent.turn ≡ Some key → sync ≡ Some now → now.revision ≡ key.revision → IsWonKept acknowledged_log flight members m key
 
 -- what an agent keeps
 pub record IsAgentKept (s : State) (m : ℕ) (agent : Agent) : Type 0 where
-  pub run : agent.run ≤ (s.members m).runs
+  pub incarnation : agent.incarnation ≤ (s.members m).runs
   pub turn : IsRead s.sync s.revision agent.turn
   pub turn_kept : IsTurnKept s.member_count s.acknowledged_log s.sync s.flight s.members m agent
   -- what was acknowledged ends before the noted position, or whom commits wait for has it
@@ -179,5 +179,5 @@ pub record IsSound (s : State) : Type 0 where
   pub leased : (i : ℕ) (g : LeaseGrant) → s.flight i ≡ Some (LeaseGranted g) → IsLeaseGrantKept s i g
   pub synced : (i : ℕ) (a : SyncGrant) → s.flight i ≡ Some (SyncGranted a) → IsSyncGrantKept s a
   pub shown : (i : ℕ) (view : SnapshotView) → s.flight i ≡ Some (SnapshotSent view) → IsSnapshotKept s.creates_compare s.leader s.holder s.failsafe_revision s.holder_was_live s.sync s.revision s.flight s.members view
-  pub replied : (i : ℕ) (r : RaceAnswer) → s.flight i ≡ Some (RaceAnswered r) → IsNumbered (s.members r.member) r.run r.sequence
+  pub replied : (i : ℕ) (r : RaceAnswer) → s.flight i ≡ Some (RaceAnswered r) → IsNumbered (s.members r.member) r.incarnation r.sequence
   pub kept : (m : ℕ) (agent : Agent) → (s.members m).agent ≡ Some agent → IsAgentKept s m agent

@@ -9,11 +9,11 @@ pub data Aim : Type 0 where
   CreateLeader : Aim
   PublishStandbys : (standbys : ℕ → Bool) → (quorum : ℕ) → Aim
 
--- a request that compares the sync key: its sender, the sender's run, its number in that run, the revision of the leader key that it
+-- a request that compares the sync key: its sender, the sender's incarnation, its number in that one, the revision of the leader key that it
 -- compares, that of the sync key or its absence, and what it is for. One that creates the leader key compares its absence
 pub record SyncRequest : Type 0 where
   pub member : ℕ
-  pub run : ℕ
+  pub incarnation : ℕ
   pub sequence : ℕ
   pub leader : ℕ
   pub sync : Option ℕ
@@ -22,7 +22,7 @@ pub record SyncRequest : Type 0 where
 -- the grant of a create or a renewal of the leader key: its revision, and the sync key of its snapshot
 pub record LeaseGrant : Type 0 where
   pub member : ℕ
-  pub run : ℕ
+  pub incarnation : ℕ
   pub sequence : ℕ
   pub revision : ℕ
   pub sync : Option SyncKey
@@ -30,14 +30,14 @@ pub record LeaseGrant : Type 0 where
 -- the grant of a write of the sync key, and the key that it wrote
 pub record SyncGrant : Type 0 where
   pub member : ℕ
-  pub run : ℕ
+  pub incarnation : ℕ
   pub sequence : ℕ
   pub key : SyncKey
 
 -- the answer of a member to another that asks in a race: where the log of who answers ends
 pub record RaceAnswer : Type 0 where
   pub member : ℕ
-  pub run : ℕ
+  pub incarnation : ℕ
   pub sequence : ℕ
   pub by : ℕ
   pub end : ℕ

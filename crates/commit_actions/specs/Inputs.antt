@@ -33,9 +33,9 @@ pub record HearsLeaseGrant (s : State) (m : ℕ) (input : AgentInput) (was : Age
   pub heard : input.heard ≡ Some number
   pub is : s.flight number ≡ Some (LeaseGranted grant)
   pub member : grant.member ≡ m
-  -- of this run, and the one that it waits for: the grant of an older renewal shows an older sync key, and a write of the sync key
+  -- of this incarnation, and the one that it waits for: the grant of an older renewal shows an older sync key, and a write of the sync key
   -- that compares a newer leader key may be on its way
-  pub run : was.run ≡ grant.run
+  pub incarnation : was.incarnation ≡ grant.incarnation
   pub waits : was.waits ≡ Some grant.sequence
 
 -- it hears the grant of the write of the sync key that it waits for
@@ -44,8 +44,8 @@ pub record HearsSyncGrant (s : State) (m : ℕ) (input : AgentInput) (was : Agen
   pub heard : input.heard ≡ Some number
   pub is : s.flight number ≡ Some (SyncGranted sync_grant)
   pub member : sync_grant.member ≡ m
-  -- of this run, and the one that it waits for: else its list follows a key that was rewritten since
-  pub run : was.run ≡ sync_grant.run
+  -- of this incarnation, and the one that it waits for: else its list follows a key that was rewritten since
+  pub incarnation : was.incarnation ≡ sync_grant.incarnation
   pub waits : was.waits ≡ Some sync_grant.sequence
 
 -- it hears a snapshot with this sync key
@@ -72,7 +72,7 @@ pub record BeginsTurn (s : State) (input : AgentInput) : Type 0 where
 -- nobody is live, nor about to be by the grant of the sync key of this revision
 pub record IsUnled (flight : ℕ → Option Flying) (members : ℕ → Machine) (revision : ℕ) : Type 0 where
   pub live : (n : ℕ) → (members n).live ≡ true → ⊥
-  pub pending : (i : ℕ) (a : SyncGrant) → flight i ≡ Some (SyncGranted a) → a.key.revision ≡ revision → Waits (members a.member) a.run a.sequence → Acts (members a.member) → ⊥
+  pub pending : (i : ℕ) (a : SyncGrant) → flight i ≡ Some (SyncGranted a) → a.key.revision ≡ revision → Waits (members a.member) a.incarnation a.sequence → Acts (members a.member) → ⊥
 
 -- the sync key that its turn read names this member, so that it wins without a race: there is none, it is the leader, or a standby
 -- where no standby may lack an acknowledged commit
@@ -97,7 +97,7 @@ pub record Sends (m : ℕ) (input : AgentInput) (was : Agent) (request : SyncReq
   pub number : ℕ
   pub is : input.sends ≡ Some (record { number = number; request = request })
   pub member : request.member ≡ m
-  pub run : request.run ≡ was.run
+  pub incarnation : request.incarnation ≡ was.incarnation
   -- its number is above all before it: else the answer to an older request is taken for its own
   pub later : was.last < request.sequence
   pub counted : request.sequence ≤ input.agent.last
@@ -149,7 +149,7 @@ pub record HearsAnswer (s : State) (m : ℕ) (input : AgentInput) (was : Agent) 
   pub heard : input.heard ≡ Some number
   pub is : s.flight number ≡ Some (RaceAnswered race_answer)
   pub member : race_answer.member ≡ m
-  pub run : was.run ≡ race_answer.run
+  pub incarnation : was.incarnation ≡ race_answer.incarnation
   pub before : Race
   pub before_is : was.race ≡ Some before
   -- an answer to this race
@@ -253,7 +253,7 @@ pub record Publishes (s : State) (m : ℕ) (input : AgentInput) (was : Agent) : 
   pub key_is : grant.sync ≡ Some key
   pub request : SyncRequest
   pub sends : Sends m input was request
-  -- it compares the grant that it hears: else it is granted in a later run, whose list is another
+  -- it compares the grant that it hears: else it is granted in a later incarnation, whose list is another
   pub leader : request.leader ≡ grant.revision
   -- and the sync key in that grant's snapshot: else it is granted over another's claim
   pub sync : request.sync ≡ Some key.revision
@@ -340,11 +340,11 @@ pub record HolderCarries (s : State) (m : ℕ) (input : AgentInput) : Type 0 whe
 
 -- what an agent owes at an input
 pub record IsLawful (s : State) (m : ℕ) (input : AgentInput) : Type 0 where
-  -- the agent runs, and goes on in its run; the numbers of its requests don't fall, and what it waits for it waited for before, or
+  -- the agent runs, and goes on in its incarnation; the numbers of its requests don't fall, and what it waits for it waited for before, or
   -- asked in this input
   pub was : Agent
   pub was_is : (s.members m).agent ≡ Some was
-  pub run : input.agent.run ≡ was.run
+  pub incarnation : input.agent.incarnation ≡ was.incarnation
   pub last : was.last ≤ input.agent.last
   pub waits : (sequence : ℕ) → input.agent.waits ≡ Some sequence → (was.waits ≡ Some sequence) ⊎ (was.last < sequence)
   pub holder_was_live : (input.holder_was_live ≡ s.holder_was_live) ⊎ HolderCarries s m input

@@ -49,22 +49,22 @@ pub data Query : Type 0 where
   SyncQuery : SyncRequest → Query
   OtherQuery : Query
 
--- the requests that compare the sync key, by their member, its run and its number
+-- the requests that compare the sync key, by their member, its incarnation and its number
 abbrev pub claim_request : ℕ → ℕ → ℕ → ℕ → Expected → SyncRequest
-claim_request member run sequence revision sync = record { member = member; run = run; sequence = sequence; leader = revision; sync = revision_in sync; aim = ClaimSync }
+claim_request member incarnation sequence revision sync = record { member = member; incarnation = incarnation; sequence = sequence; leader = revision; sync = revision_in sync; aim = ClaimSync }
 
 -- a write of the sync key that publishes these standbys
 abbrev pub publish_request : ℕ → ℕ → ℕ → ℕ → Expected → MemberSet → SyncRequest
-publish_request member run sequence revision sync standbys = record { member = member; run = run; sequence = sequence; leader = revision; sync = revision_in sync; aim = PublishStandbys (set_members standbys) 0 }
+publish_request member incarnation sequence revision sync standbys = record { member = member; incarnation = incarnation; sequence = sequence; leader = revision; sync = revision_in sync; aim = PublishStandbys (set_members standbys) 0 }
 
 -- a create that compares the sync key
 abbrev pub create_request : ℕ → ℕ → ℕ → Expected → SyncRequest
-create_request member run sequence sync = record { member = member; run = run; sequence = sequence; leader = 0; sync = revision_in sync; aim = CreateLeader }
+create_request member incarnation sequence sync = record { member = member; incarnation = incarnation; sequence = sequence; leader = 0; sync = revision_in sync; aim = CreateLeader }
 
 -- a create, which may compare the sync key
 abbrev pub create_query : ℕ → ℕ → ℕ → Option Expected → Query
-create_query member run sequence None = LeaseQuery
-create_query member run sequence (Some sync) = SyncQuery (create_request member run sequence sync)
+create_query member incarnation sequence None = LeaseQuery
+create_query member incarnation sequence (Some sync) = SyncQuery (create_request member incarnation sequence sync)
 
 -- a renewal, which may carry a set for the failsafe key
 abbrev pub renew_query : ℕ → ℕ → Option MemberSet → Query
@@ -73,11 +73,11 @@ renew_query member revision (Some members) = CarryQuery member revision
 
 -- what commits read of a transaction
 abbrev pub query_of : ℕ → ℕ → ℕ → Txn → Query
-query_of member run sequence (txns.Create info ttl failsafe sync) = create_query member run sequence sync
-query_of member run sequence (txns.Renew revision info ttl status row failsafe) = renew_query member revision failsafe
-query_of member run sequence (txns.Claim revision sync) = SyncQuery (claim_request member run sequence revision sync)
-query_of member run sequence (txns.SetSync revision sync standbys) = SyncQuery (publish_request member run sequence revision sync standbys)
-query_of member run sequence _ = OtherQuery
+query_of member incarnation sequence (txns.Create info ttl failsafe sync) = create_query member incarnation sequence sync
+query_of member incarnation sequence (txns.Renew revision info ttl status row failsafe) = renew_query member revision failsafe
+query_of member incarnation sequence (txns.Claim revision sync) = SyncQuery (claim_request member incarnation sequence revision sync)
+query_of member incarnation sequence (txns.SetSync revision sync standbys) = SyncQuery (publish_request member incarnation sequence revision sync standbys)
+query_of member incarnation sequence _ = OtherQuery
 
 -- what a book determines
 pub record Past : Type 0 where
@@ -163,15 +163,15 @@ was_live_after holder_was_live leader _ = holder_was_live
 -- what a granted request tells its sender: the sync key that it wrote, or the leader key's new revision
 abbrev pub sync_grant_of : Option SyncKey → SyncRequest → Option Flying
 sync_grant_of None request = None
-sync_grant_of (Some key) request = Some (SyncGranted (record { member = request.member; run = request.run; sequence = request.sequence; key = key }))
+sync_grant_of (Some key) request = Some (SyncGranted (record { member = request.member; incarnation = request.incarnation; sequence = request.sequence; key = key }))
 
 -- the grant of the leader key under the last revision
 abbrev pub lease_grant_of : Past → ℕ → ℕ → ℕ → Option Flying
-lease_grant_of past member run sequence = Some (LeaseGranted (record { member = member; run = run; sequence = sequence; revision = past.revision; sync = past.sync }))
+lease_grant_of past member incarnation sequence = Some (LeaseGranted (record { member = member; incarnation = incarnation; sequence = sequence; revision = past.revision; sync = past.sync }))
 
 -- what a granted request that compares the sync key tells: to a create the grant of the leader key, to others the sync key
 abbrev pub request_grant_of : Past → SyncRequest → Aim → Option Flying
-request_grant_of past request CreateLeader = lease_grant_of past request.member request.run request.sequence
+request_grant_of past request CreateLeader = lease_grant_of past request.member request.incarnation request.sequence
 request_grant_of past request _ = sync_grant_of past.sync request
 
 -- a snapshot
@@ -180,16 +180,16 @@ snapshot_of past keyless leaderless = Some (SnapshotSent (record { sync = past.s
 
 -- the answer to a granted request
 abbrev pub grant_in_flight_of : Past → ℕ → ℕ → ℕ → Query → Option Flying
-grant_in_flight_of past member run sequence LeaseQuery = lease_grant_of past member run sequence
-grant_in_flight_of past member run sequence (CarryQuery by revision) = lease_grant_of past member run sequence
-grant_in_flight_of past member run sequence (SyncQuery request) = request_grant_of past request request.aim
-grant_in_flight_of past member run sequence OtherQuery = snapshot_of past false false
+grant_in_flight_of past member incarnation sequence LeaseQuery = lease_grant_of past member incarnation sequence
+grant_in_flight_of past member incarnation sequence (CarryQuery by revision) = lease_grant_of past member incarnation sequence
+grant_in_flight_of past member incarnation sequence (SyncQuery request) = request_grant_of past request request.aim
+grant_in_flight_of past member incarnation sequence OtherQuery = snapshot_of past false false
 
 -- a message of the key store to this member
 abbrev pub answer_in_flight_of : Past → ℕ → ℕ → ℕ → Body → Option Flying
-answer_in_flight_of past member run sequence bodies.Snapshot = snapshot_of past (is_keyless past.leader past.failsafe) (is_leaderless past.leader)
-answer_in_flight_of past member run sequence (bodies.Granted request leased) = grant_in_flight_of past member run sequence (past.asked request)
-answer_in_flight_of past member run sequence _ = None
+answer_in_flight_of past member incarnation sequence bodies.Snapshot = snapshot_of past (is_keyless past.leader past.failsafe) (is_leaderless past.leader)
+answer_in_flight_of past member incarnation sequence (bodies.Granted request leased) = grant_in_flight_of past member incarnation sequence (past.asked request)
+answer_in_flight_of past member incarnation sequence _ = None
 
 -- a request in flight, if it compares the sync key
 abbrev pub query_in_flight_of : Query → Option Flying
@@ -198,29 +198,29 @@ query_in_flight_of _ = None
 
 -- a message of this member to the key store
 abbrev pub request_in_flight_of : ℕ → ℕ → ℕ → Body → Option Flying
-request_in_flight_of member run sequence (bodies.Request txn) = query_in_flight_of (query_of member run sequence txn)
-request_in_flight_of member run sequence _ = None
+request_in_flight_of member incarnation sequence (bodies.Request txn) = query_in_flight_of (query_of member incarnation sequence txn)
+request_in_flight_of member incarnation sequence _ = None
 
 -- an answer in a race, where its sender has a log
 abbrev pub race_answer_of : ℕ → ℕ → ℕ → ℕ → Option Lsn → Option Flying
-race_answer_of by member run sequence None = None
-race_answer_of by member run sequence (Some end) = Some (RaceAnswered (record { member = member; run = run; sequence = sequence; by = by; end = end.position }))
+race_answer_of by member incarnation sequence None = None
+race_answer_of by member incarnation sequence (Some end) = Some (RaceAnswered (record { member = member; incarnation = incarnation; sequence = sequence; by = by; end = end.position }))
 
 -- a message of the first member to the second
 abbrev pub peer_in_flight_of : ℕ → ℕ → ℕ → ℕ → Body → Option Flying
-peer_in_flight_of by member run sequence (bodies.Answer answer) = race_answer_of by member run sequence answer.end
-peer_in_flight_of by member run sequence _ = None
+peer_in_flight_of by member incarnation sequence (bodies.Answer answer) = race_answer_of by member incarnation sequence answer.end
+peer_in_flight_of by member incarnation sequence _ = None
 
 -- what commits read of a message that is sent
 abbrev pub flying_of : Past → LinkEnd → LinkEnd → ℕ → ℕ → Body → Option Flying
-flying_of past (ends.Member member) ends.Store run sequence body = request_in_flight_of member.id.number run sequence body
-flying_of past ends.Store (ends.Member member) run sequence body = answer_in_flight_of past member.id.number run sequence body
-flying_of past (ends.Member by) (ends.Member member) run sequence body = peer_in_flight_of by.id.number member.id.number run sequence body
-flying_of past ends.Store ends.Store run sequence body = None
+flying_of past (ends.Member member) ends.Store incarnation sequence body = request_in_flight_of member.id.number incarnation sequence body
+flying_of past ends.Store (ends.Member member) incarnation sequence body = answer_in_flight_of past member.id.number incarnation sequence body
+flying_of past (ends.Member by) (ends.Member member) incarnation sequence body = peer_in_flight_of by.id.number member.id.number incarnation sequence body
+flying_of past ends.Store ends.Store incarnation sequence body = None
 
 -- the messages in flight after an event
 abbrev pub past_flight_by : Past → MessageEvent → ℕ → Option Flying
-past_flight_by past (Sent number message) = put_at past.flight number (flying_of past message.from message.to message.run message.sequence message.body)
+past_flight_by past (Sent number message) = put_at past.flight number (flying_of past message.from message.to message.incarnation message.sequence message.body)
 past_flight_by past (Delivered number) = put_at past.flight number None
 past_flight_by past (Lost number) = put_at past.flight number None
 
@@ -231,17 +231,17 @@ past_flight_after past _ = past.flight
 
 -- what a message that is sent asks of the key store
 abbrev pub query_sent : LinkEnd → ℕ → ℕ → Body → Query
-query_sent (ends.Member member) run sequence (bodies.Request txn) = query_of member.id.number run sequence txn
-query_sent _ run sequence _ = OtherQuery
+query_sent (ends.Member member) incarnation sequence (bodies.Request txn) = query_of member.id.number incarnation sequence txn
+query_sent _ incarnation sequence _ = OtherQuery
 
 -- what each request so far asks, after an event
 abbrev pub queries_after : (ℕ → Query) → EventKind → ℕ → Query
-queries_after asked (kinds.Message (Sent number message)) = put_at asked number (query_sent message.from message.run message.sequence message.body)
+queries_after asked (kinds.Message (Sent number message)) = put_at asked number (query_sent message.from message.incarnation message.sequence message.body)
 queries_after asked _ = asked
 
--- the run of each agent, after an event
+-- the incarnation of each agent, after an event
 abbrev pub runs_after : (ℕ → ℕ) → EventKind → ℕ → ℕ
-runs_after runs (kinds.Agent (agents.Started agent run)) = put_at runs agent.id.number run
+runs_after runs (kinds.Agent (agents.Started agent incarnation)) = put_at runs agent.id.number incarnation
 runs_after runs _ = runs
 
 -- a log up to a commit, from this entry on: the entry alone where it is of that commit, and else with what follows
@@ -316,7 +316,7 @@ pub record VolatileState : Type 0 where
   pub live : Bool
   pub agent : Option Agent
 
--- before the first event: no server is live, and each agent is in its first run
+-- before the first event: no server is live, and each agent is in its first incarnation
 abbrev pub first_volatile_state : VolatileState
 first_volatile_state = record { live = false; agent = Some (fresh_agent 1) }
 

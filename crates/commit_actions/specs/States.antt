@@ -12,8 +12,8 @@ pub record Race : Type 0 where
 
 -- an agent that runs
 pub record Agent : Type 0 where
-  -- its run, and the greatest number of a request of this run
-  pub run : ℕ
+  -- its incarnation, and the greatest number of a request of this incarnation
+  pub incarnation : ℕ
   pub last : ℕ
   -- the number of the create, the renewal or the write of the sync key that it waits for
   pub waits : Option ℕ
@@ -38,7 +38,7 @@ pub record Machine : Type 0 where
   -- its log, which is absent after a wipe
   pub log : Option (List Entry)
   pub agent : Option Agent
-  -- how many runs of its agent have begun
+  -- how many incarnations of its agent have begun
   pub runs : ℕ
 
 -- what commits need of all that happened
@@ -111,9 +111,9 @@ abbrev pub HaveBytes : List Entry → Type 0
 HaveBytes [] = Unit {0}
 HaveBytes (entry ∷ entries) = (1 ≤ entry.bytes) × HaveBytes entries
 
--- the agent of this machine waits, in this run, for the answer to the request of this number
-pub record Waits (x : Machine) (run sequence : ℕ) : Type 0 where
+-- the agent of this machine waits, in this incarnation, for the answer to the request of this number
+pub record Waits (x : Machine) (incarnation sequence : ℕ) : Type 0 where
   pub agent : Agent
   pub is : x.agent ≡ Some agent
-  pub run_is : agent.run ≡ run
+  pub run_is : agent.incarnation ≡ incarnation
   pub waits : agent.waits ≡ Some sequence

@@ -58,65 +58,65 @@ causal-front past facts (event ∷ front) rest causal = (causal.0, (causal.1.0, 
 
 -- ---- a delivery to the key store
 -- what a request asks has its name, and is for the lease where the key store says so
-create-leasing : (member run sequence : ℕ) (info : MemberInfo) (ttl : Ticks) (failsafe sync : Option Expected) → is_leasing (query_of member run sequence (txns.Create info ttl failsafe sync)) ≡ true
-create-leasing member run sequence info ttl failsafe None = refl
-create-leasing member run sequence info ttl failsafe (Some sync) = refl
+create-leasing : (member incarnation sequence : ℕ) (info : MemberInfo) (ttl : Ticks) (failsafe sync : Option Expected) → is_leasing (query_of member incarnation sequence (txns.Create info ttl failsafe sync)) ≡ true
+create-leasing member incarnation sequence info ttl failsafe None = refl
+create-leasing member incarnation sequence info ttl failsafe (Some sync) = refl
 
-renew-leasing : (member run sequence revision : ℕ) (info : MemberInfo) (ttl : Ticks) (status : Option Lsn) (row : Option HistoryRow) (failsafe : Option MemberSet)
-    → is_leasing (query_of member run sequence (txns.Renew revision info ttl status row failsafe)) ≡ true
-renew-leasing member run sequence revision info ttl status row None = refl
-renew-leasing member run sequence revision info ttl status row (Some members) = refl
+renew-leasing : (member incarnation sequence revision : ℕ) (info : MemberInfo) (ttl : Ticks) (status : Option Lsn) (row : Option HistoryRow) (failsafe : Option MemberSet)
+    → is_leasing (query_of member incarnation sequence (txns.Renew revision info ttl status row failsafe)) ≡ true
+renew-leasing member incarnation sequence revision info ttl status row None = refl
+renew-leasing member incarnation sequence revision info ttl status row (Some members) = refl
 
-leasing-is : (member run sequence : ℕ) (txn : Txn) → is_leasing (query_of member run sequence txn) ≡ is_lease txn
-leasing-is member run sequence (txns.Create info ttl failsafe sync) = create-leasing member run sequence info ttl failsafe sync
-leasing-is member run sequence (txns.Renew revision info ttl status row failsafe) = renew-leasing member run sequence revision info ttl status row failsafe
-leasing-is member run sequence _ = refl
+leasing-is : (member incarnation sequence : ℕ) (txn : Txn) → is_leasing (query_of member incarnation sequence txn) ≡ is_lease txn
+leasing-is member incarnation sequence (txns.Create info ttl failsafe sync) = create-leasing member incarnation sequence info ttl failsafe sync
+leasing-is member incarnation sequence (txns.Renew revision info ttl status row failsafe) = renew-leasing member incarnation sequence revision info ttl status row failsafe
+leasing-is member incarnation sequence _ = refl
 
-create-named : (member run sequence : ℕ) (info : MemberInfo) (ttl : Ticks) (failsafe sync : Option Expected) → IsNamed member run sequence (query_of member run sequence (txns.Create info ttl failsafe sync))
-create-named member run sequence info ttl failsafe None = tt
-create-named member run sequence info ttl failsafe (Some sync) = (refl, (refl, refl))
+create-named : (member incarnation sequence : ℕ) (info : MemberInfo) (ttl : Ticks) (failsafe sync : Option Expected) → IsNamed member incarnation sequence (query_of member incarnation sequence (txns.Create info ttl failsafe sync))
+create-named member incarnation sequence info ttl failsafe None = tt
+create-named member incarnation sequence info ttl failsafe (Some sync) = (refl, (refl, refl))
 
-renew-named : (member run sequence revision : ℕ) (info : MemberInfo) (ttl : Ticks) (status : Option Lsn) (row : Option HistoryRow) (failsafe : Option MemberSet)
-    → IsNamed member run sequence (query_of member run sequence (txns.Renew revision info ttl status row failsafe))
-renew-named member run sequence revision info ttl status row None = tt
-renew-named member run sequence revision info ttl status row (Some members) = refl
+renew-named : (member incarnation sequence revision : ℕ) (info : MemberInfo) (ttl : Ticks) (status : Option Lsn) (row : Option HistoryRow) (failsafe : Option MemberSet)
+    → IsNamed member incarnation sequence (query_of member incarnation sequence (txns.Renew revision info ttl status row failsafe))
+renew-named member incarnation sequence revision info ttl status row None = tt
+renew-named member incarnation sequence revision info ttl status row (Some members) = refl
 
-named-is : (member run sequence : ℕ) (txn : Txn) → IsNamed member run sequence (query_of member run sequence txn)
-named-is member run sequence (txns.Create info ttl failsafe sync) = create-named member run sequence info ttl failsafe sync
-named-is member run sequence (txns.Renew revision info ttl status row failsafe) = renew-named member run sequence revision info ttl status row failsafe
-named-is member run sequence (txns.Claim revision sync) = (refl, (refl, refl))
-named-is member run sequence (txns.SetSync revision sync standbys) = (refl, (refl, refl))
-named-is member run sequence _ = tt
+named-is : (member incarnation sequence : ℕ) (txn : Txn) → IsNamed member incarnation sequence (query_of member incarnation sequence txn)
+named-is member incarnation sequence (txns.Create info ttl failsafe sync) = create-named member incarnation sequence info ttl failsafe sync
+named-is member incarnation sequence (txns.Renew revision info ttl status row failsafe) = renew-named member incarnation sequence revision info ttl status row failsafe
+named-is member incarnation sequence (txns.Claim revision sync) = (refl, (refl, refl))
+named-is member incarnation sequence (txns.SetSync revision sync standbys) = (refl, (refl, refl))
+named-is member incarnation sequence _ = tt
 
 -- what is granted is written
 abbrev Granted : Past → ℕ → Member → Txn → List Name → Past
 Granted past i by txn standbys = past_after past (kinds.Store (stores.Granted i by txn standbys))
 
-create-written : (past : Past) (i : ℕ) (by : Member) (run sequence : ℕ) (info : MemberInfo) (ttl : Ticks) (failsafe sync : Option Expected) (standbys : List Name)
-    → IsWritten (Granted past i by (txns.Create info ttl failsafe sync) standbys) (query_of by.id.number run sequence (txns.Create info ttl failsafe sync))
-create-written past i by run sequence info ttl failsafe None standbys = refl
-create-written past i by run sequence info ttl failsafe (Some sync) standbys = refl
+create-written : (past : Past) (i : ℕ) (by : Member) (incarnation sequence : ℕ) (info : MemberInfo) (ttl : Ticks) (failsafe sync : Option Expected) (standbys : List Name)
+    → IsWritten (Granted past i by (txns.Create info ttl failsafe sync) standbys) (query_of by.id.number incarnation sequence (txns.Create info ttl failsafe sync))
+create-written past i by incarnation sequence info ttl failsafe None standbys = refl
+create-written past i by incarnation sequence info ttl failsafe (Some sync) standbys = refl
 
-renew-written : (past : Past) (i : ℕ) (by : Member) (run sequence revision : ℕ) (info : MemberInfo) (ttl : Ticks) (status : Option Lsn) (row : Option HistoryRow) (failsafe : Option MemberSet) (standbys : List Name) (key : LeaderKey) → past.leader ≡ Some key
-    → IsWritten (Granted past i by (txns.Renew revision info ttl status row failsafe) standbys) (query_of by.id.number run sequence (txns.Renew revision info ttl status row failsafe))
-renew-written past i by run sequence revision info ttl status row None standbys key is = ap (λ (l : Option LeaderKey). leader_revision (extended_by past.clock (past.revision + 1) ttl.0 l)) is
-renew-written past i by run sequence revision info ttl status row (Some members) standbys key is = ap (λ (l : Option LeaderKey). leader_revision (extended_by past.clock (past.revision + 1) ttl.0 l)) is
+renew-written : (past : Past) (i : ℕ) (by : Member) (incarnation sequence revision : ℕ) (info : MemberInfo) (ttl : Ticks) (status : Option Lsn) (row : Option HistoryRow) (failsafe : Option MemberSet) (standbys : List Name) (key : LeaderKey) → past.leader ≡ Some key
+    → IsWritten (Granted past i by (txns.Renew revision info ttl status row failsafe) standbys) (query_of by.id.number incarnation sequence (txns.Renew revision info ttl status row failsafe))
+renew-written past i by incarnation sequence revision info ttl status row None standbys key is = ap (λ (l : Option LeaderKey). leader_revision (extended_by past.clock (past.revision + 1) ttl.0 l)) is
+renew-written past i by incarnation sequence revision info ttl status row (Some members) standbys key is = ap (λ (l : Option LeaderKey). leader_revision (extended_by past.clock (past.revision + 1) ttl.0 l)) is
 
-written-is : (past : Past) (facts : Facts) (i : ℕ) (by : Member) (run sequence : ℕ) (txn : Txn) (standbys : List Name) → IsSameKeys past facts → decision_on facts.keys facts.clock txn ≡ Granting
-    → IsWritten (Granted past i by txn standbys) (query_of by.id.number run sequence txn)
-written-is past facts i by run sequence (txns.Create info ttl failsafe sync) standbys same granted = create-written past i by run sequence info ttl failsafe sync standbys
-written-is past facts i by run sequence (txns.Renew revision info ttl status row failsafe) standbys same granted =
+written-is : (past : Past) (facts : Facts) (i : ℕ) (by : Member) (incarnation sequence : ℕ) (txn : Txn) (standbys : List Name) → IsSameKeys past facts → decision_on facts.keys facts.clock txn ≡ Granting
+    → IsWritten (Granted past i by txn standbys) (query_of by.id.number incarnation sequence txn)
+written-is past facts i by incarnation sequence (txns.Create info ttl failsafe sync) standbys same granted = create-written past i by incarnation sequence info ttl failsafe sync standbys
+written-is past facts i by incarnation sequence (txns.Renew revision info ttl status row failsafe) standbys same granted =
     let key = granted-leader past facts revision same granted in
-    renew-written past i by run sequence revision info ttl status row failsafe standbys key.0 key.1
-written-is past facts i by run sequence (txns.Claim revision sync) standbys same granted = refl
-written-is past facts i by run sequence (txns.SetSync revision sync members) standbys same granted = refl
-written-is past facts i by run sequence _ standbys same granted = tt
+    renew-written past i by incarnation sequence revision info ttl status row failsafe standbys key.0 key.1
+written-is past facts i by incarnation sequence (txns.Claim revision sync) standbys same granted = refl
+written-is past facts i by incarnation sequence (txns.SetSync revision sync members) standbys same granted = refl
+written-is past facts i by incarnation sequence _ standbys same granted = tt
 
-pub granted-causal : (past : Past) (facts : Facts) (tick : Ticks) (i j : ℕ) (carried : InFlightFacts) (by : Member) (run sequence : ℕ) (txn : Txn) (standbys : List Name) → IsSameBook past facts
-    → in_flight facts.flight i ≡ Some carried → carried.message ≡ record { from = ends.Member by; to = ends.Store; run = run; sequence = sequence; body = bodies.Request txn }
-    → facts.sent < j → IsSpannedTxn txn → decision_on facts.keys facts.clock txn ≡ Granting → AreCausal past facts (granted_events tick i j by run sequence txn standbys)
-granted-causal past facts tick i j carried by run sequence txn standbys old here is above span granted =
-    let asked : past.asked i ≡ query_of by.id.number run sequence txn = request-asked past facts i carried by run sequence txn old.flight here is in (
+pub granted-causal : (past : Past) (facts : Facts) (tick : Ticks) (i j : ℕ) (carried : InFlightFacts) (by : Member) (incarnation sequence : ℕ) (txn : Txn) (standbys : List Name) → IsSameBook past facts
+    → in_flight facts.flight i ≡ Some carried → carried.message ≡ record { from = ends.Member by; to = ends.Store; incarnation = incarnation; sequence = sequence; body = bodies.Request txn }
+    → facts.sent < j → IsSpannedTxn txn → decision_on facts.keys facts.clock txn ≡ Granting → AreCausal past facts (granted_events tick i j by incarnation sequence txn standbys)
+granted-causal past facts tick i j carried by incarnation sequence txn standbys old here is above span granted =
+    let asked : past.asked i ≡ query_of by.id.number incarnation sequence txn = request-asked past facts i carried by incarnation sequence txn old.flight here is in (
       tt,
       (
         tt,
@@ -131,9 +131,9 @@ granted-causal past facts tick i j carried by run sequence txn standbys old here
                   above,
                   record {
                     before = old.flight.flown i carried here;
-                    named = subst (λ (q : Query). IsNamed by.id.number run sequence q) (sym asked) (named-is by.id.number run sequence txn);
-                    leasing = ap is_leasing asked ∙ leasing-is by.id.number run sequence txn;
-                    written = subst (λ (q : Query). IsWritten (Granted past i by txn standbys) q) (sym asked) (written-is past facts i by run sequence txn standbys old.store granted);
+                    named = subst (λ (q : Query). IsNamed by.id.number incarnation sequence q) (sym asked) (named-is by.id.number incarnation sequence txn);
+                    leasing = ap is_leasing asked ∙ leasing-is by.id.number incarnation sequence txn;
+                    written = subst (λ (q : Query). IsWritten (Granted past i by txn standbys) q) (sym asked) (written-is past facts i by incarnation sequence txn standbys old.store granted);
                   },
                 ),
                 tt,
@@ -144,20 +144,20 @@ granted-causal past facts tick i j carried by run sequence txn standbys old here
       ),
     )
 
-pub refused-causal : (past : Past) (facts : Facts) (tick : Ticks) (i j : ℕ) (by : Member) (run sequence : ℕ) (request : TxnKind) (key : Key) (found : Expected) → facts.sent < j
-    → AreCausal past facts (refused_events tick i j by run sequence request key found)
-refused-causal past facts tick i j by run sequence request key found above = (tt, (tt, (tt, (tt, (tt, ((above, tt), tt))))))
+pub refused-causal : (past : Past) (facts : Facts) (tick : Ticks) (i j : ℕ) (by : Member) (incarnation sequence : ℕ) (request : TxnKind) (key : Key) (found : Expected) → facts.sent < j
+    → AreCausal past facts (refused_events tick i j by incarnation sequence request key found)
+refused-causal past facts tick i j by incarnation sequence request key found above = (tt, (tt, (tt, (tt, (tt, ((above, tt), tt))))))
 
-pub read-causal : (past : Past) (facts : Facts) (tick : Ticks) (i j : ℕ) (by : Member) (run sequence : ℕ) → facts.sent < j → AreCausal past facts (read_events tick i j by run sequence)
-read-causal past facts tick i j by run sequence above = (tt, (tt, (tt, ((above, tt), tt))))
+pub read-causal : (past : Past) (facts : Facts) (tick : Ticks) (i j : ℕ) (by : Member) (incarnation sequence : ℕ) → facts.sent < j → AreCausal past facts (read_events tick i j by incarnation sequence)
+read-causal past facts tick i j by incarnation sequence above = (tt, (tt, (tt, ((above, tt), tt))))
 
 -- ---- a tick, a loss, a delivery to an agent, and all that its input brings
-member-answers : (past : Past) (last : ℕ) (from to : LinkEnd) (run sequence : ℕ) (body : Body) → IsMemberEnd from → Answers past last from to run sequence body
-member-answers past last (ends.Member by) to run sequence body is = tt
-member-answers past last ends.Store to run sequence body is = absurd is
+member-answers : (past : Past) (last : ℕ) (from to : LinkEnd) (incarnation sequence : ℕ) (body : Body) → IsMemberEnd from → Answers past last from to incarnation sequence body
+member-answers past last (ends.Member by) to incarnation sequence body is = tt
+member-answers past last ends.Store to incarnation sequence body is = absurd is
 
 members-causal : (past : Past) (facts : Facts) (kind : EventKind) → IsOfMembers kind → IsNumberedAbove facts.sent kind → IsCausal past facts kind
-members-causal past facts (kinds.Message (Sent number message)) is above = (above, member-answers past facts.sent message.from message.to message.run message.sequence message.body is)
+members-causal past facts (kinds.Message (Sent number message)) is above = (above, member-answers past facts.sent message.from message.to message.incarnation message.sequence message.body is)
 members-causal past facts (kinds.Message (Delivered number)) is above = tt
 members-causal past facts (kinds.Message (Lost number)) is above = tt
 members-causal past facts _ is above = tt

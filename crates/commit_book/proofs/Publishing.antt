@@ -97,7 +97,7 @@ module _ (setup : Setup) (past : Past) (volatile_states : ℕ → VolatileState)
       (record {
         agent = law.was;
         is = ap (λ (m : ℕ). (S.members m).agent) p.hears.member ∙ law.was_is;
-        run_is = p.hears.run;
+        run_is = p.hears.incarnation;
         waits = p.hears.waits;
       })
       (inl (ap (λ (m : ℕ). (S.members m).live) p.hears.member ∙ p.live)) ∙ p.key_is in

@@ -40,20 +40,20 @@ is-same : (m n : ℕ) → m ≡ n → (m == n) ≡ true
 is-same m n e = grind (arith, nat_tests)
 
 -- who asks for such a renewal while it holds the leader key is live
-txn-live : (live : Bool) (leader : Option LeaderKey) (by run sequence : ℕ) (txn : Txn) (m r : ℕ) (key : LeaderKey) → query_of by run sequence txn ≡ CarryQuery m r → leader ≡ Some key → key.holder ≡ m → was_live_by_txn live leader by txn ≡ true
-txn-live live leader by run sequence (txns.Renew revision info ttl status row (Some members)) m r key e is mine =
+txn-live : (live : Bool) (leader : Option LeaderKey) (by incarnation sequence : ℕ) (txn : Txn) (m r : ℕ) (key : LeaderKey) → query_of by incarnation sequence txn ≡ CarryQuery m r → leader ≡ Some key → key.holder ≡ m → was_live_by_txn live leader by txn ≡ true
+txn-live live leader by incarnation sequence (txns.Renew revision info ttl status row (Some members)) m r key e is mine =
     or-second live (is_holder leader by) (ap (λ (l : Option LeaderKey). is_holder l by) is ∙ is-same key.holder by (mine ∙ sym (carry-member by revision m r e)))
-txn-live live leader by run sequence (txns.Renew revision info ttl status row None) m r key e is mine = absurd cc
-txn-live live leader by run sequence (txns.Create info ttl failsafe None) m r key e is mine = absurd cc
-txn-live live leader by run sequence (txns.Create info ttl failsafe (Some sync)) m r key e is mine = absurd cc
-txn-live live leader by run sequence (txns.Claim revision sync) m r key e is mine = absurd cc
-txn-live live leader by run sequence (txns.SetSync revision sync standbys) m r key e is mine = absurd cc
-txn-live live leader by run sequence _ m r key e is mine = absurd (other-carry m r e)
+txn-live live leader by incarnation sequence (txns.Renew revision info ttl status row None) m r key e is mine = absurd cc
+txn-live live leader by incarnation sequence (txns.Create info ttl failsafe None) m r key e is mine = absurd cc
+txn-live live leader by incarnation sequence (txns.Create info ttl failsafe (Some sync)) m r key e is mine = absurd cc
+txn-live live leader by incarnation sequence (txns.Claim revision sync) m r key e is mine = absurd cc
+txn-live live leader by incarnation sequence (txns.SetSync revision sync standbys) m r key e is mine = absurd cc
+txn-live live leader by incarnation sequence _ m r key e is mine = absurd (other-carry m r e)
 
-sent-live : (live : Bool) (leader : Option LeaderKey) (from : LinkEnd) (run sequence : ℕ) (body : Body) (m r : ℕ) (key : LeaderKey) → query_sent from run sequence body ≡ CarryQuery m r → leader ≡ Some key → key.holder ≡ m → was_live_by_message live leader from body ≡ true
-sent-live live leader (ends.Member member) run sequence (bodies.Request txn) m r key e is mine = txn-live live leader member.id.number run sequence txn m r key e is mine
-sent-live live leader (ends.Member member) run sequence _ m r key e is mine = absurd (other-carry m r e)
-sent-live live leader ends.Store run sequence body m r key e is mine = absurd (other-carry m r e)
+sent-live : (live : Bool) (leader : Option LeaderKey) (from : LinkEnd) (incarnation sequence : ℕ) (body : Body) (m r : ℕ) (key : LeaderKey) → query_sent from incarnation sequence body ≡ CarryQuery m r → leader ≡ Some key → key.holder ≡ m → was_live_by_message live leader from body ≡ true
+sent-live live leader (ends.Member member) incarnation sequence (bodies.Request txn) m r key e is mine = txn-live live leader member.id.number incarnation sequence txn m r key e is mine
+sent-live live leader (ends.Member member) incarnation sequence _ m r key e is mine = absurd (other-carry m r e)
+sent-live live leader ends.Store incarnation sequence body m r key e is mine = absurd (other-carry m r e)
 
 -- what was so stays so
 txn-stays : (live : Bool) (leader : Option LeaderKey) (m : ℕ) (txn : Txn) → live ≡ true → was_live_by_txn live leader m txn ≡ true
@@ -86,11 +86,11 @@ granted-live past by (txns.SetConfig revision config) i m r key old asked is sam
 pub carried-each : (past : Past) (kind : EventKind) → ComparesGiven past kind → AreCarriedLive past → AreCarriedLive (past_after past kind)
 carried-each past kinds.Tick read old = record { given = old.given; live = λ i m r key asked is. old.live i m r key asked (key-known (past.clock + 1) past.leader key is) }
 carried-each past (kinds.Message (messages.Sent number message)) read old =
-    let q : Query = query_sent message.from message.run message.sequence message.body in
+    let q : Query = query_sent message.from message.incarnation message.sequence message.body in
     record {
       given = put-all past.asked number q (λ i z. (m r : ℕ) → z ≡ CarryQuery m r → r ≤ past.revision) read (λ i other. old.given i);
       live = λ i m r key asked is same mine. put-all past.asked number q (λ j z. z ≡ CarryQuery m r → was_live_by_message past.holder_was_live past.leader message.from message.body ≡ true)
-          (λ e. sent-live past.holder_was_live past.leader message.from message.run message.sequence message.body m r key e is mine)
+          (λ e. sent-live past.holder_was_live past.leader message.from message.incarnation message.sequence message.body m r key e is mine)
           (λ j other e. sent-stays past.holder_was_live past.leader message.from message.body (old.live j m r key e is same mine)) i asked;
     }
 carried-each past (kinds.Message _) read old = record { given = old.given; live = old.live }

@@ -200,16 +200,16 @@ cease-shown setup past volatile_states tick server =
     (λ n other. ap (λ (w : Bool). record (machine_of past (volatile_states n) n) { writes = w }) (put-there past.writes k false n other)))
 
 -- ---- agents
-pub start-shown : (setup : Setup) (past : Past) (volatile_states : ℕ → VolatileState) (tick : Ticks) (agent : Member) (run : ℕ) → run ≡ past.runs agent.id.number + 1 →
-    IsShown setup past volatile_states (record { action = Start agent.id.number; events = event_at tick (kinds.Agent (agents.Started agent run)); volatile_states = put_at volatile_states agent.id.number (record (volatile_states agent.id.number) { agent = Some (fresh_agent (past.runs agent.id.number + 1)) }) })
-start-shown setup past volatile_states tick agent run next =
+pub start-shown : (setup : Setup) (past : Past) (volatile_states : ℕ → VolatileState) (tick : Ticks) (agent : Member) (incarnation : ℕ) → incarnation ≡ past.runs agent.id.number + 1 →
+    IsShown setup past volatile_states (record { action = Start agent.id.number; events = event_at tick (kinds.Agent (agents.Started agent incarnation)); volatile_states = put_at volatile_states agent.id.number (record (volatile_states agent.id.number) { agent = Some (fresh_agent (past.runs agent.id.number + 1)) }) })
+start-shown setup past volatile_states tick agent incarnation next =
     let k = agent.id.number in
     let volatile_state : VolatileState = record (volatile_states k) { agent = Some (fresh_agent (past.runs k + 1)) } in
-    let past' : Past = record past { runs = put_at past.runs k run } in
+    let past' : Past = record past { runs = put_at past.runs k incarnation } in
     ap (λ (members : ℕ → Machine). record (state_of setup past volatile_states) { members = members })
     (members-shown past past' volatile_states (put_at volatile_states k volatile_state) k (record (machine_of past (volatile_states k) k) { agent = Some (fresh_agent (past.runs k + 1)); runs = past.runs k + 1 })
-    (ap (λ (x : VolatileState). machine_of past' x k) (put-here volatile_states k volatile_state) ∙ ap (λ (r : ℕ). record (machine_of past volatile_state k) { runs = r }) (put-here past.runs k run ∙ next))
-    (λ n other. ap (λ (x : VolatileState). machine_of past' x n) (put-there volatile_states k volatile_state n other) ∙ ap (λ (r : ℕ). record (machine_of past (volatile_states n) n) { runs = r }) (put-there past.runs k run n other)))
+    (ap (λ (x : VolatileState). machine_of past' x k) (put-here volatile_states k volatile_state) ∙ ap (λ (r : ℕ). record (machine_of past volatile_state k) { runs = r }) (put-here past.runs k incarnation ∙ next))
+    (λ n other. ap (λ (x : VolatileState). machine_of past' x n) (put-there volatile_states k volatile_state n other) ∙ ap (λ (r : ℕ). record (machine_of past (volatile_states n) n) { runs = r }) (put-there past.runs k incarnation n other)))
 
 -- the agent of k is no more; a kill and a reset tell it, and neither changes more of the past than a reset's end of the server
 pub killed-shown : (setup : Setup) (past : Past) (volatile_states : ℕ → VolatileState) (tick : Ticks) (agent : Member) →
@@ -244,41 +244,41 @@ decided-is : (s : State) (i j : ℕ) (w : SyncRequest) (b : Bool) → s.flight i
 decided-is s i j w b at granted = ap (decide_at s i j) at ∙ ap (with_decision s i j w) granted
 
 -- a sync write that is granted: the store's decision is the law's
-pub claim-shown : (setup : Setup) (past : Past) (volatile_states : ℕ → VolatileState) (tick : Ticks) (i j : ℕ) (by : Member) (run sequence revision : ℕ) (sync : Expected) (standbys : List Name) →
-    past.flight i ≡ Some (Requested (claim_request by.id.number run sequence revision sync)) → past.asked i ≡ SyncQuery (claim_request by.id.number run sequence revision sync) → is_granted (leader_revision past.leader) past.sync (claim_request by.id.number run sequence revision sync) ≡ true →
-    IsShown setup past volatile_states (record { action = Decide i j; events = granted_events tick i j by run sequence (txns.Claim revision sync) standbys; volatile_states = volatile_states })
-claim-shown setup past volatile_states tick i j by run sequence revision sync standbys at asked granted =
-    let w : SyncRequest = claim_request by.id.number run sequence revision sync in
+pub claim-shown : (setup : Setup) (past : Past) (volatile_states : ℕ → VolatileState) (tick : Ticks) (i j : ℕ) (by : Member) (incarnation sequence revision : ℕ) (sync : Expected) (standbys : List Name) →
+    past.flight i ≡ Some (Requested (claim_request by.id.number incarnation sequence revision sync)) → past.asked i ≡ SyncQuery (claim_request by.id.number incarnation sequence revision sync) → is_granted (leader_revision past.leader) past.sync (claim_request by.id.number incarnation sequence revision sync) ≡ true →
+    IsShown setup past volatile_states (record { action = Decide i j; events = granted_events tick i j by incarnation sequence (txns.Claim revision sync) standbys; volatile_states = volatile_states })
+claim-shown setup past volatile_states tick i j by incarnation sequence revision sync standbys at asked granted =
+    let w : SyncRequest = claim_request by.id.number incarnation sequence revision sync in
     let mid : Past = past_after (past_after past (kinds.Message (messages.Delivered i))) (kinds.Store (stores.Granted i by (txns.Claim revision sync) standbys)) in
-    ap (λ (q : Query). record (state_of setup past volatile_states) { sync = mid.sync; revision = past.revision + 1; flight = put_at (put_at past.flight i None) j (grant_in_flight_of mid by.id.number run sequence q) }) asked
+    ap (λ (q : Query). record (state_of setup past volatile_states) { sync = mid.sync; revision = past.revision + 1; flight = put_at (put_at past.flight i None) j (grant_in_flight_of mid by.id.number incarnation sequence q) }) asked
     ∙ sym (decided-is (state_of setup past volatile_states) i j w true at granted)
 
-pub publish-shown : (setup : Setup) (past : Past) (volatile_states : ℕ → VolatileState) (tick : Ticks) (i j : ℕ) (by : Member) (run sequence revision : ℕ) (sync : Expected) (set : MemberSet) (standbys : List Name) →
-    past.flight i ≡ Some (Requested (publish_request by.id.number run sequence revision sync set)) → past.asked i ≡ SyncQuery (publish_request by.id.number run sequence revision sync set) → is_granted (leader_revision past.leader) past.sync (publish_request by.id.number run sequence revision sync set) ≡ true →
-    IsShown setup past volatile_states (record { action = Decide i j; events = granted_events tick i j by run sequence (txns.SetSync revision sync set) standbys; volatile_states = volatile_states })
-publish-shown setup past volatile_states tick i j by run sequence revision sync set standbys at asked granted =
-    let w : SyncRequest = publish_request by.id.number run sequence revision sync set in
+pub publish-shown : (setup : Setup) (past : Past) (volatile_states : ℕ → VolatileState) (tick : Ticks) (i j : ℕ) (by : Member) (incarnation sequence revision : ℕ) (sync : Expected) (set : MemberSet) (standbys : List Name) →
+    past.flight i ≡ Some (Requested (publish_request by.id.number incarnation sequence revision sync set)) → past.asked i ≡ SyncQuery (publish_request by.id.number incarnation sequence revision sync set) → is_granted (leader_revision past.leader) past.sync (publish_request by.id.number incarnation sequence revision sync set) ≡ true →
+    IsShown setup past volatile_states (record { action = Decide i j; events = granted_events tick i j by incarnation sequence (txns.SetSync revision sync set) standbys; volatile_states = volatile_states })
+publish-shown setup past volatile_states tick i j by incarnation sequence revision sync set standbys at asked granted =
+    let w : SyncRequest = publish_request by.id.number incarnation sequence revision sync set in
     let mid : Past = past_after (past_after past (kinds.Message (messages.Delivered i))) (kinds.Store (stores.Granted i by (txns.SetSync revision sync set) standbys)) in
-    ap (λ (q : Query). record (state_of setup past volatile_states) { sync = mid.sync; revision = past.revision + 1; flight = put_at (put_at past.flight i None) j (grant_in_flight_of mid by.id.number run sequence q) }) asked
+    ap (λ (q : Query). record (state_of setup past volatile_states) { sync = mid.sync; revision = past.revision + 1; flight = put_at (put_at past.flight i None) j (grant_in_flight_of mid by.id.number incarnation sequence q) }) asked
     ∙ sym (decided-is (state_of setup past volatile_states) i j w true at granted)
 
 -- a create is granted, which compares no sync key
-pub create-shown : (setup : Setup) (past : Past) (volatile_states : ℕ → VolatileState) (tick : Ticks) (i j : ℕ) (by : Member) (run sequence : ℕ) (info : MemberInfo) (ttl : Ticks) (failsafe : Option Expected) (standbys : List Name) →
+pub create-shown : (setup : Setup) (past : Past) (volatile_states : ℕ → VolatileState) (tick : Ticks) (i j : ℕ) (by : Member) (incarnation sequence : ℕ) (info : MemberInfo) (ttl : Ticks) (failsafe : Option Expected) (standbys : List Name) →
     past.flight i ≡ None → past.asked i ≡ LeaseQuery →
-    IsShown setup past volatile_states (record { action = Create by.id.number run sequence j; events = granted_events tick i j by run sequence (txns.Create info ttl failsafe None) standbys; volatile_states = volatile_states })
-create-shown setup past volatile_states tick i j by run sequence info ttl failsafe standbys none asked =
+    IsShown setup past volatile_states (record { action = Create by.id.number incarnation sequence j; events = granted_events tick i j by incarnation sequence (txns.Create info ttl failsafe None) standbys; volatile_states = volatile_states })
+create-shown setup past volatile_states tick i j by incarnation sequence info ttl failsafe standbys none asked =
     let mid : Past = past_after (past_after past (kinds.Message (messages.Delivered i))) (kinds.Store (stores.Granted i by (txns.Create info ttl failsafe None) standbys)) in
-    let leased : (ℕ → Option Flying) → Query → State = λ f q. record (state_of setup past volatile_states) { leader = Some (past.revision + 1); holder = by.id.number; holder_was_live = false; revision = past.revision + 1; flight = put_at f j (grant_in_flight_of mid by.id.number run sequence q) } in
+    let leased : (ℕ → Option Flying) → Query → State = λ f q. record (state_of setup past volatile_states) { leader = Some (past.revision + 1); holder = by.id.number; holder_was_live = false; revision = past.revision + 1; flight = put_at f j (grant_in_flight_of mid by.id.number incarnation sequence q) } in
     ap (λ (q : Query). leased (put_at past.flight i None) q) asked ∙ ap (λ (f : ℕ → Option Flying). leased f LeaseQuery) (put-same past.flight i none)
 
 -- one which does
-pub create-as-read-shown : (setup : Setup) (past : Past) (volatile_states : ℕ → VolatileState) (tick : Ticks) (i j : ℕ) (by : Member) (run sequence : ℕ) (info : MemberInfo) (ttl : Ticks) (failsafe : Option Expected) (sync : Expected) (standbys : List Name) →
-    past.flight i ≡ Some (Requested (create_request by.id.number run sequence sync)) → past.asked i ≡ SyncQuery (create_request by.id.number run sequence sync) → past.leader ≡ None → is_as_read past.sync (revision_in sync) ≡ true →
-    IsShown setup past volatile_states (record { action = Decide i j; events = granted_events tick i j by run sequence (txns.Create info ttl failsafe (Some sync)) standbys; volatile_states = volatile_states })
-create-as-read-shown setup past volatile_states tick i j by run sequence info ttl failsafe sync standbys at asked gone read =
-    let w : SyncRequest = create_request by.id.number run sequence sync in
+pub create-as-read-shown : (setup : Setup) (past : Past) (volatile_states : ℕ → VolatileState) (tick : Ticks) (i j : ℕ) (by : Member) (incarnation sequence : ℕ) (info : MemberInfo) (ttl : Ticks) (failsafe : Option Expected) (sync : Expected) (standbys : List Name) →
+    past.flight i ≡ Some (Requested (create_request by.id.number incarnation sequence sync)) → past.asked i ≡ SyncQuery (create_request by.id.number incarnation sequence sync) → past.leader ≡ None → is_as_read past.sync (revision_in sync) ≡ true →
+    IsShown setup past volatile_states (record { action = Decide i j; events = granted_events tick i j by incarnation sequence (txns.Create info ttl failsafe (Some sync)) standbys; volatile_states = volatile_states })
+create-as-read-shown setup past volatile_states tick i j by incarnation sequence info ttl failsafe sync standbys at asked gone read =
+    let w : SyncRequest = create_request by.id.number incarnation sequence sync in
     let mid : Past = past_after (past_after past (kinds.Message (messages.Delivered i))) (kinds.Store (stores.Granted i by (txns.Create info ttl failsafe (Some sync)) standbys)) in
-    ap (λ (q : Query). record (state_of setup past volatile_states) { leader = Some (past.revision + 1); holder = by.id.number; holder_was_live = false; revision = past.revision + 1; flight = put_at (put_at past.flight i None) j (grant_in_flight_of mid by.id.number run sequence q) }) asked
+    ap (λ (q : Query). record (state_of setup past volatile_states) { leader = Some (past.revision + 1); holder = by.id.number; holder_was_live = false; revision = past.revision + 1; flight = put_at (put_at past.flight i None) j (grant_in_flight_of mid by.id.number incarnation sequence q) }) asked
     ∙ sym (decided-is (state_of setup past volatile_states) i j w true at (ap (λ (l : Option LeaderKey). is_none (leader_revision l) && is_as_read past.sync (revision_in sync)) gone ∙ read))
 
 -- a renewal is granted
@@ -286,22 +286,22 @@ carried-shown : (setup : Setup) (past : Past) (volatile_states : ℕ → Volatil
 carried-shown setup past volatile_states None = refl
 carried-shown setup past volatile_states (Some members) = refl
 
-renew-granted : (past : Past) (member run sequence by revision : ℕ) (failsafe : Option MemberSet) → grant_in_flight_of past member run sequence (renew_query by revision failsafe) ≡ lease_grant_of past member run sequence
-renew-granted past member run sequence by revision None = refl
-renew-granted past member run sequence by revision (Some members) = refl
+renew-granted : (past : Past) (member incarnation sequence by revision : ℕ) (failsafe : Option MemberSet) → grant_in_flight_of past member incarnation sequence (renew_query by revision failsafe) ≡ lease_grant_of past member incarnation sequence
+renew-granted past member incarnation sequence by revision None = refl
+renew-granted past member incarnation sequence by revision (Some members) = refl
 
-pub renew-shown : (setup : Setup) (past : Past) (volatile_states : ℕ → VolatileState) (tick : Ticks) (i j : ℕ) (by : Member) (run sequence revision : ℕ) (info : MemberInfo) (ttl : Ticks) (status : Option Lsn) (row : Option HistoryRow) (failsafe : Option MemberSet) (standbys : List Name) →
+pub renew-shown : (setup : Setup) (past : Past) (volatile_states : ℕ → VolatileState) (tick : Ticks) (i j : ℕ) (by : Member) (incarnation sequence revision : ℕ) (info : MemberInfo) (ttl : Ticks) (status : Option Lsn) (row : Option HistoryRow) (failsafe : Option MemberSet) (standbys : List Name) →
     (key : LeaderKey) → past.leader ≡ Some key → past.flight i ≡ None → past.asked i ≡ renew_query by.id.number revision failsafe →
-    IsShown setup past volatile_states (record { action = Renew by.id.number run sequence j (carries_set failsafe); events = granted_events tick i j by run sequence (txns.Renew revision info ttl status row failsafe) standbys; volatile_states = volatile_states })
-renew-shown setup past volatile_states tick i j by run sequence revision info ttl status row failsafe standbys key is none asked =
+    IsShown setup past volatile_states (record { action = Renew by.id.number incarnation sequence j (carries_set failsafe); events = granted_events tick i j by incarnation sequence (txns.Renew revision info ttl status row failsafe) standbys; volatile_states = volatile_states })
+renew-shown setup past volatile_states tick i j by incarnation sequence revision info ttl status row failsafe standbys key is none asked =
     let mid : Past = past_after (past_after past (kinds.Message (messages.Delivered i))) (kinds.Store (stores.Granted i by (txns.Renew revision info ttl status row failsafe) standbys)) in
     let renewed : Option LeaderKey → Option ℕ → (ℕ → Option Flying) → Option Flying → State = λ l failsafe_revision f o. record (state_of setup past volatile_states) { leader = leader_revision l; holder = key_holder l; failsafe_revision = failsafe_revision; revision = past.revision + 1; flight = put_at f j o } in
     let failsafe_revision : Option ℕ = failsafe_revision_if (carries_set failsafe) (past.revision + 1) (failsafe_revision_of past.failsafe) in
     let extended : Option LeaderKey → Option LeaderKey = extended_by past.clock (past.revision + 1) ttl.0 in
-    let granted : Option Flying = lease_grant_of mid by.id.number run sequence in
-    ap (λ (o : Option ℕ). renewed (extended past.leader) o (put_at past.flight i None) (grant_in_flight_of mid by.id.number run sequence (past.asked i))) (carried-shown setup past volatile_states failsafe)
-    ∙ ap (λ (q : Query). renewed (extended past.leader) failsafe_revision (put_at past.flight i None) (grant_in_flight_of mid by.id.number run sequence q)) asked
-    ∙ ap (λ (o : Option Flying). renewed (extended past.leader) failsafe_revision (put_at past.flight i None) o) (renew-granted mid by.id.number run sequence by.id.number revision failsafe)
+    let granted : Option Flying = lease_grant_of mid by.id.number incarnation sequence in
+    ap (λ (o : Option ℕ). renewed (extended past.leader) o (put_at past.flight i None) (grant_in_flight_of mid by.id.number incarnation sequence (past.asked i))) (carried-shown setup past volatile_states failsafe)
+    ∙ ap (λ (q : Query). renewed (extended past.leader) failsafe_revision (put_at past.flight i None) (grant_in_flight_of mid by.id.number incarnation sequence q)) asked
+    ∙ ap (λ (o : Option Flying). renewed (extended past.leader) failsafe_revision (put_at past.flight i None) o) (renew-granted mid by.id.number incarnation sequence by.id.number revision failsafe)
     ∙ ap (λ (f : ℕ → Option Flying). renewed (extended past.leader) failsafe_revision f granted) (put-same past.flight i none)
     ∙ ap (λ (l : Option LeaderKey). renewed (extended l) failsafe_revision past.flight granted) is
     ∙ ap (λ (h : ℕ). record (state_of setup past volatile_states) { leader = Some (past.revision + 1); holder = h; failsafe_revision = failsafe_revision; revision = past.revision + 1; flight = put_at past.flight j granted }) (ap key_holder (sym is))
@@ -325,34 +325,34 @@ pub release-shown : (setup : Setup) (past : Past) (volatile_states : ℕ → Vol
 release-shown setup past volatile_states tick i by compared standbys none =
     ap (λ (f : ℕ → Option Flying). record (state_of setup past volatile_states) { leader = None; holder = 0; revision = past.revision + 1; flight = f }) (put-same past.flight i none)
 
-pub answered-shown : (setup : Setup) (past : Past) (volatile_states : ℕ → VolatileState) (tick : Ticks) (i j : ℕ) (by : Member) (run sequence : ℕ) (leased : Bool) → past.asked i ≡ OtherQuery →
-    IsShown setup past volatile_states (record { action = SendSnapshot false false j; events = event_at tick (kinds.Message (messages.Sent j (record { from = ends.Store; to = ends.Member by; run = run; sequence = sequence; body = bodies.Granted i leased }))); volatile_states = volatile_states })
-answered-shown setup past volatile_states tick i j by run sequence leased asked =
-    ap (λ (q : Query). record (state_of setup past volatile_states) { flight = put_at past.flight j (grant_in_flight_of past by.id.number run sequence q) }) asked
+pub answered-shown : (setup : Setup) (past : Past) (volatile_states : ℕ → VolatileState) (tick : Ticks) (i j : ℕ) (by : Member) (incarnation sequence : ℕ) (leased : Bool) → past.asked i ≡ OtherQuery →
+    IsShown setup past volatile_states (record { action = SendSnapshot false false j; events = event_at tick (kinds.Message (messages.Sent j (record { from = ends.Store; to = ends.Member by; incarnation = incarnation; sequence = sequence; body = bodies.Granted i leased }))); volatile_states = volatile_states })
+answered-shown setup past volatile_states tick i j by incarnation sequence leased asked =
+    ap (λ (q : Query). record (state_of setup past volatile_states) { flight = put_at past.flight j (grant_in_flight_of past by.id.number incarnation sequence q) }) asked
 
 put-twice : (flight : ℕ → Option Flying) (i j : ℕ) → flight j ≡ None → ◌≡◌ {A = ℕ → Option Flying} (put_at (put_at flight i None) j None) (put_at flight i None)
 put-twice flight i j none = put-same (put_at flight i None) j (put-all flight i None (λ k o. k ≡ j → o ≡ None) (λ e. refl) (λ k other e. ap flight e ∙ none) j refl)
 
 -- a sync write is refused
-pub refused-shown : (setup : Setup) (past : Past) (volatile_states : ℕ → VolatileState) (tick : Ticks) (i j : ℕ) (by : Member) (run sequence : ℕ) (request : TxnKind) (key : Key) (found : Expected) (w : SyncRequest) →
+pub refused-shown : (setup : Setup) (past : Past) (volatile_states : ℕ → VolatileState) (tick : Ticks) (i j : ℕ) (by : Member) (incarnation sequence : ℕ) (request : TxnKind) (key : Key) (found : Expected) (w : SyncRequest) →
     past.flight i ≡ Some (Requested w) → is_granted (leader_revision past.leader) past.sync w ≡ false → past.flight j ≡ None →
-    IsShown setup past volatile_states (record { action = Decide i j; events = refused_events tick i j by run sequence request key found; volatile_states = volatile_states })
-refused-shown setup past volatile_states tick i j by run sequence request key found w at refused none =
+    IsShown setup past volatile_states (record { action = Decide i j; events = refused_events tick i j by incarnation sequence request key found; volatile_states = volatile_states })
+refused-shown setup past volatile_states tick i j by incarnation sequence request key found w at refused none =
     ap (λ (f : ℕ → Option Flying). record (state_of setup past volatile_states) { flight = f }) (put-twice past.flight i j none)
     ∙ sym (decided-is (state_of setup past volatile_states) i j w false at refused)
 
 -- a read is answered
-pub snapshot-shown : (setup : Setup) (past : Past) (volatile_states : ℕ → VolatileState) (tick : Ticks) (i j : ℕ) (by : Member) (run sequence : ℕ) → past.flight i ≡ None →
-    IsShown setup past volatile_states (record { action = SendSnapshot (is_keyless past.leader past.failsafe) (is_leaderless past.leader) j; events = read_events tick i j by run sequence; volatile_states = volatile_states })
-snapshot-shown setup past volatile_states tick i j by run sequence none =
+pub snapshot-shown : (setup : Setup) (past : Past) (volatile_states : ℕ → VolatileState) (tick : Ticks) (i j : ℕ) (by : Member) (incarnation sequence : ℕ) → past.flight i ≡ None →
+    IsShown setup past volatile_states (record { action = SendSnapshot (is_keyless past.leader past.failsafe) (is_leaderless past.leader) j; events = read_events tick i j by incarnation sequence; volatile_states = volatile_states })
+snapshot-shown setup past volatile_states tick i j by incarnation sequence none =
     ap (λ (f : ℕ → Option Flying). record (state_of setup past volatile_states) { flight = put_at f j (snapshot_of past (is_keyless past.leader past.failsafe) (is_leaderless past.leader)) }) (put-same past.flight i none)
 
 -- a member answers in a race
-pub race-answer-shown : (setup : Setup) (past : Past) (volatile_states : ℕ → VolatileState) (tick : Ticks) (j : ℕ) (by member : Member) (run sequence : ℕ) (answer : PeerAnswer) (end : Lsn) → answer.end ≡ Some end → end.position ≡ end_of (entries_of (log_found (slice_get past.logs by.id.number))) →
-    IsShown setup past volatile_states (record { action = AnswerRace by.id.number member.id.number run sequence j; events = event_at tick (kinds.Message (messages.Sent j (record { from = ends.Member by; to = ends.Member member; run = run; sequence = sequence; body = bodies.Answer answer }))); volatile_states = volatile_states })
-race-answer-shown setup past volatile_states tick j by member run sequence answer end is at =
-    ap (λ (o : Option Lsn). record (state_of setup past volatile_states) { flight = put_at past.flight j (race_answer_of by.id.number member.id.number run sequence o) }) is
-    ∙ ap (λ (p : ℕ). record (state_of setup past volatile_states) { flight = put_at past.flight j (Some (RaceAnswered (record { member = member.id.number; run = run; sequence = sequence; by = by.id.number; end = p }))) }) at
+pub race-answer-shown : (setup : Setup) (past : Past) (volatile_states : ℕ → VolatileState) (tick : Ticks) (j : ℕ) (by member : Member) (incarnation sequence : ℕ) (answer : PeerAnswer) (end : Lsn) → answer.end ≡ Some end → end.position ≡ end_of (entries_of (log_found (slice_get past.logs by.id.number))) →
+    IsShown setup past volatile_states (record { action = AnswerRace by.id.number member.id.number incarnation sequence j; events = event_at tick (kinds.Message (messages.Sent j (record { from = ends.Member by; to = ends.Member member; incarnation = incarnation; sequence = sequence; body = bodies.Answer answer }))); volatile_states = volatile_states })
+race-answer-shown setup past volatile_states tick j by member incarnation sequence answer end is at =
+    ap (λ (o : Option Lsn). record (state_of setup past volatile_states) { flight = put_at past.flight j (race_answer_of by.id.number member.id.number incarnation sequence o) }) is
+    ∙ ap (λ (p : ℕ). record (state_of setup past volatile_states) { flight = put_at past.flight j (Some (RaceAnswered (record { member = member.id.number; incarnation = incarnation; sequence = sequence; by = by.id.number; end = p }))) }) at
 
 -- ---- inputs
 -- what the events of an input of m leave as it was
@@ -394,7 +394,7 @@ frame-by m past (kinds.Replication (replications.RequiredSet server list names))
   acknowledged = refl;
 }
 frame-by m past (kinds.Replication (replications.Lacks server)) own = record { sync = refl; leader = refl; failsafe = refl; revision = refl; runs = refl; logs = refl; writes = refl; confirmed = refl; required = λ n other. refl; acknowledged_log = refl; acknowledged = refl }
-frame-by m past (kinds.Agent (agents.Started agent run)) own = absurd own
+frame-by m past (kinds.Agent (agents.Started agent incarnation)) own = absurd own
 frame-by m past (kinds.Agent _) own = record { sync = refl; leader = refl; failsafe = refl; revision = refl; runs = refl; logs = refl; writes = refl; confirmed = refl; required = λ n other. refl; acknowledged_log = refl; acknowledged = refl }
 frame-by m past (kinds.Note happening) own = record { sync = refl; leader = refl; failsafe = refl; revision = refl; runs = refl; logs = refl; writes = refl; confirmed = refl; required = λ n other. refl; acknowledged_log = refl; acknowledged = refl }
 frame-by m past kinds.Tick own = absurd own
@@ -460,12 +460,12 @@ idle-by setup past volatile_states (kinds.Watchdog (watchdogs.Armed member until
 idle-by setup past volatile_states (kinds.Watchdog (watchdogs.Fed member until basis)) idle = refl
 idle-by setup past volatile_states (kinds.Watchdog (watchdogs.Disarmed member)) idle = refl
 idle-by setup past volatile_states (kinds.Watchdog (watchdogs.Measured member since)) idle = refl
-idle-by setup past volatile_states (kinds.Watchdog (watchdogs.HoldTaken member until by run sequence)) idle = absurd idle
+idle-by setup past volatile_states (kinds.Watchdog (watchdogs.HoldTaken member until by incarnation sequence)) idle = absurd idle
 idle-by setup past volatile_states (kinds.Server (servers.Began server timeline)) idle = absurd idle
 idle-by setup past volatile_states (kinds.Server (servers.Ended server)) idle = absurd idle
 idle-by setup past volatile_states (kinds.Server (servers.Crashed server)) idle = absurd idle
 idle-by setup past volatile_states (kinds.Server _) idle = refl
-idle-by setup past volatile_states (kinds.Agent (agents.Started agent run)) idle = absurd idle
+idle-by setup past volatile_states (kinds.Agent (agents.Started agent incarnation)) idle = absurd idle
 idle-by setup past volatile_states (kinds.Agent _) idle = refl
 idle-by setup past volatile_states (kinds.Link happening) idle = refl
 idle-by setup past volatile_states (kinds.Note happening) idle = refl

@@ -26,17 +26,17 @@ transition_of volatile_states action events = record { action = action; events =
 
 -- the answer to a request goes out that was granted
 abbrev pub told_events : Ticks → ℕ → ℕ → Member → ℕ → ℕ → Txn → List Event
-told_events tick number answer by run sequence txn =
-    event_at tick (kinds.Message (Sent answer (record { from = ends.Store; to = ends.Member by; run = run; sequence = sequence; body = bodies.Granted number (is_lease txn) })))
+told_events tick number answer by incarnation sequence txn =
+    event_at tick (kinds.Message (Sent answer (record { from = ends.Store; to = ends.Member by; incarnation = incarnation; sequence = sequence; body = bodies.Granted number (is_lease txn) })))
 
 -- what the grant of a request is, with the answer under this number where it tells more than the keys
 abbrev pub granted_action : ℕ → ℕ → ℕ → ℕ → ℕ → Txn → Action
-granted_action number answer member run sequence (txns.Create info ttl failsafe sync) = Create member run sequence answer
-granted_action number answer member run sequence (txns.Renew revision info ttl status row failsafe) = Renew member run sequence answer (carries_set failsafe)
-granted_action number answer member run sequence (txns.Claim revision sync) = Decide number answer
-granted_action number answer member run sequence (txns.SetSync revision sync standbys) = Decide number answer
-granted_action number answer member run sequence (txns.Release revision) = Release
-granted_action number answer member run sequence _ = OtherWrite
+granted_action number answer member incarnation sequence (txns.Create info ttl failsafe sync) = Create member incarnation sequence answer
+granted_action number answer member incarnation sequence (txns.Renew revision info ttl status row failsafe) = Renew member incarnation sequence answer (carries_set failsafe)
+granted_action number answer member incarnation sequence (txns.Claim revision sync) = Decide number answer
+granted_action number answer member incarnation sequence (txns.SetSync revision sync standbys) = Decide number answer
+granted_action number answer member incarnation sequence (txns.Release revision) = Release
+granted_action number answer member incarnation sequence _ = OtherWrite
 
 -- its answer tells more than the keys: the lease, or the sync key that it wrote
 abbrev pub is_told : Txn → Bool
@@ -48,17 +48,17 @@ is_told _ = false
 
 -- a request is granted and answered in one action; or in two, where the answer shows the keys alone
 abbrev pub granted_if : Bool → (ℕ → VolatileState) → Action → Ticks → ℕ → ℕ → Member → ℕ → ℕ → Txn → List Name → List Transition
-granted_if true volatile_states action tick number answer by run sequence txn standbys =
-    transition_of volatile_states action (granted_events tick number answer by run sequence txn standbys) ∷ []
-granted_if false volatile_states action tick number answer by run sequence txn standbys =
+granted_if true volatile_states action tick number answer by incarnation sequence txn standbys =
+    transition_of volatile_states action (granted_events tick number answer by incarnation sequence txn standbys) ∷ []
+granted_if false volatile_states action tick number answer by incarnation sequence txn standbys =
     transition_of volatile_states action (decided_events tick number by txn standbys)
-    ∷ transition_of volatile_states (SendSnapshot false false answer) (told_events tick number answer by run sequence txn)
+    ∷ transition_of volatile_states (SendSnapshot false false answer) (told_events tick number answer by incarnation sequence txn)
     ∷ []
 
 -- the actions that the delivery of a request is which is granted
 abbrev pub granted_actions : (ℕ → VolatileState) → Ticks → ℕ → ℕ → Member → ℕ → ℕ → Txn → List Name → List Transition
-granted_actions volatile_states tick number answer by run sequence txn standbys =
-    granted_if (is_told txn) volatile_states (granted_action number answer by.id.number run sequence txn) tick number answer by run sequence txn standbys
+granted_actions volatile_states tick number answer by incarnation sequence txn standbys =
+    granted_if (is_told txn) volatile_states (granted_action number answer by.id.number incarnation sequence txn) tick number answer by incarnation sequence txn standbys
 
 -- what a refusal is: a decision on a request that compares the sync key; of another one commits read nothing
 abbrev pub refused_action : ℕ → ℕ → Txn → Action
@@ -71,14 +71,14 @@ abbrev pub ComparesNoSync : Txn → Type 0
 ComparesNoSync (txns.Create info ttl failsafe (Some sync)) = ⊥
 ComparesNoSync _ = Unit {0}
 
--- what is asked of a request beside that it is granted: a create or a renewal is of a run and a number that its sender's agents gave;
+-- what is asked of a request beside that it is granted: a create or a renewal is of an incarnation and a number that its sender's agents gave;
 -- a create compares no sync key, and nobody removes that key
 abbrev pub MayBeGranted : State → ℕ → ℕ → ℕ → Txn → Type 0
-MayBeGranted s member run sequence (txns.Create info ttl failsafe None) = IsNumbered (s.members member) run sequence
-MayBeGranted s member run sequence (txns.Create info ttl failsafe (Some sync)) = ⊥
-MayBeGranted s member run sequence (txns.Renew revision info ttl status row failsafe) = IsNumbered (s.members member) run sequence
-MayBeGranted s member run sequence (txns.DropSync revision sync) = ⊥
-MayBeGranted s member run sequence _ = Unit {0}
+MayBeGranted s member incarnation sequence (txns.Create info ttl failsafe None) = IsNumbered (s.members member) incarnation sequence
+MayBeGranted s member incarnation sequence (txns.Create info ttl failsafe (Some sync)) = ⊥
+MayBeGranted s member incarnation sequence (txns.Renew revision info ttl status row failsafe) = IsNumbered (s.members member) incarnation sequence
+MayBeGranted s member incarnation sequence (txns.DropSync revision sync) = ⊥
+MayBeGranted s member incarnation sequence _ = Unit {0}
 
 -- these events are those of these actions, which are allowed one after the other and shown by them; and after them past and facts are
 -- still of one book

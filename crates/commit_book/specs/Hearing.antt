@@ -21,12 +21,12 @@ snapshot_in carried keyless leaderless = Some (SnapshotSent (record {
 }))
 
 -- the answer of this number grants the lease of the leader key, under the revision that it carries, with the sync key of its snapshot
-pub record CarriesLease (past : Past) (i : ℕ) (carried : InFlightFacts) (member : Member) (run sequence : ℕ) : Type 0 where
+pub record CarriesLease (past : Past) (i : ℕ) (carried : InFlightFacts) (member : Member) (incarnation sequence : ℕ) : Type 0 where
   pub revision : ℕ
   pub grant : carried.grant ≡ Some (record { revision = revision; by = member.id; leased = true })
   pub flying : past.flight i ≡ Some (LeaseGranted (record {
     member = member.id.number;
-    run = run;
+    incarnation = incarnation;
     sequence = sequence;
     revision = revision;
     sync = sync_key_of (find key_cmp keys.Sync carried.snapshot);
@@ -34,13 +34,13 @@ pub record CarriesLease (past : Past) (i : ℕ) (carried : InFlightFacts) (membe
 
 -- the answer of this number grants a claim or a write of the sync key: that key of its snapshot is what was asked for, under the revision
 -- that it carries
-pub record CarriesWrite (past : Past) (i : ℕ) (carried : InFlightFacts) (member : Member) (run sequence : ℕ) (aim : Aim) : Type 0 where
+pub record CarriesWrite (past : Past) (i : ℕ) (carried : InFlightFacts) (member : Member) (incarnation sequence : ℕ) (aim : Aim) : Type 0 where
   pub revision : ℕ
   pub grant : carried.grant ≡ Some (record { revision = revision; by = member.id; leased = false })
   pub key : sync_key_of (find key_cmp keys.Sync carried.snapshot) ≡ Some (sync_key_by member.id.number revision aim)
   pub flying : past.flight i ≡ Some (SyncGranted (record {
     member = member.id.number;
-    run = run;
+    incarnation = incarnation;
     sequence = sequence;
     key = sync_key_by member.id.number revision aim;
   }))

@@ -8,7 +8,7 @@ use Rattle.commit_actions.specs.Past.{Past, CarryQuery, query_sent}
 
 -- a renewal that is sent, and carries a set, compares a revision that was given before: it was read
 abbrev pub ComparesGiven : Past → EventKind → Type 0
-ComparesGiven past (kinds.Message (Sent number message)) = (m r : ℕ) → query_sent message.from message.run message.sequence message.body ≡ CarryQuery m r → r ≤ past.revision
+ComparesGiven past (kinds.Message (Sent number message)) = (m r : ℕ) → query_sent message.from message.incarnation message.sequence message.body ≡ CarryQuery m r → r ≤ past.revision
 ComparesGiven past _ = Unit {0}
 
 -- each renewal so far that carries a set compares a revision that was given, and where the leader key is its sender's and of that

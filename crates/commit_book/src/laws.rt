@@ -54,16 +54,16 @@ pub fn same_book()
     // So at each moment inside them.
     ensures front { (past : Past) (facts : Facts) (front rest : List Event) → AreCausal past facts (front ++ rest) → AreCausal past facts front }
     // The delivery of a request that the key store grants, of one that it refuses, and of a read.
-    ensures granted { (past : Past) (facts : Facts) (tick : Ticks) (i j : ℕ) (carried : InFlightFacts) (by : Member) (run sequence : ℕ) (txn : Txn) (standbys : List Name)
+    ensures granted { (past : Past) (facts : Facts) (tick : Ticks) (i j : ℕ) (carried : InFlightFacts) (by : Member) (incarnation sequence : ℕ) (txn : Txn) (standbys : List Name)
         → IsSameBook past facts
         → in_flight facts.flight i ≡ Some carried
-        → carried.message ≡ record { from = ToMember by; to = Store; run = run; sequence = sequence; body = bodies.Request txn }
+        → carried.message ≡ record { from = ToMember by; to = Store; incarnation = incarnation; sequence = sequence; body = bodies.Request txn }
         → facts.sent < j → IsSpannedTxn txn
         → decision_on facts.keys facts.clock txn ≡ Grants
-        → AreCausal past facts (granted_events tick i j by run sequence txn standbys) }
-    ensures refused { (past : Past) (facts : Facts) (tick : Ticks) (i j : ℕ) (by : Member) (run sequence : ℕ) (request : TxnKind) (key : Key) (found : Expected)
-        → facts.sent < j → AreCausal past facts (refused_events tick i j by run sequence request key found) }
-    ensures read { (past : Past) (facts : Facts) (tick : Ticks) (i j : ℕ) (by : Member) (run sequence : ℕ) → facts.sent < j → AreCausal past facts (read_events tick i j by run sequence) }
+        → AreCausal past facts (granted_events tick i j by incarnation sequence txn standbys) }
+    ensures refused { (past : Past) (facts : Facts) (tick : Ticks) (i j : ℕ) (by : Member) (incarnation sequence : ℕ) (request : TxnKind) (key : Key) (found : Expected)
+        → facts.sent < j → AreCausal past facts (refused_events tick i j by incarnation sequence request key found) }
+    ensures read { (past : Past) (facts : Facts) (tick : Ticks) (i j : ℕ) (by : Member) (incarnation sequence : ℕ) → facts.sent < j → AreCausal past facts (read_events tick i j by incarnation sequence) }
     // An input of an agent with the delivery before it, a tick with what comes in it, a loss and all else that isn't the key store's.
     ensures members { (past : Past) (facts : Facts) (events : List Event) → AllAre IsOfMembers events → AreNumberedAbove facts.sent events → AreCausal past facts events }
     // What commits read of a request in flight is what was asked.
@@ -72,102 +72,102 @@ pub fn same_book()
 
 /// The key store's decision on a claim, or on a write of the sync key, is the law's: it grants what the law grants, and nothing else.
 pub fn decisions()
-    ensures claim { (past : Past) (facts : Facts) (m run sequence revision : ℕ) (sync : Expected) → IsSameKeys past facts
-        → is_grant (decision_on facts.keys facts.clock (Claim revision sync)) ≡ is_granted (leader_revision past.leader) past.sync (claim_request m run sequence revision sync) }
-    ensures publish { (past : Past) (facts : Facts) (m run sequence revision : ℕ) (sync : Expected) (standbys : MemberSet) → IsSameKeys past facts
-        → is_grant (decision_on facts.keys facts.clock (SetSync revision sync standbys)) ≡ is_granted (leader_revision past.leader) past.sync (publish_request m run sequence revision sync standbys) }
+    ensures claim { (past : Past) (facts : Facts) (m incarnation sequence revision : ℕ) (sync : Expected) → IsSameKeys past facts
+        → is_grant (decision_on facts.keys facts.clock (Claim revision sync)) ≡ is_granted (leader_revision past.leader) past.sync (claim_request m incarnation sequence revision sync) }
+    ensures publish { (past : Past) (facts : Facts) (m incarnation sequence revision : ℕ) (sync : Expected) (standbys : MemberSet) → IsSameKeys past facts
+        → is_grant (decision_on facts.keys facts.clock (SetSync revision sync standbys)) ≡ is_granted (leader_revision past.leader) past.sync (publish_request m incarnation sequence revision sync standbys) }
 {}
 
 /// A delivery to the key store of a message that the book has in flight is an action, which is allowed and shown by its events, or such an
 /// action and the sending of its answer; and it leaves the same book. In synchronous mode: creates compare no sync key, and nobody removes it.
 pub fn deliveries()
     // A claim, a write of the sync key, a release and other writes need nothing beside; creates and renewals a number that was given.
-    ensures granted { (setup : Setup) (past : Past) (facts : Facts) (volatile_states : ℕ → VolatileState) (tick : Ticks) (i j : ℕ) (carried : InFlightFacts) (by : Member) (run sequence : ℕ) (txn : Txn) (standbys : List Name)
+    ensures granted { (setup : Setup) (past : Past) (facts : Facts) (volatile_states : ℕ → VolatileState) (tick : Ticks) (i j : ℕ) (carried : InFlightFacts) (by : Member) (incarnation sequence : ℕ) (txn : Txn) (standbys : List Name)
         → setup.creates_compare ≡ false
         → IsSameBook past facts
         → in_flight facts.flight i ≡ Some carried
-        → carried.message ≡ record { from = ToMember by; to = Store; run = run; sequence = sequence; body = bodies.Request txn }
+        → carried.message ≡ record { from = ToMember by; to = Store; incarnation = incarnation; sequence = sequence; body = bodies.Request txn }
         → facts.sent < j → IsSpannedTxn txn
         → decision_on facts.keys facts.clock txn ≡ Grants
-        → MayBeGranted (state_of setup past volatile_states) by.id.number run sequence txn
-        → IsDelivered setup past facts volatile_states (granted_events tick i j by run sequence txn standbys) (granted_actions volatile_states tick i j by run sequence txn standbys) }
-    ensures refused { (setup : Setup) (past : Past) (facts : Facts) (volatile_states : ℕ → VolatileState) (tick : Ticks) (i j : ℕ) (carried : InFlightFacts) (by : Member) (run sequence : ℕ) (txn : Txn) (request : TxnKind) (key : Key) (found : Expected)
+        → MayBeGranted (state_of setup past volatile_states) by.id.number incarnation sequence txn
+        → IsDelivered setup past facts volatile_states (granted_events tick i j by incarnation sequence txn standbys) (granted_actions volatile_states tick i j by incarnation sequence txn standbys) }
+    ensures refused { (setup : Setup) (past : Past) (facts : Facts) (volatile_states : ℕ → VolatileState) (tick : Ticks) (i j : ℕ) (carried : InFlightFacts) (by : Member) (incarnation sequence : ℕ) (txn : Txn) (request : TxnKind) (key : Key) (found : Expected)
         → IsSameBook past facts
         → in_flight facts.flight i ≡ Some carried
-        → carried.message ≡ record { from = ToMember by; to = Store; run = run; sequence = sequence; body = bodies.Request txn }
+        → carried.message ≡ record { from = ToMember by; to = Store; incarnation = incarnation; sequence = sequence; body = bodies.Request txn }
         → facts.sent < j
         → decision_on facts.keys facts.clock txn ≡ Refusal key found
         → ComparesNoSync txn
-        → let events = refused_events tick i j by run sequence request key found in
+        → let events = refused_events tick i j by incarnation sequence request key found in
         IsDelivered setup past facts volatile_states events (transition_of volatile_states (refused_action i j txn) events ∷ []) }
-    ensures read { (setup : Setup) (past : Past) (facts : Facts) (volatile_states : ℕ → VolatileState) (tick : Ticks) (i j : ℕ) (carried : InFlightFacts) (by : Member) (run sequence : ℕ)
+    ensures read { (setup : Setup) (past : Past) (facts : Facts) (volatile_states : ℕ → VolatileState) (tick : Ticks) (i j : ℕ) (carried : InFlightFacts) (by : Member) (incarnation sequence : ℕ)
         → IsSameBook past facts
         → in_flight facts.flight i ≡ Some carried
-        → carried.message ≡ record { from = ToMember by; to = Store; run = run; sequence = sequence; body = bodies.Read }
+        → carried.message ≡ record { from = ToMember by; to = Store; incarnation = incarnation; sequence = sequence; body = bodies.Read }
         → facts.sent < j
         → let snapshot : Action = SendSnapshot (is_keyless past.leader past.failsafe) (is_leaderless past.leader) j in
-        let events = read_events tick i j by run sequence in
+        let events = read_events tick i j by incarnation sequence in
         IsAllowed (state_of setup past volatile_states) snapshot
         → IsDelivered setup past facts volatile_states events (transition_of volatile_states snapshot events ∷ []) }
 {}
 
 /// What commits read of a message that comes to an agent.
 pub fn heard()
-    ensures snapshot { (past : Past) (facts : Facts) (i : ℕ) (carried : InFlightFacts) (member : Member) (run sequence : ℕ)
+    ensures snapshot { (past : Past) (facts : Facts) (i : ℕ) (carried : InFlightFacts) (member : Member) (incarnation sequence : ℕ)
         → IsSameFlight past facts
         → in_flight facts.flight i ≡ Some carried
-        → carried.message ≡ record { from = Store; to = ToMember member; run = run; sequence = sequence; body = bodies.Snapshot }
+        → carried.message ≡ record { from = Store; to = ToMember member; incarnation = incarnation; sequence = sequence; body = bodies.Snapshot }
         → let leader = leader_key_of (find key_cmp Leader carried.snapshot) in
         past.flight i ≡ snapshot_in carried (is_keyless leader (failsafe_key_of (find key_cmp Failsafe carried.snapshot))) (is_leaderless leader) }
     // The grant of a create or a renewal; of a claim or a write of the sync key; of another write.
-    ensures leased { (past : Past) (facts : Facts) (i : ℕ) (carried : InFlightFacts) (member : Member) (run sequence request : ℕ)
+    ensures leased { (past : Past) (facts : Facts) (i : ℕ) (carried : InFlightFacts) (member : Member) (incarnation sequence request : ℕ)
         → IsSameFlight past facts
         → in_flight facts.flight i ≡ Some carried
-        → carried.message ≡ record { from = Store; to = ToMember member; run = run; sequence = sequence; body = bodies.Granted request true }
-        → CarriesLease past i carried member run sequence }
-    ensures written { (past : Past) (facts : Facts) (i : ℕ) (carried : InFlightFacts) (member : Member) (run sequence request : ℕ) (leased : Bool) (asked : SyncRequest)
+        → carried.message ≡ record { from = Store; to = ToMember member; incarnation = incarnation; sequence = sequence; body = bodies.Granted request true }
+        → CarriesLease past i carried member incarnation sequence }
+    ensures written { (past : Past) (facts : Facts) (i : ℕ) (carried : InFlightFacts) (member : Member) (incarnation sequence request : ℕ) (leased : Bool) (asked : SyncRequest)
         → IsSameFlight past facts
         → in_flight facts.flight i ≡ Some carried
-        → carried.message ≡ record { from = Store; to = ToMember member; run = run; sequence = sequence; body = bodies.Granted request leased }
+        → carried.message ≡ record { from = Store; to = ToMember member; incarnation = incarnation; sequence = sequence; body = bodies.Granted request leased }
         → past.asked request ≡ SyncQuery asked → is_creating asked.aim ≡ false
-        → CarriesWrite past i carried member run sequence asked.aim }
-    ensures other { (past : Past) (facts : Facts) (i : ℕ) (carried : InFlightFacts) (member : Member) (run sequence request : ℕ) (leased : Bool)
+        → CarriesWrite past i carried member incarnation sequence asked.aim }
+    ensures other { (past : Past) (facts : Facts) (i : ℕ) (carried : InFlightFacts) (member : Member) (incarnation sequence request : ℕ) (leased : Bool)
         → IsSameFlight past facts
         → in_flight facts.flight i ≡ Some carried
-        → carried.message ≡ record { from = Store; to = ToMember member; run = run; sequence = sequence; body = bodies.Granted request leased }
+        → carried.message ≡ record { from = Store; to = ToMember member; incarnation = incarnation; sequence = sequence; body = bodies.Granted request leased }
         → past.asked request ≡ OtherQuery
         → past.flight i ≡ snapshot_in carried false false }
-    ensures refused { (past : Past) (facts : Facts) (i : ℕ) (carried : InFlightFacts) (member : Member) (run sequence request : ℕ) (key : Key) (found : Expected)
+    ensures refused { (past : Past) (facts : Facts) (i : ℕ) (carried : InFlightFacts) (member : Member) (incarnation sequence request : ℕ) (key : Key) (found : Expected)
         → IsSameFlight past facts
         → in_flight facts.flight i ≡ Some carried
-        → carried.message ≡ record { from = Store; to = ToMember member; run = run; sequence = sequence; body = bodies.Refused request key found }
+        → carried.message ≡ record { from = Store; to = ToMember member; incarnation = incarnation; sequence = sequence; body = bodies.Refused request key found }
         → past.flight i ≡ None }
 {}
 
 /// What is waited for agrees with what is in flight, where both laws read one book: a request under a new number is the only one of its name,
 /// stays the only one while its member asks under others, and a grant of that name answers it, so the sync key that it tells is what was asked for.
 pub fn waiting()
-    ensures sent { (p : lease_past.Past) (past : Past) (number : ℕ) (by : Member) (run sequence last : ℕ) (txn : Txn) → IsLastAsked p.asked by.id.number run last → last < sequence
-        → let kind = Message (Sent number (record { from = ToMember by; to = Store; run = run; sequence = sequence; body = bodies.Request txn })) in
-        IsAskedOnce (lease_past.past_after p kind).asked (past_after past kind).asked by.id.number run sequence (query_of by.id.number run sequence txn) }
-    ensures kept { (p : lease_past.Past) (past : Past) (facts : Facts) (kind : EventKind) (member run sequence : ℕ) (query : Query)
+    ensures sent { (p : lease_past.Past) (past : Past) (number : ℕ) (by : Member) (incarnation sequence last : ℕ) (txn : Txn) → IsLastAsked p.asked by.id.number incarnation last → last < sequence
+        → let kind = Message (Sent number (record { from = ToMember by; to = Store; incarnation = incarnation; sequence = sequence; body = bodies.Request txn })) in
+        IsAskedOnce (lease_past.past_after p kind).asked (past_after past kind).asked by.id.number incarnation sequence (query_of by.id.number incarnation sequence txn) }
+    ensures kept { (p : lease_past.Past) (past : Past) (facts : Facts) (kind : EventKind) (member incarnation sequence : ℕ) (query : Query)
         → bridge_flights.IsSameFlight p facts
         → IsNumberedAbove facts.sent kind
-        → AsksOnly (λ m r s. m ≡ member → r ≡ run → s ≡ sequence → ⊥) kind
-        → IsAskedOnce p.asked past.asked member run sequence query → IsAskedOnce (lease_past.past_after p kind).asked (past_after past kind).asked member run sequence query }
-    ensures granted { (p : lease_past.Past) (past : Past) (facts : Facts) (i : ℕ) (carried : InFlightFacts) (member : Member) (run sequence request : ℕ) (leased : Bool) (query : Query)
+        → AsksOnly (λ m r s. m ≡ member → r ≡ incarnation → s ≡ sequence → ⊥) kind
+        → IsAskedOnce p.asked past.asked member incarnation sequence query → IsAskedOnce (lease_past.past_after p kind).asked (past_after past kind).asked member incarnation sequence query }
+    ensures granted { (p : lease_past.Past) (past : Past) (facts : Facts) (i : ℕ) (carried : InFlightFacts) (member : Member) (incarnation sequence request : ℕ) (leased : Bool) (query : Query)
         → bridge_flights.IsSameFlight p facts
         → in_flight facts.flight i ≡ Some carried
-        → carried.message ≡ record { from = Store; to = ToMember member; run = run; sequence = sequence; body = bodies.Granted request leased }
-        → IsAskedOnce p.asked past.asked member.id.number run sequence query
+        → carried.message ≡ record { from = Store; to = ToMember member; incarnation = incarnation; sequence = sequence; body = bodies.Granted request leased }
+        → IsAskedOnce p.asked past.asked member.id.number incarnation sequence query
         → past.asked request ≡ query }
-    ensures written { (p : lease_past.Past) (past : Past) (facts : Facts) (i : ℕ) (carried : InFlightFacts) (member : Member) (run sequence request : ℕ) (leased : Bool) (asked : SyncRequest)
+    ensures written { (p : lease_past.Past) (past : Past) (facts : Facts) (i : ℕ) (carried : InFlightFacts) (member : Member) (incarnation sequence request : ℕ) (leased : Bool) (asked : SyncRequest)
         → bridge_flights.IsSameFlight p facts
         → IsSameFlight past facts
         → in_flight facts.flight i ≡ Some carried
-        → carried.message ≡ record { from = Store; to = ToMember member; run = run; sequence = sequence; body = bodies.Granted request leased }
-        → IsAskedOnce p.asked past.asked member.id.number run sequence (SyncQuery asked) → is_creating asked.aim ≡ false
-        → CarriesWrite past i carried member run sequence asked.aim }
+        → carried.message ≡ record { from = Store; to = ToMember member; incarnation = incarnation; sequence = sequence; body = bodies.Granted request leased }
+        → IsAskedOnce p.asked past.asked member.id.number incarnation sequence (SyncQuery asked) → is_creating asked.aim ≡ false
+        → CarriesWrite past i carried member incarnation sequence asked.aim }
 {}
 
 /// There are such books with the grant of a claim in flight.

@@ -63,18 +63,18 @@ module _ (head : HeadText) (book : List Event) (cluster : Cluster) (good : Commi
       let lease = hears.lease arms.0 in
       same-revision Lease M a.number fed.grant lease.told fed.hears hears.answer.number hears.answer.answer hears.answer.heard_is hears.answer.is lease.is ∙ lease.revision ∙ arms.1
   revision-by works heards.Wake revision fed hears arms = absurd arms
-  revision-by works (heards.Got sequence snapshot) revision fed hears arms = absurd arms
+  revision-by works (heards.ReadAnswered sequence snapshot) revision fed hears arms = absurd arms
   revision-by works (heards.Mismatch sequence key found) revision fed hears arms = absurd arms
-  revision-by works (heards.Asked from run sequence) revision fed hears arms = absurd arms
+  revision-by works (heards.Asked from incarnation sequence) revision fed hears arms = absurd arms
   revision-by works (heards.Answered sequence answer) revision fed hears arms = absurd arms
   revision-by works (heards.Operated action) revision fed hears arms = absurd arms
 
   unready-by : (heard : Heard) (revision : ℕ) → ArmsOn (moment_of cluster) heard (Before head book cluster good a) revision → is_ready_role a.agent.role ≡ false
   unready-by (heards.Granted sequence grant snapshot) revision arms = arms.2
   unready-by heards.Wake revision arms = absurd arms
-  unready-by (heards.Got sequence snapshot) revision arms = absurd arms
+  unready-by (heards.ReadAnswered sequence snapshot) revision arms = absurd arms
   unready-by (heards.Mismatch sequence key found) revision arms = absurd arms
-  unready-by (heards.Asked from run sequence) revision arms = absurd arms
+  unready-by (heards.Asked from incarnation sequence) revision arms = absurd arms
   unready-by (heards.Answered sequence answer) revision arms = absurd arms
   unready-by (heards.Operated action) revision arms = absurd arms
 

@@ -70,8 +70,8 @@ carried-unasking (outputs.Send to sequence body) is = is
 carried-unasking outputs.Begin is = absurd is
 carried-unasking _ is = tt
 
-pub sent-none : (m run : ℕ) (outs : List Output) → All IsUnasking outs → IsSent (requests_of m run outs) None
-sent-none m run outs all = subst (λ (l : List SyncRequest). IsSent l None) (sym (asks-none m run outs all)) refl
+pub sent-none : (m incarnation : ℕ) (outs : List Output) → All IsUnasking outs → IsSent (requests_of m incarnation outs) None
+sent-none m incarnation outs all = subst (λ (l : List SyncRequest). IsSent l None) (sym (asks-none m incarnation outs all)) refl
 
 module _ (head : HeadText) (book : List Event) (cluster : Cluster) (good : CommitsBridged head book cluster) (few : member_count head ≤ MOST_MEMBERS) (a : Acting head book cluster) where
   abbrev M : ℕ
@@ -116,7 +116,7 @@ module _ (head : HeadText) (book : List Event) (cluster : Cluster) (good : Commi
       acted = front-acted head book cluster good a front (carried front covered) of_table;
       lives = front-lives head book cluster good a front (carried front covered) of_table;
       fits = front-fits head book cluster good a front (carried front covered) of_table;
-      sent = record { sent = sent-none M a.agent.knows.run Outs unasking; inside = none-passes Outs inside };
+      sent = record { sent = sent-none M a.agent.knows.incarnation Outs unasking; inside = none-passes Outs inside };
     }
 
   -- ---- each output is an action of its own
@@ -219,7 +219,7 @@ module _ (head : HeadText) (book : List Event) (cluster : Cluster) (good : Commi
       let unasked_all : All IsUnasking Outs = subst (λ (l : List Output). All IsUnasking l) whole (All-push IsUnasking front (outputs.Require required) (unasking front (covered-quiet front covered)) tt) in
       let begins : All BeginsNone Outs = subst (λ (l : List Output). All BeginsNone l) whole (All-push BeginsNone front (outputs.Require required) (All-weaker IsCarried BeginsNone carried-begins front (carried front covered)) tt) in
       let inside : All PassesNone Outs = subst (λ (l : List Output). All PassesNone l) whole (All-push PassesNone front (outputs.Require required) (All-weaker IsCovered PassesNone covered-passes front covered) tt) in
-      let sent : SendsInside head book cluster good a None = record { sent = sent-none M a.agent.knows.run Outs unasked_all; inside = none-passes Outs inside } in
+      let sent : SendsInside head book cluster good a None = record { sent = sent-none M a.agent.knows.incarnation Outs unasked_all; inside = none-passes Outs inside } in
       let up : List Event = Page head book cluster good a front (carried front covered) of_table in
       let set : List Event = Part head book cluster good a (cluster_over cluster up) (outputs.Require required) in
       let page : Of (up ++ set) None = required-page front required [] covered whole (All-nil RequiresNone) sent server-found.0 server-found.1 in

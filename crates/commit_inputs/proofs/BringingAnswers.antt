@@ -15,7 +15,7 @@ use Rattle.agent_model.specs.declared.output.Output.{Output}
 use Rattle.agent_model.specs.declared.output.Output.TheVariants as outputs
 use Rattle.agent_model.specs.Agents.{Outcome}
 use Rattle.agent_model.specs.Answers.{peer_answer_of}
-use Rattle.agent_model.specs.Before.{before}
+use Rattle.agent_model.specs.Reconciling.{reconciled}
 use Rattle.agent_commit_law.specs.Committing.{IsCovered, IsEndOf}
 use Rattle.agent_model.specs.Info.{runs}
 use Rattle.agent_outputs.specs.Orders.{IsOfTable}
@@ -62,7 +62,7 @@ members-over cluster [] = refl
 members-over cluster (event ∷ events) = members-over (cluster_after cluster event.kind) events
 
 module _ (head : HeadText) (book : List Event) (cluster : Cluster) (good : CommitsBridged head book cluster) (few : member_count head ≤ MOST_MEMBERS) (a : Acting head book cluster)
-    (from : MemberId) (run sequence : ℕ) (asked : a.heard ≡ Asked from run sequence) where
+    (from : MemberId) (incarnation sequence : ℕ) (asked : a.heard ≡ Asked from incarnation sequence) where
   abbrev M : ℕ
   M = a.member.id.number
 
@@ -77,13 +77,13 @@ module _ (head : HeadText) (book : List Event) (cluster : Cluster) (good : Commi
 
   -- what comes before the input
   abbrev Stood : Outcome
-  Stood = before (moment_of cluster) (Before head book cluster good a)
+  Stood = reconciled (moment_of cluster) (Before head book cluster good a)
 
   abbrev Reply : PeerAnswer
   Reply = peer_answer_of Stood.knows.who Stood.machine.server
 
   abbrev Answer : Output
-  Answer = outputs.Answer from run sequence Reply
+  Answer = outputs.Answer from incarnation sequence Reply
 
   abbrev whole : Stood.outputs ++ Answer ∷ [] ≡ Outs
   whole = ap (λ heard. (step (moment_of cluster) (points_of cluster a.member) heard (Before head book cluster good a)).outputs) (sym asked)
@@ -130,9 +130,9 @@ module _ (head : HeadText) (book : List Event) (cluster : Cluster) (good : Commi
   later-is : act (state_of_run head book cluster) (Input M (Theirs head book cluster good a None)) ≡ Later
   later-is = sym (page-shown head book cluster good a Upto None page) ∙ ap (state_of Law (past_over P Upto)) (states-behind head book cluster good a Upto None page (none-begins Outs begins-none))
 
-  numbered : (m : ℕ) → IsNumbered ((state_of_run head book cluster).members m) run sequence → IsNumbered (Later.members m) run sequence
-  numbered m is = subst (λ (s : State). IsNumbered (s.members m) run sequence) later-is
-      (numbered-by (state_of_run head book cluster) (Input M (Theirs head book cluster good a None)) ((Lawful head book cluster good few a None page.sent).lawful, given-none head book cluster good few a page.sent) m run sequence is)
+  numbered : (m : ℕ) → IsNumbered ((state_of_run head book cluster).members m) incarnation sequence → IsNumbered (Later.members m) incarnation sequence
+  numbered m is = subst (λ (s : State). IsNumbered (s.members m) incarnation sequence) later-is
+      (numbered-by (state_of_run head book cluster) (Input M (Theirs head book cluster good a None)) ((Lawful head book cluster good few a None page.sent).lawful, given-none head book cluster good few a page.sent) m incarnation sequence is)
 
   ends : ForSome Reply.end (LogEndsAt Later M)
   ends = λ end is. log-ends Later M a.machine.server.end (Later.members M).log end
@@ -142,7 +142,7 @@ module _ (head : HeadText) (book : List Event) (cluster : Cluster) (good : Commi
       log-same : ((state_of_run head book cluster).members M).log ≡ (Later.members M).log
       log-same = ap (λ (t : Told). log_found (slice_get t.logs M)) (sym (front-told head book cluster good a Stood.outputs (carried Stood.outputs covered) of_table))
 
-  pub answers-moves : ((peer : Member) → slice_get cluster.facts.members from.number ≡ Some peer → IsNumbered ((state_of_run head book cluster).members peer.id.number) run sequence) → Moves Law P cluster (Events head book cluster good a)
+  pub answers-moves : ((peer : Member) → slice_get cluster.facts.members from.number ≡ Some peer → IsNumbered ((state_of_run head book cluster).members peer.id.number) incarnation sequence) → Moves Law P cluster (Events head book cluster good a)
   answers-moves asks = subst (λ (l : List Event). Moves Law P cluster l) (sym whole-events)
       (moves-then Law P cluster Upto Replying (page-moves head book cluster good a Upto None page (none-begins Outs begins-none) (given-none head book cluster good few a page.sent))
-      (λ fits. answer-moves Law a.member (past_over P Upto) Reached from run sequence Reply fits (λ peer is. numbered peer.id.number (asks peer (ap (λ (members : List Member). slice_get members from.number) (sym (members-over cluster Upto)) ∙ is))) ends))
+      (λ fits. answer-moves Law a.member (past_over P Upto) Reached from incarnation sequence Reply fits (λ peer is. numbered peer.id.number (asks peer (ap (λ (members : List Member). slice_get members from.number) (sym (members-over cluster Upto)) ∙ is))) ends))

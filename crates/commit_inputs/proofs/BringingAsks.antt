@@ -26,7 +26,7 @@ use Rattle.script_model.specs.Script.{HeadText}
 use Rattle.agent_model.specs.declared.output.Output.{Output}
 use Rattle.agent_model.specs.declared.output.Output.TheVariants as outputs
 use Rattle.agent_model.specs.declared.output.Target.TheVariants as targets
-use Rattle.agent_commit_law.specs.Committing.{IsSent, IsSynchronousBody, IsSynchronousOutput, IsSynchronousTxn, KnowsBelow, is_passing, request_in, request_of_body, requests_of}
+use Rattle.agent_commit_law.specs.Committing.{IsSent, IsSynchronousBody, IsSynchronousOutput, IsSynchronousTxn, KnowsBelow, is_claim_outside_sync, request_in, request_of_body, requests_of}
 use Rattle.agent_model.specs.Agents.{AgentFacts}
 use Rattle.agent_outputs.specs.Orders.{IsOfTable}
 use Rattle.agent_commit_law.proofs.CommitQuiet.{asks-last, IsUnasking}
@@ -81,9 +81,9 @@ query-flying LeaseQuery = refl
 query-flying (CarryQuery member revision) = refl
 query-flying OtherQuery = refl
 
-body-flying : (member run sequence : ℕ) (body : Body) → request_in_flight_of member run sequence body ≡ option_map Requested (request_of_body member run sequence body)
-body-flying member run sequence (bodies.Request txn) = query-flying (query_of member run sequence txn)
-body-flying member run sequence _ = refl
+body-flying : (member incarnation sequence : ℕ) (body : Body) → request_in_flight_of member incarnation sequence body ≡ option_map Requested (request_of_body member incarnation sequence body)
+body-flying member incarnation sequence (bodies.Request txn) = query-flying (query_of member incarnation sequence txn)
+body-flying member incarnation sequence _ = refl
 
 -- no renewal in synchronous mode carries a set for the failsafe key
 live-renew : (was : Bool) (leader : Option LeaderKey) (m count revision : ℕ) (info : MemberInfo) (ttl : Ticks) (status : Option Lsn) (row : Option HistoryRow) (failsafe : Option MemberSet)
@@ -159,7 +159,7 @@ module _ (head : HeadText) (book : List Event) (cluster : Cluster) (good : Commi
   Number = Reached.facts.sent + 1
 
   abbrev Says : Message
-  Says = agent_message a.member ends.Store a.agent.knows.run sequence body
+  Says = agent_message a.member ends.Store a.agent.knows.incarnation sequence body
 
   abbrev Kind : EventKind
   Kind = kinds.Message (Sent Number Says)
@@ -180,7 +180,7 @@ module _ (head : HeadText) (book : List Event) (cluster : Cluster) (good : Commi
   asks-is : Part head book cluster good a Reached Question ≡ Asked ++ Lost
   asks-is =
       ap (λ (o : Option AgentProcess). sending_events Reached a.member o (Some ends.Store) sequence body) (ap (λ (l : List AgentProcess). slice_get l M) (front-processes head book cluster good a front all of_table) ∙ knows.is)
-      ∙ ap (λ (run : ℕ). send_events Reached (agent_message a.member ends.Store run sequence body)) (sym knows.run)
+      ∙ ap (λ (incarnation : ℕ). send_events Reached (agent_message a.member ends.Store incarnation sequence body)) (sym knows.incarnation)
 
   whole-events : Events head book cluster good a ≡ Covered ++ Lost
   whole-events =
@@ -197,14 +197,14 @@ module _ (head : HeadText) (book : List Event) (cluster : Cluster) (good : Commi
   synchronous = last-of (IsSynchronousOutput (member_count head)) front Question (subst (λ (l : List Output). All (IsSynchronousOutput (member_count head)) l) (sym whole) ((stays-on head book cluster good a).sends (member_count head) below))
 
   abbrev Request : Option SyncRequest
-  Request = request_of_body M a.agent.knows.run sequence body
+  Request = request_of_body M a.agent.knows.incarnation sequence body
 
   abbrev pub Sends : Option Sending
   Sends = sending_under Number Request
 
-  sent : IsSent (requests_of M a.agent.knows.run Outs) Sends
-  sent = subst (λ (l : List Output). IsSent (requests_of M a.agent.knows.run l) Sends) whole
-      (subst (λ (l : List SyncRequest). IsSent l Sends) (sym (asks-last M a.agent.knows.run front Question (All-weaker IsCarried IsUnasking carried-unasking front all))) (sent-under Number Request))
+  sent : IsSent (requests_of M a.agent.knows.incarnation Outs) Sends
+  sent = subst (λ (l : List Output). IsSent (requests_of M a.agent.knows.incarnation l) Sends) whole
+      (subst (λ (l : List SyncRequest). IsSent l Sends) (sym (asks-last M a.agent.knows.incarnation front Question (All-weaker IsCarried IsUnasking carried-unasking front all))) (sent-under Number Request))
 
   none-reached : NoneAbove (past_over P Upto) Reached
   none-reached = none-later M _ (First head book cluster good a) _ (fronts head book cluster good a front all of_table) (first-none head book cluster good a front all of_table)
@@ -223,7 +223,7 @@ module _ (head : HeadText) (book : List Event) (cluster : Cluster) (good : Commi
 
   flight-now : (i : ℕ) → (past_after (past_over P Upto) Kind).flight i ≡ send Sends (forget a.number P.flight) i
   flight-now i =
-      ap (λ (o : Option Flying). put_at (past_over P Upto).flight Number o i) (body-flying M a.agent.knows.run sequence body)
+      ap (λ (o : Option Flying). put_at (past_over P Upto).flight Number o i) (body-flying M a.agent.knows.incarnation sequence body)
       ∙ flight-under Request (past_over P Upto).flight (forget a.number P.flight) Number i (none-reached Number (next Reached.facts.sent)) (front-flight head book cluster good a front all of_table)
     where
       next : (n : ℕ) → n < n + 1
@@ -236,7 +236,7 @@ module _ (head : HeadText) (book : List Event) (cluster : Cluster) (good : Commi
   asked-leaves = leave-both Upto Asked (front-leaves head book cluster good a front all of_table) (tt, tt)
 
   -- it is one page of the law, where its member takes no leader key past the sync key
-  pub page : has_one is_passing Outs ≡ false → PageOf head book cluster good a Covered Sends
+  pub page : has_one is_claim_outside_sync Outs ≡ false → PageOf head book cluster good a Covered Sends
   page inside = record {
     own = own-both M Upto Asked (front-own head book cluster good a front all of_table) (tt, tt);
     leaves = asked-leaves;
@@ -268,15 +268,15 @@ module _ (head : HeadText) (book : List Event) (cluster : Cluster) (good : Commi
   seen-same : seen_of (past_over P Upto) ≡ seen_of P
   seen-same = all-aside P Upto (front-aside head book cluster good a front all of_table)
 
-  publishes-as : has_one is_passing Outs ≡ false → (revision : ℕ) (sync : Expected) (standbys : MemberSet) → bodies.Request (txns.SetSync revision sync standbys) ≡ body
-      → PublishesInOrder P M (noted_position (After head book cluster good a).knows.noted) (publish_request M a.agent.knows.run sequence revision sync standbys) (set_members standbys)
+  publishes-as : has_one is_claim_outside_sync Outs ≡ false → (revision : ℕ) (sync : Expected) (standbys : MemberSet) → bodies.Request (txns.SetSync revision sync standbys) ≡ body
+      → PublishesInOrder P M (noted_position (After head book cluster good a).knows.noted) (publish_request M a.agent.knows.incarnation sequence revision sync standbys) (set_members standbys)
   publishes-as inside revision sync standbys is =
-      published (setup_of head) P (volatile_of cluster) M (Theirs head book cluster good a Sends) (record { number = Number; request = publish_request M a.agent.knows.run sequence revision sync standbys }) (set_members standbys)
+      published (setup_of head) P (volatile_of cluster) M (Theirs head book cluster good a Sends) (record { number = Number; request = publish_request M a.agent.knows.incarnation sequence revision sync standbys }) (set_members standbys)
       good.sound good.fits.strict good.noted (Lawful head book cluster good few a Sends (page inside).sent).lawful
-      (ap (λ (b : Body). sending_under Number (request_of_body M a.agent.knows.run sequence b)) (sym is)) refl
+      (ap (λ (b : Body). sending_under Number (request_of_body M a.agent.knows.incarnation sequence b)) (sym is)) refl
       (subst (λ (b : Body). IsSynchronousBody (member_count head) b) (sym is) synchronous)
 
-  asked-ordered : has_one is_passing Outs ≡ false → (b : Body) → b ≡ body → AsksInOrder (past_over P Upto) Reached (ends.Member a.member) a.agent.knows.run sequence b
+  asked-ordered : has_one is_claim_outside_sync Outs ≡ false → (b : Body) → b ≡ body → AsksInOrder (past_over P Upto) Reached (ends.Member a.member) a.agent.knows.incarnation sequence b
   asked-ordered inside (bodies.Request (txns.SetSync revision sync standbys)) is =
       let at-first = publishes-as inside revision sync standbys is in
       record {
@@ -296,10 +296,10 @@ module _ (head : HeadText) (book : List Event) (cluster : Cluster) (good : Commi
       }
   asked-ordered inside _ is = tt
 
-  pub inside-ordered : has_one is_passing Outs ≡ false → AsksInOrder (past_over P Upto) Reached (ends.Member a.member) a.agent.knows.run sequence body
+  pub inside-ordered : has_one is_claim_outside_sync Outs ≡ false → AsksInOrder (past_over P Upto) Reached (ends.Member a.member) a.agent.knows.incarnation sequence body
   inside-ordered inside = asked-ordered inside body refl
 
-  pub asks-ordered : AsksInOrder (past_over P Upto) Reached (ends.Member a.member) a.agent.knows.run sequence body → AllInOrder P cluster (Events head book cluster good a)
+  pub asks-ordered : AsksInOrder (past_over P Upto) Reached (ends.Member a.member) a.agent.knows.incarnation sequence body → AllInOrder P cluster (Events head book cluster good a)
   asks-ordered asked = subst (λ (l : List Event). AllInOrder P cluster l) (sym whole-events)
       (order-then P cluster Covered Lost
       (order-then P cluster Upto Asked (front-ordered head book cluster good a front all of_table) (asked, tt))
@@ -307,7 +307,7 @@ module _ (head : HeadText) (book : List Event) (cluster : Cluster) (good : Commi
       (lost-ordered (past_over P Covered) (cluster_after Reached Kind) (nat_le most_in_flight (length Reached.facts.flight)) Number)))
 
   -- it is allowed actions, where the timed lease gives what it is to
-  pub asks-moves : (inside : has_one is_passing Outs ≡ false)
+  pub asks-moves : (inside : has_one is_claim_outside_sync Outs ≡ false)
       → IsGivenByLease (state_of_run head book cluster) M (Theirs head book cluster good a Sends) (Lawful head book cluster good few a Sends (page inside).sent).lawful.was (Lawful head book cluster good few a Sends (page inside).sent).lawful.does
       → Moves Law P cluster (Events head book cluster good a)
   asks-moves inside given = subst (λ (l : List Event). Moves Law P cluster l) (sym whole-events)

@@ -125,9 +125,9 @@ module _ (head : HeadText) (book : List Event) (cluster : Cluster) (good : Commi
   passes-none = All-append PassesNone front (outputs.Require required ∷ outputs.Begin ∷ []) (All-weaker IsCovered PassesNone covered-passes front covered)
       (All-cons PassesNone (outputs.Require required) (outputs.Begin ∷ []) tt (All-cons PassesNone outputs.Begin [] tt (All-nil PassesNone)))
 
-  sends-none : IsSent (requests_of M a.agent.knows.run Outs) None
-  sends-none = subst (λ (l : List Output). IsSent (requests_of M a.agent.knows.run l) None) (append_assoc front (outputs.Require required ∷ []) (outputs.Begin ∷ []) ∙ whole)
-      (subst (λ (l : List _). IsSent l None) (sym (asks-last M a.agent.knows.run (front ++ outputs.Require required ∷ []) outputs.Begin unasking-front)) refl)
+  sends-none : IsSent (requests_of M a.agent.knows.incarnation Outs) None
+  sends-none = subst (λ (l : List Output). IsSent (requests_of M a.agent.knows.incarnation l) None) (append_assoc front (outputs.Require required ∷ []) (outputs.Begin ∷ []) ∙ whole)
+      (subst (λ (l : List _). IsSent l None) (sym (asks-last M a.agent.knows.incarnation (front ++ outputs.Require required ∷ []) outputs.Begin unasking-front)) refl)
 
   sent : SendsInside head book cluster good a None
   sent = record { sent = sends-none; inside = none-passes Outs (subst (λ (l : List Output). All PassesNone l) whole passes-none) }

@@ -14,7 +14,7 @@ use Rattle.event_book.specs.Links.{CutLinks}
 use Rattle.script_model.specs.Script.{HeadText}
 use Rattle.agent_model.specs.declared.machine.Machine.{Machine}
 use Rattle.agent_model.specs.declared.machine.Replication.{Replication}
-use Rattle.agent_model.specs.Agents.{AgentFacts, made}
+use Rattle.agent_model.specs.Agents.{AgentFacts, outcome_from}
 use Rattle.agent_commit_law.specs.Committing.{GrowsByConnected, ListsMember}
 use Rattle.cluster_model.specs.Machines.{connected_end, connected_ends, is_connected, machine_from, machine_of, nothing_confirmed, replication_of}
 use Rattle.cluster_model.specs.State.{Cluster}
@@ -48,13 +48,13 @@ module _ (head : HeadText) (book : List Event) (cluster : Cluster) (good : Commi
   connected-by : (receives : Bool) (found : Option ServerFacts)
       → machine_from receives (option_map (replication_of cluster.facts.members cluster.facts.servers cluster.facts.cuts member) found) (slice_get cluster.options member.id.number)
       (slice_get cluster.facts.deadlines member.id.number) (slice_get cluster.facts.holds member.id.number) found ≡ Some machine
-      → (n : ℕ) (end : Lsn) → slice_get machine.replication.connected n ≡ Some (Some end) → n < length cluster.facts.members
+      → (n : ℕ) (end : Lsn) → slice_get machine.replication.confirmed_positions n ≡ Some (Some end) → n < length cluster.facts.members
   connected-by receives None is n end e = absurd (none-some machine is)
   connected-by receives (Some s) is n end e =
       let made_is = made-of receives (replication_of cluster.facts.members cluster.facts.servers cluster.facts.cuts member s) (slice_get cluster.options member.id.number) (slice_get cluster.facts.deadlines member.id.number) (slice_get cluster.facts.holds member.id.number) s machine is in
       within-if cluster.facts.members cluster.facts.servers cluster.facts.cuts member s (writes s.state) n end (ap (λ (r : Replication). slice_get r.connected n) (sym made_is.replication_is) ∙ e)
 
-  pub connected-member : (n : ℕ) (end : Lsn) → slice_get machine.replication.connected n ≡ Some (Some end) → n < member_count head
+  pub connected-member : (n : ℕ) (end : Lsn) → slice_get machine.replication.confirmed_positions n ≡ Some (Some end) → n < member_count head
   connected-member n end e = subst (λ (k : ℕ). n < k) count-is (connected-by _ (slice_get cluster.facts.servers member.id.number) machine_is n end e)
 
   below-few : (n : ℕ) → n < member_count head → n < MOST_MEMBERS
@@ -73,7 +73,7 @@ module _ (head : HeadText) (book : List Event) (cluster : Cluster) (good : Commi
   needs-few (requireds.All set) waits n needs = waits n (is-one (bit_at set.bits n) needs)
 
   module _ (agent : AgentFacts) (s : ServerFacts) (found : slice_get cluster.facts.servers member.id.number ≡ Some s) where
-    grown-few : (required : Required) → GrowsByConnected (made agent.role agent.knows machine []) ((state_of_run head book cluster).members member.id.number).required (confirmers_in required) → (n : ℕ) → ListsMember (confirmers_in required) n → n < MOST_MEMBERS
+    grown-few : (required : Required) → GrowsByConnected (outcome_from agent.role agent.knows machine []) ((state_of_run head book cluster).members member.id.number).required (confirmers_in required) → (n : ℕ) → ListsMember (confirmers_in required) n → n < MOST_MEMBERS
     grown-few required grows n needs = elim (grows n needs) [
       | inl before ↦ needs-few s.required (good.fits.servers.sound.each member.id.number s found).required n
           (subst (λ confirmers. ListsMember confirmers n) (ap confirmers_of (required-at (past_of head book) cluster.facts good.fits.servers.same member.id.number s found)) before)
@@ -81,7 +81,7 @@ module _ (head : HeadText) (book : List Event) (cluster : Cluster) (good : Commi
     ]
 
     -- the required list that grows by members to which the server is connected is one of members
-    pub grown-waits : (required : Required) → GrowsByConnected (made agent.role agent.knows machine []) ((state_of_run head book cluster).members member.id.number).required (confirmers_in required) → WaitsForMembers required
+    pub grown-waits : (required : Required) → GrowsByConnected (outcome_from agent.role agent.knows machine []) ((state_of_run head book cluster).members member.id.number).required (confirmers_in required) → WaitsForMembers required
     grown-waits requireds.Nobody grows = tt
     grown-waits requireds.AnyOne grows = tt
     grown-waits (requireds.All set) grows = λ n on. grown-few (requireds.All set) grows n (one-is (bit_at set.bits n) on)

@@ -19,7 +19,7 @@ use Rattle.agent_model.specs.declared.heard.Heard.TheVariants as heards
 use Rattle.agent_model.specs.declared.machine.Machine.{Machine}
 use Rattle.lease_store.specs.declared.action.OperatorAction.{OperatorAction}
 use Rattle.lease_store.specs.declared.granted.Granted.{Granted}
-use Rattle.agent_model.specs.Agents.{AgentFacts, Outcome, made}
+use Rattle.agent_model.specs.Agents.{AgentFacts, Outcome, outcome_from}
 use Rattle.agent_commit_law.specs.Committing.{HearsBelow, HearsSynchronousMode, HearsToCommit}
 use Rattle.agent_lease_law.specs.Lawful.{Hears}
 use Rattle.cluster_model.specs.declared.delivery.Delivery.TheVariants as deliveries
@@ -102,11 +102,11 @@ record IsByItself (head : HeadText) (book : List Event) (cluster : Cluster) (mem
   opens : IsOpening None (kinds.Agent happening)
   idle : IsIdle (kinds.Agent happening)
   acts : agent_facts_by cluster happening ≡ agent_facts_with cluster.agents member (outcome_of cluster member heard)
-  hears : (agent : AgentFacts) (machine : Machine) (input : AgentInput) → HearsToCommit (state_of_run head book cluster) member.id.number input heard (made agent.role agent.knows machine [])
+  hears : (agent : AgentFacts) (machine : Machine) (input : AgentInput) → HearsToCommit (state_of_run head book cluster) member.id.number input heard (outcome_from agent.role agent.knows machine [])
   on : HearsSynchronousMode heard
   below : HearsBelow (member_count head) heard
   hears_lease : (agent : AgentFacts) (machine : Machine)
-      → Hears (lease_past.state_of (declared_of head) (lease_past.past_of book) (run_volatile.volatile_of cluster)) member.id.number None (moment_of cluster) heard (made agent.role agent.knows machine [])
+      → Hears (lease_past.state_of (declared_of head) (lease_past.past_of book) (run_volatile.volatile_of cluster)) member.id.number None (moment_of cluster) heard (outcome_from agent.role agent.knows machine [])
   may : MayAnswer head book cluster heard
 
 module _ (head : HeadText) (few : member_count head ≤ MOST_MEMBERS) (book : List Event) (cluster : Cluster) (member : Member) (good : CommitsBridged head book cluster) where
@@ -175,39 +175,39 @@ module _ (head : HeadText) (few : member_count head ≤ MOST_MEMBERS) (book : Li
   idle : outcome_of_heard cluster member (heard_from cluster message) ≡ None → Kept (event_of cluster Arrived) → Up (event_of cluster Arrived)
   idle none kept = idle-arrival head book cluster number good (who-acts ∙ ap (λ (o : Option Outcome). agent_facts_with cluster.agents member o) none ∙ unchanged cluster.agents member.id.number) kept
 
-  run-same : (agent : AgentFacts) → slice_get cluster.agents member.id.number ≡ Some (Some agent) → IsAnswer message.message.body → message.message.run ≡ agent.knows.run
+  run-same : (agent : AgentFacts) → slice_get cluster.agents member.id.number ≡ Some (Some agent) → IsAnswer message.message.body → message.message.incarnation ≡ agent.knows.incarnation
   run-same agent here answered = same-run head book cluster number message member good.lease found to open_is answered agent here
 
   -- the law of the lease hears it
   hears-lease-by : ((m : ℕ) → works_of head m ≡ true) → (agent : AgentFacts) (machine : Machine) → IsFound cluster member machine → slice_get cluster.agents member.id.number ≡ Some (Some agent) → (heard : Heard) → heard_from cluster message ≡ Some heard
-      → Hears (lease_past.state_of (declared_of head) (lease_past.past_of book) (run_volatile.volatile_of cluster)) member.id.number (Some number) (moment_of cluster) heard (made agent.role agent.knows machine [])
+      → Hears (lease_past.state_of (declared_of head) (lease_past.past_of book) (run_volatile.volatile_of cluster)) member.id.number (Some number) (moment_of cluster) heard (outcome_from agent.role agent.knows machine [])
   hears-lease-by works agent machine machine_found here heard h = elim (sender head book cluster number message member good.lease found to open_is) [
     | inl store ↦ hears-by head (lease_past.past_of book) cluster good.lease.matched (declared_of head) (run_volatile.volatile_of cluster) member agent machine machine_found here (works member.id.number)
         number message found store.0 to (run-same agent here store.1) (moment_of cluster) message.message.body refl store.1 heard h
-    | inr peer ↦ peers-hear _ member.id.number (Some number) (moment_of cluster) (made agent.role agent.knows machine []) cluster message message.message.body peer heard h
+    | inr peer ↦ peers-hear _ member.id.number (Some number) (moment_of cluster) (outcome_from agent.role agent.knows machine []) cluster message message.message.body peer heard h
   ]
 
   -- a member that asks is one that may be answered
   abbrev May : Heard → Type 0
   May heard = MayAnswer head book cluster heard
 
-  ask-may : (by : Member) → IsNumbered ((state_of_run head book cluster).members by.id.number) message.message.run message.message.sequence → May (heards.Asked by.id message.message.run message.message.sequence)
+  ask-may : (by : Member) → IsNumbered ((state_of_run head book cluster).members by.id.number) message.message.incarnation message.message.sequence → May (heards.Asked by.id message.message.incarnation message.message.sequence)
   ask-may by is peer there =
       let at : peer.id.number ≡ by.id.number = numbered head few by.id.number peer (ap (λ (members : List Member). slice_get members by.id.number) (sym good.lease.matched.members) ∙ there) in
-      subst (λ (m : ℕ). IsNumbered ((state_of_run head book cluster).members m) message.message.run message.message.sequence) (sym at) is
+      subst (λ (m : ℕ). IsNumbered ((state_of_run head book cluster).members m) message.message.incarnation message.message.sequence) (sym at) is
 
-  asked-may : (from : LinkEnd) (heard : Heard) → IsAskNumbered (state_of_run head book cluster) from message.message.run message.message.sequence bodies.Ask
-      → option_map (λ by. heards.Asked by message.message.run message.message.sequence) (member_at_end from) ≡ Some heard → May heard
+  asked-may : (from : LinkEnd) (heard : Heard) → IsAskNumbered (state_of_run head book cluster) from message.message.incarnation message.message.sequence bodies.Ask
+      → option_map (λ by. heards.Asked by message.message.incarnation message.message.sequence) (member_at_end from) ≡ Some heard → May heard
   asked-may ends.Store heard is e = absurd (none-some heard e)
-  asked-may (ends.Member by) heard is e = subst May (some-is (heards.Asked by.id message.message.run message.message.sequence) heard e) (ask-may by is)
+  asked-may (ends.Member by) heard is e = subst May (some-is (heards.Asked by.id message.message.incarnation message.message.sequence) heard e) (ask-may by is)
 
   granted-may : (given : Option Granted) (heard : Heard) → option_map (λ grant. heards.Granted message.message.sequence grant (snapshot_in cluster message)) given ≡ Some heard → May heard
   granted-may None heard e = absurd (none-some heard e)
   granted-may (Some grant) heard e = subst May (some-is (heards.Granted message.message.sequence grant (snapshot_in cluster message)) heard e) tt
 
-  may-by : (body : Body) (heard : Heard) → IsAskNumbered (state_of_run head book cluster) message.message.from message.message.run message.message.sequence body → heard_in cluster message body ≡ Some heard → May heard
+  may-by : (body : Body) (heard : Heard) → IsAskNumbered (state_of_run head book cluster) message.message.from message.message.incarnation message.message.sequence body → heard_in cluster message body ≡ Some heard → May heard
   may-by bodies.Ask heard is e = asked-may message.message.from heard is e
-  may-by bodies.Snapshot heard is e = subst May (some-is (heards.Got message.message.sequence (snapshot_in cluster message)) heard e) tt
+  may-by bodies.Snapshot heard is e = subst May (some-is (heards.ReadAnswered message.message.sequence (snapshot_in cluster message)) heard e) tt
   may-by (bodies.Granted request leased) heard is e = granted-may message.grant heard e
   may-by (bodies.Refused request key held) heard is e = subst May (some-is (heards.Mismatch message.message.sequence key held) heard e) tt
   may-by (bodies.Answer answer) heard is e = subst May (some-is (heards.Answered message.message.sequence answer) heard e) tt

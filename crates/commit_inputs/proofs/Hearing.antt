@@ -27,9 +27,9 @@ use Rattle.sync_state.specs.Sets.{nobody}
 use Rattle.script_model.specs.Script.{HeadText}
 use Rattle.agent_model.specs.declared.heard.Heard.{Heard}
 use Rattle.agent_model.specs.declared.heard.Heard.TheVariants as heards
-use Rattle.agent_model.specs.declared.knowledge.Waited.{Waited}
+use Rattle.agent_model.specs.declared.knowledge.PendingQuestion.{PendingQuestion}
 use Rattle.agent_model.specs.declared.machine.Machine.{Machine}
-use Rattle.agent_model.specs.Agents.{AgentFacts, made}
+use Rattle.agent_model.specs.Agents.{AgentFacts, outcome_from}
 use Rattle.agent_commit_law.specs.Committing.{HearsBelow, HearsGranted, HearsLease, HearsSynchronousMode, HearsToCommit, HearsWrite, IsAskedBy, sync_seen}
 use Rattle.agent_model.specs.Decisions.{asks_sync, is_sync_decision}
 use Rattle.agent_model.specs.Synchronous.{sync_read_by, sync_read_in, sync_read_of_entry}
@@ -91,17 +91,17 @@ below-is count (Some found) names n is = below-by count found.revision found.val
 -- ---- what a message says
 -- whatever holds of what the key store answers, and of what other members ask and answer, holds of what is heard
 module _ (cluster : Cluster) (carried : InFlightFacts) (P : Heard → Type 0)
-    (got : carried.message.body ≡ bodies.Snapshot → P (heards.Got carried.message.sequence (snapshot_in cluster carried)))
+    (got : carried.message.body ≡ bodies.Snapshot → P (heards.ReadAnswered carried.message.sequence (snapshot_in cluster carried)))
     (granted : (request : ℕ) (leased : Bool) (grant : Granted) → carried.message.body ≡ bodies.Granted request leased → carried.grant ≡ Some grant → P (heards.Granted carried.message.sequence grant (snapshot_in cluster carried)))
     (mismatch : (key : Key) (expected : Expected) → P (heards.Mismatch carried.message.sequence key expected))
-    (asked : (by : MemberId) → P (heards.Asked by carried.message.run carried.message.sequence))
+    (asked : (by : MemberId) → P (heards.Asked by carried.message.incarnation carried.message.sequence))
     (answered : (answer : PeerAnswer) → P (heards.Answered carried.message.sequence answer)) where
   granted-all : (request : ℕ) (leased : Bool) → carried.message.body ≡ bodies.Granted request leased → (given : Option Granted) → carried.grant ≡ given → (heard : Heard)
       → option_map (λ grant. heards.Granted carried.message.sequence grant (snapshot_in cluster carried)) given ≡ Some heard → P heard
   granted-all request leased body None is heard e = absurd (none-some heard e)
   granted-all request leased body (Some grant) is heard e = subst P (some-is _ heard e) (granted request leased grant body is)
 
-  asked-all : (from : Option MemberId) (heard : Heard) → option_map (λ by. heards.Asked by carried.message.run carried.message.sequence) from ≡ Some heard → P heard
+  asked-all : (from : Option MemberId) (heard : Heard) → option_map (λ by. heards.Asked by carried.message.incarnation carried.message.sequence) from ≡ Some heard → P heard
   asked-all None heard e = absurd (none-some heard e)
   asked-all (Some by) heard e = subst P (some-is _ heard e) (asked by)
 
@@ -123,15 +123,15 @@ from-store : (from : LinkEnd) (member : Member) (body : Body) → IsAddressed fr
 from-store ends.Store member body addressed answer = refl
 from-store (ends.Member by) member body addressed answer = absurd (no-answer body addressed answer)
 
-lease-eq : (m run also sequence r v : ℕ) (k l : Option SyncKey) → run ≡ also → r ≡ v → k ≡ l
-    → ◌≡◌ {A = Option Flying} (Some (LeaseGranted (record { member = m; run = run; sequence = sequence; revision = r; sync = k }))) (Some (LeaseGranted (record { member = m; run = also; sequence = sequence; revision = v; sync = l })))
-lease-eq m run also sequence r v k l a b c = cc
+lease-eq : (m incarnation also sequence r v : ℕ) (k l : Option SyncKey) → incarnation ≡ also → r ≡ v → k ≡ l
+    → ◌≡◌ {A = Option Flying} (Some (LeaseGranted (record { member = m; incarnation = incarnation; sequence = sequence; revision = r; sync = k }))) (Some (LeaseGranted (record { member = m; incarnation = also; sequence = sequence; revision = v; sync = l })))
+lease-eq m incarnation also sequence r v k l a b c = cc
 
 -- ---- what is heard
 module _ (head : HeadText) (book : List Event) (cluster : Cluster) (good : CommitsBridged head book cluster) (member : Member) (agent : AgentFacts)
     (here : slice_get cluster.agents member.id.number ≡ Some (Some agent))
     (number : ℕ) (carried : InFlightFacts) (there : in_flight cluster.facts.flight number ≡ Some carried) (to : carried.message.to ≡ ends.Member member)
-    (run : IsAnswer carried.message.body → carried.message.run ≡ agent.knows.run) where
+    (incarnation : IsAnswer carried.message.body → carried.message.incarnation ≡ agent.knows.incarnation) where
   abbrev Law : State
   Law = state_of_run head book cluster
 
@@ -148,7 +148,7 @@ module _ (head : HeadText) (book : List Event) (cluster : Cluster) (good : Commi
   sync-told = sync-is (find key_cmp keys.Sync carried.snapshot)
 
   says : (body : Body) → carried.message.body ≡ body → IsAnswer body
-      → carried.message ≡ record { from = ends.Store; to = ends.Member member; run = carried.message.run; sequence = carried.message.sequence; body = body }
+      → carried.message ≡ record { from = ends.Store; to = ends.Member member; incarnation = carried.message.incarnation; sequence = carried.message.sequence; body = body }
   says body is answer =
       let addressed = subst (λ (end : LinkEnd). IsAddressed carried.message.from end carried.message.body) to (good.lease.matched.waiting.carried number carried there).addressed in
       message-is carried.message ends.Store (ends.Member member) body (from-store carried.message.from member carried.message.body addressed (subst IsAnswer (sym is) answer)) to is
@@ -160,7 +160,7 @@ module _ (head : HeadText) (book : List Event) (cluster : Cluster) (good : Commi
     keyless = is_keyless Leader Failsafe;
     leaderless = is_leaderless Leader;
     failsafe_revision = failsafe_revision_of Failsafe;
-    is = heard-snapshot (past_of head book) cluster.facts number carried member carried.message.run carried.message.sequence good.fits.store.flight there (says bodies.Snapshot body tt)
+    is = heard-snapshot (past_of head book) cluster.facts number carried member carried.message.incarnation carried.message.sequence good.fits.store.flight there (says bodies.Snapshot body tt)
         ∙ ap (λ (sync : Option SyncKey). Some (SnapshotSent (record { sync = sync; keyless = is_keyless Leader Failsafe; leaderless = is_leaderless Leader; failsafe_revision = failsafe_revision_of Failsafe }))) (sym sync-told);
   }
 
@@ -168,47 +168,47 @@ module _ (head : HeadText) (book : List Event) (cluster : Cluster) (good : Commi
   lease-heard : (input : AgentInput) → input.heard ≡ Some number → (request : ℕ) (grant : Granted) → carried.message.body ≡ bodies.Granted request true → carried.grant ≡ Some grant
       → HearsLease (state_of_run head book cluster) member.id.number input.heard carried.message.sequence grant.revision (snapshot_in cluster carried) agent.knows
   lease-heard input heard request grant body given =
-      let told = heard-lease (past_of head book) cluster.facts number carried member carried.message.run carried.message.sequence request good.fits.store.flight there (says (bodies.Granted request true) body tt) in
+      let told = heard-lease (past_of head book) cluster.facts number carried member carried.message.incarnation carried.message.sequence request good.fits.store.flight there (says (bodies.Granted request true) body tt) in
       let same : record { revision = told.revision; by = member.id; leased = true } ≡ grant = some-is _ grant (sym told.grant ∙ given) in
       record {
         number = number;
         heard_is = heard;
         is = told.flying
-            ∙ lease-eq member.id.number carried.message.run agent.knows.run carried.message.sequence told.revision grant.revision (sync_key_of (find key_cmp keys.Sync carried.snapshot)) (sync_seen (sync_read_in Told))
-            (run (subst IsAnswer (sym body) tt)) (ap (λ (g : Granted). g.revision) same) (sym sync-told);
+            ∙ lease-eq member.id.number carried.message.incarnation agent.knows.incarnation carried.message.sequence told.revision grant.revision (sync_key_of (find key_cmp keys.Sync carried.snapshot)) (sync_seen (sync_read_in Told))
+            (incarnation (subst IsAnswer (sym body) tt)) (ap (λ (g : Granted). g.revision) same) (sym sync-told);
       }
 
   -- the grant of the write of the sync key that is waited for
   write-heard : (input : AgentInput) → input.heard ≡ Some number → (request : ℕ) (leased : Bool) → carried.message.body ≡ bodies.Granted request leased
-      → (waited : Waited) → agent.knows.waited ≡ Some waited → is_sync_decision waited carried.message.sequence ≡ true
+      → (waited : PendingQuestion) → agent.knows.waited ≡ Some waited → is_sync_decision waited carried.message.sequence ≡ true
       → HearsWrite (state_of_run head book cluster) member.id.number input.heard carried.message.sequence waited.question agent.knows
   write-heard input heard request leased body waited waits decision =
       let m : ℕ = member.id.number in
       let past : Past = past_of head book in
       let sequence : ℕ = carried.message.sequence in
       let is = says (bodies.Granted request leased) body tt in
-      let in_run : carried.message.run ≡ agent.knows.run = run (subst IsAnswer (sym body) tt) in
-      let answers = (heard-granted (lease_past.past_of book) cluster.facts number carried member carried.message.run sequence request leased good.lease.matched.flight there is).answers in
+      let in_run : carried.message.incarnation ≡ agent.knows.incarnation = incarnation (subst IsAnswer (sym body) tt) in
+      let answers = (heard-granted (lease_past.past_of book) cluster.facts number carried member carried.message.incarnation sequence request leased good.lease.matched.flight there is).answers in
       let decides = both-true (asks_sync waited.question) (waited.sequence == sequence) decision in
       let numbered : answers.question.sequence ≡ waited.sequence = answers.numbered ∙ sym (eq-from waited.sequence sequence decides.1) in
       let write = (good.fits.agents.each m agent here).writes waited waits decides.0 request answers.question answers.is answers.asker (answers.in_run ∙ in_run) numbered in
       let asked : SyncRequest = write.0 in
-      let told = heard-write past cluster.facts number carried member carried.message.run sequence request leased asked good.fits.store.flight there is write.1 write.2.writes in
-      let named : IsNamed m carried.message.run sequence (past.asked request) =
-      (subst (λ (x : Message). Answers (past_at_sending past.asked carried) cluster.facts.sent x.from x.to x.run x.sequence x.body) is (good.fits.store.flight.answers number carried there)).named in
-      let mine : IsNamed m carried.message.run sequence (SyncQuery asked) = subst (λ (q : Query). IsNamed m carried.message.run sequence q) write.1 named in
+      let told = heard-write past cluster.facts number carried member carried.message.incarnation sequence request leased asked good.fits.store.flight there is write.1 write.2.writes in
+      let named : IsNamed m carried.message.incarnation sequence (past.asked request) =
+      (subst (λ (x : Message). Answers (past_at_sending past.asked carried) cluster.facts.sent x.from x.to x.incarnation x.sequence x.body) is (good.fits.store.flight.answers number carried there)).named in
+      let mine : IsNamed m carried.message.incarnation sequence (SyncQuery asked) = subst (λ (q : Query). IsNamed m carried.message.incarnation sequence q) write.1 named in
       record {
         number = number;
         key = sync_key_by m told.revision asked.aim;
         heard_is = heard;
-        is = subst (λ (r : ℕ). past.flight number ≡ Some (SyncGranted (record { member = m; run = r; sequence = sequence; key = sync_key_by m told.revision asked.aim }))) in_run told.flying;
+        is = subst (λ (r : ℕ). past.flight number ≡ Some (SyncGranted (record { member = m; incarnation = r; sequence = sequence; key = sync_key_by m told.revision asked.aim }))) in_run told.flying;
         asked = subst (λ (k : ℕ). IsAskedBy waited.question (sync_key_by k told.revision asked.aim)) mine.0 (write.2.standbys told.revision);
       }
 
   granted-heard : (input : AgentInput) → input.heard ≡ Some number → (request : ℕ) (leased : Bool) (grant : Granted) → carried.message.body ≡ bodies.Granted request leased → carried.grant ≡ Some grant
       → HearsGranted (state_of_run head book cluster) member.id.number input.heard carried.message.sequence grant (snapshot_in cluster carried) agent.knows
   granted-heard input heard request leased grant body given =
-      let told = heard-granted (lease_past.past_of book) cluster.facts number carried member carried.message.run carried.message.sequence request leased good.lease.matched.flight there (says (bodies.Granted request leased) body tt) in
+      let told = heard-granted (lease_past.past_of book) cluster.facts number carried member carried.message.incarnation carried.message.sequence request leased good.lease.matched.flight there (says (bodies.Granted request leased) body tt) in
       let same : record { revision = told.revision; by = member.id; leased = leased } ≡ grant = some-is _ grant (sym told.grant ∙ given) in
       record {
         lease = λ awaited.
@@ -219,9 +219,9 @@ module _ (head : HeadText) (book : List Event) (cluster : Cluster) (good : Commi
 
   -- what comes to an agent is heard so by the law
   pub hears-commits : (machine : Machine) (heard : Heard) → heard_from cluster carried ≡ Some heard → (input : AgentInput) → input.heard ≡ Some number
-      → HearsToCommit (state_of_run head book cluster) member.id.number input heard (made agent.role agent.knows machine [])
+      → HearsToCommit (state_of_run head book cluster) member.id.number input heard (outcome_from agent.role agent.knows machine [])
   hears-commits machine heard is input by =
-      heard-all cluster carried (λ (h : Heard). HearsToCommit (state_of_run head book cluster) member.id.number input h (made agent.role agent.knows machine []))
+      heard-all cluster carried (λ (h : Heard). HearsToCommit (state_of_run head book cluster) member.id.number input h (outcome_from agent.role agent.knows machine []))
       (λ body. snapshot-heard input by body) (λ request leased grant body given. granted-heard input by request leased grant body given) (λ key expected. tt) (λ from. tt) (λ answer. tt)
       carried.message.body refl heard is
 

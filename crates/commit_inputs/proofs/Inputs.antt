@@ -15,8 +15,8 @@ use Rattle.agent_model.specs.declared.heard.Heard.TheVariants as heards
 use Rattle.agent_model.specs.declared.machine.Machine.{Machine}
 use Rattle.agent_model.specs.declared.machine.Replication.{Replication}
 use Rattle.agent_model.specs.declared.output.Output.{Output}
-use Rattle.agent_model.specs.Agents.{AgentFacts, Outcome, made}
-use Rattle.agent_commit_law.specs.Committing.{AsksInSynchronousMode, CommitsFrom, DoesAs, GrowsByConnected, HearsBelow, HearsSynchronousMode, HearsToCommit, IsLawfulAs, IsSent, ListsMember, StandsToCommit, StaysInSynchronousMode, committer_seen, is_begin, is_passing, live_shown, requests_of}
+use Rattle.agent_model.specs.Agents.{AgentFacts, Outcome, outcome_from}
+use Rattle.agent_commit_law.specs.Committing.{AsksInSynchronousMode, CommitsFrom, DoesAs, GrowsByConnected, HearsBelow, HearsSynchronousMode, HearsToCommit, IsLawfulAs, IsSent, ListsMember, StandsToCommit, StaysInSynchronousMode, committer_seen, is_begin, is_claim_outside_sync, live_shown, requests_of}
 use Rattle.agent_lease_law.specs.Lawful.{Hears}
 use Rattle.agent_model.specs.Pausing.{is_paused}
 use Rattle.agent_roles.proofs.Knowing.{tells_pause, told_by}
@@ -114,7 +114,7 @@ change-none (event ∷ events) leaves = inr leaves.1
 -- ---- the input
 -- what an agent makes of what it hears
 abbrev pub outcome_by : Cluster → Member → AgentFacts → Machine → Heard → Outcome
-outcome_by cluster member agent machine heard = step (moment_of cluster) (points_of cluster member) heard (made agent.role agent.knows machine [])
+outcome_by cluster member agent machine heard = step (moment_of cluster) (points_of cluster member) heard (outcome_from agent.role agent.knows machine [])
 
 -- an agent acts: it is woken, does what an operator asks, or hears a message, which the law hears so; and synchronous mode is on in what comes with it
 pub record Acting (head : HeadText) (book : List Event) (cluster : Cluster) : Type 0 where
@@ -129,21 +129,21 @@ pub record Acting (head : HeadText) (book : List Event) (cluster : Cluster) : Ty
   pub opening : EventKind
   pub opening_is : IsOpening number opening
   pub acts : agent_facts_after cluster opening ≡ with_changed cluster.agents member.id.number (agent_after (Some (outcome_by cluster member agent machine heard)))
-  pub hears : (input : AgentInput) → input.heard ≡ number → HearsToCommit (state_of_run head book cluster) member.id.number input heard (made agent.role agent.knows machine [])
+  pub hears : (input : AgentInput) → input.heard ≡ number → HearsToCommit (state_of_run head book cluster) member.id.number input heard (outcome_from agent.role agent.knows machine [])
   pub on : HearsSynchronousMode heard
   pub below : HearsBelow (member_count head) heard
   -- the law of the lease hears it too, where watchdogs work
-  pub hears_lease : ((m : ℕ) → works_of head m ≡ true) → Hears (lease_past.state_of (declared_of head) (lease_past.past_of book) (run_volatile.volatile_of cluster)) member.id.number number (moment_of cluster) heard (made agent.role agent.knows machine [])
+  pub hears_lease : ((m : ℕ) → works_of head m ≡ true) → Hears (lease_past.state_of (declared_of head) (lease_past.past_of book) (run_volatile.volatile_of cluster)) member.id.number number (moment_of cluster) heard (outcome_from agent.role agent.knows machine [])
   -- the number of the message is none of those to come
   pub numbered : (n : ℕ) → number ≡ Some n → (message.number ≡ n) × (n ≤ cluster.facts.sent)
   pub low : message.number ≤ cluster.facts.sent
 
 calm-on : (heard : Heard) → HearsSynchronousMode heard → tells_pause (told_by heard) ≡ false
-calm-on (heards.Got sequence snapshot) on = on.unpaused
+calm-on (heards.ReadAnswered sequence snapshot) on = on.unpaused
 calm-on (heards.Granted sequence grant snapshot) on = on.unpaused
 calm-on heards.Wake on = refl
 calm-on (heards.Mismatch sequence key found) on = refl
-calm-on (heards.Asked from run sequence) on = refl
+calm-on (heards.Asked from incarnation sequence) on = refl
 calm-on (heards.Answered sequence answer) on = refl
 calm-on (heards.Operated action) on = refl
 
@@ -152,7 +152,7 @@ module _ (head : HeadText) (book : List Event) (cluster : Cluster) (good : Commi
   M = a.member.id.number
 
   abbrev pub Before : Outcome
-  Before = made a.agent.role a.agent.knows a.machine []
+  Before = outcome_from a.agent.role a.agent.knows a.machine []
 
   abbrev pub After : Outcome
   After = outcome_by cluster a.member a.agent a.machine a.heard
@@ -219,8 +219,8 @@ module _ (head : HeadText) (book : List Event) (cluster : Cluster) (good : Commi
 
   -- the input sends that, and its member takes no leader key past the sync key
   pub record SendsInside (sends : Option Sending) : Type 0 where
-    pub sent : IsSent (requests_of M a.agent.knows.run After.outputs) sends
-    pub inside : has_one is_passing After.outputs ≡ false
+    pub sent : IsSent (requests_of M a.agent.knows.incarnation After.outputs) sends
+    pub inside : has_one is_claim_outside_sync After.outputs ≡ false
 
   pub lawful-as : (sends : Option Sending) → SendsInside sends → IsLawfulAs Now a.heard Before S M (Theirs sends)
   lawful-as sends is = commits.lawful unpaused asks-on a.on S M (Theirs sends) good.sound stands (a.hears (Theirs sends) refl) (record { agent = refl; live = refl; required = refl; sends = is.sent; holder_was_live = refl; inside = is.inside })

@@ -31,20 +31,20 @@ pub covered-quietly : (output : Output) → IsCovered output → AsksQuietly out
 covered-quietly (outputs.Send to sequence body) covered = covered
 covered-quietly _ covered = tt
 
-module _ (member : Member) (run heard : ℕ) (Q : Output → Type 0) (quiet : (output : Output) → Q output → AsksQuietly output) where
-  message-ordered : (past : Past) (cluster : Cluster) (message : Message) → IsMessageOf member run Q message → AsksInOrder past cluster message.from message.run message.sequence message.body
+module _ (member : Member) (incarnation heard : ℕ) (Q : Output → Type 0) (quiet : (output : Output) → Q output → AsksQuietly output) where
+  message-ordered : (past : Past) (cluster : Cluster) (message : Message) → IsMessageOf member incarnation Q message → AsksInOrder past cluster message.from message.incarnation message.sequence message.body
   message-ordered past cluster message (Asks question) =
-      subst (λ (x : Message). AsksInOrder past cluster x.from x.run x.sequence x.body) (sym question.is) (quiet-ordered past cluster member run question.sequence question.body (quiet _ question.from))
-  message-ordered past cluster message (AsksPeer peer id sequence is from) = subst (λ (x : Message). AsksInOrder past cluster x.from x.run x.sequence x.body) (sym is) tt
-  message-ordered past cluster message (AnswersPeer peer id asked sequence answer is from) = subst (λ (x : Message). AsksInOrder past cluster x.from x.run x.sequence x.body) (sym is) tt
+      subst (λ (x : Message). AsksInOrder past cluster x.from x.incarnation x.sequence x.body) (sym question.is) (quiet-ordered past cluster member incarnation question.sequence question.body (quiet _ question.from))
+  message-ordered past cluster message (AsksPeer peer id sequence is from) = subst (λ (x : Message). AsksInOrder past cluster x.from x.incarnation x.sequence x.body) (sym is) tt
+  message-ordered past cluster message (AnswersPeer peer id asked sequence answer is from) = subst (λ (x : Message). AsksInOrder past cluster x.from x.incarnation x.sequence x.body) (sym is) tt
 
-  kind-ordered : (past : Past) (cluster : Cluster) (kind : EventKind) → IsOfInput member run heard Q kind → HappensInOrder past cluster kind
+  kind-ordered : (past : Past) (cluster : Cluster) (kind : EventKind) → IsOfInput member incarnation heard Q kind → HappensInOrder past cluster kind
   kind-ordered past cluster (kinds.Message (Sent number message)) is = message-ordered past cluster message is
   kind-ordered past cluster (kinds.Message (Delivered number)) is = absurd is
   kind-ordered past cluster (kinds.Message (Lost number)) is = tt
   kind-ordered past cluster (kinds.Store happening) is = absurd is
   kind-ordered past cluster _ is = tt
 
-  pub quietly-ordered : (past : Past) (cluster : Cluster) (events : List Event) → AllAre (IsOfInput member run heard Q) events → AllInOrder past cluster events
+  pub quietly-ordered : (past : Past) (cluster : Cluster) (events : List Event) → AllAre (IsOfInput member incarnation heard Q) events → AllInOrder past cluster events
   quietly-ordered past cluster [] all = tt
   quietly-ordered past cluster (event ∷ events) all = (kind-ordered past cluster event.kind all.0, quietly-ordered (past_after past event.kind) (cluster_after cluster event.kind) events all.1)

@@ -27,7 +27,7 @@ use Rattle.agent_model.specs.declared.output.Output.{Output}
 use Rattle.agent_model.specs.declared.output.Output.TheVariants as outputs
 use Rattle.agent_model.specs.declared.output.Target.TheVariants as targets
 use Rattle.agent_model.specs.Agents.{AgentFacts}
-use Rattle.agent_commit_law.specs.Committing.{Apart, Asks as AsksLast, Begins, HasForm, IsCovered, Passes, StandsAlone, IsSynchronousBody, IsSynchronousOutput, KnowsBelow, Requires, committer_seen, is_passing}
+use Rattle.agent_commit_law.specs.Committing.{Apart, Asks as AsksLast, Begins, HasForm, IsCovered, ClaimsOutsideSync, StandsAlone, IsSynchronousBody, IsSynchronousOutput, KnowsBelow, Requires, committer_seen, is_claim_outside_sync}
 use Rattle.agent_answers.specs.Replies.{RepliesTo}
 use Rattle.agent_commit_law.proofs.CommitInputs.{given-by-lease}
 use Rattle.agent_commit_law.proofs.CommitQuiet.{IsUnasking}
@@ -115,43 +115,43 @@ upheld-aside head book cluster events good leave leave_order ordered upheld = re
         (subst (λ (seen : Seen). NamesMembers (member_count head) seen.sync) (sym same) good.fits.strict)
 
 -- ---- who is asked answers, and nobody else does
-answer-none : (heard : Heard) → ((from : MemberId) (run sequence : ℕ) → heard ≡ heards.Asked from run sequence → ⊥) → (output : Output) → RepliesTo heard output → AnswersNone output
-answer-none (heards.Asked from asked number) other (outputs.Answer to run sequence answer) replies = absurd (other from asked number refl)
-answer-none heards.Wake other (outputs.Answer to run sequence answer) replies = replies
-answer-none (heards.Got number snapshot) other (outputs.Answer to run sequence answer) replies = replies
-answer-none (heards.Granted number grant snapshot) other (outputs.Answer to run sequence answer) replies = replies
-answer-none (heards.Mismatch number key found) other (outputs.Answer to run sequence answer) replies = replies
-answer-none (heards.Answered number given) other (outputs.Answer to run sequence answer) replies = replies
-answer-none (heards.Operated action) other (outputs.Answer to run sequence answer) replies = replies
+answer-none : (heard : Heard) → ((from : MemberId) (incarnation sequence : ℕ) → heard ≡ heards.Asked from incarnation sequence → ⊥) → (output : Output) → RepliesTo heard output → AnswersNone output
+answer-none (heards.Asked from asked number) other (outputs.Answer to incarnation sequence answer) replies = absurd (other from asked number refl)
+answer-none heards.Wake other (outputs.Answer to incarnation sequence answer) replies = replies
+answer-none (heards.ReadAnswered number snapshot) other (outputs.Answer to incarnation sequence answer) replies = replies
+answer-none (heards.Granted number grant snapshot) other (outputs.Answer to incarnation sequence answer) replies = replies
+answer-none (heards.Mismatch number key found) other (outputs.Answer to incarnation sequence answer) replies = replies
+answer-none (heards.Answered number given) other (outputs.Answer to incarnation sequence answer) replies = replies
+answer-none (heards.Operated action) other (outputs.Answer to incarnation sequence answer) replies = replies
 answer-none heard other _ replies = tt
 
-wake-asks : (from : MemberId) (run sequence : ℕ) → ◌≡◌ {A = Heard} heards.Wake (heards.Asked from run sequence) → ⊥
-wake-asks from run sequence e = cc
+wake-asks : (from : MemberId) (incarnation sequence : ℕ) → ◌≡◌ {A = Heard} heards.Wake (heards.Asked from incarnation sequence) → ⊥
+wake-asks from incarnation sequence e = cc
 
-got-asks : (number : ℕ) (snapshot : SnapshotFacts) (from : MemberId) (run sequence : ℕ) → ◌≡◌ {A = Heard} (heards.Got number snapshot) (heards.Asked from run sequence) → ⊥
-got-asks number snapshot from run sequence e = cc
+got-asks : (number : ℕ) (snapshot : SnapshotFacts) (from : MemberId) (incarnation sequence : ℕ) → ◌≡◌ {A = Heard} (heards.ReadAnswered number snapshot) (heards.Asked from incarnation sequence) → ⊥
+got-asks number snapshot from incarnation sequence e = cc
 
-granted-asks : (number : ℕ) (grant : Granted) (snapshot : SnapshotFacts) (from : MemberId) (run sequence : ℕ) → ◌≡◌ {A = Heard} (heards.Granted number grant snapshot) (heards.Asked from run sequence) → ⊥
-granted-asks number grant snapshot from run sequence e = cc
+granted-asks : (number : ℕ) (grant : Granted) (snapshot : SnapshotFacts) (from : MemberId) (incarnation sequence : ℕ) → ◌≡◌ {A = Heard} (heards.Granted number grant snapshot) (heards.Asked from incarnation sequence) → ⊥
+granted-asks number grant snapshot from incarnation sequence e = cc
 
-refused-asks : (number : ℕ) (key : Key) (found : Expected) (from : MemberId) (run sequence : ℕ) → ◌≡◌ {A = Heard} (heards.Mismatch number key found) (heards.Asked from run sequence) → ⊥
-refused-asks number key found from run sequence e = cc
+refused-asks : (number : ℕ) (key : Key) (found : Expected) (from : MemberId) (incarnation sequence : ℕ) → ◌≡◌ {A = Heard} (heards.Mismatch number key found) (heards.Asked from incarnation sequence) → ⊥
+refused-asks number key found from incarnation sequence e = cc
 
-answered-asks : (number : ℕ) (answer : PeerAnswer) (from : MemberId) (run sequence : ℕ) → ◌≡◌ {A = Heard} (heards.Answered number answer) (heards.Asked from run sequence) → ⊥
-answered-asks number answer from run sequence e = cc
+answered-asks : (number : ℕ) (answer : PeerAnswer) (from : MemberId) (incarnation sequence : ℕ) → ◌≡◌ {A = Heard} (heards.Answered number answer) (heards.Asked from incarnation sequence) → ⊥
+answered-asks number answer from incarnation sequence e = cc
 
-operated-asks : (action : OperatorAction) (from : MemberId) (run sequence : ℕ) → ◌≡◌ {A = Heard} (heards.Operated action) (heards.Asked from run sequence) → ⊥
-operated-asks action from run sequence e = cc
+operated-asks : (action : OperatorAction) (from : MemberId) (incarnation sequence : ℕ) → ◌≡◌ {A = Heard} (heards.Operated action) (heards.Asked from incarnation sequence) → ⊥
+operated-asks action from incarnation sequence e = cc
 
 -- ---- the runs of agents
-mine-runs : (member : Member) (run heard : ℕ) (Q : Output → Type 0) (runs : ℕ → ℕ) (kind : EventKind) → IsOfInput member run heard Q kind → runs_after runs kind ≡ runs
-mine-runs member run heard Q runs (kinds.Agent (agents.Passed by)) is = refl
-mine-runs member run heard Q runs (kinds.Agent _) is = absurd is
-mine-runs member run heard Q runs _ is = refl
+mine-runs : (member : Member) (incarnation heard : ℕ) (Q : Output → Type 0) (runs : ℕ → ℕ) (kind : EventKind) → IsOfInput member incarnation heard Q kind → runs_after runs kind ≡ runs
+mine-runs member incarnation heard Q runs (kinds.Agent (agents.Passed by)) is = refl
+mine-runs member incarnation heard Q runs (kinds.Agent _) is = absurd is
+mine-runs member incarnation heard Q runs _ is = refl
 
-runs-stay : (member : Member) (run heard : ℕ) (Q : Output → Type 0) (past : Past) (events : List Event) → AllAre (IsOfInput member run heard Q) events → (past_over past events).runs ≡ past.runs
-runs-stay member run heard Q past [] all = refl
-runs-stay member run heard Q past (event ∷ events) all = runs-stay member run heard Q (past_after past event.kind) events all.1 ∙ mine-runs member run heard Q past.runs event.kind all.0
+runs-stay : (member : Member) (incarnation heard : ℕ) (Q : Output → Type 0) (past : Past) (events : List Event) → AllAre (IsOfInput member incarnation heard Q) events → (past_over past events).runs ≡ past.runs
+runs-stay member incarnation heard Q past [] all = refl
+runs-stay member incarnation heard Q past (event ∷ events) all = runs-stay member incarnation heard Q (past_after past event.kind) events all.1 ∙ mine-runs member incarnation heard Q past.runs event.kind all.0
 
 opening-runs : (heard : Option ℕ) (past : Past) (kind : EventKind) → IsOpening heard kind → (past_after past kind).runs ≡ past.runs
 opening-runs heard past (kinds.Agent (agents.Woken by)) is = refl
@@ -166,24 +166,24 @@ opening-asks s count heard (kinds.Message (Delivered number)) is = tt
 opening-asks s count heard _ is = absurd is
 
 -- a question to the key store asks no member
-question-numbered : (s : State) (by : Member) (run sequence : ℕ) (body : Body) → IsQuestion body → IsAskNumbered s (ends.Member by) run sequence body
-question-numbered s by run sequence bodies.Ask question = absurd question
-question-numbered s by run sequence _ question = tt
+question-numbered : (s : State) (by : Member) (incarnation sequence : ℕ) (body : Body) → IsQuestion body → IsAskNumbered s (ends.Member by) incarnation sequence body
+question-numbered s by incarnation sequence bodies.Ask question = absurd question
+question-numbered s by incarnation sequence _ question = tt
 
 -- a member that asks is one that may be answered
 abbrev pub MayAnswer : HeadText → List Event → Cluster → Heard → Type 0
-MayAnswer head book cluster (heards.Asked from run sequence) = (peer : Member) → slice_get cluster.facts.members from.number ≡ Some peer → IsNumbered ((state_of_run head book cluster).members peer.id.number) run sequence
+MayAnswer head book cluster (heards.Asked from incarnation sequence) = (peer : Member) → slice_get cluster.facts.members from.number ≡ Some peer → IsNumbered ((state_of_run head book cluster).members peer.id.number) incarnation sequence
 MayAnswer head book cluster _ = Unit {0}
 
 at-most : (a b : ℕ) → a ≡ b → a ≤ b
 at-most a b e = omega (arith, e)
 
 -- who takes the leader key past the sync key breaks the premise
-passing-breaks : (member : Member) (message : HeardMessage) (cluster : Cluster) (front behind : List Output) → KeepMode true (each (output_events member message) cluster (front ++ outputs.Passes ∷ behind)) → ⊥
+passing-breaks : (member : Member) (message : HeardMessage) (cluster : Cluster) (front behind : List Output) → KeepMode true (each (output_events member message) cluster (front ++ outputs.ClaimsOutsideSync ∷ behind)) → ⊥
 passing-breaks member message cluster [] behind mode = mode.0
 passing-breaks member message cluster (output ∷ front) behind mode =
     let events : List Event = output_events member message cluster output in
-    passing-breaks member message (cluster_over cluster events) front behind (mode-back events (each (output_events member message) (cluster_over cluster events) (front ++ outputs.Passes ∷ behind)) mode)
+    passing-breaks member message (cluster_over cluster events) front behind (mode-back events (each (output_events member message) (cluster_over cluster events) (front ++ outputs.ClaimsOutsideSync ∷ behind)) mode)
 
 module _ (head : HeadText) (book : List Event) (cluster : Cluster) (good : CommitsBridged head book cluster) (few : member_count head ≤ MOST_MEMBERS) (a : Acting head book cluster) where
   abbrev M : ℕ
@@ -210,12 +210,12 @@ module _ (head : HeadText) (book : List Event) (cluster : Cluster) (good : Commi
   abbrev Rest : List Event
   Rest = each (Part head book cluster good a) (First head book cluster good a) Outs
 
-  all-mine : AllAre (IsOfInput a.member a.agent.knows.run a.message.number Q) Rest
+  all-mine : AllAre (IsOfInput a.member a.agent.knows.incarnation a.message.number Q) Rest
   all-mine = mine head book cluster good.lease a.member a.agent a.machine (found-of cluster a.member a.machine a.machine_is) a.here a.heard a.number a.message a.opening a.opening_is a.numbered a.low
 
   causal : AreCausal P cluster.facts All_
   causal = own-causal P cluster.facts All_
-      (opening-from a.number a.opening a.opening_is, all-more (IsOfInput a.member a.agent.knows.run a.message.number Q) IsOfMembers Rest (mine-from a.member a.agent.knows.run a.message.number Q) all-mine)
+      (opening-from a.number a.opening a.opening_is, all-more (IsOfInput a.member a.agent.knows.incarnation a.message.number Q) IsOfMembers Rest (mine-from a.member a.agent.knows.incarnation a.message.number Q) all-mine)
       (numbers head book cluster good.lease a.member a.agent a.machine (found-of cluster a.member a.machine a.machine_is) a.here a.heard a.number a.message a.opening a.opening_is a.numbered a.low)
 
   -- ---- what is asked
@@ -228,35 +228,35 @@ module _ (head : HeadText) (book : List Event) (cluster : Cluster) (good : Commi
   acted : Later.agents ≡ with_changed cluster.agents M (agent_after (Some (After head book cluster good a)))
   acted = agents-are head book cluster good.lease a.member a.agent a.machine (found-of cluster a.member a.machine a.machine_is) a.here a.heard a.number a.message a.opening a.opening_is a.numbered a.low a.acts
 
-  runs-behind : (past_over P All_).runs M ≡ a.agent.knows.run
+  runs-behind : (past_over P All_).runs M ≡ a.agent.knows.incarnation
   runs-behind =
       let knows : KnowsItself M (slice_get cluster.facts.processes M) a.agent = good.lease.matched.agents M a.agent a.here in
-      ap (λ (runs : ℕ → ℕ). runs M) (runs-stay a.member a.agent.knows.run a.message.number Q (past_after P a.opening) Rest all-mine ∙ opening-runs a.number P a.opening a.opening_is)
-      ∙ runs-now head book cluster good M ∙ ap run_now knows.is ∙ sym knows.run
+      ap (λ (runs : ℕ → ℕ). runs M) (runs-stay a.member a.agent.knows.incarnation a.message.number Q (past_after P a.opening) Rest all-mine ∙ opening-runs a.number P a.opening a.opening_is)
+      ∙ runs-now head book cluster good M ∙ ap run_now knows.is ∙ sym knows.incarnation
 
   agent-behind : (Behind.members M).agent ≡ Some (committer_seen (After head book cluster good a).role (After head book cluster good a).knows)
   agent-behind = ap agent_now (ap (λ (known : List (Option AgentFacts)). slice_get known M) acted ∙ get-here cluster.agents M (agent_after (Some (After head book cluster good a))) ∙ ap (option_map (agent_after (Some (After head book cluster good a)))) a.here)
 
-  ask-numbered : (sequence : ℕ) → sequence ≤ (After head book cluster good a).knows.sequence → IsNumbered (Behind.members M) a.agent.knows.run sequence
+  ask-numbered : (sequence : ℕ) → sequence ≤ (After head book cluster good a).knows.sequence → IsNumbered (Behind.members M) a.agent.knows.incarnation sequence
   ask-numbered sequence counted = record {
-    run_old = at-most a.agent.knows.run ((past_over P All_).runs M) (sym runs-behind);
+    run_old = at-most a.agent.knows.incarnation ((past_over P All_).runs M) (sym runs-behind);
     sequence_old = λ agent is in_run. subst (λ (x : Agent). sequence ≤ x.last) (some-is _ agent (sym agent-behind ∙ is)) counted;
   }
 
-  message-on : (message : Message) → IsMessageOf a.member a.agent.knows.run Q message → IsSynchronousBody (member_count head) message.body × IsAskNumbered Behind message.from message.run message.sequence message.body
-  message-on message (Asks question) = subst (λ (x : Message). IsSynchronousBody (member_count head) x.body × IsAskNumbered Behind x.from x.run x.sequence x.body) (sym question.is)
-      (sent-on (outputs.Send targets.Store question.sequence question.body) question.from.0, question-numbered Behind a.member a.agent.knows.run question.sequence question.body question.from.1.2)
-  message-on message (AsksPeer peer id sequence is from) = subst (λ (x : Message). IsSynchronousBody (member_count head) x.body × IsAskNumbered Behind x.from x.run x.sequence x.body) (sym is) (tt, ask-numbered sequence from.1.1)
-  message-on message (AnswersPeer peer id asked sequence answer is from) = subst (λ (x : Message). IsSynchronousBody (member_count head) x.body × IsAskNumbered Behind x.from x.run x.sequence x.body) (sym is) (tt, tt)
+  message-on : (message : Message) → IsMessageOf a.member a.agent.knows.incarnation Q message → IsSynchronousBody (member_count head) message.body × IsAskNumbered Behind message.from message.incarnation message.sequence message.body
+  message-on message (Asks question) = subst (λ (x : Message). IsSynchronousBody (member_count head) x.body × IsAskNumbered Behind x.from x.incarnation x.sequence x.body) (sym question.is)
+      (sent-on (outputs.Send targets.Store question.sequence question.body) question.from.0, question-numbered Behind a.member a.agent.knows.incarnation question.sequence question.body question.from.1.2)
+  message-on message (AsksPeer peer id sequence is from) = subst (λ (x : Message). IsSynchronousBody (member_count head) x.body × IsAskNumbered Behind x.from x.incarnation x.sequence x.body) (sym is) (tt, ask-numbered sequence from.1.1)
+  message-on message (AnswersPeer peer id asked sequence answer is from) = subst (λ (x : Message). IsSynchronousBody (member_count head) x.body × IsAskNumbered Behind x.from x.incarnation x.sequence x.body) (sym is) (tt, tt)
 
-  kind-on : (kind : EventKind) → IsOfInput a.member a.agent.knows.run a.message.number Q kind → AsksSynchronously Behind (member_count head) kind
+  kind-on : (kind : EventKind) → IsOfInput a.member a.agent.knows.incarnation a.message.number Q kind → AsksSynchronously Behind (member_count head) kind
   kind-on (kinds.Message (Sent number message)) is = message-on message is
   kind-on (kinds.Message (Delivered number)) is = absurd is
   kind-on (kinds.Message (Lost number)) is = tt
   kind-on (kinds.Store happening) is = absurd is
   kind-on _ is = tt
 
-  all-on : (events : List Event) → AllAre (IsOfInput a.member a.agent.knows.run a.message.number Q) events → AskSynchronously Behind (member_count head) events
+  all-on : (events : List Event) → AllAre (IsOfInput a.member a.agent.knows.incarnation a.message.number Q) events → AskSynchronously Behind (member_count head) events
   all-on [] all = tt
   all-on (event ∷ events) all = (kind-on event.kind all.0, all-on events all.1)
 
@@ -267,7 +267,7 @@ module _ (head : HeadText) (book : List Event) (cluster : Cluster) (good : Commi
   ordered-by : All AsksQuietly Outs → AllInOrder P cluster All_
   ordered-by quietly = (
     opening-ordered P cluster a.number a.opening a.opening_is,
-    quietly-ordered a.member a.agent.knows.run a.message.number Q (λ out from. All-contains AsksQuietly Outs out quietly from.0) (past_after P a.opening) (First head book cluster good a) Rest all-mine,
+    quietly-ordered a.member a.agent.knows.incarnation a.message.number Q (λ out from. All-contains AsksQuietly Outs out quietly from.0) (past_after P a.opening) (First head book cluster good a) Rest all-mine,
   )
 
   quietly-up-to : (front behind : List Output) → All IsCovered front → All AsksQuietly behind → front ++ behind ≡ Outs → All AsksQuietly Outs
@@ -288,11 +288,11 @@ module _ (head : HeadText) (book : List Event) (cluster : Cluster) (good : Commi
       upheld-by-moves kept
       (ordered-by (quietly-up-to front (outputs.Require required ∷ outputs.Begin ∷ []) covered (All-cons AsksQuietly (outputs.Require required) (outputs.Begin ∷ []) tt (All-cons AsksQuietly outputs.Begin [] tt (All-nil AsksQuietly))) whole))
       (begins-moves head book cluster good few a front required covered whole)
-  form-upheld kept none (Passes front sequence revision sync covered whole) =
+  form-upheld kept none (ClaimsOutsideSync front sequence revision sync covered whole) =
       let claim : Body = bodies.Request (txns.Claim revision sync) in
-      let noted : List Output = front ++ outputs.Passes ∷ [] in
-      let all : All IsCarried noted = All-push IsCarried front outputs.Passes (carried front covered) tt in
-      let upto : noted ++ outputs.Send targets.Store sequence claim ∷ [] ≡ Outs = append_assoc front (outputs.Passes ∷ []) (outputs.Send targets.Store sequence claim ∷ []) ∙ whole in
+      let noted : List Output = front ++ outputs.ClaimsOutsideSync ∷ [] in
+      let all : All IsCarried noted = All-push IsCarried front outputs.ClaimsOutsideSync (carried front covered) tt in
+      let upto : noted ++ outputs.Send targets.Store sequence claim ∷ [] ≡ Outs = append_assoc front (outputs.ClaimsOutsideSync ∷ []) (outputs.Send targets.Store sequence claim ∷ []) ∙ whole in
       upheld-aside head book cluster All_ good (asks-leave head book cluster good few a noted sequence claim all upto) (asks-aside head book cluster good few a noted sequence claim all upto)
       (asks-ordered head book cluster good few a noted sequence claim all upto tt)
       (λ meets. absurd (passing-breaks a.member a.message (First head book cluster good a) front (outputs.Send targets.Store sequence claim ∷ [])
@@ -300,7 +300,7 @@ module _ (head : HeadText) (book : List Event) (cluster : Cluster) (good : Commi
   form-upheld kept none (AsksLast front sequence body covered whole) =
       let all : All IsCarried front = carried front covered in
       let passes-none : All PassesNone (front ++ outputs.Send targets.Store sequence body ∷ []) = All-push PassesNone front (outputs.Send targets.Store sequence body) (All-weaker IsCovered PassesNone covered-passes front covered) tt in
-      let inside : has_one is_passing Outs ≡ false = none-passes Outs (subst (λ (l : List Output). All PassesNone l) whole passes-none) in
+      let inside : has_one is_claim_outside_sync Outs ≡ false = none-passes Outs (subst (λ (l : List Output). All PassesNone l) whole passes-none) in
       let sends = Sends head book cluster good few a front sequence body all whole in
       let lawful = Lawful head book cluster good few a sends (page head book cluster good few a front sequence body all whole inside).sent in
       let ordered = asks-ordered head book cluster good few a front sequence body all whole (inside-ordered head book cluster good few a front sequence body all whole inside) in
@@ -309,20 +309,20 @@ module _ (head : HeadText) (book : List Event) (cluster : Cluster) (good : Commi
       (given-by-lease (moment_of cluster) a.heard (Before head book cluster good a) (state_of_run head book cluster) M (Theirs head book cluster good a sends) lawful.lawful.was lawful.lawful.does lawful.does
       (λ revision arms down ready. arms-alone head book cluster good a meets.timely revision arms down ready))))
 
-  other-upheld : ((from : MemberId) (run sequence : ℕ) → a.heard ≡ heards.Asked from run sequence → ⊥) → IsKept head book cluster All_ → Upholds (kept_commits head) book cluster All_
+  other-upheld : ((from : MemberId) (incarnation sequence : ℕ) → a.heard ≡ heards.Asked from incarnation sequence → ⊥) → IsKept head book cluster All_ → Upholds (kept_commits head) book cluster All_
   other-upheld other kept = form-upheld kept
       (All-weaker (RepliesTo a.heard) AnswersNone (answer-none a.heard other) Outs (step-replies (moment_of cluster) (points_of cluster a.member) a.heard a.agent.role a.agent.knows a.machine))
       (stays-on head book cluster good a).form
 
   heard-upheld : (heard : Heard) → a.heard ≡ heard → MayAnswer head book cluster heard → IsKept head book cluster All_ → Upholds (kept_commits head) book cluster All_
-  heard-upheld (heards.Asked from run sequence) is may kept =
-      upheld-by-moves kept (ordered-by (All-weaker IsUnasking AsksQuietly unasking-quietly Outs (unasking-all head book cluster good few a from run sequence is))) (answers-moves head book cluster good few a from run sequence is may)
-  heard-upheld heards.Wake is may kept = other-upheld (λ from run sequence e. wake-asks from run sequence (sym is ∙ e)) kept
-  heard-upheld (heards.Got number snapshot) is may kept = other-upheld (λ from run sequence e. got-asks number snapshot from run sequence (sym is ∙ e)) kept
-  heard-upheld (heards.Granted number grant snapshot) is may kept = other-upheld (λ from run sequence e. granted-asks number grant snapshot from run sequence (sym is ∙ e)) kept
-  heard-upheld (heards.Mismatch number key found) is may kept = other-upheld (λ from run sequence e. refused-asks number key found from run sequence (sym is ∙ e)) kept
-  heard-upheld (heards.Answered number answer) is may kept = other-upheld (λ from run sequence e. answered-asks number answer from run sequence (sym is ∙ e)) kept
-  heard-upheld (heards.Operated action) is may kept = other-upheld (λ from run sequence e. operated-asks action from run sequence (sym is ∙ e)) kept
+  heard-upheld (heards.Asked from incarnation sequence) is may kept =
+      upheld-by-moves kept (ordered-by (All-weaker IsUnasking AsksQuietly unasking-quietly Outs (unasking-all head book cluster good few a from incarnation sequence is))) (answers-moves head book cluster good few a from incarnation sequence is may)
+  heard-upheld heards.Wake is may kept = other-upheld (λ from incarnation sequence e. wake-asks from incarnation sequence (sym is ∙ e)) kept
+  heard-upheld (heards.ReadAnswered number snapshot) is may kept = other-upheld (λ from incarnation sequence e. got-asks number snapshot from incarnation sequence (sym is ∙ e)) kept
+  heard-upheld (heards.Granted number grant snapshot) is may kept = other-upheld (λ from incarnation sequence e. granted-asks number grant snapshot from incarnation sequence (sym is ∙ e)) kept
+  heard-upheld (heards.Mismatch number key found) is may kept = other-upheld (λ from incarnation sequence e. refused-asks number key found from incarnation sequence (sym is ∙ e)) kept
+  heard-upheld (heards.Answered number answer) is may kept = other-upheld (λ from incarnation sequence e. answered-asks number answer from incarnation sequence (sym is ∙ e)) kept
+  heard-upheld (heards.Operated action) is may kept = other-upheld (λ from incarnation sequence e. operated-asks action from incarnation sequence (sym is ∙ e)) kept
 
   pub input-upheld : MayAnswer head book cluster a.heard → IsKept head book cluster All_ → Upholds (kept_commits head) book cluster All_
   input-upheld may kept = heard-upheld a.heard refl may kept

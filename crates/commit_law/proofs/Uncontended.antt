@@ -13,8 +13,8 @@ use Rattle.commit_actions.proofs.Counting.{but-sub, meets-sub}
 
 -- an agent that has just started
 pub record NewRun (x y : Machine) (agent : Agent) : Type 0 where
-  pub later : x.runs < agent.run
-  pub known : agent.run ≤ y.runs
+  pub later : x.runs < agent.incarnation
+  pub known : agent.incarnation ≤ y.runs
   pub waits : agent.waits ≡ None
   pub turn : agent.turn ≡ None
   pub race : agent.race ≡ None
@@ -37,14 +37,14 @@ acts-uncontended : (acknowledged_log : List Entry) (x y : Machine) → NobodyAct
 acts-uncontended acknowledged_log x y c (inl e) = inl (c.live e)
 acts-uncontended acknowledged_log x y c (inr e) = inr (c.ready e)
 
-numbered-uncontended : (acknowledged_log : List Entry) (x y : Machine) (run sequence : ℕ) → NobodyActsAnew acknowledged_log x y → IsNumbered x run sequence → IsNumbered y run sequence
-numbered-uncontended acknowledged_log x y run sequence c n = record {
+numbered-uncontended : (acknowledged_log : List Entry) (x y : Machine) (incarnation sequence : ℕ) → NobodyActsAnew acknowledged_log x y → IsNumbered x incarnation sequence → IsNumbered y incarnation sequence
+numbered-uncontended acknowledged_log x y incarnation sequence c n = record {
   run_old = omega (arith, n.run_old, c.runs);
   sequence_old = λ g is same. elim (c.agent g is) [ inl p ↦ n.sequence_old g p same | inr p ↦ absurd (omega (arith, p.later, same, n.run_old)) ];
 }
 
-waits-uncontended : (acknowledged_log : List Entry) (x y : Machine) (run sequence : ℕ) → NobodyActsAnew acknowledged_log x y → Waits y run sequence → Waits x run sequence
-waits-uncontended acknowledged_log x y run sequence c w = elim (c.agent w.agent w.is) [
+waits-uncontended : (acknowledged_log : List Entry) (x y : Machine) (incarnation sequence : ℕ) → NobodyActsAnew acknowledged_log x y → Waits y incarnation sequence → Waits x incarnation sequence
+waits-uncontended acknowledged_log x y incarnation sequence c w = elim (c.agent w.agent w.is) [
   | inl p ↦ record { agent = w.agent; is = p; run_is = w.run_is; waits = w.waits }
   | inr p ↦ absurd (none-some sequence (sym p.waits ∙ w.waits))
 ]
@@ -66,7 +66,7 @@ undiverged-uncontended acknowledged_log members members' m standbys uncontended 
 unled-uncontended : (acknowledged_log : List Entry) (flight : ℕ → Option Flying) (members members' : ℕ → Machine) (revision : ℕ) → ((n : ℕ) → NobodyActsAnew acknowledged_log (members n) (members' n)) → IsUnled flight members revision → IsUnled flight members' revision
 unled-uncontended acknowledged_log flight members members' revision uncontended q = record {
   live = λ n live. q.live n ((uncontended n).live live);
-  pending = λ i a at same waits acts. q.pending i a at same (waits-uncontended acknowledged_log (members a.member) (members' a.member) a.run a.sequence (uncontended a.member) waits) (acts-uncontended acknowledged_log (members a.member) (members' a.member) (uncontended a.member) acts);
+  pending = λ i a at same waits acts. q.pending i a at same (waits-uncontended acknowledged_log (members a.member) (members' a.member) a.incarnation a.sequence (uncontended a.member) waits) (acts-uncontended acknowledged_log (members a.member) (members' a.member) (uncontended a.member) acts);
 }
 
 turn-uncontended : (member_count : ℕ) (acknowledged_log : List Entry) (sync : Option SyncKey) (flight : ℕ → Option Flying) (members members' : ℕ → Machine) (m : ℕ) (agent : Agent) → ((n : ℕ) → NobodyActsAnew acknowledged_log (members n) (members' n)) → IsTurnKept member_count acknowledged_log sync flight members m agent → IsTurnKept member_count acknowledged_log sync flight members' m agent
@@ -116,7 +116,7 @@ inv-uncontended s members uncontended confirmed behind inv = record {
     entered = inv.servers.entered;
   };
   asked = λ i w at. let old = inv.asked i w at in record {
-    numbered = numbered w.member w.run w.sequence old.numbered;
+    numbered = numbered w.member w.incarnation w.sequence old.numbered;
     leader_bound = old.leader_bound;
     sync_bound = old.sync_bound;
     alone = λ is n an. old.alone is n (acts n an);
@@ -124,22 +124,22 @@ inv-uncontended s members uncontended confirmed behind inv = record {
     aim = λ is read. aim-uncontended s.member_count s.acknowledged_log s.members members s.sync w.member w.aim uncontended behind (old.aim is read);
   };
   leased = λ i g at. let old = inv.leased i g at in record {
-    numbered = numbered g.member g.run g.sequence old.numbered;
+    numbered = numbered g.member g.incarnation g.sequence old.numbered;
     given = old.given;
     bound = old.bound;
     read = old.read;
     passed = old.passed;
     fresh = old.fresh;
     single = old.single;
-    older = λ w. old.older (waits g.member g.run g.sequence w);
-    current = λ w a. old.current (waits g.member g.run g.sequence w) (acts g.member a);
+    older = λ w. old.older (waits g.member g.incarnation g.sequence w);
+    current = λ w a. old.current (waits g.member g.incarnation g.sequence w) (acts g.member a);
   };
   synced = λ i a at. let old = inv.synced i a at in record {
-    numbered = numbered a.member a.run a.sequence old.numbered;
+    numbered = numbered a.member a.incarnation a.sequence old.numbered;
     leader = old.leader;
     bound = old.bound;
-    current = λ w c. old.current (waits a.member a.run a.sequence w) (acts a.member c);
-    last = λ w. old.last (waits a.member a.run a.sequence w);
+    current = λ w c. old.current (waits a.member a.incarnation a.sequence w) (acts a.member c);
+    last = λ w. old.last (waits a.member a.incarnation a.sequence w);
   };
   shown = λ i v at. let old = inv.shown i v at in record {
     read = old.read;
@@ -148,13 +148,13 @@ inv-uncontended s members uncontended confirmed behind inv = record {
     not_live = λ leaderless creates_compare key now k n e. let d = old.not_live leaderless creates_compare key now k n e in record {
       was_not_live = d.was_not_live;
       holder_not_live = λ r is. parted-at (s.members s.holder) (members s.holder) (members s.holder).live refl (uncontended s.holder).live (d.holder_not_live r is);
-      nobody_ready = λ j a at' same w ready. d.nobody_ready j a at' same (waits a.member a.run a.sequence w) ((uncontended a.member).ready ready);
+      nobody_ready = λ j a at' same w ready. d.nobody_ready j a at' same (waits a.member a.incarnation a.sequence w) ((uncontended a.member).ready ready);
     };
   };
-  replied = λ i r at. numbered r.member r.run r.sequence (inv.replied i r at);
+  replied = λ i r at. numbered r.member r.incarnation r.sequence (inv.replied i r at);
   kept = λ m g is. elim ((uncontended m).agent g is) [
     | inl p ↦ let old = inv.kept m g p in record {
-      run = omega (arith, old.run, (uncontended m).runs);
+      incarnation = omega (arith, old.incarnation, (uncontended m).runs);
       turn = old.turn;
       turn_kept = turn-uncontended s.member_count s.acknowledged_log s.sync s.flight s.members members m g uncontended old.turn_kept;
       noted = λ leads live. elim (old.noted leads ((uncontended m).live live)) [
@@ -163,7 +163,7 @@ inv-uncontended s members uncontended confirmed behind inv = record {
       ];
     }
     | inr p ↦ record {
-      run = p.known;
+      incarnation = p.known;
       turn = λ key e. absurd (none-some key (sym p.turn ∙ e));
       turn_kept = record {
         race = λ race key now r k n e. absurd (none-some race (sym p.race ∙ r));
@@ -178,11 +178,11 @@ inv-uncontended s members uncontended confirmed behind inv = record {
     acts : (n : ℕ) → Acts (members n) → Acts (s.members n)
     acts n = acts-uncontended s.acknowledged_log (s.members n) (members n) (uncontended n)
 
-    numbered : (n run sequence : ℕ) → IsNumbered (s.members n) run sequence → IsNumbered (members n) run sequence
-    numbered n run sequence = numbered-uncontended s.acknowledged_log (s.members n) (members n) run sequence (uncontended n)
+    numbered : (n incarnation sequence : ℕ) → IsNumbered (s.members n) incarnation sequence → IsNumbered (members n) incarnation sequence
+    numbered n incarnation sequence = numbered-uncontended s.acknowledged_log (s.members n) (members n) incarnation sequence (uncontended n)
 
-    waits : (n run sequence : ℕ) → Waits (members n) run sequence → Waits (s.members n) run sequence
-    waits n run sequence = waits-uncontended s.acknowledged_log (s.members n) (members n) run sequence (uncontended n)
+    waits : (n incarnation sequence : ℕ) → Waits (members n) incarnation sequence → Waits (s.members n) incarnation sequence
+    waits n incarnation sequence = waits-uncontended s.acknowledged_log (s.members n) (members n) incarnation sequence (uncontended n)
 
 -- a machine that stays as it is
 pub same-uncontended : (s : State) (m : ℕ) → IsSound s → NobodyActsAnew s.acknowledged_log (s.members m) (s.members m)

@@ -162,7 +162,7 @@ module _ (setup : Setup) (member : Member) where
         question-moves setup member past cluster (slice_get cluster.facts.processes member.id.number) sequence body fits alone
     output-moves past cluster (outputs.Send (targets.Member id) sequence body) fits table alone answers =
         member-moves setup member past cluster (slice_get cluster.facts.processes member.id.number) (slice_get cluster.facts.members id.number) sequence body fits table
-    output-moves past cluster (outputs.Answer to run sequence answer) fits table alone answers = absurd answers
+    output-moves past cluster (outputs.Answer to incarnation sequence answer) fits table alone answers = absurd answers
     output-moves past cluster outputs.Begin fits table alone answers = absurd alone
     output-moves past cluster (outputs.StartReplica leader) fits table alone answers = starts-moves past cluster (declared_member cluster.facts.members leader) (server_at cluster member) fits
     output-moves past cluster (outputs.Stop reason) fits table alone answers = stops-moves past cluster reason (server_at cluster member) refl fits
@@ -177,7 +177,7 @@ module _ (setup : Setup) (member : Member) where
     output-moves past cluster outputs.CannotArm fits table alone answers = free-moves past cluster (kinds.Note (notes.CannotArm member) ∷ []) fits (tt, tt)
     output-moves past cluster outputs.DisablesWatchdog fits table alone answers = free-moves past cluster (kinds.Note (notes.DisablesWatchdog member) ∷ []) fits (tt, tt)
     output-moves past cluster outputs.RunsWithoutKey fits table alone answers = free-moves past cluster (kinds.Note (notes.RunsWithoutKey member) ∷ []) fits (tt, tt)
-    output-moves past cluster outputs.Passes fits table alone answers = absurd alone
+    output-moves past cluster outputs.ClaimsOutsideSync fits table alone answers = absurd alone
     output-moves past cluster outputs.PostponesPromotion fits table alone answers = free-moves past cluster (kinds.Note (notes.PostponesPromotion member) ∷ []) fits (tt, tt)
     output-moves past cluster (outputs.DoesNotRace bar) fits table alone answers = free-moves past cluster (not_racing cluster.facts.members member bar ∷ []) fits (tt, tt)
     output-moves past cluster outputs.ShutDown fits table alone answers = shuts-moves past cluster (server_at cluster member) refl fits

@@ -134,24 +134,24 @@ none-later m past cluster events covers none i above = covers.flight i ∙ none 
 pub put-none : (flight : ℕ → Option Flying) (number i : ℕ) → flight number ≡ None → put_at flight number None i ≡ flight i
 put-none flight number i is = put-all flight number None (λ n found. found ≡ flight n) (sym is) (λ n other. refl) i
 
-quiet-create : (member run sequence : ℕ) (sync : Option Expected) → sync ≡ None → query_in_flight_of (create_query member run sequence sync) ≡ None
-quiet-create member run sequence None is = refl
-quiet-create member run sequence (Some sync) is = absurd (none-some sync (sym is))
+quiet-create : (member incarnation sequence : ℕ) (sync : Option Expected) → sync ≡ None → query_in_flight_of (create_query member incarnation sequence sync) ≡ None
+quiet-create member incarnation sequence None is = refl
+quiet-create member incarnation sequence (Some sync) is = absurd (none-some sync (sym is))
 
 quiet-renew : (member revision : ℕ) (failsafe : Option MemberSet) → query_in_flight_of (renew_query member revision failsafe) ≡ None
 quiet-renew member revision None = refl
 quiet-renew member revision (Some members) = refl
 
-quiet-txn : (member run sequence : ℕ) (txn : Txn) → IsQuietTxn txn → query_in_flight_of (query_of member run sequence txn) ≡ None
-quiet-txn member run sequence (txns.Create info ttl failsafe sync) quiet = quiet-create member run sequence sync quiet
-quiet-txn member run sequence (txns.Renew revision info ttl status row failsafe) quiet = quiet-renew member revision failsafe
-quiet-txn member run sequence (txns.Claim revision sync) quiet = absurd quiet
-quiet-txn member run sequence (txns.SetSync revision sync standbys) quiet = absurd quiet
-quiet-txn member run sequence _ quiet = refl
+quiet-txn : (member incarnation sequence : ℕ) (txn : Txn) → IsQuietTxn txn → query_in_flight_of (query_of member incarnation sequence txn) ≡ None
+quiet-txn member incarnation sequence (txns.Create info ttl failsafe sync) quiet = quiet-create member incarnation sequence sync quiet
+quiet-txn member incarnation sequence (txns.Renew revision info ttl status row failsafe) quiet = quiet-renew member revision failsafe
+quiet-txn member incarnation sequence (txns.Claim revision sync) quiet = absurd quiet
+quiet-txn member incarnation sequence (txns.SetSync revision sync standbys) quiet = absurd quiet
+quiet-txn member incarnation sequence _ quiet = refl
 
-quiet-body : (member run sequence : ℕ) (body : Body) → IsQuietBody body → request_in_flight_of member run sequence body ≡ None
-quiet-body member run sequence (bodies.Request txn) quiet = quiet-txn member run sequence txn quiet
-quiet-body member run sequence _ quiet = refl
+quiet-body : (member incarnation sequence : ℕ) (body : Body) → IsQuietBody body → request_in_flight_of member incarnation sequence body ≡ None
+quiet-body member incarnation sequence (bodies.Request txn) quiet = quiet-txn member incarnation sequence txn quiet
+quiet-body member incarnation sequence _ quiet = refl
 
 live-renew : (was : Bool) (leader : Option LeaderKey) (m : ℕ) (revision : ℕ) (info : _) (ttl : Ticks) (status : _) (row : _) (failsafe : Option MemberSet) → failsafe ≡ None → was_live_by_txn was leader m (txns.Renew revision info ttl status row failsafe) ≡ was
 live-renew was leader m revision info ttl status row None is = refl
@@ -167,23 +167,23 @@ live-body was leader by _ quiet = refl
 
 -- a message of this member that says nothing to commits
 pub record SaysNothing (past : Past) (message : Message) : Type 0 where
-  pub flying : flying_of past message.from message.to message.run message.sequence message.body ≡ None
+  pub flying : flying_of past message.from message.to message.incarnation message.sequence message.body ≡ None
   pub live : was_live_by_message past.holder_was_live past.leader message.from message.body ≡ past.holder_was_live
-  pub ordered : (cluster : Cluster) → AsksInOrder past cluster message.from message.run message.sequence message.body
+  pub ordered : (cluster : Cluster) → AsksInOrder past cluster message.from message.incarnation message.sequence message.body
 
-quiet-txn-ordered : (past : Past) (cluster : Cluster) (by : Member) (run sequence : ℕ) (txn : Txn) → IsQuietTxn txn → AsksInOrder past cluster (ends.Member by) run sequence (bodies.Request txn)
-quiet-txn-ordered past cluster by run sequence (txns.SetSync revision sync standbys) quiet = absurd quiet
-quiet-txn-ordered past cluster by run sequence _ quiet = tt
+quiet-txn-ordered : (past : Past) (cluster : Cluster) (by : Member) (incarnation sequence : ℕ) (txn : Txn) → IsQuietTxn txn → AsksInOrder past cluster (ends.Member by) incarnation sequence (bodies.Request txn)
+quiet-txn-ordered past cluster by incarnation sequence (txns.SetSync revision sync standbys) quiet = absurd quiet
+quiet-txn-ordered past cluster by incarnation sequence _ quiet = tt
 
-pub quiet-ordered : (past : Past) (cluster : Cluster) (by : Member) (run sequence : ℕ) (body : Body) → IsQuietBody body → AsksInOrder past cluster (ends.Member by) run sequence body
-quiet-ordered past cluster by run sequence (bodies.Request txn) quiet = quiet-txn-ordered past cluster by run sequence txn quiet
-quiet-ordered past cluster by run sequence _ quiet = tt
+pub quiet-ordered : (past : Past) (cluster : Cluster) (by : Member) (incarnation sequence : ℕ) (body : Body) → IsQuietBody body → AsksInOrder past cluster (ends.Member by) incarnation sequence body
+quiet-ordered past cluster by incarnation sequence (bodies.Request txn) quiet = quiet-txn-ordered past cluster by incarnation sequence txn quiet
+quiet-ordered past cluster by incarnation sequence _ quiet = tt
 
-pub quiet-says : (past : Past) (member : Member) (run sequence : ℕ) (body : Body) → IsQuietBody body → SaysNothing past (agent_message member ends.Store run sequence body)
-quiet-says past member run sequence body quiet = record { flying = quiet-body member.id.number run sequence body quiet; live = live-body past.holder_was_live past.leader member body quiet; ordered = λ cluster. quiet-ordered past cluster member run sequence body quiet }
+pub quiet-says : (past : Past) (member : Member) (incarnation sequence : ℕ) (body : Body) → IsQuietBody body → SaysNothing past (agent_message member ends.Store incarnation sequence body)
+quiet-says past member incarnation sequence body quiet = record { flying = quiet-body member.id.number incarnation sequence body quiet; live = live-body past.holder_was_live past.leader member body quiet; ordered = λ cluster. quiet-ordered past cluster member incarnation sequence body quiet }
 
-pub ask-says : (past : Past) (member peer : Member) (run sequence : ℕ) → SaysNothing past (agent_message member (ends.Member peer) run sequence bodies.Ask)
-ask-says past member peer run sequence = record { flying = refl; live = refl; ordered = λ cluster. tt }
+pub ask-says : (past : Past) (member peer : Member) (incarnation sequence : ℕ) → SaysNothing past (agent_message member (ends.Member peer) incarnation sequence bodies.Ask)
+ask-says past member peer incarnation sequence = record { flying = refl; live = refl; ordered = λ cluster. tt }
 
 module _ (m : ℕ) (past : Past) (cluster : Cluster) (none : NoneAbove past cluster) (message : Message) (says : SaysNothing past message) where
   abbrev Number : ℕ
@@ -229,11 +229,11 @@ module _ (m : ℕ) (past : Past) (cluster : Cluster) (none : NoneAbove past clus
 -- ---- the outputs
 -- an output that the law's input covers, or the note that the sync key doesn't name the member
 abbrev pub IsCarried : Output → Type 0
-IsCarried outputs.Passes = Unit {0}
+IsCarried outputs.ClaimsOutsideSync = Unit {0}
 IsCarried output = IsCovered output
 
 carried-one : (output : Output) → IsCovered output → IsCarried output
-carried-one outputs.Passes covered = tt
+carried-one outputs.ClaimsOutsideSync covered = tt
 carried-one _ covered = covered
 
 pub carried : (outs : List Output) → All IsCovered outs → All IsCarried outs
@@ -246,14 +246,14 @@ module _ (member : Member) (message : HeardMessage) where
   question-covers : (past : Past) (cluster : Cluster) → NoneAbove past cluster → (found : Option AgentProcess) (sequence : ℕ) (body : Body) → IsQuietBody body → Covers M past cluster (sending_events cluster member found (Some ends.Store) sequence body)
   question-covers past cluster none None sequence body quiet = covers-none M past cluster
   question-covers past cluster none (Some process) sequence body quiet =
-      send-covers M past cluster none (agent_message member ends.Store process.run sequence body) (quiet-says past member process.run sequence body quiet)
+      send-covers M past cluster none (agent_message member ends.Store process.incarnation sequence body) (quiet-says past member process.incarnation sequence body quiet)
 
   ask-covers : (past : Past) (cluster : Cluster) → NoneAbove past cluster → (found : Option AgentProcess) (peer : Option Member) (sequence : ℕ)
       → Covers M past cluster (sending_events cluster member found (option_map (λ (p : Member). ends.Member p) peer) sequence bodies.Ask)
   ask-covers past cluster none None peer sequence = covers-none M past cluster
   ask-covers past cluster none (Some process) None sequence = covers-none M past cluster
   ask-covers past cluster none (Some process) (Some peer) sequence =
-      send-covers M past cluster none (agent_message member (ends.Member peer) process.run sequence bodies.Ask) (ask-says past member peer process.run sequence)
+      send-covers M past cluster none (agent_message member (ends.Member peer) process.incarnation sequence bodies.Ask) (ask-says past member peer process.incarnation sequence)
 
   member-covers : (past : Past) (cluster : Cluster) → NoneAbove past cluster → (found : Option AgentProcess) (peer : Option Member) (sequence : ℕ) (body : Body) → IsAsk body
       → Covers M past cluster (sending_events cluster member found (option_map (λ (p : Member). ends.Member p) peer) sequence body)
@@ -278,7 +278,7 @@ module _ (member : Member) (message : HeardMessage) where
   output-covers past cluster none outputs.CannotArm is table = record { own = (tt, tt); leaves = (tt, tt); aside = (tt, tt); ordered = (tt, tt); flight = λ i. refl; live = refl; told = refl; held = refl; later = omega arith }
   output-covers past cluster none outputs.DisablesWatchdog is table = record { own = (tt, tt); leaves = (tt, tt); aside = (tt, tt); ordered = (tt, tt); flight = λ i. refl; live = refl; told = refl; held = refl; later = omega arith }
   output-covers past cluster none outputs.RunsWithoutKey is table = record { own = (tt, tt); leaves = (tt, tt); aside = (tt, tt); ordered = (tt, tt); flight = λ i. refl; live = refl; told = refl; held = refl; later = omega arith }
-  output-covers past cluster none outputs.Passes is table = record { own = (tt, tt); leaves = (tt, tt); aside = (tt, tt); ordered = (tt, tt); flight = λ i. refl; live = refl; told = refl; held = refl; later = omega arith }
+  output-covers past cluster none outputs.ClaimsOutsideSync is table = record { own = (tt, tt); leaves = (tt, tt); aside = (tt, tt); ordered = (tt, tt); flight = λ i. refl; live = refl; told = refl; held = refl; later = omega arith }
   output-covers past cluster none outputs.PostponesPromotion is table = record { own = (tt, tt); leaves = (tt, tt); aside = (tt, tt); ordered = (tt, tt); flight = λ i. refl; live = refl; told = refl; held = refl; later = omega arith }
   output-covers past cluster none (outputs.DoesNotRace bar) is table = record { own = (tt, tt); leaves = (tt, tt); aside = (tt, tt); ordered = (tt, tt); flight = λ i. refl; live = refl; told = refl; held = refl; later = omega arith }
   output-covers past cluster none (outputs.HandsOver candidate) is table = said-covers past cluster (λ next. notes.HandsOver member next) (slice_get cluster.facts.members candidate.number)

@@ -18,7 +18,7 @@ use Rattle.event_book.specs.Members.{server_of}
 use Rattle.agent_model.specs.declared.machine.Machine.{Machine}
 use Rattle.agent_model.specs.declared.output.Output.{Output}
 use Rattle.agent_model.specs.declared.output.Output.TheVariants as outputs
-use Rattle.agent_commit_law.specs.Committing.{IsCovered, StandsAlone, is_begin, is_passing}
+use Rattle.agent_commit_law.specs.Committing.{IsCovered, StandsAlone, is_begin, is_claim_outside_sync}
 use Rattle.agent_outputs.specs.Orders.{machine_after_output, machine_after_outputs}
 use Rattle.agent_model.specs.Outputs.{has_one}
 use Rattle.cluster_model.specs.Cluster.{cluster_after, cluster_over}
@@ -71,7 +71,7 @@ BeginsNone outputs.Begin = ⊥
 BeginsNone _ = Unit {0}
 
 abbrev pub PassesNone : Output → Type 0
-PassesNone outputs.Passes = ⊥
+PassesNone outputs.ClaimsOutsideSync = ⊥
 PassesNone _ = Unit {0}
 
 pub carried-requires : (output : Output) → IsCarried output → RequiresNone output
@@ -83,7 +83,7 @@ carried-begins outputs.Begin is = is
 carried-begins _ is = tt
 
 pub covered-passes : (output : Output) → IsCovered output → PassesNone output
-covered-passes outputs.Passes covered = covered
+covered-passes outputs.ClaimsOutsideSync covered = covered
 covered-passes _ covered = tt
 
 pub alone-requires : (output : Output) → StandsAlone output → RequiresNone output
@@ -95,7 +95,7 @@ alone-begins outputs.Begin alone = alone
 alone-begins _ alone = tt
 
 pub alone-passes : (output : Output) → StandsAlone output → PassesNone output
-alone-passes outputs.Passes alone = alone
+alone-passes outputs.ClaimsOutsideSync alone = alone
 alone-passes _ alone = tt
 
 stays-by : (now : Ticks) (machine : Machine) (output : Output) → RequiresNone output → (machine_after_output now machine output).replication ≡ machine.replication
@@ -116,8 +116,8 @@ unbegun : (output : Output) → BeginsNone output → is_begin output ≡ false
 unbegun outputs.Begin none = absurd none
 unbegun _ none = refl
 
-unpassed : (output : Output) → PassesNone output → is_passing output ≡ false
-unpassed outputs.Passes none = absurd none
+unpassed : (output : Output) → PassesNone output → is_claim_outside_sync output ≡ false
+unpassed outputs.ClaimsOutsideSync none = absurd none
 unpassed _ none = refl
 
 none-meets : (test : Output → Bool) (P : Output → Type 0) → ((output : Output) → P output → test output ≡ false) → (outs : List Output) → All P outs → has_one test outs ≡ false
@@ -127,8 +127,8 @@ none-meets test P fails (output ∷ more) none = ap (λ (b : Bool). b || has_one
 pub none-begins : (outs : List Output) → All BeginsNone outs → has_one is_begin outs ≡ false
 none-begins outs none = none-meets is_begin BeginsNone unbegun outs none
 
-pub none-passes : (outs : List Output) → All PassesNone outs → has_one is_passing outs ≡ false
-none-passes outs none = none-meets is_passing PassesNone unpassed outs none
+pub none-passes : (outs : List Output) → All PassesNone outs → has_one is_claim_outside_sync outs ≡ false
+none-passes outs none = none-meets is_claim_outside_sync PassesNone unpassed outs none
 
 -- ---- servers fit behind what changes none of them
 told-logs : (a b : Told) → a ≡ b → a.logs ≡ b.logs

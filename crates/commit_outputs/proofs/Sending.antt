@@ -56,7 +56,7 @@ module _ (setup : Setup) where
   pub silent-moves : (past : Past) (cluster : Cluster) (message : Message) → Fits past cluster.facts (volatile_of cluster) → SaysNothing past message → Moves setup past cluster (send_events cluster message)
   silent-moves past cluster message fits says =
       let number : ℕ = cluster.facts.sent + 1 in
-      let flying : Option Flying = flying_of past message.from message.to message.run message.sequence message.body in
+      let flying : Option Flying = flying_of past message.from message.to message.incarnation message.sequence message.body in
       let before : State = state_of setup past (volatile_of cluster) in
       send-moves past cluster message
       (moves-one setup past (volatile_of cluster) cluster (kinds.Message (Sent number message)) (Lose number) fits.same fits.sound tt tt tt
@@ -69,14 +69,14 @@ module _ (setup : Setup) where
         → Moves setup past cluster (sending_events cluster member found (Some ends.Store) sequence body)
     question-moves past cluster None sequence body fits quiet = moves-none setup past cluster fits
     question-moves past cluster (Some process) sequence body fits quiet =
-        silent-moves past cluster (agent_message member ends.Store process.run sequence body) fits (quiet-says past member process.run sequence body quiet)
+        silent-moves past cluster (agent_message member ends.Store process.incarnation sequence body) fits (quiet-says past member process.incarnation sequence body quiet)
 
     asks-moves : (past : Past) (cluster : Cluster) (found : Option AgentProcess) (peer : Option Member) (sequence : ℕ) → Fits past cluster.facts (volatile_of cluster)
         → Moves setup past cluster (sending_events cluster member found (option_map (λ (p : Member). ends.Member p) peer) sequence bodies.Ask)
     asks-moves past cluster None peer sequence fits = moves-none setup past cluster fits
     asks-moves past cluster (Some process) None sequence fits = moves-none setup past cluster fits
     asks-moves past cluster (Some process) (Some peer) sequence fits =
-        silent-moves past cluster (agent_message member (ends.Member peer) process.run sequence bodies.Ask) fits (ask-says past member peer process.run sequence)
+        silent-moves past cluster (agent_message member (ends.Member peer) process.incarnation sequence bodies.Ask) fits (ask-says past member peer process.incarnation sequence)
 
     -- members send others nothing but asks
     pub member-moves : (past : Past) (cluster : Cluster) (found : Option AgentProcess) (peer : Option Member) (sequence : ℕ) (body : Body) → Fits past cluster.facts (volatile_of cluster) → IsAsk body
@@ -85,30 +85,30 @@ module _ (setup : Setup) where
     member-moves past cluster found peer sequence _ fits ask = absurd ask
 
     -- ---- an answer to a member that asks
-    replied-moves : (past : Past) (cluster : Cluster) (peer : Member) (run sequence : ℕ) (answer : PeerAnswer) (end : Option Lsn) → answer.end ≡ end → Fits past cluster.facts (volatile_of cluster)
-        → IsNumbered ((state_of setup past (volatile_of cluster)).members peer.id.number) run sequence → ForSome end (LogEndsAt (state_of setup past (volatile_of cluster)) member.id.number)
-        → Moves setup past cluster (send_events cluster (agent_message member (ends.Member peer) run sequence (bodies.Answer answer)))
-    replied-moves past cluster peer run sequence answer None is fits numbered ends_at =
-        silent-moves past cluster (agent_message member (ends.Member peer) run sequence (bodies.Answer answer)) fits
-        (record { flying = ap (λ (o : Option Lsn). race_answer_of member.id.number peer.id.number run sequence o) is; live = refl; ordered = λ later. tt })
-    replied-moves past cluster peer run sequence answer (Some end) is fits numbered ends_at =
+    replied-moves : (past : Past) (cluster : Cluster) (peer : Member) (incarnation sequence : ℕ) (answer : PeerAnswer) (end : Option Lsn) → answer.end ≡ end → Fits past cluster.facts (volatile_of cluster)
+        → IsNumbered ((state_of setup past (volatile_of cluster)).members peer.id.number) incarnation sequence → ForSome end (LogEndsAt (state_of setup past (volatile_of cluster)) member.id.number)
+        → Moves setup past cluster (send_events cluster (agent_message member (ends.Member peer) incarnation sequence (bodies.Answer answer)))
+    replied-moves past cluster peer incarnation sequence answer None is fits numbered ends_at =
+        silent-moves past cluster (agent_message member (ends.Member peer) incarnation sequence (bodies.Answer answer)) fits
+        (record { flying = ap (λ (o : Option Lsn). race_answer_of member.id.number peer.id.number incarnation sequence o) is; live = refl; ordered = λ later. tt })
+    replied-moves past cluster peer incarnation sequence answer (Some end) is fits numbered ends_at =
         let number : ℕ = cluster.facts.sent + 1 in
-        let message : Message = agent_message member (ends.Member peer) run sequence (bodies.Answer answer) in
+        let message : Message = agent_message member (ends.Member peer) incarnation sequence (bodies.Answer answer) in
         let at : LogEndsAt (state_of setup past (volatile_of cluster)) member.id.number end = ends_at end refl in
         send-moves past cluster message
-        (moves-one setup past (volatile_of cluster) cluster (kinds.Message (Sent number message)) (AnswerRace member.id.number peer.id.number run sequence number) fits.same fits.sound tt tt (at.log, numbered)
-        (race-answer-shown setup past (volatile_of cluster) (record { 0 = cluster.facts.clock }) number member peer run sequence answer end is
+        (moves-one setup past (volatile_of cluster) cluster (kinds.Message (Sent number message)) (AnswerRace member.id.number peer.id.number incarnation sequence number) fits.same fits.sound tt tt (at.log, numbered)
+        (race-answer-shown setup past (volatile_of cluster) (record { 0 = cluster.facts.clock }) number member peer incarnation sequence answer end is
         (at.end_is ∙ ap (λ (o : Option (List Entry)). end_of (entries_of o)) (sym at.log.is))))
 
-    replying-moves : (past : Past) (cluster : Cluster) (peer : Option Member) (run sequence : ℕ) (answer : PeerAnswer) → Fits past cluster.facts (volatile_of cluster)
-        → ((m : Member) → peer ≡ Some m → IsNumbered ((state_of setup past (volatile_of cluster)).members m.id.number) run sequence) → ForSome answer.end (LogEndsAt (state_of setup past (volatile_of cluster)) member.id.number)
-        → Moves setup past cluster (replying_events cluster member (option_map (λ (m : Member). ends.Member m) peer) run sequence (bodies.Answer answer))
-    replying-moves past cluster None run sequence answer fits numbered ends_at = moves-none setup past cluster fits
-    replying-moves past cluster (Some peer) run sequence answer fits numbered ends_at = replied-moves past cluster peer run sequence answer answer.end refl fits (numbered peer refl) ends_at
+    replying-moves : (past : Past) (cluster : Cluster) (peer : Option Member) (incarnation sequence : ℕ) (answer : PeerAnswer) → Fits past cluster.facts (volatile_of cluster)
+        → ((m : Member) → peer ≡ Some m → IsNumbered ((state_of setup past (volatile_of cluster)).members m.id.number) incarnation sequence) → ForSome answer.end (LogEndsAt (state_of setup past (volatile_of cluster)) member.id.number)
+        → Moves setup past cluster (replying_events cluster member (option_map (λ (m : Member). ends.Member m) peer) incarnation sequence (bodies.Answer answer))
+    replying-moves past cluster None incarnation sequence answer fits numbered ends_at = moves-none setup past cluster fits
+    replying-moves past cluster (Some peer) incarnation sequence answer fits numbered ends_at = replied-moves past cluster peer incarnation sequence answer answer.end refl fits (numbered peer refl) ends_at
 
-    -- the answer to a member that asked under this number of its run tells where the log ends of who answers, if that has one
-    pub answer-moves : (past : Past) (cluster : Cluster) (to : MemberId) (run sequence : ℕ) (answer : PeerAnswer) → Fits past cluster.facts (volatile_of cluster)
-        → ((peer : Member) → slice_get cluster.facts.members to.number ≡ Some peer → IsNumbered ((state_of setup past (volatile_of cluster)).members peer.id.number) run sequence)
+    -- the answer to a member that asked under this number of its incarnation tells where the log ends of who answers, if that has one
+    pub answer-moves : (past : Past) (cluster : Cluster) (to : MemberId) (incarnation sequence : ℕ) (answer : PeerAnswer) → Fits past cluster.facts (volatile_of cluster)
+        → ((peer : Member) → slice_get cluster.facts.members to.number ≡ Some peer → IsNumbered ((state_of setup past (volatile_of cluster)).members peer.id.number) incarnation sequence)
         → ForSome answer.end (LogEndsAt (state_of setup past (volatile_of cluster)) member.id.number)
-        → Moves setup past cluster (replying_events cluster member (receiver_of cluster.facts.members (targets.Member to)) run sequence (bodies.Answer answer))
-    answer-moves past cluster to run sequence answer fits numbered ends_at = replying-moves past cluster (slice_get cluster.facts.members to.number) run sequence answer fits numbered ends_at
+        → Moves setup past cluster (replying_events cluster member (receiver_of cluster.facts.members (targets.Member to)) incarnation sequence (bodies.Answer answer))
+    answer-moves past cluster to incarnation sequence answer fits numbered ends_at = replying-moves past cluster (slice_get cluster.facts.members to.number) incarnation sequence answer fits numbered ends_at

@@ -8,7 +8,7 @@ use Rattle.commit_actions.specs.States.{HasLog, State}
 
 -- an output that answers no other member
 abbrev pub AnswersNone : Output → Type 0
-AnswersNone (outputs.Answer to run sequence answer) = ⊥
+AnswersNone (outputs.Answer to incarnation sequence answer) = ⊥
 AnswersNone _ = Unit {0}
 
 -- the log of this member is there, and ends at this position

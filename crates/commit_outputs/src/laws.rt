@@ -32,11 +32,11 @@ pub fn outputs_are_actions()
     // Those that stand alone, of which none answers a member that asks.
     ensures alone { (setup : Setup) (member : Member) (message : HeardMessage) (past : Past) (cluster : Cluster) (outs : List Output) → Fits past cluster.facts (volatile_of cluster)
         → All IsOfTable outs → All StandsAlone outs → All AnswersNone outs → Moves setup past cluster (each (output_events member message) cluster outs) }
-    // The answer to a member that asked under this number of its run. It tells where the log of who answers ends, if that has one.
-    ensures answers { (setup : Setup) (member : Member) (past : Past) (cluster : Cluster) (to : MemberId) (run sequence : ℕ) (answer : PeerAnswer) → Fits past cluster.facts (volatile_of cluster)
-        → ((peer : Member) → slice_get cluster.facts.members to.number ≡ Some peer → IsNumbered ((state_of setup past (volatile_of cluster)).members peer.id.number) run sequence)
+    // The answer to a member that asked under this number of its incarnation. It tells where the log of who answers ends, if that has one.
+    ensures answers { (setup : Setup) (member : Member) (past : Past) (cluster : Cluster) (to : MemberId) (incarnation sequence : ℕ) (answer : PeerAnswer) → Fits past cluster.facts (volatile_of cluster)
+        → ((peer : Member) → slice_get cluster.facts.members to.number ≡ Some peer → IsNumbered ((state_of setup past (volatile_of cluster)).members peer.id.number) incarnation sequence)
         → ForSome answer.end (LogEndsAt (state_of setup past (volatile_of cluster)) member.id.number)
-        → Moves setup past cluster (replying_events cluster member (receiver_of cluster.facts.members (ToMember to)) run sequence (Answer answer)) }
+        → Moves setup past cluster (replying_events cluster member (receiver_of cluster.facts.members (ToMember to)) incarnation sequence (Answer answer)) }
     // The order by which a server with data begins: ahead of it the law has the server live, as it is behind it.
     ensures begins { (setup : Setup) (past : Past) (states : ℕ → VolatileState) (cluster : Cluster) (member : Member) (s : ServerFacts) → IsSameServers past cluster.facts → AreServersSound cluster.facts
         → IsLiveAhead states cluster.facts.servers member.id.number → ((n : ℕ) → (states n).agent ≡ (volatile_of cluster n).agent)

@@ -127,15 +127,15 @@ up-to i sent small = omega (arith, small)
 other-number : (i number : ℕ) → i < number → i ≡ number → ⊥
 other-number i number small is = omega (arith, small, is)
 
-last-granted : (states : ℕ → VolatileState) (told : Bool) (tick : Ticks) (number answer : ℕ) (by : Member) (run sequence : ℕ) (txn : Txn) (standbys : List Name) (action : Action)
-    → volatile_last states (granted_if told states action tick number answer by run sequence txn standbys) ≡ states
-last-granted states true tick number answer by run sequence txn standbys action = refl
-last-granted states false tick number answer by run sequence txn standbys action = refl
+last-granted : (states : ℕ → VolatileState) (told : Bool) (tick : Ticks) (number answer : ℕ) (by : Member) (incarnation sequence : ℕ) (txn : Txn) (standbys : List Name) (action : Action)
+    → volatile_last states (granted_if told states action tick number answer by incarnation sequence txn standbys) ≡ states
+last-granted states true tick number answer by incarnation sequence txn standbys action = refl
+last-granted states false tick number answer by incarnation sequence txn standbys action = refl
 
-once-granted : (states : ℕ → VolatileState) (told : Bool) (tick : Ticks) (number answer : ℕ) (by : Member) (run sequence : ℕ) (txn : Txn) (standbys : List Name) (action : Action)
-    → EachChangesOnce (granted_if told states action tick number answer by run sequence txn standbys)
-once-granted states true tick number answer by run sequence txn standbys action = (inl (tt, inr (tt, tt)), tt)
-once-granted states false tick number answer by run sequence txn standbys action = (inl (tt, inr tt), (inr tt, tt))
+once-granted : (states : ℕ → VolatileState) (told : Bool) (tick : Ticks) (number answer : ℕ) (by : Member) (incarnation sequence : ℕ) (txn : Txn) (standbys : List Name) (action : Action)
+    → EachChangesOnce (granted_if told states action tick number answer by incarnation sequence txn standbys)
+once-granted states true tick number answer by incarnation sequence txn standbys action = (inl (tt, inr (tt, tt)), tt)
+once-granted states false tick number answer by incarnation sequence txn standbys action = (inl (tt, inr tt), (inr tt, tt))
 
 compares-none : (count : ℕ) (txn : Txn) → IsSynchronousTxn count txn → ComparesNoSync txn
 compares-none count (txns.Create info ttl failsafe None) is = tt
@@ -150,21 +150,21 @@ compares-none count (txns.SetFailover failover ttl) is = tt
 compares-none count (txns.DropFailover revision) is = tt
 compares-none count (txns.SetConfig revision config) is = tt
 
-granted-may : (count : ℕ) (s : State) (m run sequence : ℕ) (txn : Txn) → IsSynchronousTxn count txn → IsNumbered (s.members m) run sequence → MayBeGranted s m run sequence txn
-granted-may count s m run sequence (txns.Create info ttl failsafe None) is numbered = numbered
-granted-may count s m run sequence (txns.Create info ttl failsafe (Some sync)) is numbered = absurd is
-granted-may count s m run sequence (txns.Renew revision info ttl status row failsafe) is numbered = numbered
-granted-may count s m run sequence (txns.DropSync revision sync) is numbered = absurd is
-granted-may count s m run sequence (txns.Touch info ttl) is numbered = tt
-granted-may count s m run sequence (txns.Release revision) is numbered = tt
-granted-may count s m run sequence (txns.Claim revision sync) is numbered = tt
-granted-may count s m run sequence (txns.SetSync revision sync standbys) is numbered = tt
-granted-may count s m run sequence (txns.SetFailover failover ttl) is numbered = tt
-granted-may count s m run sequence (txns.DropFailover revision) is numbered = tt
-granted-may count s m run sequence (txns.SetConfig revision config) is numbered = tt
+granted-may : (count : ℕ) (s : State) (m incarnation sequence : ℕ) (txn : Txn) → IsSynchronousTxn count txn → IsNumbered (s.members m) incarnation sequence → MayBeGranted s m incarnation sequence txn
+granted-may count s m incarnation sequence (txns.Create info ttl failsafe None) is numbered = numbered
+granted-may count s m incarnation sequence (txns.Create info ttl failsafe (Some sync)) is numbered = absurd is
+granted-may count s m incarnation sequence (txns.Renew revision info ttl status row failsafe) is numbered = numbered
+granted-may count s m incarnation sequence (txns.DropSync revision sync) is numbered = absurd is
+granted-may count s m incarnation sequence (txns.Touch info ttl) is numbered = tt
+granted-may count s m incarnation sequence (txns.Release revision) is numbered = tt
+granted-may count s m incarnation sequence (txns.Claim revision sync) is numbered = tt
+granted-may count s m incarnation sequence (txns.SetSync revision sync standbys) is numbered = tt
+granted-may count s m incarnation sequence (txns.SetFailover failover ttl) is numbered = tt
+granted-may count s m incarnation sequence (txns.DropFailover revision) is numbered = tt
+granted-may count s m incarnation sequence (txns.SetConfig revision config) is numbered = tt
 
 module _ (head : HeadText) (book : List Event) (cluster : Cluster) (number : ℕ) (message : InFlightFacts) (good : CommitsBridged head book cluster)
-    (found : in_flight cluster.facts.flight number ≡ Some message) (by : Member) (run sequence : ℕ) where
+    (found : in_flight cluster.facts.flight number ≡ Some message) (by : Member) (incarnation sequence : ℕ) where
   abbrev Later : Cluster
   Later = cluster_after cluster (kinds.Message (Delivered number))
 
@@ -175,7 +175,7 @@ module _ (head : HeadText) (book : List Event) (cluster : Cluster) (number : ℕ
   Answer = cluster.facts.sent + 1
 
   abbrev Says : Body → Message
-  Says body = record { from = ends.Member by; to = ends.Store; run = run; sequence = sequence; body = body }
+  Says body = record { from = ends.Member by; to = ends.Store; incarnation = incarnation; sequence = sequence; body = body }
 
   abbrev Events : Body → List Event
   Events body = event_of cluster (kinds.Message (Delivered number)) ++ answer_events Later number (Says body)
@@ -193,9 +193,9 @@ module _ (head : HeadText) (book : List Event) (cluster : Cluster) (number : ℕ
   grant-ordered : (txn : Txn) → message.message ≡ Says (bodies.Request txn) → decision_on cluster.facts.keys cluster.facts.clock txn ≡ Grant
       → HappensInOrder (past_after (past_of head book) (kinds.Message (Delivered number))) Later (kinds.Store (stores.Granted number by txn (published_names cluster.facts.members txn)))
   grant-ordered (txns.Claim revision sync) is decides =
-      claim-named (state_of_run head book cluster) number (claim_request by.id.number run sequence revision sync) good.sound
-      (request-flying (past_of head book) cluster.facts number message by run sequence (txns.Claim revision sync) good.fits.store.flight found is) refl
-      (sym (claim-decided (past_of head book) cluster.facts by.id.number run sequence revision sync good.fits.store.store) ∙ ap is_grant decides)
+      claim-named (state_of_run head book cluster) number (claim_request by.id.number incarnation sequence revision sync) good.sound
+      (request-flying (past_of head book) cluster.facts number message by incarnation sequence (txns.Claim revision sync) good.fits.store.flight found is) refl
+      (sym (claim-decided (past_of head book) cluster.facts by.id.number incarnation sequence revision sync good.fits.store.store) ∙ ap is_grant decides)
   grant-ordered _ is decides = tt
 
   -- the whole of it, where the delivery goes
@@ -210,12 +210,12 @@ module _ (head : HeadText) (book : List Event) (cluster : Cluster) (number : ℕ
 
   read-upheld : message.message ≡ Says bodies.Read → IsKept head book cluster (Events bodies.Read) → Upholds (kept_commits head) book cluster (Events bodies.Read)
   read-upheld is kept =
-      let events : List Event = read_events Moment number Answer by run sequence in
+      let events : List Event = read_events Moment number Answer by incarnation sequence in
       let above = more-sent cluster.facts.sent in
       answered bodies.Read events
       (goes-delivery (setup_of head) (lease_past.past_of book) (past_of head book) cluster Answer events _ good.fits.servers
-      (read-delivery (setup_of head) (past_of head book) cluster.facts (volatile_of cluster) Moment number Answer message by run sequence good.fits.store found is above (snapshot-allowed head book cluster good Answer)) refl before
-      (read-causal (past_of head book) cluster.facts Moment number Answer by run sequence above)
+      (read-delivery (setup_of head) (past_of head book) cluster.facts (volatile_of cluster) Moment number Answer message by incarnation sequence good.fits.store found is above (snapshot-allowed head book cluster good Answer)) refl before
+      (read-causal (past_of head book) cluster.facts Moment number Answer by incarnation sequence above)
       (record { agents = reached bodies.Read is; servers = refl; named_same = refl; asked = not-asked; asides = (tt, (tt, tt)); asks = λ s. (tt, ((tt, tt), tt)); ordered = (tt, (tt, tt)); once = (inl (tt, inr tt), tt) })) kept
 
   decision-upheld : (txn : Txn) (decision : Decision) → message.message ≡ Says (bodies.Request txn) → IsSpannedTxn txn → IsSynchronousTxn (member_count head) txn → decision_on cluster.facts.keys cluster.facts.clock txn ≡ decision
@@ -223,42 +223,42 @@ module _ (head : HeadText) (book : List Event) (cluster : Cluster) (number : ℕ
       → Upholds (kept_commits head) book cluster (event_of cluster (kinds.Message (Delivered number)) ++ decision_events Later number (Says (bodies.Request txn)) txn decision (ends.Member by))
   decision-upheld txn Grant is span on decides kept =
       let names : List Name = published_names cluster.facts.members txn in
-      let events : List Event = granted_events Moment number Answer by run sequence txn names in
+      let events : List Event = granted_events Moment number Answer by incarnation sequence txn names in
       let above = more-sent cluster.facts.sent in
       answered (bodies.Request txn) events
       (goes-delivery (setup_of head) (lease_past.past_of book) (past_of head book) cluster Answer events _ good.fits.servers
-      (granted-delivery (setup_of head) (past_of head book) cluster.facts (volatile_of cluster) Moment number Answer message by run sequence txn names refl good.fits.store found is above span decides
-      (granted-may (member_count head) (state_of_run head book cluster) by.id.number run sequence txn on (numbered-request head book cluster good number message by run sequence txn found is)))
-      (last-granted (volatile_of cluster) (is_told txn) Moment number Answer by run sequence txn names _) before
-      (granted-causal (past_of head book) cluster.facts Moment number Answer message by run sequence txn names good.fits.store found is above span decides)
-      (record { agents = reached (bodies.Request txn) is; servers = refl; named_same = refl; asked = not-asked; asides = (tt, (tt, (tt, tt))); asks = λ s. (tt, (on, ((tt, tt), tt))); ordered = (tt, (grant-ordered txn is decides, (tt, tt))); once = once-granted (volatile_of cluster) (is_told txn) Moment number Answer by run sequence txn names _ })) kept
+      (granted-delivery (setup_of head) (past_of head book) cluster.facts (volatile_of cluster) Moment number Answer message by incarnation sequence txn names refl good.fits.store found is above span decides
+      (granted-may (member_count head) (state_of_run head book cluster) by.id.number incarnation sequence txn on (numbered-request head book cluster good number message by incarnation sequence txn found is)))
+      (last-granted (volatile_of cluster) (is_told txn) Moment number Answer by incarnation sequence txn names _) before
+      (granted-causal (past_of head book) cluster.facts Moment number Answer message by incarnation sequence txn names good.fits.store found is above span decides)
+      (record { agents = reached (bodies.Request txn) is; servers = refl; named_same = refl; asked = not-asked; asides = (tt, (tt, (tt, tt))); asks = λ s. (tt, (on, ((tt, tt), tt))); ordered = (tt, (grant-ordered txn is decides, (tt, tt))); once = once-granted (volatile_of cluster) (is_told txn) Moment number Answer by incarnation sequence txn names _ })) kept
   decision-upheld txn (Refusal key expected) is span on decides kept =
-      let events : List Event = refused_events Moment number Answer by run sequence (txn_kind_of txn) key expected in
+      let events : List Event = refused_events Moment number Answer by incarnation sequence (txn_kind_of txn) key expected in
       let above = more-sent cluster.facts.sent in
       answered (bodies.Request txn) events
       (goes-delivery (setup_of head) (lease_past.past_of book) (past_of head book) cluster Answer events _ good.fits.servers
-      (refused-delivery (setup_of head) (past_of head book) cluster.facts (volatile_of cluster) Moment number Answer message by run sequence txn (txn_kind_of txn) key expected good.fits.store found is above decides (compares-none (member_count head) txn on)) refl before
-      (refused-causal (past_of head book) cluster.facts Moment number Answer by run sequence (txn_kind_of txn) key expected above)
+      (refused-delivery (setup_of head) (past_of head book) cluster.facts (volatile_of cluster) Moment number Answer message by incarnation sequence txn (txn_kind_of txn) key expected good.fits.store found is above decides (compares-none (member_count head) txn on)) refl before
+      (refused-causal (past_of head book) cluster.facts Moment number Answer by incarnation sequence (txn_kind_of txn) key expected above)
       (record { agents = reached (bodies.Request txn) is; servers = refl; named_same = refl; asked = not-asked; asides = (tt, (tt, (tt, tt))); asks = λ s. (tt, (tt, ((tt, tt), tt))); ordered = (tt, (tt, (tt, tt))); once = (inr (tt, (tt, tt)), tt) })) kept
 
 -- by whom it comes, and what it says
-store-by : (head : HeadText) (book : List Event) (cluster : Cluster) (number : ℕ) (message : InFlightFacts) (from : LinkEnd) (run sequence : ℕ) (body : Body) → CommitsBridged head book cluster
-    → in_flight cluster.facts.flight number ≡ Some message → message.message ≡ record { from = from; to = ends.Store; run = run; sequence = sequence; body = body } → IsAddressed from ends.Store body → IsSynchronousBody (member_count head) body
-    → IsKept head book cluster (event_of cluster (kinds.Message (Delivered number)) ++ answer_events (cluster_after cluster (kinds.Message (Delivered number))) number (record { from = from; to = ends.Store; run = run; sequence = sequence; body = body }))
-    → Upholds (kept_commits head) book cluster (event_of cluster (kinds.Message (Delivered number)) ++ answer_events (cluster_after cluster (kinds.Message (Delivered number))) number (record { from = from; to = ends.Store; run = run; sequence = sequence; body = body }))
-store-by head book cluster number message ends.Store run sequence body good found is addressed on kept = absurd addressed
-store-by head book cluster number message (ends.Member by) run sequence bodies.Read good found is addressed on kept = read-upheld head book cluster number message good found by run sequence is kept
-store-by head book cluster number message (ends.Member by) run sequence (bodies.Request txn) good found is addressed on kept =
-    decision-upheld head book cluster number message good found by run sequence txn (decision_on cluster.facts.keys cluster.facts.clock txn) is addressed on refl kept
-store-by head book cluster number message (ends.Member by) run sequence _ good found is addressed on kept = absurd addressed
+store-by : (head : HeadText) (book : List Event) (cluster : Cluster) (number : ℕ) (message : InFlightFacts) (from : LinkEnd) (incarnation sequence : ℕ) (body : Body) → CommitsBridged head book cluster
+    → in_flight cluster.facts.flight number ≡ Some message → message.message ≡ record { from = from; to = ends.Store; incarnation = incarnation; sequence = sequence; body = body } → IsAddressed from ends.Store body → IsSynchronousBody (member_count head) body
+    → IsKept head book cluster (event_of cluster (kinds.Message (Delivered number)) ++ answer_events (cluster_after cluster (kinds.Message (Delivered number))) number (record { from = from; to = ends.Store; incarnation = incarnation; sequence = sequence; body = body }))
+    → Upholds (kept_commits head) book cluster (event_of cluster (kinds.Message (Delivered number)) ++ answer_events (cluster_after cluster (kinds.Message (Delivered number))) number (record { from = from; to = ends.Store; incarnation = incarnation; sequence = sequence; body = body }))
+store-by head book cluster number message ends.Store incarnation sequence body good found is addressed on kept = absurd addressed
+store-by head book cluster number message (ends.Member by) incarnation sequence bodies.Read good found is addressed on kept = read-upheld head book cluster number message good found by incarnation sequence is kept
+store-by head book cluster number message (ends.Member by) incarnation sequence (bodies.Request txn) good found is addressed on kept =
+    decision-upheld head book cluster number message good found by incarnation sequence txn (decision_on cluster.facts.keys cluster.facts.clock txn) is addressed on refl kept
+store-by head book cluster number message (ends.Member by) incarnation sequence _ good found is addressed on kept = absurd addressed
 
 pub upheld-arrival : (head : HeadText) (book : List Event) (cluster : Cluster) (number : ℕ) (message : InFlightFacts) → CommitsBridged head book cluster
     → in_flight cluster.facts.flight number ≡ Some message → message.message.to ≡ ends.Store → Upholds (kept_commits head) book cluster (arrival_events_at cluster number message ends.Store)
 upheld-arrival head book cluster number message good found to =
     let m : Message = message.message in
-    let is : m ≡ record { from = m.from; to = ends.Store; run = m.run; sequence = m.sequence; body = m.body } = ap (λ (end : LinkEnd). let one : Message = record { from = m.from; to = end; run = m.run; sequence = m.sequence; body = m.body } in one) to in
+    let is : m ≡ record { from = m.from; to = ends.Store; incarnation = m.incarnation; sequence = m.sequence; body = m.body } = ap (λ (end : LinkEnd). let one : Message = record { from = m.from; to = end; incarnation = m.incarnation; sequence = m.sequence; body = m.body } in one) to in
     let well = good.lease.matched.waiting.carried number message found in
     let Answers : (Message → List Event) = λ one. event_of cluster (kinds.Message (Delivered number)) ++ answer_events (cluster_after cluster (kinds.Message (Delivered number))) number one in
     subst (λ (one : Message). Upholds (kept_commits head) book cluster (Answers one)) (sym is)
-    (store-by head book cluster number message m.from m.run m.sequence m.body good found is (subst (λ (end : LinkEnd). IsAddressed m.from end m.body) to well.addressed) (good.fits.requests number message found)
+    (store-by head book cluster number message m.from m.incarnation m.sequence m.body good found is (subst (λ (end : LinkEnd). IsAddressed m.from end m.body) to well.addressed) (good.fits.requests number message found)
     (subst (λ (one : Message). IsKept head book cluster (Answers one)) is (kept-store-arrival head book cluster number message good.lease found to)))

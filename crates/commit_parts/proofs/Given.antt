@@ -28,12 +28,12 @@ use Rattle.commit_parts.specs.Reading.{agent_now, past_of, state_of_run}
 use Rattle.commit_parts.proofs.Starting.{runs-now}
 
 module _ (head : HeadText) (book : List Event) (cluster : Cluster) (good : CommitsBridged head book cluster) where
-  -- ---- a question has a run and a number that were given
+  -- ---- a question has an incarnation and a number that were given
   abbrev Numbered : ℕ → ℕ → ℕ → Type 0
-  Numbered m run sequence = IsNumbered ((state_of_run head book cluster).members m) run sequence
+  Numbered m incarnation sequence = IsNumbered ((state_of_run head book cluster).members m) incarnation sequence
 
   counted-by : (i : ℕ) (question : Question) (found : Option (Option AgentFacts)) (agent : Agent) → (lease_past.past_of book).asked i ≡ Some question → slice_get cluster.agents question.member ≡ found
-      → agent_now found ≡ Some agent → agent.run ≡ question.run → question.sequence ≤ agent.last
+      → agent_now found ≡ Some agent → agent.incarnation ≡ question.incarnation → question.sequence ≤ agent.last
   counted-by i question None agent asked is seen in_run =
       absurd (beyond (good.fits.agents.members i question asked))
     where
@@ -46,19 +46,19 @@ module _ (head : HeadText) (book : List Event) (cluster : Cluster) (good : Commi
   counted-by i question (Some (Some known)) agent asked is seen in_run =
       let same = some-is (committer_seen known.role known.knows) agent seen in
       subst (λ (a : Agent). question.sequence ≤ a.last) same
-      ((good.lease.matched.waiting.agents question.member known is).last i question asked refl (sym in_run ∙ ap (λ (a : Agent). a.run) (sym same)))
+      ((good.lease.matched.waiting.agents question.member known is).last i question asked refl (sym in_run ∙ ap (λ (a : Agent). a.incarnation) (sym same)))
 
-  numbered-question : (i : ℕ) (question : Question) → (lease_past.past_of book).asked i ≡ Some question → Numbered question.member question.run question.sequence
+  numbered-question : (i : ℕ) (question : Question) → (lease_past.past_of book).asked i ≡ Some question → Numbered question.member question.incarnation question.sequence
   numbered-question i question asked = record {
-    run_old = subst (λ (n : ℕ). question.run ≤ n) (sym (runs-now head book cluster good question.member)) (good.lease.matched.waiting.runs question.member i question asked refl);
+    run_old = subst (λ (n : ℕ). question.incarnation ≤ n) (sym (runs-now head book cluster good question.member)) (good.lease.matched.waiting.runs question.member i question asked refl);
     sequence_old = λ agent is in_run. counted-by i question (slice_get cluster.agents question.member) agent asked refl is in_run;
   }
 
-  pub numbered-request : (i : ℕ) (carried : InFlightFacts) (by : Member) (run sequence : ℕ) (txn : Txn) → in_flight cluster.facts.flight i ≡ Some carried
-      → carried.message ≡ record { from = ends.Member by; to = ends.Store; run = run; sequence = sequence; body = bodies.Request txn } → Numbered by.id.number run sequence
-  numbered-request i carried by run sequence txn here is =
-      numbered-question i (record { member = by.id.number; run = run; sequence = sequence; sent = carried.sent.0; query = lease_past.query_of txn })
-      (good.lease.matched.flight.kept i _ (heard-asked (lease_past.past_of book) cluster.facts i carried by run sequence txn good.lease.matched.flight here is))
+  pub numbered-request : (i : ℕ) (carried : InFlightFacts) (by : Member) (incarnation sequence : ℕ) (txn : Txn) → in_flight cluster.facts.flight i ≡ Some carried
+      → carried.message ≡ record { from = ends.Member by; to = ends.Store; incarnation = incarnation; sequence = sequence; body = bodies.Request txn } → Numbered by.id.number incarnation sequence
+  numbered-request i carried by incarnation sequence txn here is =
+      numbered-question i (record { member = by.id.number; incarnation = incarnation; sequence = sequence; sent = carried.sent.0; query = lease_past.query_of txn })
+      (good.lease.matched.flight.kept i _ (heard-asked (lease_past.past_of book) cluster.facts i carried by incarnation sequence txn good.lease.matched.flight here is))
 
   -- ---- a snapshot without a leader key
   abbrev Lease : lease.State

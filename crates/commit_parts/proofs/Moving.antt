@@ -168,7 +168,7 @@ upheld-moves head book cluster events good moves kept causal asks ordered agents
       strict = good.fits.strict;
       told = good.fits.told;
       requests = good.fits.requests;
-      asks = λ i carried is. ask-numbered (state_of_run head book cluster) later stay carried.message.from carried.message.run carried.message.sequence carried.message.body (good.asks i carried is);
+      asks = λ i carried is. ask-numbered (state_of_run head book cluster) later stay carried.message.from carried.message.incarnation carried.message.sequence carried.message.body (good.asks i carried is);
     }
 
     fits : FitsBehind head book cluster events

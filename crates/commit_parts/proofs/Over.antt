@@ -36,10 +36,10 @@ use Rattle.commit_parts.specs.Modes.{IsSynchronous}
 use Rattle.commit_parts.proofs.Flights.{HoldsAsSent, all-after}
 use Rattle.commit_parts.proofs.Modes.{synchronous-by}
 
--- what is sent, or granted, is asked as synchronous mode has it; and what one member asks another has a run and a number that its agents
+-- what is sent, or granted, is asked as synchronous mode has it; and what one member asks another has an incarnation and a number that its agents
 -- have given in this state
 abbrev pub AsksSynchronously : State → ℕ → EventKind → Type 0
-AsksSynchronously s count (kinds.Message (Sent number message)) = IsSynchronousBody count message.body × IsAskNumbered s message.from message.run message.sequence message.body
+AsksSynchronously s count (kinds.Message (Sent number message)) = IsSynchronousBody count message.body × IsAskNumbered s message.from message.incarnation message.sequence message.body
 AsksSynchronously s count (kinds.Store (stores.Granted number by txn standbys)) = IsSynchronousTxn count txn
 AsksSynchronously s count _ = Unit {0}
 
@@ -66,7 +66,7 @@ requests-sent s count facts _ asks = tt
 
 -- a message in flight is numbered, if it asks another member
 abbrev AsksNumbered : State → InFlightFacts → Type 0
-AsksNumbered s carried = IsAskNumbered s carried.message.from carried.message.run carried.message.sequence carried.message.body
+AsksNumbered s carried = IsAskNumbered s carried.message.from carried.message.incarnation carried.message.sequence carried.message.body
 
 asks-sent : (s : State) (count : ℕ) (facts : Facts) (kind : EventKind) → AsksSynchronously s count kind → HoldsAsSent (AsksNumbered s) facts kind
 asks-sent s count facts (kinds.Message (Sent number message)) asks = asks.1

@@ -94,7 +94,7 @@ pub quiet-still : (kind : EventKind) → IsQuiet kind → IsStill kind
 quiet-still (kinds.Watchdog happening) quiet = absurd quiet
 quiet-still (kinds.Agent (agents.Woken agent)) quiet = absurd quiet
 quiet-still (kinds.Agent (agents.Operated agent action)) quiet = absurd quiet
-quiet-still (kinds.Agent (agents.Started agent run)) quiet = absurd quiet
+quiet-still (kinds.Agent (agents.Started agent incarnation)) quiet = absurd quiet
 quiet-still (kinds.Agent (agents.Killed agent)) quiet = absurd quiet
 quiet-still kinds.Tick quiet = absurd quiet
 quiet-still (kinds.Message happening) quiet = absurd quiet

@@ -16,7 +16,7 @@ use Rattle.event_book.specs.declared.member.Member.{Member}
 use Rattle.event_book.specs.Links.{CutLinks}
 use Rattle.agent_model.specs.declared.machine.Machine.{Machine}
 use Rattle.agent_model.specs.declared.machine.Replication.{Replication}
-use Rattle.agent_model.specs.Agents.{AgentFacts, made}
+use Rattle.agent_model.specs.Agents.{AgentFacts, outcome_from}
 use Rattle.agent_commit_law.specs.Committing.{IsEndOf, StandsToCommit}
 use Rattle.member_options.specs.declared.member_option.MemberOptions.{MemberOptions}
 use Rattle.script_model.specs.Script.{HeadText}
@@ -94,7 +94,7 @@ module _ (head : HeadText) (book : List Event) (cluster : Cluster) (good : Commi
   Seen = replication_of cluster.facts.members cluster.facts.servers cluster.facts.cuts member s
 
   stands : (machine : Machine) → IsMadeOf s Seen machine → member.id.number < member_count head
-      → StandsToCommit (state_of_run head book cluster) member.id.number (made agent.role agent.knows machine [])
+      → StandsToCommit (state_of_run head book cluster) member.id.number (outcome_from agent.role agent.knows machine [])
   stands machine made_is small =
       let k : ℕ = member.id.number in
       let past : Past = past_of head book in
@@ -124,12 +124,12 @@ module _ (head : HeadText) (book : List Event) (cluster : Cluster) (good : Commi
   stands-by : (machine : Machine) (receives : Bool) (found : Option ServerFacts) → slice_get cluster.facts.servers member.id.number ≡ found
       → machine_from receives (option_map (replication_of cluster.facts.members cluster.facts.servers cluster.facts.cuts member) found) (slice_get cluster.options member.id.number)
       (slice_get cluster.facts.deadlines member.id.number) (slice_get cluster.facts.holds member.id.number) found ≡ Some machine
-      → StandsToCommit (state_of_run head book cluster) member.id.number (made agent.role agent.knows machine [])
+      → StandsToCommit (state_of_run head book cluster) member.id.number (outcome_from agent.role agent.knows machine [])
   stands-by machine receives None found is = absurd (none-some machine is)
   stands-by machine receives (Some s) found is =
       stands head book cluster good member agent s there found machine
       (made-of receives (replication_of cluster.facts.members cluster.facts.servers cluster.facts.cuts member s) (slice_get cluster.options member.id.number) (slice_get cluster.facts.deadlines member.id.number) (slice_get cluster.facts.holds member.id.number) s machine is)
       small
 
-  pub agent-stands : (machine : Machine) → machine_of cluster member ≡ Some machine → StandsToCommit (state_of_run head book cluster) member.id.number (made agent.role agent.knows machine [])
+  pub agent-stands : (machine : Machine) → machine_of cluster member ≡ Some machine → StandsToCommit (state_of_run head book cluster) member.id.number (outcome_from agent.role agent.knows machine [])
   agent-stands machine is = stands-by machine _ (slice_get cluster.facts.servers member.id.number) refl is

@@ -54,7 +54,7 @@ use Rattle.commit_parts.proofs.Transitions.{composable, state_behind}
 
 -- both laws read the same runs of agents
 runs-by : (known other : ℕ → ℕ) (kind : EventKind) → known ≡ other → runs_after known kind ≡ lease_premises.runs_after other kind
-runs-by known other (kinds.Agent (agents.Started agent run)) same = ap (λ (runs : ℕ → ℕ). put_at runs agent.id.number run) same
+runs-by known other (kinds.Agent (agents.Started agent incarnation)) same = ap (λ (runs : ℕ → ℕ). put_at runs agent.id.number incarnation) same
 runs-by known other _ same = same
 
 runs-over : (past : Past) (named : lease_past.Past) (book : List Event) → past.runs ≡ named.runs → (past_over past book).runs ≡ (lease_past.past_over named book).runs
@@ -77,14 +77,14 @@ started-there k started true None agent P new old is = absurd (none-some (Some a
 started-there k started true (Some one) agent P new old is = subst P (some-is started agent (some-is (Some started) (Some agent) is)) new
 started-there k started false found agent P new old is = old is
 
-module _ (cluster : Cluster) (member : Member) (run : ℕ) where
+module _ (cluster : Cluster) (member : Member) (incarnation : ℕ) where
   abbrev Kind : EventKind
-  Kind = kinds.Agent (agents.Started member run)
+  Kind = kinds.Agent (agents.Started member incarnation)
 
   abbrev Started : AgentFacts
-  Started = starting_agent (who_of cluster.scope cluster.options cluster.facts.members member) cluster.facts.clock run
+  Started = starting_agent (who_of cluster.scope cluster.options cluster.facts.members member) cluster.facts.clock incarnation
 
-  pub moves-start : (setup : Setup) (past : Past) → run ≡ past.runs member.id.number + 1 → member.id.number < length cluster.agents → Fits past cluster.facts (volatile_of cluster)
+  pub moves-start : (setup : Setup) (past : Past) → incarnation ≡ past.runs member.id.number + 1 → member.id.number < length cluster.agents → Fits past cluster.facts (volatile_of cluster)
       → Moves setup past cluster (event_of cluster Kind)
   moves-start setup past next small fits =
       let later : Cluster = cluster_after cluster Kind in
@@ -97,7 +97,7 @@ module _ (cluster : Cluster) (member : Member) (run : ℕ) where
       record {
         transitions = record { action = Start k; events = event_of cluster Kind; volatile_states = states } ∷ [];
         whole = refl;
-        allowed = (tt, start-shown setup past (volatile_of cluster) (record { 0 = later.facts.clock }) member run next, change-once (record { 0 = later.facts.clock }) Kind, tt);
+        allowed = (tt, start-shown setup past (volatile_of cluster) (record { 0 = later.facts.clock }) member incarnation next, change-once (record { 0 = later.facts.clock }) Kind, tt);
         once = (inr tt, tt);
         last = same;
         fits = subst (λ (v : ℕ → VolatileState). Fits (past_after past Kind) later.facts v) same
@@ -109,7 +109,7 @@ module _ (cluster : Cluster) (member : Member) (run : ℕ) where
       → AreAgentsSynchronous count (lease_past.past_after named Kind).asked (past_after past Kind).asked (cluster_after cluster Kind).agents
   agents-start count named past all = record {
     each = λ m agent is. started-there member.id.number Started (m == member.id.number) (slice_get cluster.agents m) agent (IsAgentSynchronous named.asked past.asked m)
-        (record { on = fresh-asks (who_of cluster.scope cluster.options cluster.facts.members member) (record { 0 = cluster.facts.clock + 1 }) run; writes = λ waited waits. absurd (none-some waited waits) })
+        (record { on = fresh-asks (who_of cluster.scope cluster.options cluster.facts.members member) (record { 0 = cluster.facts.clock + 1 }) incarnation; writes = λ waited waits. absurd (none-some waited waits) })
         (all.each m agent) (sym (get-changed cluster.agents member.id.number m _) ∙ is);
     members = all.members;
   }
@@ -133,10 +133,10 @@ disarm-still cluster None is = (tt, tt)
 disarm-still cluster (Some kind) is = ((is.still, tt), (is.may, tt))
 
 module _ (head : HeadText) (book : List Event) (cluster : Cluster) (member : Member) (small : member.id.number < member_count head) (good : CommitsBridged head book cluster) where
-  upheld-start : (run : ℕ) (found : Option EventKind) → run ≡ run_in cluster.facts.processes member.id.number + 1 → HoldsIf (IsDisarm (cluster_after cluster (kinds.Agent (agents.Started member run))).facts) found
-      → IsKept head book cluster (events_of cluster (kinds.Agent (agents.Started member run) ∷ kinds_of found)) → Upholds (kept_commits head) book cluster (events_of cluster (kinds.Agent (agents.Started member run) ∷ kinds_of found))
-  upheld-start run found next is kept =
-      let kind : EventKind = kinds.Agent (agents.Started member run) in
+  upheld-start : (incarnation : ℕ) (found : Option EventKind) → incarnation ≡ run_in cluster.facts.processes member.id.number + 1 → HoldsIf (IsDisarm (cluster_after cluster (kinds.Agent (agents.Started member incarnation))).facts) found
+      → IsKept head book cluster (events_of cluster (kinds.Agent (agents.Started member incarnation) ∷ kinds_of found)) → Upholds (kept_commits head) book cluster (events_of cluster (kinds.Agent (agents.Started member incarnation) ∷ kinds_of found))
+  upheld-start incarnation found next is kept =
+      let kind : EventKind = kinds.Agent (agents.Started member incarnation) in
       let started : Cluster = cluster_after cluster kind in
       let rest : List Event = events_of started (kinds_of found) in
       let parts = disarm-still started found is in
@@ -145,19 +145,19 @@ module _ (head : HeadText) (book : List Event) (cluster : Cluster) (member : Mem
       let left = leave-follow (member_count head) named past started rest parts.0 parts.1 in
       upheld-moves head book cluster (event_of cluster kind ++ rest) good
       (moves-then (setup_of head) (past_of head book) cluster (event_of cluster kind) rest
-      (moves-start cluster member run (setup_of head) (past_of head book) (next ∙ ap (λ (r : ℕ). r + 1) (sym (runs-now head book cluster good member.id.number)))
+      (moves-start cluster member incarnation (setup_of head) (past_of head book) (next ∙ ap (λ (r : ℕ). r + 1) (sym (runs-now head book cluster good member.id.number)))
       (subst (λ (n : ℕ). member.id.number < n) (sym good.lease.matched.agents_sized) small) good.fits.servers)
       (λ later. moves-follow (setup_of head) past started rest later parts.0 parts.1))
       kept (tt, (tt, left.causal)) (tt, left.asks (state_behind head book cluster (event_of cluster kind ++ rest))) (tt, left.ordered)
       (agents-leave (member_count head) named past started (lease_past.past_over named rest) (past_over past rest) (cluster_over started rest) left.leave
-      (agents-start cluster member run (member_count head) (lease_past.past_of book) (past_of head book) good.fits.agents))
+      (agents-start cluster member incarnation (member_count head) (lease_past.past_of book) (past_of head book) good.fits.agents))
 
   upheld-restart-by : (process : AgentProcess) (running : Bool) → slice_get cluster.facts.processes member.id.number ≡ Some process
-      → IsKept head book cluster (events_of cluster (cond running (kinds.Note (AlreadyRunning member)) (kinds.Agent (agents.Started member (process.run + 1))) ∷ kinds_of (cond running None (disarm_of member (machine_of cluster member)))))
-      → Upholds (kept_commits head) book cluster (events_of cluster (cond running (kinds.Note (AlreadyRunning member)) (kinds.Agent (agents.Started member (process.run + 1))) ∷ kinds_of (cond running None (disarm_of member (machine_of cluster member)))))
+      → IsKept head book cluster (events_of cluster (cond running (kinds.Note (AlreadyRunning member)) (kinds.Agent (agents.Started member (process.incarnation + 1))) ∷ kinds_of (cond running None (disarm_of member (machine_of cluster member)))))
+      → Upholds (kept_commits head) book cluster (events_of cluster (cond running (kinds.Note (AlreadyRunning member)) (kinds.Agent (agents.Started member (process.incarnation + 1))) ∷ kinds_of (cond running None (disarm_of member (machine_of cluster member)))))
   upheld-restart-by process true is kept = upheld-still head book cluster (kinds.Note (AlreadyRunning member)) good tt tt kept
   upheld-restart-by process false is kept =
-      upheld-start (process.run + 1) (disarm_of member (machine_of cluster member)) (ap (λ (o : Option AgentProcess). run_now o + 1) (sym is)) (disarms _ member (machine_of cluster member)) kept
+      upheld-start (process.incarnation + 1) (disarm_of member (machine_of cluster member)) (ap (λ (o : Option AgentProcess). run_now o + 1) (sym is)) (disarms _ member (machine_of cluster member)) kept
 
   upheld-restart-of : (found : Option AgentProcess) → slice_get cluster.facts.processes member.id.number ≡ found → IsKept head book cluster (for_some found (agent_start_events_of cluster member))
       → Upholds (kept_commits head) book cluster (for_some found (agent_start_events_of cluster member))

@@ -35,7 +35,7 @@ IsStill (kinds.Message happening) = ⊥
 IsStill (kinds.Watchdog (watchdogs.Reset member)) = ⊥
 IsStill (kinds.Agent (agents.Woken agent)) = ⊥
 IsStill (kinds.Agent (agents.Operated agent action)) = ⊥
-IsStill (kinds.Agent (agents.Started agent run)) = ⊥
+IsStill (kinds.Agent (agents.Started agent incarnation)) = ⊥
 IsStill (kinds.Agent (agents.Killed agent)) = ⊥
 IsStill _ = Unit {0}
 
@@ -54,7 +54,7 @@ leaves-still named past cluster (kinds.Store (stores.Granted number by txn stand
 leaves-still named past cluster (kinds.Watchdog (watchdogs.Reset member)) still may = absurd still
 leaves-still named past cluster (kinds.Agent (agents.Woken agent)) still may = absurd still
 leaves-still named past cluster (kinds.Agent (agents.Operated agent action)) still may = absurd still
-leaves-still named past cluster (kinds.Agent (agents.Started agent run)) still may = absurd still
+leaves-still named past cluster (kinds.Agent (agents.Started agent incarnation)) still may = absurd still
 leaves-still named past cluster (kinds.Agent (agents.Killed agent)) still may = absurd still
 leaves-still named past cluster _ still may =
     record { agents = refl; leave = record { agents = λ m agent is. is; asked = λ i question is. (is, refl) }; causal = (tt, (tt, tt)); asks = λ s count. (tt, tt); ordered = (tt, tt) }

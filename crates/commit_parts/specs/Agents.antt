@@ -11,7 +11,7 @@ use Rattle.event_book.specs.declared.message.Body.{Body}
 use Rattle.event_book.specs.declared.message.Body.TheVariants as bodies
 use Rattle.event_book.specs.Flight.{Flight, InFlightFacts, in_flight}
 use Rattle.agent_model.specs.declared.knowledge.Question.{Question}
-use Rattle.agent_model.specs.declared.knowledge.Waited.{Waited}
+use Rattle.agent_model.specs.declared.knowledge.PendingQuestion.{PendingQuestion}
 use Rattle.agent_model.specs.Agents.{AgentFacts}
 use Rattle.agent_commit_law.specs.Committing.{AsksInSynchronousMode, IsAskedBy, IsSynchronousBody}
 use Rattle.agent_model.specs.Decisions.{asks_sync}
@@ -33,14 +33,14 @@ pub record IsWriteOf (question : Question) (request : SyncRequest) : Type 0 wher
   pub standbys : (revision : ℕ) → IsAskedBy question (sync_key_by request.member revision request.aim)
 
 -- a request of this member with the run and the number of what is waited for is the write of the sync key that is waited for
-abbrev pub IsWriteAsked : (ℕ → Option Asked) → (ℕ → Query) → ℕ → ℕ → Waited → Type 0
-IsWriteAsked named asked m run waited = (i : ℕ) (question : Asked) → named i ≡ Some question → question.member ≡ m → question.run ≡ run → question.sequence ≡ waited.sequence
+abbrev pub IsWriteAsked : (ℕ → Option Asked) → (ℕ → Query) → ℕ → ℕ → PendingQuestion → Type 0
+IsWriteAsked named asked m incarnation waited = (i : ℕ) (question : Asked) → named i ≡ Some question → question.member ≡ m → question.incarnation ≡ incarnation → question.sequence ≡ waited.sequence
     → (request : SyncRequest) × (asked i ≡ SyncQuery request) × IsWriteOf waited.question request
 
 -- what an agent of this member waits for it asked with the mode on; and so it was asked, if it asks for a write of the sync key
 pub record IsAgentSynchronous (named : ℕ → Option Asked) (asked : ℕ → Query) (m : ℕ) (agent : AgentFacts) : Type 0 where
   pub on : AsksInSynchronousMode agent.knows
-  pub writes : ForSome agent.knows.waited (λ waited. asks_sync waited.question ≡ true → IsWriteAsked named asked m agent.knows.run waited)
+  pub writes : ForSome agent.knows.waited (λ waited. asks_sync waited.question ≡ true → IsWriteAsked named asked m agent.knows.incarnation waited)
 
 -- each agent that is there is such, and each question was asked by one of so many members
 pub record AreAgentsSynchronous (count : ℕ) (named : ℕ → Option Asked) (asked : ℕ → Query) (agents : List (Option AgentFacts)) : Type 0 where
@@ -51,11 +51,11 @@ pub record AreAgentsSynchronous (count : ℕ) (named : ℕ → Option Asked) (as
 abbrev pub TellsMembers : ℕ → Flight → Type 0
 TellsMembers count flight = (i : ℕ) (carried : InFlightFacts) → in_flight flight i ≡ Some carried → NamesMembers count (sync_key_of (find key_cmp keys.Sync carried.snapshot))
 
--- what one member asks another has a run and a number that its agents gave
+-- what one member asks another has an incarnation and a number that its agents gave
 abbrev pub IsAskNumbered : State → LinkEnd → ℕ → ℕ → Body → Type 0
-IsAskNumbered s (ends.Member by) run sequence bodies.Ask = IsNumbered (s.members by.id.number) run sequence
-IsAskNumbered s _ run sequence _ = Unit {0}
+IsAskNumbered s (ends.Member by) incarnation sequence bodies.Ask = IsNumbered (s.members by.id.number) incarnation sequence
+IsAskNumbered s _ incarnation sequence _ = Unit {0}
 
--- each ask of one member to another in flight has a run and a number that its agents gave
+-- each ask of one member to another in flight has an incarnation and a number that its agents gave
 abbrev pub AsksAreNumbered : State → Flight → Type 0
-AsksAreNumbered s flight = (i : ℕ) (carried : InFlightFacts) → in_flight flight i ≡ Some carried → IsAskNumbered s carried.message.from carried.message.run carried.message.sequence carried.message.body
+AsksAreNumbered s flight = (i : ℕ) (carried : InFlightFacts) → in_flight flight i ≡ Some carried → IsAskNumbered s carried.message.from carried.message.incarnation carried.message.sequence carried.message.body

@@ -133,9 +133,9 @@ ordered-by head book seen = record {
       (seen.awaited server (read head book key revision) (book-writes head book server ∙ writes) (reads head book key revision holds) standby named));
 }
 
-publishes-by : (head : HeadText) (book : List Event) (member run sequence leader noted : ℕ) (sync : Expected) (standbys : MemberSet)
-    → PublishesSeen (past_of head book) member noted (publish_request member run sequence leader sync standbys) (set_members standbys) → PublishesInOrder (start_in head) book member noted sync standbys
-publishes-by head book member run sequence leader noted sync standbys seen =
+publishes-by : (head : HeadText) (book : List Event) (member incarnation sequence leader noted : ℕ) (sync : Expected) (standbys : MemberSet)
+    → PublishesSeen (past_of head book) member noted (publish_request member incarnation sequence leader sync standbys) (set_members standbys) → PublishesInOrder (start_in head) book member noted sync standbys
+publishes-by head book member incarnation sequence leader noted sync standbys seen =
     let held = holds head book seen.key seen.is in
     let new = λ (standby : ℕ) (added : has held.held.standbys standby ≡ false). ap (λ (f : ℕ → Bool). f standby) (sym held.standbys) ∙ added in
     record {
@@ -169,8 +169,8 @@ order-by-book head book seen = record {
   claims = λ front back tick number leader by sync names whole.
       named-by head front by.id.number
       (at-event head book seen front back (record { tick = tick; kind = kinds.Store (stores.Granted number by (txns.Claim leader sync) names) }) whole);
-  publishes = λ front back tick number run sequence leader by to sync standbys whole.
-      publishes-by head front by.id.number run sequence leader (noted_in head front by.id.number) sync standbys
+  publishes = λ front back tick number incarnation sequence leader by to sync standbys whole.
+      publishes-by head front by.id.number incarnation sequence leader (noted_in head front by.id.number) sync standbys
       (at-event head book seen front back
-      (record { tick = tick; kind = kinds.Message (messages.Sent number (record { from = ends.Member by; to = to; run = run; sequence = sequence; body = bodies.Request (txns.SetSync leader sync standbys) })) }) whole);
+      (record { tick = tick; kind = kinds.Message (messages.Sent number (record { from = ends.Member by; to = to; incarnation = incarnation; sequence = sequence; body = bodies.Request (txns.SetSync leader sync standbys) })) }) whole);
 }

@@ -185,7 +185,7 @@ disarms-none member (Some machine) = holds-cond _ None _ tt (disarm-none member 
 
 restart-none : (cluster : Cluster) (member : Member) (process : AgentProcess) → AllAre LosesNone (events_of cluster (agent_started member process ∷ kinds_of (disarm_at_start member process (machine_of cluster member))))
 restart-none cluster member process = (
-  kind-cond process.running (kinds.Note (AlreadyRunning member)) (kinds.Agent (agents.Started member (process.run + 1))) tt tt,
+  kind-cond process.running (kinds.Note (AlreadyRunning member)) (kinds.Agent (agents.Started member (process.incarnation + 1))) tt tt,
   none-if _ (disarm_at_start member process (machine_of cluster member)) (holds-cond process.running None _ tt (disarms-none member (machine_of cluster member))),
 )
 

@@ -81,11 +81,11 @@ order-none cluster member order all = none-if cluster (option_and_then order (se
 sending-none : (cluster : Cluster) (member : Member) (found : Option AgentProcess) (to : Option LinkEnd) (sequence : ℕ) (body : Body) → AllAre LosesNone (sending_events cluster member found to sequence body)
 sending-none cluster member None to sequence body = tt
 sending-none cluster member (Some process) None sequence body = tt
-sending-none cluster member (Some process) (Some to) sequence body = sends-none cluster (agent_message member to process.run sequence body)
+sending-none cluster member (Some process) (Some to) sequence body = sends-none cluster (agent_message member to process.incarnation sequence body)
 
-replying-none : (cluster : Cluster) (member : Member) (to : Option LinkEnd) (run sequence : ℕ) (body : Body) → AllAre LosesNone (replying_events cluster member to run sequence body)
-replying-none cluster member None run sequence body = tt
-replying-none cluster member (Some to) run sequence body = sends-none cluster (agent_message member to run sequence body)
+replying-none : (cluster : Cluster) (member : Member) (to : Option LinkEnd) (incarnation sequence : ℕ) (body : Body) → AllAre LosesNone (replying_events cluster member to incarnation sequence body)
+replying-none cluster member None incarnation sequence body = tt
+replying-none cluster member (Some to) incarnation sequence body = sends-none cluster (agent_message member to incarnation sequence body)
 
 started-none : (cluster : Cluster) (member : Member) (leader : Option Member) (test : Bool)
     → AllAre LosesNone (events_of cluster (cond test (kinds.Server (servers.StartsAsReplica (server_of member)) ∷ kinds_of (following_of member leader)) []))
@@ -133,8 +133,8 @@ module _ (head : HeadText) where
   upholds-output : (member : Member) (heard : HeardMessage) (output : Output) → UpholdsAlways (losses_told head) (λ cluster. output_events member heard cluster output)
   upholds-output member heard (outputs.Send to sequence body) book cluster good =
       upheld-loseless head book cluster _ good (sending-none cluster member (slice_get cluster.facts.processes member.id.number) (receiver_of cluster.facts.members to) sequence body)
-  upholds-output member heard (outputs.Answer to run sequence answer) book cluster good =
-      upheld-loseless head book cluster _ good (replying-none cluster member (receiver_of cluster.facts.members (targets.Member to)) run sequence (bodies.Answer answer))
+  upholds-output member heard (outputs.Answer to incarnation sequence answer) book cluster good =
+      upheld-loseless head book cluster _ good (replying-none cluster member (receiver_of cluster.facts.members (targets.Member to)) incarnation sequence (bodies.Answer answer))
   upholds-output member heard outputs.Begin book cluster good =
       upheld-for_some (losses_told head) (composable head) book cluster (server_at cluster member) _ good (λ s is. begins-upheld book cluster member s (beginning_of s) good is)
   upholds-output member heard (outputs.StartReplica leader) book cluster good =
@@ -161,7 +161,7 @@ module _ (head : HeadText) where
   upholds-output member heard (outputs.Fed until) book cluster good = upheld-loseless head book cluster _ good (tt, (tt, tt))
   upholds-output member heard outputs.Disarmed book cluster good = upheld-loseless head book cluster _ good (tt, tt)
   upholds-output member heard outputs.CannotArm book cluster good = upheld-loseless head book cluster _ good (tt, tt)
-  upholds-output member heard outputs.Passes book cluster good = upheld-loseless head book cluster _ good (tt, tt)
+  upholds-output member heard outputs.ClaimsOutsideSync book cluster good = upheld-loseless head book cluster _ good (tt, tt)
   upholds-output member heard outputs.PostponesPromotion book cluster good = upheld-loseless head book cluster _ good (tt, tt)
   upholds-output member heard outputs.DisablesWatchdog book cluster good = upheld-loseless head book cluster _ good (tt, tt)
   upholds-output member heard outputs.RunsWithoutKey book cluster good = upheld-loseless head book cluster _ good (tt, tt)
@@ -174,7 +174,7 @@ module _ (head : HeadText) where
       upheld-loseless head book cluster _ good (none-if cluster (told_kind member agent told) (told-holds LosesNone member agent told (λ reply. tt)))
   upholds-output member heard (outputs.HoldTaken until from sequence) book cluster good =
       let found = slice_get cluster.facts.members from.number in
-      let hold = hold_taken member until heard.run sequence in
+      let hold = hold_taken member until heard.incarnation sequence in
       upheld-loseless head book cluster _ good (none-if cluster (option_map hold found) (holds-mapped found hold (λ m. tt)))
 
   -- what an agent does behind an event

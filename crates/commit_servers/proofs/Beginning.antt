@@ -91,7 +91,7 @@ live-aside volatile_states now facts (kinds.Watchdog (watchdogs.Armed member unt
 live-aside volatile_states now facts (kinds.Watchdog (watchdogs.Fed member until basis)) aside is = is
 live-aside volatile_states now facts (kinds.Watchdog (watchdogs.Disarmed member)) aside is = is
 live-aside volatile_states now facts (kinds.Watchdog (watchdogs.Measured member since)) aside is = is
-live-aside volatile_states now facts (kinds.Watchdog (watchdogs.HoldTaken member until from run sequence)) aside is = is
+live-aside volatile_states now facts (kinds.Watchdog (watchdogs.HoldTaken member until from incarnation sequence)) aside is = is
 live-aside volatile_states now facts (kinds.Server happening) aside is = absurd aside
 live-aside volatile_states now facts (kinds.Log happening) aside is = absurd aside
 live-aside volatile_states now facts (kinds.Replication happening) aside is = absurd aside

@@ -163,7 +163,7 @@ watched-sound commits known (watchdogs.Armed member until answer) all = all
 watched-sound commits known (watchdogs.Fed member until basis) all = all
 watched-sound commits known (watchdogs.Disarmed member) all = all
 watched-sound commits known (watchdogs.Measured member since) all = all
-watched-sound commits known (watchdogs.HoldTaken member until from run sequence) all = all
+watched-sound commits known (watchdogs.HoldTaken member until from incarnation sequence) all = all
 
 each-sound : (facts : Facts) (kind : EventKind) → LeavesSound facts kind → Each facts.commits facts.servers → Each (commits_after facts.commits kind) (servers_after (now_after facts.clock kind) facts.servers kind)
 each-sound facts kinds.Tick leaves all = each-mapped (IsServerSound facts.commits) facts.servers (ticked_unless_live (record { 0 = facts.clock + 1 })) (sound-ticked facts.commits (record { 0 = facts.clock + 1 })) all

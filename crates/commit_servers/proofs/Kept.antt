@@ -96,7 +96,7 @@ others-stay now known (kinds.Watchdog (watchdogs.Armed member until answer)) m n
 others-stay now known (kinds.Watchdog (watchdogs.Fed member until basis)) m n here other = refl
 others-stay now known (kinds.Watchdog (watchdogs.Disarmed member)) m n here other = refl
 others-stay now known (kinds.Watchdog (watchdogs.Measured member since)) m n here other = refl
-others-stay now known (kinds.Watchdog (watchdogs.HoldTaken member until from run sequence)) m n here other = refl
+others-stay now known (kinds.Watchdog (watchdogs.HoldTaken member until from incarnation sequence)) m n here other = refl
 others-stay now known _ m n here other = refl
 
 pub others-by : (facts : Facts) (kind : EventKind) (m n : ℕ) → MovesOnly m kind → (n ≡ m → ⊥) → live_in (facts_after facts kind).servers n ≡ live_in facts.servers n

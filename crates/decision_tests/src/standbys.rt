@@ -21,7 +21,7 @@ fn has_plan(
     let view = LeaderView {
         view: leader(rt, seen),
         required,
-        connected,
+        confirmed_positions: connected,
         noted: Some(END),
     };
     has_answer(rt, &plan(&view, seen), &wanted);

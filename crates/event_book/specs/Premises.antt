@@ -21,7 +21,7 @@ use Rattle.event_book.specs.Clock.{now_after}
 pub record Taking : Type 0 where
   pub by : ℕ
   pub from : ℕ
-  pub run : ℕ
+  pub incarnation : ℕ
   pub sequence : ℕ
   pub moment : ℕ
 
@@ -37,12 +37,12 @@ moments_sent_after clock sent _ = sent
 
 -- each hold that was taken, after an event
 abbrev pub taken_after : ℕ → List Taking → EventKind → List Taking
-taken_after clock taken (kinds.Watchdog (watchdogs.HoldTaken member until from run sequence)) = record { by = member.id.number; from = from.id.number; run = run; sequence = sequence; moment = clock } ∷ taken
+taken_after clock taken (kinds.Watchdog (watchdogs.HoldTaken member until from incarnation sequence)) = record { by = member.id.number; from = from.id.number; incarnation = incarnation; sequence = sequence; moment = clock } ∷ taken
 taken_after clock taken _ = taken
 
--- the run of each agent, after an event
+-- the incarnation of each agent, after an event
 abbrev pub runs_after : (ℕ → ℕ) → EventKind → ℕ → ℕ
-runs_after runs (kinds.Agent (agents.Started agent run)) = put_at runs agent.id.number run
+runs_after runs (kinds.Agent (agents.Started agent incarnation)) = put_at runs agent.id.number incarnation
 runs_after runs _ = runs
 
 -- a watchdog is armed or fed at most the margin after this moment; without a margin that is so of each moment
@@ -50,7 +50,7 @@ abbrev pub IsOnTime : Option ℕ → ℕ → ℕ → Type 0
 IsOnTime (Some margin) now moment = now ≤ moment + margin
 IsOnTime None now moment = Unit {0}
 
--- the moments that feeds are measured from: the clock, when each message was sent, each hold that was taken, and the run of each
+-- the moments that feeds are measured from: the clock, when each message was sent, each hold that was taken, and the incarnation of each
 -- agent
 pub record Moments : Type 0 where
   pub clock : ℕ
@@ -67,16 +67,16 @@ moments_after moments kind = record {
   runs = runs_after moments.runs kind;
 }
 
--- before the first event: nothing was sent, no hold was taken, and each agent is in its first run
+-- before the first event: nothing was sent, no hold was taken, and each agent is in its first incarnation
 abbrev pub first_moments : Moments
 first_moments = record { clock = 0; sent = λ i. None; taken = []; runs = λ m. 1 }
 
 -- a feed of this member's watchdog on this basis is measured from this moment: the answer that tells the grant was sent then; or one of the
--- acknowledging members took its hold then for the failsafe request of this number, in its sender's run
+-- acknowledging members took its hold then for the failsafe request of this number, in its sender's incarnation
 abbrev pub IsFedFrom : Moments → ℕ → Basis → ℕ → Type 0
 IsFedFrom moments m (bases.Grant answer) moment = moments.sent answer ≡ Some moment
 IsFedFrom moments m (bases.Acknowledgements members sequence) moment =
-    (by : ℕ) × (set_members members by ≡ true) × IsTaken moments.taken (record { by = by; from = m; run = moments.runs m; sequence = sequence; moment = moment })
+    (by : ℕ) × (set_members members by ≡ true) × IsTaken moments.taken (record { by = by; from = m; incarnation = moments.runs m; sequence = sequence; moment = moment })
 
 -- where this happening arms or feeds a watchdog, this holds of its member and of the basis
 abbrev pub OnWatchdogFeed : (ℕ → Basis → Type 0) → WatchdogEvent → Type 0

@@ -10,9 +10,9 @@ use Rattle.event_book.specs.declared.event.WatchdogEvent.TheVariants as watchdog
 use Rattle.event_book.specs.declared.member.Member.{Member}
 use Rattle.event_book.specs.declared.agent_process.AgentProcess.{AgentProcess}
 
--- an agent in its run of this number
+-- an agent in its incarnation of this number
 abbrev pub running_in : ℕ → AgentProcess
-running_in run = record { running = true; suspended = false; run = run }
+running_in incarnation = record { running = true; suspended = false; incarnation = incarnation }
 
 -- so many agents before the first event
 abbrev pub first_processes : ℕ → List AgentProcess
@@ -32,7 +32,7 @@ abbrev pub processes_by : List AgentProcess → AgentEvent → List AgentProcess
 processes_by states (agents.Suspended agent) = with_member_changed states agent (λ state. record state { suspended = true })
 processes_by states (agents.Resumed agent) = with_member_changed states agent (λ state. record state { suspended = false })
 processes_by states (agents.Killed agent) = with_member_changed states agent ended_process
-processes_by states (agents.Started agent run) = with_member_changed states agent (λ state. running_in run)
+processes_by states (agents.Started agent incarnation) = with_member_changed states agent (λ state. running_in incarnation)
 processes_by states _ = states
 
 -- a reset of its machine ends an agent

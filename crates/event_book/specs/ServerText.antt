@@ -30,7 +30,7 @@ watchdog_line trace tick (watchdogs.Fed member until basis) = fed_line trace tic
 watchdog_line trace tick (watchdogs.Disarmed member) = None
 watchdog_line trace tick (watchdogs.Reset member) = Some (decimal tick ++ (codes " " ++ (name_bytes member.name ++ codes " is reset by its watchdog\n")))
 watchdog_line trace tick (watchdogs.Measured member since) = None
-watchdog_line trace tick (watchdogs.HoldTaken member until from run sequence) = None
+watchdog_line trace tick (watchdogs.HoldTaken member until from incarnation sequence) = None
 
 -- the line of what happens to a server by itself
 abbrev pub own_server_line : ℕ → ServerEvent → Option (List ℕ)

@@ -30,7 +30,7 @@ abbrev pub agent_line : ℕ → AgentEvent → Option (List ℕ)
 agent_line tick (agents.Suspended agent) = Some (decimal tick ++ (codes " " ++ (name_bytes agent.name ++ codes " is held\n")))
 agent_line tick (agents.Resumed agent) = Some (decimal tick ++ (codes " " ++ (name_bytes agent.name ++ codes " resumes\n")))
 agent_line tick (agents.Killed agent) = Some (decimal tick ++ (codes " " ++ (name_bytes agent.name ++ codes " is killed\n")))
-agent_line tick (agents.Started agent run) = Some (decimal tick ++ (codes " " ++ (name_bytes agent.name ++ codes " is started\n")))
+agent_line tick (agents.Started agent incarnation) = Some (decimal tick ++ (codes " " ++ (name_bytes agent.name ++ codes " is started\n")))
 agent_line tick _ = None
 
 -- the line of what happens to a link

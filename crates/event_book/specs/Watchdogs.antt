@@ -31,7 +31,7 @@ prolonged_to until (Some before) = Some (later_of before until)
 
 -- the holds after one was taken, if one was
 abbrev pub holds_by : List (Option Ticks) → WatchdogEvent → List (Option Ticks)
-holds_by holds (watchdogs.HoldTaken member until from run sequence) = with_changed holds member.id.number (prolonged_to until)
+holds_by holds (watchdogs.HoldTaken member until from incarnation sequence) = with_changed holds member.id.number (prolonged_to until)
 holds_by holds _ = holds
 
 -- by member, the moment until which it promised not to take the leader key, if it ever did, after an event

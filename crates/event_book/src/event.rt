@@ -103,13 +103,13 @@ pub enum WatchdogEvent {
         member: Member,
         since: Ticks,
     },
-    /// The member acknowledged the failsafe request of this number in this run of its sender. It doesn't take the
+    /// The member acknowledged the failsafe request of this number in this incarnation of its sender. It doesn't take the
     /// leader key before the moment `until`.
     HoldTaken {
         member: Member,
         until: Ticks,
         from: Member,
-        run: u64,
+        incarnation: u64,
         sequence: u64,
     },
 }
@@ -253,10 +253,10 @@ pub enum AgentEvent {
     Killed {
         agent: Member,
     },
-    /// An agent that had ended was started. This is its run of this number.
+    /// An agent that had ended was started. This is its incarnation of this number.
     Started {
         agent: Member,
-        run: u64,
+        incarnation: u64,
     },
     /// A request of an operator, which passed its checks, came to the agent.
     Operated {

@@ -4,13 +4,13 @@ use lease_store::{Expected, Key, Txn};
 use pat_base::{PeerAnswer, Ticks};
 use std::fmt;
 
-/// A message between an agent and the key store, or between two agents. `run` and `sequence` name the question by the
-/// run of the agent that asks and by the number of the question in that run; an answer has those of its question.
+/// A message between an agent and the key store, or between two agents. `incarnation` and `sequence` name the question by the
+/// incarnation of the agent that asks and by the number of the question in that incarnation; an answer has those of its question.
 #[derive(Debug, Drop)]
 pub struct Message {
     pub from: LinkEnd,
     pub to: LinkEnd,
-    pub run: u64,
+    pub incarnation: u64,
     pub sequence: u64,
     pub body: Body,
 }

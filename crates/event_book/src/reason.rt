@@ -9,7 +9,7 @@ use std::fmt;
 pub enum Basis {
     /// The granted renewal that the answer of this number tells.
     Grant { answer: u64 },
-    /// The acknowledgements of these members, to the failsafe request of this number in its run.
+    /// The acknowledgements of these members, to the failsafe request of this number in its incarnation.
     Acknowledgements { members: MemberSet, sequence: u64 },
 }
 

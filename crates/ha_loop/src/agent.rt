@@ -4,14 +4,14 @@ ghost use Rattle.pat_base.specs.declared.ticks.Ticks.{Ticks};
 ghost use Rattle.lease_law.specs.States.{start_machine};
 ghost use Rattle.agent_model.specs.declared.machine.Machine.{Machine};
 ghost use Rattle.agent_model.specs.declared.heard.Heard.TheVariants as heards;
-ghost use Rattle.agent_model.specs.Agents.{AgentFacts, RoleFacts, IsSound, IsWithin, Follower, word_of, fresh_knowledge, made, most_messages};
+ghost use Rattle.agent_model.specs.Agents.{AgentFacts, RoleFacts, IsSound, IsWithin, Follower, word_of, fresh_knowledge, outcome_from, most_messages};
 ghost use Rattle.pat_base.specs.Moments.{latest};
 ghost use Rattle.agent_turn.specs.Roles.{role_of};
 ghost use Rattle.agent_commit_law.specs.Committing.{CommitsFrom};
 ghost use Rattle.agent_model.specs.Bounds.{IsSmall};
 ghost use Rattle.agent_succession.specs.FreeKey.{AsksWhereFree, AsksWhereWon, BeginsWhereGranted};
 ghost use Rattle.agent_answers.specs.OperatorAnswers.{told_in, AnswersOneAtMost, HaveCauses, TellsDecision, WaitsAsAsked};
-ghost use Rattle.agent_model.specs.Before.{before};
+ghost use Rattle.agent_model.specs.Reconciling.{reconciled};
 ghost use Rattle.agent_rules.specs.Grounds.{HasGrounds};
 ghost use Rattle.agent_lease_law.specs.Lawful.{IsLawfulFrom};
 ghost use Rattle.agent_model.specs.Outputs.{most_outputs};
@@ -30,7 +30,7 @@ use pat_base::{MemberSet, State, Ticks};
 use std::marker::Model;
 use wal_model::History;
 
-/// How many messages a run may send.
+/// How many messages an incarnation may send.
 const MOST: u64 = 1 << 60;
 
 /// The agent of a member. It holds the leader key's values, so it can't be copied or dropped: `Agent::wreck` ends one.
@@ -52,28 +52,28 @@ impl Model for Agent {
 }
 
 impl Agent {
-    /// An agent starts, in its run of this number. Its first turn is due in the next tick. A watchdog over a server that isn't
+    /// An agent starts, in its incarnation of this number. Its first turn is due in the next tick. A watchdog over a server that isn't
     /// live is disarmed: nobody would feed it.
-    pub fn start(who: Who, now: Ticks, run: u64, machine: &mut Machine) -> Agent
+    pub fn start(who: Who, now: Ticks, incarnation: u64, machine: &mut Machine) -> Agent
         requires { now.0 ≤ latest }
-        ensures agent { result ≡ record { role = Follower; knows = fresh_knowledge who (record { 0 = now.0 + 1 }) run } }
+        ensures agent { result ≡ record { role = Follower; knows = fresh_knowledge who (record { 0 = now.0 + 1 }) incarnation } }
         ensures machine { machine.new ≡ started_machine machine.old }
-        ensures law { (runs : ℕ) (by_failsafe : Bool) → run ≡ runs + 1 → machine_seen result.role result.knows machine.new by_failsafe run ≡ start_machine (machine_with None machine.old by_failsafe runs) }
+        ensures law { (runs : ℕ) (by_failsafe : Bool) → incarnation ≡ runs + 1 → machine_seen result.role result.knows machine.new by_failsafe incarnation ≡ start_machine (machine_with None machine.old by_failsafe runs) }
     {
         if !machine.server.state.live() {
             machine.watchdog.disarm();
         }
-        Agent::begin(who, now, run)
+        Agent::begin(who, now, incarnation)
     }
 
-    /// An agent in its run of this number. Its first turn is due in the tick after this moment.
-    pub fn begin(who: Who, now: Ticks, run: u64) -> Agent
+    /// An agent in its incarnation of this number. Its first turn is due in the tick after this moment.
+    pub fn begin(who: Who, now: Ticks, incarnation: u64) -> Agent
         requires { now.0 ≤ latest }
-        ensures { result ≡ record { role = Follower; knows = fresh_knowledge who (record { 0 = now.0 + 1 }) run } }
+        ensures { result ≡ record { role = Follower; knows = fresh_knowledge who (record { 0 = now.0 + 1 }) incarnation } }
     {
         Agent {
             role: Role::Follower,
-            knows: fresh_knowledge(who, Ticks(now.0 + 1), run),
+            knows: fresh_knowledge(who, Ticks(now.0 + 1), incarnation),
         }
     }
 
@@ -107,23 +107,23 @@ impl Agent {
         requires server { IsWithin machine.old.server }
         requires numbers { self.knows.sequence + most_outputs ≤ most_messages }
         requires room { most_outputs ≤ out.old.spare }
-        ensures outcome { made result.role result.knows machine.new out.new.outputs ≡ step now history.now.points heard (made self.role self.knows machine.old out.old.outputs) }
-        ensures lawful { out.old.outputs ≡ [] → IsLawfulFrom now heard (made self.role self.knows machine.old []) (made result.role result.knows machine.new out.new.outputs) }
+        ensures outcome { outcome_from result.role result.knows machine.new out.new.outputs ≡ step now history.now.points heard (outcome_from self.role self.knows machine.old out.old.outputs) }
+        ensures lawful { out.old.outputs ≡ [] → IsLawfulFrom now heard (outcome_from self.role self.knows machine.old []) (outcome_from result.role result.knows machine.new out.new.outputs) }
         // What it asks for, begins, repairs and gives back has its grounds.
-        ensures grounds { out.old.outputs ≡ [] → HasGrounds now heard (before now (made self.role self.knows machine.old [])) (made result.role result.knows machine.new out.new.outputs) }
-        ensures commits { out.old.outputs ≡ [] → CommitsFrom now heard (made self.role self.knows machine.old []) (made result.role result.knows machine.new out.new.outputs) }
+        ensures grounds { out.old.outputs ≡ [] → HasGrounds now heard (reconciled now (outcome_from self.role self.knows machine.old [])) (outcome_from result.role result.knows machine.new out.new.outputs) }
+        ensures commits { out.old.outputs ≡ [] → CommitsFrom now heard (outcome_from self.role self.knows machine.old []) (outcome_from result.role result.knows machine.new out.new.outputs) }
         // A free leader key is asked for, by whom nothing bars and who wins; and whom it is granted to begins.
-        ensures free_key { AsksWhereFree now heard (prepared now heard (made self.role self.knows machine.old out.old.outputs)) (made result.role result.knows machine.new out.new.outputs) }
-        ensures won_race { AsksWhereWon now heard (prepared now heard (made self.role self.knows machine.old out.old.outputs)) (made result.role result.knows machine.new out.new.outputs) }
-        ensures granted_key { BeginsWhereGranted now heard (prepared now heard (made self.role self.knows machine.old out.old.outputs)) (made result.role result.knows machine.new out.new.outputs) }
+        ensures free_key { AsksWhereFree now heard (prepared now heard (outcome_from self.role self.knows machine.old out.old.outputs)) (outcome_from result.role result.knows machine.new out.new.outputs) }
+        ensures won_race { AsksWhereWon now heard (prepared now heard (outcome_from self.role self.knows machine.old out.old.outputs)) (outcome_from result.role result.knows machine.new out.new.outputs) }
+        ensures granted_key { BeginsWhereGranted now heard (prepared now heard (outcome_from self.role self.knows machine.old out.old.outputs)) (outcome_from result.role result.knows machine.new out.new.outputs) }
         // An operator is answered at most once, and for a cause; at once, where the key store's decision on it is heard. What waits for
         // a result waited before, or is heard.
-        ensures answers { out.old.outputs ≡ [] → AnswersOneAtMost now heard (made self.role self.knows machine.old []) (made result.role result.knows machine.new out.new.outputs) (told_in out.new.outputs) }
+        ensures answers { out.old.outputs ≡ [] → AnswersOneAtMost now heard (outcome_from self.role self.knows machine.old []) (outcome_from result.role result.knows machine.new out.new.outputs) (told_in out.new.outputs) }
         ensures causes { out.old.outputs ≡ [] → HaveCauses now heard self.knows out.new.outputs }
         ensures decisions { out.old.outputs ≡ [] → TellsDecision heard self.knows out.new.outputs }
-        ensures waits { out.old.outputs ≡ [] → WaitsAsAsked now heard (made self.role self.knows machine.old []) (made result.role result.knows machine.new out.new.outputs) }
+        ensures waits { out.old.outputs ≡ [] → WaitsAsAsked now heard (outcome_from self.role self.knows machine.old []) (outcome_from result.role result.knows machine.new out.new.outputs) }
         // It brings at most 40 messages and 40 outputs, and asks the key store for leases that it can write.
-        ensures small { IsSmall (made self.role self.knows machine.old out.old.outputs) (made result.role result.knows machine.new out.new.outputs) }
+        ensures small { IsSmall (outcome_from self.role self.knows machine.old out.old.outputs) (outcome_from result.role result.knows machine.new out.new.outputs) }
         ensures numbers { result.knows.sequence ≤ self.knows.sequence + most_outputs }
         ensures room { out.old.spare ≤ out.new.spare + most_outputs }
     {
@@ -145,28 +145,28 @@ impl Agent {
         requires server { IsWithin machine.old.server }
         requires numbers { self.knows.sequence + most_outputs ≤ most_messages }
         requires room { most_outputs ≤ out.old.spare }
-        ensures outcome { made result.role result.knows machine.new out.new.outputs ≡ step now history.now.points (heards.Operated action) (made self.role self.knows machine.old out.old.outputs) }
-        ensures lawful { out.old.outputs ≡ [] → IsLawfulFrom now (heards.Operated action) (made self.role self.knows machine.old []) (made result.role result.knows machine.new out.new.outputs) }
-        ensures grounds { out.old.outputs ≡ [] → HasGrounds now (heards.Operated action) (before now (made self.role self.knows machine.old [])) (made result.role result.knows machine.new out.new.outputs) }
-        ensures commits { out.old.outputs ≡ [] → CommitsFrom now (heards.Operated action) (made self.role self.knows machine.old []) (made result.role result.knows machine.new out.new.outputs) }
+        ensures outcome { outcome_from result.role result.knows machine.new out.new.outputs ≡ step now history.now.points (heards.Operated action) (outcome_from self.role self.knows machine.old out.old.outputs) }
+        ensures lawful { out.old.outputs ≡ [] → IsLawfulFrom now (heards.Operated action) (outcome_from self.role self.knows machine.old []) (outcome_from result.role result.knows machine.new out.new.outputs) }
+        ensures grounds { out.old.outputs ≡ [] → HasGrounds now (heards.Operated action) (reconciled now (outcome_from self.role self.knows machine.old [])) (outcome_from result.role result.knows machine.new out.new.outputs) }
+        ensures commits { out.old.outputs ≡ [] → CommitsFrom now (heards.Operated action) (outcome_from self.role self.knows machine.old []) (outcome_from result.role result.knows machine.new out.new.outputs) }
         // It answers no other request than this one, and no other comes to wait.
-        ensures answers { out.old.outputs ≡ [] → AnswersOneAtMost now (heards.Operated action) (made self.role self.knows machine.old []) (made result.role result.knows machine.new out.new.outputs) (told_in out.new.outputs) }
+        ensures answers { out.old.outputs ≡ [] → AnswersOneAtMost now (heards.Operated action) (outcome_from self.role self.knows machine.old []) (outcome_from result.role result.knows machine.new out.new.outputs) (told_in out.new.outputs) }
         ensures causes { out.old.outputs ≡ [] → HaveCauses now (heards.Operated action) self.knows out.new.outputs }
-        ensures waits { out.old.outputs ≡ [] → WaitsAsAsked now (heards.Operated action) (made self.role self.knows machine.old []) (made result.role result.knows machine.new out.new.outputs) }
+        ensures waits { out.old.outputs ≡ [] → WaitsAsAsked now (heards.Operated action) (outcome_from self.role self.knows machine.old []) (outcome_from result.role result.knows machine.new out.new.outputs) }
         ensures numbers { result.knows.sequence ≤ self.knows.sequence + most_outputs }
         ensures room { out.old.spare ≤ out.new.spare + most_outputs }
     {
         self.step(now, Heard::Operated { action }, history, machine, out)
     }
 
-    /// How many messages of this run are left.
+    /// How many messages of this incarnation are left.
     pub fn room(&self) -> u64
         ensures { result ≡ most_messages - self.now.knows.sequence }
     {
         MOST.saturating_sub(self.knows.sequence)
     }
 
-    /// The number that its next message in this run has.
+    /// The number that its next message in this incarnation has.
     pub fn next_number(&self) -> u64
         requires { self.now.knows.sequence < most_messages }
         ensures { result ≡ self.now.knows.sequence + 1 }
@@ -193,7 +193,7 @@ impl Agent {
     pub fn wreck(self) {
         let Agent { role, knows: _ } = self;
         match role {
-            Role::Follower | Role::Stray => {}
+            Role::Follower | Role::Unleased => {}
             Role::Holder(lease) => lease.lost(),
             Role::Ready(armed) => armed.wreck(),
             Role::Leader(writer) | Role::Ending(writer, _) => writer.wreck(),
@@ -202,14 +202,14 @@ impl Agent {
 }
 
 /// What an agent knows as it starts.
-fn fresh_knowledge(who: Who, first: Ticks, run: u64) -> Knowledge
-    ensures knows { result ≡ fresh_knowledge who first run }
+fn fresh_knowledge(who: Who, first: Ticks, incarnation: u64) -> Knowledge
+    ensures knows { result ≡ fresh_knowledge who first incarnation }
     ensures sound { IsSound result }
 {
     Knowledge {
         answers: Answers::none(&who),
         who,
-        run,
+        incarnation,
         waited: None,
         sequence: 0,
         last_turn: None,
@@ -245,7 +245,7 @@ fn hear(
     requires server { IsWithin machine.old.server }
     requires numbers { knows.old.sequence + most_outputs ≤ most_messages }
     requires room { most_outputs ≤ out.old.spare }
-    ensures outcome { made (role_of result) knows.new machine.new out.new.outputs ≡ step now history.now.points heard (made (role_of role) knows.old machine.old out.old.outputs) }
+    ensures outcome { outcome_from (role_of result) knows.new machine.new out.new.outputs ≡ step now history.now.points heard (outcome_from (role_of role) knows.old machine.old out.old.outputs) }
     ensures sound { IsSound knows.new }
     ensures numbers { knows.new.sequence ≤ knows.old.sequence + most_outputs }
     ensures room { out.old.spare ≤ out.new.spare + most_outputs }

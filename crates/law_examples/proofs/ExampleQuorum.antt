@@ -19,7 +19,7 @@ abbrev renews3 : AgentInput
 renews3 = resting (leading 3 (Some 3) 0) true Nobody None
 
 abbrev publish4 : SyncRequest
-publish4 = record { member = 0; run = 1; sequence = 4; leader = 4; sync = Some 3; aim = PublishStandbys two 2 }
+publish4 = record { member = 0; incarnation = 1; sequence = 4; leader = 4; sync = Some 3; aim = PublishStandbys two 2 }
 
 abbrev publishes4 : AgentInput
 publishes4 = sending (leading 4 (Some 4) 0) true Nobody 13 14 publish4
@@ -34,7 +34,7 @@ abbrev renews6 : AgentInput
 renews6 = resting (leading 6 (Some 6) 8) true (AtLeast 1 two) None
 
 abbrev publish7 : SyncRequest
-publish7 = record { member = 0; run = 1; sequence = 7; leader = 7; sync = Some 5; aim = PublishStandbys two 1 }
+publish7 = record { member = 0; incarnation = 1; sequence = 7; leader = 7; sync = Some 5; aim = PublishStandbys two 1 }
 
 abbrev publishes7 : AgentInput
 publishes7 = sending (leading 7 (Some 7) 8) true (AtLeast 1 two) 17 18 publish7
@@ -58,19 +58,19 @@ abbrev wins1 : AgentInput
 wins1 = resting (record (idle 1 None) { turn = Some key; won = true }) false Nobody None
 
 abbrev take0 : SyncRequest
-take0 = record { member = 0; run = 1; sequence = 1; leader = 0; sync = None; aim = CreateLeader }
+take0 = record { member = 0; incarnation = 1; sequence = 1; leader = 0; sync = None; aim = CreateLeader }
 
 abbrev creates0 : AgentInput
 creates0 = record { heard = None; agent = idle 1 (Some 1); live = false; required = Nobody; sends = Some (record { number = 9; request = take0 }); holder_was_live = false }
 
 abbrev take1 : SyncRequest
-take1 = record { member = 1; run = 1; sequence = 2; leader = 0; sync = Some 8; aim = CreateLeader }
+take1 = record { member = 1; incarnation = 1; sequence = 2; leader = 0; sync = Some 8; aim = CreateLeader }
 
 abbrev creates1 : AgentInput
 creates1 = record { heard = None; agent = record (idle 2 (Some 2)) { turn = Some key; won = true }; live = false; required = Nobody; sends = Some (record { number = 25; request = take1 }); holder_was_live = false }
 
 abbrev claim1 : SyncRequest
-claim1 = record { member = 1; run = 1; sequence = 3; leader = 9; sync = Some 8; aim = ClaimSync }
+claim1 = record { member = 1; incarnation = 1; sequence = 3; leader = 9; sync = Some 8; aim = ClaimSync }
 
 abbrev arms1 : AgentInput
 arms1 = sending (record (idle 3 (Some 3)) { turn = Some key; won = true; ready = true }) false Nobody 22 23 claim1
@@ -403,7 +403,7 @@ law0 = (
   record {
     was = fresh_agent 1;
     was_is = refl;
-    run = refl;
+    incarnation = refl;
     last = omega arith;
     waits = new-waits 0 1 None (omega arith);
     holder_was_live = inl refl;
@@ -412,7 +412,7 @@ law0 = (
       not_live = refl;
       turn = stays (fresh_agent 1) creates0.agent refl refl (λ e. e);
       request = take0;
-      sends = record { number = 9; is = refl; member = refl; run = refl; later = omega arith; counted = omega arith; waits = refl };
+      sends = record { number = 9; is = refl; member = refl; incarnation = refl; later = omega arith; counted = omega arith; waits = refl };
       aim = refl;
       leader = refl;
       sync = refl;
@@ -426,18 +426,18 @@ law2 = (
   record {
     was = creates0.agent;
     was_is = refl;
-    run = refl;
+    incarnation = refl;
     last = omega arith;
     waits = new-waits 1 2 (Some 1) (omega arith);
     holder_was_live = inl refl;
     does = Arming (record {
-      grant = record { member = 0; run = 1; sequence = 1; revision = 2; sync = None };
-      hears = record { number = 10; heard = refl; is = refl; member = refl; run = refl; waits = refl };
+      grant = record { member = 0; incarnation = 1; sequence = 1; revision = 2; sync = None };
+      hears = record { number = 10; heard = refl; is = refl; member = refl; incarnation = refl; waits = refl };
       keeps = record { live = refl; required = refl };
       not_live = refl;
       turn = stays creates0.agent arms0.agent refl refl (λ e. e);
       request = claim0;
-      sends = record { number = 11; is = refl; member = refl; run = refl; later = omega arith; counted = omega arith; waits = refl };
+      sends = record { number = 11; is = refl; member = refl; incarnation = refl; later = omega arith; counted = omega arith; waits = refl };
       aim = refl;
       leader = refl;
       sync = refl;
@@ -453,13 +453,13 @@ law4 = (
   record {
     was = arms0.agent;
     was_is = refl;
-    run = refl;
+    incarnation = refl;
     last = omega arith;
     waits = same-waits 2 (Some 2) None refl;
     holder_was_live = inl refl;
     does = Promoting (record {
-      sync_grant = record { member = 0; run = 1; sequence = 2; key = (record { leader = 0; standbys = (λ n. false); quorum = 0; revision = 3 }) };
-      hears = record { number = 12; heard = refl; is = refl; member = refl; run = refl; waits = refl };
+      sync_grant = record { member = 0; incarnation = 1; sequence = 2; key = (record { leader = 0; standbys = (λ n. false); quorum = 0; revision = 3 }) };
+      hears = record { number = 12; heard = refl; is = refl; member = refl; incarnation = refl; waits = refl };
       was_ready = refl;
       ready = refl;
       required = refl;
@@ -477,7 +477,7 @@ law8 = (
   record {
     was = begins0.agent;
     was_is = refl;
-    run = refl;
+    incarnation = refl;
     last = omega arith;
     waits = new-waits 2 3 None (omega arith);
     holder_was_live = inl refl;
@@ -491,13 +491,13 @@ law10 = (
   record {
     was = renews3.agent;
     was_is = refl;
-    run = refl;
+    incarnation = refl;
     last = omega arith;
     waits = new-waits 3 4 (Some 3) (omega arith);
     holder_was_live = inl refl;
     does = Publishing (record {
-      grant = record { member = 0; run = 1; sequence = 3; revision = 4; sync = Some (record { leader = 0; standbys = (λ n. false); quorum = 0; revision = 3 }) };
-      hears = record { number = 13; heard = refl; is = refl; member = refl; run = refl; waits = refl };
+      grant = record { member = 0; incarnation = 1; sequence = 3; revision = 4; sync = Some (record { leader = 0; standbys = (λ n. false); quorum = 0; revision = 3 }) };
+      hears = record { number = 13; heard = refl; is = refl; member = refl; incarnation = refl; waits = refl };
       keeps = record { live = refl; required = refl };
       live = refl;
       led = refl;
@@ -507,7 +507,7 @@ law10 = (
       key = (record { leader = 0; standbys = (λ n. false); quorum = 0; revision = 3 });
       key_is = refl;
       request = publish4;
-      sends = record { number = 14; is = refl; member = refl; run = refl; later = omega arith; counted = omega arith; waits = refl };
+      sends = record { number = 14; is = refl; member = refl; incarnation = refl; later = omega arith; counted = omega arith; waits = refl };
       leader = refl;
       sync = refl;
       standbys = two;
@@ -526,7 +526,7 @@ law12 = (
   record {
     was = publishes4.agent;
     was_is = refl;
-    run = refl;
+    incarnation = refl;
     last = omega arith;
     waits = new-waits 4 5 (Some 4) (omega arith);
     holder_was_live = inl refl;
@@ -540,13 +540,13 @@ law14 = (
   record {
     was = renews5.agent;
     was_is = refl;
-    run = refl;
+    incarnation = refl;
     last = omega arith;
     waits = same-waits 5 (Some 5) None refl;
     holder_was_live = inl refl;
     does = ChangingRequired (record {
-      grant = record { member = 0; run = 1; sequence = 5; revision = 6; sync = Some (record { leader = 0; standbys = two; quorum = 2; revision = 5 }) };
-      hears = record { number = 16; heard = refl; is = refl; member = refl; run = refl; waits = refl };
+      grant = record { member = 0; incarnation = 1; sequence = 5; revision = 6; sync = Some (record { leader = 0; standbys = two; quorum = 2; revision = 5 }) };
+      hears = record { number = 16; heard = refl; is = refl; member = refl; incarnation = refl; waits = refl };
       live = refl;
       sends = refl;
       ready = λ e. e;
@@ -566,7 +566,7 @@ law15 = (
   record {
     was = requires5.agent;
     was_is = refl;
-    run = refl;
+    incarnation = refl;
     last = omega arith;
     waits = new-waits 5 6 None (omega arith);
     holder_was_live = inl refl;
@@ -580,13 +580,13 @@ law17 = (
   record {
     was = renews6.agent;
     was_is = refl;
-    run = refl;
+    incarnation = refl;
     last = omega arith;
     waits = new-waits 6 7 (Some 6) (omega arith);
     holder_was_live = inl refl;
     does = Publishing (record {
-      grant = record { member = 0; run = 1; sequence = 6; revision = 7; sync = Some (record { leader = 0; standbys = two; quorum = 2; revision = 5 }) };
-      hears = record { number = 17; heard = refl; is = refl; member = refl; run = refl; waits = refl };
+      grant = record { member = 0; incarnation = 1; sequence = 6; revision = 7; sync = Some (record { leader = 0; standbys = two; quorum = 2; revision = 5 }) };
+      hears = record { number = 17; heard = refl; is = refl; member = refl; incarnation = refl; waits = refl };
       keeps = record { live = refl; required = refl };
       live = refl;
       led = refl;
@@ -596,7 +596,7 @@ law17 = (
       key = (record { leader = 0; standbys = two; quorum = 2; revision = 5 });
       key_is = refl;
       request = publish7;
-      sends = record { number = 18; is = refl; member = refl; run = refl; later = omega arith; counted = omega arith; waits = refl };
+      sends = record { number = 18; is = refl; member = refl; incarnation = refl; later = omega arith; counted = omega arith; waits = refl };
       leader = refl;
       sync = refl;
       standbys = two;
@@ -615,7 +615,7 @@ law26 = (
   record {
     was = fresh_agent 1;
     was_is = refl;
-    run = refl;
+    incarnation = refl;
     last = omega arith;
     waits = same-waits 0 None None refl;
     holder_was_live = inl refl;
@@ -640,7 +640,7 @@ law28 = (
   record {
     was = races1.agent;
     was_is = refl;
-    run = refl;
+    incarnation = refl;
     last = omega arith;
     waits = same-waits 1 None None refl;
     holder_was_live = inl refl;
@@ -650,11 +650,11 @@ law28 = (
       turn = refl;
       won = λ e. e;
       number = 21;
-      race_answer = record { member = 1; run = 1; sequence = 1; by = 2; end = 8 };
+      race_answer = record { member = 1; incarnation = 1; sequence = 1; by = 2; end = 8 };
       heard = refl;
       is = refl;
       member = refl;
-      run = refl;
+      incarnation = refl;
       before = race;
       before_is = refl;
       sequence = refl;
@@ -672,7 +672,7 @@ law29 = (
   record {
     was = hears1.agent;
     was_is = refl;
-    run = refl;
+    incarnation = refl;
     last = omega arith;
     waits = same-waits 1 None None refl;
     holder_was_live = inl refl;
@@ -703,7 +703,7 @@ law30 = (
   record {
     was = wins1.agent;
     was_is = refl;
-    run = refl;
+    incarnation = refl;
     last = omega arith;
     waits = new-waits 1 2 None (omega arith);
     holder_was_live = inl refl;
@@ -712,7 +712,7 @@ law30 = (
       not_live = refl;
       turn = stays wins1.agent creates1.agent refl refl (λ e. e);
       request = take1;
-      sends = record { number = 25; is = refl; member = refl; run = refl; later = omega arith; counted = omega arith; waits = refl };
+      sends = record { number = 25; is = refl; member = refl; incarnation = refl; later = omega arith; counted = omega arith; waits = refl };
       aim = refl;
       leader = refl;
       sync = refl;
@@ -726,18 +726,18 @@ law32 = (
   record {
     was = creates1.agent;
     was_is = refl;
-    run = refl;
+    incarnation = refl;
     last = omega arith;
     waits = new-waits 2 3 (Some 2) (omega arith);
     holder_was_live = inl refl;
     does = Arming (record {
-      grant = record { member = 1; run = 1; sequence = 2; revision = 9; sync = Some key };
-      hears = record { number = 22; heard = refl; is = refl; member = refl; run = refl; waits = refl };
+      grant = record { member = 1; incarnation = 1; sequence = 2; revision = 9; sync = Some key };
+      hears = record { number = 22; heard = refl; is = refl; member = refl; incarnation = refl; waits = refl };
       keeps = record { live = refl; required = refl };
       not_live = refl;
       turn = stays creates1.agent arms1.agent refl refl (λ e. e);
       request = claim1;
-      sends = record { number = 23; is = refl; member = refl; run = refl; later = omega arith; counted = omega arith; waits = refl };
+      sends = record { number = 23; is = refl; member = refl; incarnation = refl; later = omega arith; counted = omega arith; waits = refl };
       aim = refl;
       leader = refl;
       sync = refl;
@@ -753,13 +753,13 @@ law34 = (
   record {
     was = arms1.agent;
     was_is = refl;
-    run = refl;
+    incarnation = refl;
     last = omega arith;
     waits = same-waits 3 (Some 3) None refl;
     holder_was_live = inl refl;
     does = Promoting (record {
-      sync_grant = record { member = 1; run = 1; sequence = 3; key = (record { leader = 1; standbys = (λ n. false); quorum = 0; revision = 10 }) };
-      hears = record { number = 24; heard = refl; is = refl; member = refl; run = refl; waits = refl };
+      sync_grant = record { member = 1; incarnation = 1; sequence = 3; key = (record { leader = 1; standbys = (λ n. false); quorum = 0; revision = 10 }) };
+      hears = record { number = 24; heard = refl; is = refl; member = refl; incarnation = refl; waits = refl };
       was_ready = refl;
       ready = refl;
       required = refl;

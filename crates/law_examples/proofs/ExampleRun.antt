@@ -46,13 +46,13 @@ abbrev create : MemberInfo → Txn
 create info = txns.Create info (record { 0 = 300 }) None None
 
 abbrev asking : Name → MemberInfo → List Event
-asking name info = at0 (kinds.Message (messages.Sent 1 (record { from = ends.Member (member name); to = ends.Store; run = 1; sequence = 1; body = bodies.Request (create info) }))) ∷ []
+asking name info = at0 (kinds.Message (messages.Sent 1 (record { from = ends.Member (member name); to = ends.Store; incarnation = 1; sequence = 1; body = bodies.Request (create info) }))) ∷ []
 
 abbrev granting : Name → MemberInfo → List Name → List Event
 granting name info standbys =
     at0 (kinds.Message (messages.Delivered 1))
     ∷ at0 (kinds.Store (stores.Granted 1 (member name) (create info) standbys))
-    ∷ at0 (kinds.Message (messages.Sent 2 (record { from = ends.Store; to = ends.Member (member name); run = 1; sequence = 1; body = bodies.Granted 1 true })))
+    ∷ at0 (kinds.Message (messages.Sent 2 (record { from = ends.Store; to = ends.Member (member name); incarnation = 1; sequence = 1; body = bodies.Granted 1 true })))
     ∷ []
 
 abbrev beginning : Name → List Event
@@ -106,13 +106,13 @@ abbrev s2 : Name → MemberInfo → List Name → State
 s2 name info standbys = state_of declared (past2 name info standbys) asked_volatile_states
 
 abbrev question : Question
-question = record { member = 0; run = 1; sequence = 1; sent = 0; query = Create 300 None }
+question = record { member = 0; incarnation = 1; sequence = 1; sent = 0; query = Create 300 None }
 
 abbrev grant : Grant
 grant = record { revision = 2; sent = 0; moment = 0; ttl = 300; failsafe = None }
 
 abbrev answer : Answer
-answer = record { member = 0; run = 1; sequence = 1; leader = Some (record { holder = 0; revision = 2 }); failsafe = None; grant = Some grant }
+answer = record { member = 0; incarnation = 1; sequence = 1; leader = Some (record { holder = 0; revision = 2 }); failsafe = None; grant = Some grant }
 
 at-rest : (name : Name) (info : MemberInfo) → Acts (asks name info).machine → ⊥
 at-rest name info (inl e) = both e
@@ -125,7 +125,7 @@ asks-lawful name info = record {
   agent = waiting;
   agent_is = refl;
   runs = refl;
-  run = refl;
+  incarnation = refl;
   last = omega arith;
   watchdog = Removed (at-rest name info);
   hold = omega arith;
@@ -134,7 +134,7 @@ asks-lawful name info = record {
   ready_by_grant = λ r. refl;
   gone = λ number e. absurd (none-some number e);
   flight = put-all (λ i. None) 1 (Some (Requested question)) (λ i o. (f : Flying) → o ≡ Some f → ◌≡◌ {A = Option Flying} None (Some f) ⊎ MaySend s0 0 (asks name info) (fresh_agent 1) waiting f)
-      (λ f e. inr (subst (λ (x : Flying). MaySend s0 0 (asks name info) (fresh_agent 1) waiting x) (some-is (Requested question) f e) (record { member = refl; run = refl; later = omega arith; counted = omega arith; sent = refl; query = refl })))
+      (λ f e. inr (subst (λ (x : Flying). MaySend s0 0 (asks name info) (fresh_agent 1) waiting x) (some-is (Requested question) f e) (record { member = refl; incarnation = refl; later = omega arith; counted = omega arith; sent = refl; query = refl })))
       (λ i other f e. inl e);
   failsafe_check = λ b e. absurd (none-some b e);
   known = λ p e. e;
@@ -150,7 +150,7 @@ abbrev fed : (name : Name) (info : MemberInfo) (standbys : List Name) → FedKno
 fed name info standbys = record {
   fed = record {
     grant = grant;
-    hears = record { number = 2; answer = answer; heard_is = refl; is = refl; member = refl; grant_is = refl; waited = record { agent = waiting; is = refl; run = refl; sequence = refl } };
+    hears = record { number = 2; answer = answer; heard_is = refl; is = refl; member = refl; grant_is = refl; waited = record { agent = waiting; is = refl; incarnation = refl; sequence = refl } };
     deadline = 250;
     deadline_is = (omega arith, omega arith);
   };
@@ -173,7 +173,7 @@ hears-lawful name info standbys = record {
   agent = leading;
   agent_is = refl;
   runs = refl;
-  run = refl;
+  incarnation = refl;
   last = omega arith;
   watchdog = SetByGrant (fed name info standbys) refl refl (λ a. inr (omega arith));
   hold = omega arith;

@@ -39,7 +39,7 @@ abbrev pub asks : AgentInput
 asks = resting (idle 1 (Some 1)) false Nobody None
 
 abbrev pub claim0 : SyncRequest
-claim0 = record { member = 0; run = 1; sequence = 2; leader = 2; sync = None; aim = ClaimSync }
+claim0 = record { member = 0; incarnation = 1; sequence = 2; leader = 2; sync = None; aim = ClaimSync }
 
 abbrev pub arms0 : AgentInput
 arms0 = sending (record (idle 2 (Some 2)) { ready = true }) false Nobody 10 11 claim0
@@ -57,7 +57,7 @@ abbrev renews4 : AgentInput
 renews4 = resting (leading 4 (Some 4) 16) true (All one) None
 
 abbrev publish0 : SyncRequest
-publish0 = record { member = 0; run = 1; sequence = 5; leader = 5; sync = Some 3; aim = PublishStandbys one 0 }
+publish0 = record { member = 0; incarnation = 1; sequence = 5; leader = 5; sync = Some 3; aim = PublishStandbys one 0 }
 
 abbrev publishes0 : AgentInput
 publishes0 = sending (leading 5 (Some 5) 16) true (All one) 14 15 publish0
@@ -69,7 +69,7 @@ abbrev turns1 : AgentInput
 turns1 = resting (record (idle 1 (Some 1)) { turn = Some key1 }) false Nobody (Some 17)
 
 abbrev claim1 : SyncRequest
-claim1 = record { member = 1; run = 1; sequence = 2; leader = 7; sync = Some 6; aim = ClaimSync }
+claim1 = record { member = 1; incarnation = 1; sequence = 2; leader = 7; sync = Some 6; aim = ClaimSync }
 
 abbrev arms1 : AgentInput
 arms1 = sending (record (idle 2 (Some 2)) { turn = Some key1; ready = true }) false Nobody 18 19 claim1
@@ -313,7 +313,7 @@ law0 = (
   record {
     was = fresh_agent 1;
     was_is = refl;
-    run = refl;
+    incarnation = refl;
     last = omega arith;
     waits = new-waits 0 1 None (omega arith);
     holder_was_live = inl refl;
@@ -330,18 +330,18 @@ law2 = (
   record {
     was = asks.agent;
     was_is = refl;
-    run = refl;
+    incarnation = refl;
     last = omega arith;
     waits = new-waits 1 2 (Some 1) (omega arith);
     holder_was_live = inl refl;
     does = Arming (record {
-      grant = record { member = 0; run = 1; sequence = 1; revision = 2; sync = None };
-      hears = record { number = 10; heard = refl; is = refl; member = refl; run = refl; waits = refl };
+      grant = record { member = 0; incarnation = 1; sequence = 1; revision = 2; sync = None };
+      hears = record { number = 10; heard = refl; is = refl; member = refl; incarnation = refl; waits = refl };
       keeps = record { live = refl; required = refl };
       not_live = refl;
       turn = stays asks.agent arms0.agent refl refl (λ e. e);
       request = claim0;
-      sends = record { number = 11; is = refl; member = refl; run = refl; later = omega arith; counted = omega arith; waits = refl };
+      sends = record { number = 11; is = refl; member = refl; incarnation = refl; later = omega arith; counted = omega arith; waits = refl };
       aim = refl;
       leader = refl;
       sync = refl;
@@ -357,13 +357,13 @@ law4 = (
   record {
     was = arms0.agent;
     was_is = refl;
-    run = refl;
+    incarnation = refl;
     last = omega arith;
     waits = same-waits 2 (Some 2) None refl;
     holder_was_live = inl refl;
     does = Promoting (record {
-      sync_grant = record { member = 0; run = 1; sequence = 2; key = record { leader = 0; standbys = λ n. false; quorum = 0; revision = 3 } };
-      hears = record { number = 12; heard = refl; is = refl; member = refl; run = refl; waits = refl };
+      sync_grant = record { member = 0; incarnation = 1; sequence = 2; key = record { leader = 0; standbys = λ n. false; quorum = 0; revision = 3 } };
+      hears = record { number = 12; heard = refl; is = refl; member = refl; incarnation = refl; waits = refl };
       was_ready = refl;
       ready = refl;
       required = refl;
@@ -390,7 +390,7 @@ law10 = (
   record {
     was = begins0.agent;
     was_is = refl;
-    run = refl;
+    incarnation = refl;
     last = omega arith;
     waits = new-waits 2 3 None (omega arith);
     holder_was_live = inl refl;
@@ -404,13 +404,13 @@ law12 = (
   record {
     was = renews3.agent;
     was_is = refl;
-    run = refl;
+    incarnation = refl;
     last = omega arith;
     waits = same-waits 3 (Some 3) None refl;
     holder_was_live = inl refl;
     does = ChangingRequired (record {
-      grant = record { member = 0; run = 1; sequence = 3; revision = 4; sync = Some (record { leader = 0; standbys = λ n. false; quorum = 0; revision = 3 }) };
-      hears = record { number = 13; heard = refl; is = refl; member = refl; run = refl; waits = refl };
+      grant = record { member = 0; incarnation = 1; sequence = 3; revision = 4; sync = Some (record { leader = 0; standbys = λ n. false; quorum = 0; revision = 3 }) };
+      hears = record { number = 13; heard = refl; is = refl; member = refl; incarnation = refl; waits = refl };
       live = refl;
       sends = refl;
       ready = λ e. e;
@@ -430,7 +430,7 @@ law13 = (
   record {
     was = requires0.agent;
     was_is = refl;
-    run = refl;
+    incarnation = refl;
     last = omega arith;
     waits = new-waits 3 4 None (omega arith);
     holder_was_live = inl refl;
@@ -447,13 +447,13 @@ law15 = (
   record {
     was = renews4.agent;
     was_is = refl;
-    run = refl;
+    incarnation = refl;
     last = omega arith;
     waits = new-waits 4 5 (Some 4) (omega arith);
     holder_was_live = inl refl;
     does = Publishing (record {
-      grant = record { member = 0; run = 1; sequence = 4; revision = 5; sync = Some (record { leader = 0; standbys = λ n. false; quorum = 0; revision = 3 }) };
-      hears = record { number = 14; heard = refl; is = refl; member = refl; run = refl; waits = refl };
+      grant = record { member = 0; incarnation = 1; sequence = 4; revision = 5; sync = Some (record { leader = 0; standbys = λ n. false; quorum = 0; revision = 3 }) };
+      hears = record { number = 14; heard = refl; is = refl; member = refl; incarnation = refl; waits = refl };
       keeps = record { live = refl; required = refl };
       live = refl;
       led = refl;
@@ -463,7 +463,7 @@ law15 = (
       key = record { leader = 0; standbys = λ n. false; quorum = 0; revision = 3 };
       key_is = refl;
       request = publish0;
-      sends = record { number = 15; is = refl; member = refl; run = refl; later = omega arith; counted = omega arith; waits = refl };
+      sends = record { number = 15; is = refl; member = refl; incarnation = refl; later = omega arith; counted = omega arith; waits = refl };
       leader = refl;
       sync = refl;
       standbys = one;
@@ -498,7 +498,7 @@ law24 = (
   record {
     was = fresh_agent 1;
     was_is = refl;
-    run = refl;
+    incarnation = refl;
     last = omega arith;
     waits = new-waits 0 1 None (omega arith);
     holder_was_live = inl refl;
@@ -522,18 +522,18 @@ law26 = (
   record {
     was = turns1.agent;
     was_is = refl;
-    run = refl;
+    incarnation = refl;
     last = omega arith;
     waits = new-waits 1 2 (Some 1) (omega arith);
     holder_was_live = inl refl;
     does = Arming (record {
-      grant = record { member = 1; run = 1; sequence = 1; revision = 7; sync = Some key1 };
-      hears = record { number = 18; heard = refl; is = refl; member = refl; run = refl; waits = refl };
+      grant = record { member = 1; incarnation = 1; sequence = 1; revision = 7; sync = Some key1 };
+      hears = record { number = 18; heard = refl; is = refl; member = refl; incarnation = refl; waits = refl };
       keeps = record { live = refl; required = refl };
       not_live = refl;
       turn = stays turns1.agent arms1.agent refl refl (λ e. e);
       request = claim1;
-      sends = record { number = 19; is = refl; member = refl; run = refl; later = omega arith; counted = omega arith; waits = refl };
+      sends = record { number = 19; is = refl; member = refl; incarnation = refl; later = omega arith; counted = omega arith; waits = refl };
       aim = refl;
       leader = refl;
       sync = refl;
@@ -549,13 +549,13 @@ law28 = (
   record {
     was = arms1.agent;
     was_is = refl;
-    run = refl;
+    incarnation = refl;
     last = omega arith;
     waits = same-waits 2 (Some 2) None refl;
     holder_was_live = inl refl;
     does = Promoting (record {
-      sync_grant = record { member = 1; run = 1; sequence = 2; key = record { leader = 1; standbys = λ n. false; quorum = 0; revision = 8 } };
-      hears = record { number = 20; heard = refl; is = refl; member = refl; run = refl; waits = refl };
+      sync_grant = record { member = 1; incarnation = 1; sequence = 2; key = record { leader = 1; standbys = λ n. false; quorum = 0; revision = 8 } };
+      hears = record { number = 20; heard = refl; is = refl; member = refl; incarnation = refl; waits = refl };
       was_ready = refl;
       ready = refl;
       required = refl;

@@ -95,12 +95,12 @@ abbrev ReadsSame : Past → Past → LinkEnd → LinkEnd → Body → Type 0
 ReadsSame p q ends.Store (ends.Member member) body = ReadsSameBody p q body
 ReadsSame p q _ to body = Unit {0}
 
-answered-eq : (m run sequence : ℕ) (l k : Option LeaderKey) (f h : Option FailsafeKey) (g r : Option Grant) → l ≡ k → f ≡ h → g ≡ r
-    → ◌≡◌ {A = Option Flying} (Some (Answered (record { member = m; run = run; sequence = sequence; leader = seen_of l; failsafe = f; grant = g }))) (Some (Answered (record { member = m; run = run; sequence = sequence; leader = seen_of k; failsafe = h; grant = r })))
-answered-eq m run sequence l k f h g r a b c =
-    ap (λ (x : Option LeaderKey). Some (Answered (record { member = m; run = run; sequence = sequence; leader = seen_of x; failsafe = f; grant = g }))) a
-    ∙ ap (λ (x : Option FailsafeKey). Some (Answered (record { member = m; run = run; sequence = sequence; leader = seen_of k; failsafe = x; grant = g }))) b
-    ∙ ap (λ (x : Option Grant). Some (Answered (record { member = m; run = run; sequence = sequence; leader = seen_of k; failsafe = h; grant = x }))) c
+answered-eq : (m incarnation sequence : ℕ) (l k : Option LeaderKey) (f h : Option FailsafeKey) (g r : Option Grant) → l ≡ k → f ≡ h → g ≡ r
+    → ◌≡◌ {A = Option Flying} (Some (Answered (record { member = m; incarnation = incarnation; sequence = sequence; leader = seen_of l; failsafe = f; grant = g }))) (Some (Answered (record { member = m; incarnation = incarnation; sequence = sequence; leader = seen_of k; failsafe = h; grant = r })))
+answered-eq m incarnation sequence l k f h g r a b c =
+    ap (λ (x : Option LeaderKey). Some (Answered (record { member = m; incarnation = incarnation; sequence = sequence; leader = seen_of x; failsafe = f; grant = g }))) a
+    ∙ ap (λ (x : Option FailsafeKey). Some (Answered (record { member = m; incarnation = incarnation; sequence = sequence; leader = seen_of k; failsafe = x; grant = g }))) b
+    ∙ ap (λ (x : Option Grant). Some (Answered (record { member = m; incarnation = incarnation; sequence = sequence; leader = seen_of k; failsafe = h; grant = x }))) c
 
 grant-eq : (r v s c d t : ℕ) (f h : Option FailsafeKey) → r ≡ v → c ≡ d → f ≡ h
     → ◌≡◌ {A = Option Grant} (Some (record { revision = r; sent = s; moment = c; ttl = t; failsafe = f })) (Some (record { revision = v; sent = s; moment = d; ttl = t; failsafe = h }))
@@ -111,96 +111,96 @@ grant-same true p q (Some request) a b c = grant-eq p.revision q.revision reques
 grant-same true p q None a b c = refl
 grant-same false p q asked a b c = refl
 
-answer-same : (p q : Past) (m run sequence : ℕ) (body : Body) → p.clock ≡ q.clock → ReadsSameBody p q body → answer_in_flight_of p m run sequence body ≡ answer_in_flight_of q m run sequence body
-answer-same p q m run sequence bodies.Snapshot clock is = answered-eq m run sequence p.leader q.leader p.failsafe q.failsafe None None is.0 is.1 refl
-answer-same p q m run sequence (bodies.Granted request leased) clock is =
-    answered-eq m run sequence p.leader q.leader p.failsafe q.failsafe (grant_of leased p (p.asked request)) (grant_of leased q (q.asked request)) is.0 is.1.0
+answer-same : (p q : Past) (m incarnation sequence : ℕ) (body : Body) → p.clock ≡ q.clock → ReadsSameBody p q body → answer_in_flight_of p m incarnation sequence body ≡ answer_in_flight_of q m incarnation sequence body
+answer-same p q m incarnation sequence bodies.Snapshot clock is = answered-eq m incarnation sequence p.leader q.leader p.failsafe q.failsafe None None is.0 is.1 refl
+answer-same p q m incarnation sequence (bodies.Granted request leased) clock is =
+    answered-eq m incarnation sequence p.leader q.leader p.failsafe q.failsafe (grant_of leased p (p.asked request)) (grant_of leased q (q.asked request)) is.0 is.1.0
     (grant-same leased p q (p.asked request) is.1.1.0 clock is.1.0 ∙ ap (λ (o : Option Question). grant_of leased q o) is.1.1.1)
-answer-same p q m run sequence (bodies.Refused request key found) clock is = refl
-answer-same p q m run sequence _ clock is = refl
+answer-same p q m incarnation sequence (bodies.Refused request key found) clock is = refl
+answer-same p q m incarnation sequence _ clock is = refl
 
-question-same : (p q : Past) (m run sequence : ℕ) (body : Body) → p.clock ≡ q.clock → question_in_flight_of p m run sequence body ≡ question_in_flight_of q m run sequence body
-question-same p q m run sequence bodies.Read clock = ap (λ (c : ℕ). Some (Requested (record { member = m; run = run; sequence = sequence; sent = c; query = Read }))) clock
-question-same p q m run sequence (bodies.Request txn) clock = ap (λ (c : ℕ). Some (Requested (record { member = m; run = run; sequence = sequence; sent = c; query = query_of txn }))) clock
-question-same p q m run sequence _ clock = refl
+question-same : (p q : Past) (m incarnation sequence : ℕ) (body : Body) → p.clock ≡ q.clock → question_in_flight_of p m incarnation sequence body ≡ question_in_flight_of q m incarnation sequence body
+question-same p q m incarnation sequence bodies.Read clock = ap (λ (c : ℕ). Some (Requested (record { member = m; incarnation = incarnation; sequence = sequence; sent = c; query = Read }))) clock
+question-same p q m incarnation sequence (bodies.Request txn) clock = ap (λ (c : ℕ). Some (Requested (record { member = m; incarnation = incarnation; sequence = sequence; sent = c; query = query_of txn }))) clock
+question-same p q m incarnation sequence _ clock = refl
 
-peer-same : (p q : Past) (by m run sequence : ℕ) (body : Body) → p.clock ≡ q.clock → peer_in_flight_of p by m run sequence body ≡ peer_in_flight_of q by m run sequence body
-peer-same p q by m run sequence (bodies.FailsafeRequest ttl) clock = ap (λ (c : ℕ). Some (FailsafeRequested (record { member = by; run = run; sequence = sequence; ttl = ttl.0; sent = c }))) clock
-peer-same p q by m run sequence (bodies.FailsafeAnswer true) clock = refl
-peer-same p q by m run sequence (bodies.FailsafeAnswer false) clock = refl
-peer-same p q by m run sequence _ clock = refl
+peer-same : (p q : Past) (by m incarnation sequence : ℕ) (body : Body) → p.clock ≡ q.clock → peer_in_flight_of p by m incarnation sequence body ≡ peer_in_flight_of q by m incarnation sequence body
+peer-same p q by m incarnation sequence (bodies.FailsafeRequest ttl) clock = ap (λ (c : ℕ). Some (FailsafeRequested (record { member = by; incarnation = incarnation; sequence = sequence; ttl = ttl.0; sent = c }))) clock
+peer-same p q by m incarnation sequence (bodies.FailsafeAnswer true) clock = refl
+peer-same p q by m incarnation sequence (bodies.FailsafeAnswer false) clock = refl
+peer-same p q by m incarnation sequence _ clock = refl
 
-pub flying-same : (p q : Past) (from to : LinkEnd) (run sequence : ℕ) (body : Body) → p.clock ≡ q.clock → ReadsSame p q from to body → flying_of p from to run sequence body ≡ flying_of q from to run sequence body
-flying-same p q (ends.Member by) ends.Store run sequence body clock is = question-same p q by.id.number run sequence body clock
-flying-same p q ends.Store (ends.Member member) run sequence body clock is = answer-same p q member.id.number run sequence body clock is
-flying-same p q (ends.Member by) (ends.Member member) run sequence body clock is = peer-same p q by.id.number member.id.number run sequence body clock
-flying-same p q ends.Store ends.Store run sequence body clock is = refl
+pub flying-same : (p q : Past) (from to : LinkEnd) (incarnation sequence : ℕ) (body : Body) → p.clock ≡ q.clock → ReadsSame p q from to body → flying_of p from to incarnation sequence body ≡ flying_of q from to incarnation sequence body
+flying-same p q (ends.Member by) ends.Store incarnation sequence body clock is = question-same p q by.id.number incarnation sequence body clock
+flying-same p q ends.Store (ends.Member member) incarnation sequence body clock is = answer-same p q member.id.number incarnation sequence body clock is
+flying-same p q (ends.Member by) (ends.Member member) incarnation sequence body clock is = peer-same p q by.id.number member.id.number incarnation sequence body clock
+flying-same p q ends.Store ends.Store incarnation sequence body clock is = refl
 
 -- an answer that is sent asks nothing
-answer-asks : (past : Past) (number m run sequence : ℕ) (body : Body) (r : ℕ) → past.asked r ≡ asked_with past.asked number (answer_in_flight_of past m run sequence body) r
-answer-asks past number m run sequence bodies.Snapshot r = refl
-answer-asks past number m run sequence (bodies.Granted request leased) r = refl
-answer-asks past number m run sequence (bodies.Refused request key found) r = refl
-answer-asks past number m run sequence _ r = refl
+answer-asks : (past : Past) (number m incarnation sequence : ℕ) (body : Body) (r : ℕ) → past.asked r ≡ asked_with past.asked number (answer_in_flight_of past m incarnation sequence body) r
+answer-asks past number m incarnation sequence bodies.Snapshot r = refl
+answer-asks past number m incarnation sequence (bodies.Granted request leased) r = refl
+answer-asks past number m incarnation sequence (bodies.Refused request key found) r = refl
+answer-asks past number m incarnation sequence _ r = refl
 
 -- what is carried with a message of this body
 abbrev Carried : Facts → Message → LinkEnd → Body → InFlightFacts
 Carried facts message to body = record { message = message; sent = record { 0 = facts.clock }; snapshot = snapshot_for body (present_pairs facts.clock facts.keys.pairs); grant = grant_for body to facts.keys.revision }
 
-sent-reads-body : (past : Past) (facts : Facts) (message : Message) (number : ℕ) (member : Member) (run sequence : ℕ) (body : Body) → IsSameStore past facts
-    → ReadsSameBody past (past_at_sending (asked_with past.asked number (answer_in_flight_of past member.id.number run sequence body)) (Carried facts message (ends.Member member) body)) body
-sent-reads-body past facts message number member run sequence bodies.Snapshot store = (snapshot-leader past facts store, snapshot-failsafe past facts store)
-sent-reads-body past facts message number member run sequence (bodies.Granted request leased) store =
-    (snapshot-leader past facts store, (snapshot-failsafe past facts store, (store.revision, answer-asks past number member.id.number run sequence (bodies.Granted request leased) request)))
-sent-reads-body past facts message number member run sequence _ store = tt
+sent-reads-body : (past : Past) (facts : Facts) (message : Message) (number : ℕ) (member : Member) (incarnation sequence : ℕ) (body : Body) → IsSameStore past facts
+    → ReadsSameBody past (past_at_sending (asked_with past.asked number (answer_in_flight_of past member.id.number incarnation sequence body)) (Carried facts message (ends.Member member) body)) body
+sent-reads-body past facts message number member incarnation sequence bodies.Snapshot store = (snapshot-leader past facts store, snapshot-failsafe past facts store)
+sent-reads-body past facts message number member incarnation sequence (bodies.Granted request leased) store =
+    (snapshot-leader past facts store, (snapshot-failsafe past facts store, (store.revision, answer-asks past number member.id.number incarnation sequence (bodies.Granted request leased) request)))
+sent-reads-body past facts message number member incarnation sequence _ store = tt
 
-sent-reads : (past : Past) (facts : Facts) (message : Message) (number : ℕ) (from to : LinkEnd) (run sequence : ℕ) (body : Body) → IsSameStore past facts
-    → ReadsSame past (past_at_sending (asked_with past.asked number (flying_of past from to run sequence body)) (Carried facts message to body)) from to body
-sent-reads past facts message number (ends.Member by) to run sequence body store = tt
-sent-reads past facts message number ends.Store ends.Store run sequence body store = tt
-sent-reads past facts message number ends.Store (ends.Member member) run sequence body store = sent-reads-body past facts message number member run sequence body store
+sent-reads : (past : Past) (facts : Facts) (message : Message) (number : ℕ) (from to : LinkEnd) (incarnation sequence : ℕ) (body : Body) → IsSameStore past facts
+    → ReadsSame past (past_at_sending (asked_with past.asked number (flying_of past from to incarnation sequence body)) (Carried facts message to body)) from to body
+sent-reads past facts message number (ends.Member by) to incarnation sequence body store = tt
+sent-reads past facts message number ends.Store ends.Store incarnation sequence body store = tt
+sent-reads past facts message number ends.Store (ends.Member member) incarnation sequence body store = sent-reads-body past facts message number member incarnation sequence body store
 
 flying-sent : (past : Past) (facts : Facts) (message : Message) (number : ℕ) → IsSameStore past facts →
-    let flying : Option Flying = flying_of past message.from message.to message.run message.sequence message.body in
+    let flying : Option Flying = flying_of past message.from message.to message.incarnation message.sequence message.body in
     flying ≡ flying_carried (asked_with past.asked number flying) (launched facts.clock facts.keys message)
 flying-sent past facts message number store =
-    let flying : Option Flying = flying_of past message.from message.to message.run message.sequence message.body in
-    flying-same past (past_at_sending (asked_with past.asked number flying) (launched facts.clock facts.keys message)) message.from message.to message.run message.sequence message.body store.clock
-    (sent-reads past facts message number message.from message.to message.run message.sequence message.body store)
+    let flying : Option Flying = flying_of past message.from message.to message.incarnation message.sequence message.body in
+    flying-same past (past_at_sending (asked_with past.asked number flying) (launched facts.clock facts.keys message)) message.from message.to message.incarnation message.sequence message.body store.clock
+    (sent-reads past facts message number message.from message.to message.incarnation message.sequence message.body store)
 
 -- ---- more questions are asked
 abbrev Grows : (ℕ → Option Question) → (ℕ → Option Question) → Type 0
 Grows asked more = (i : ℕ) (q : Question) → asked i ≡ Some q → more i ≡ Some q
 
-grown-reads-body : (asked more : ℕ → Option Question) (carried : InFlightFacts) (m run sequence : ℕ) (body : Body) → Grows asked more → AnswersBody asked m run sequence body
+grown-reads-body : (asked more : ℕ → Option Question) (carried : InFlightFacts) (m incarnation sequence : ℕ) (body : Body) → Grows asked more → AnswersBody asked m incarnation sequence body
     → ReadsSameBody (past_at_sending asked carried) (past_at_sending more carried) body
-grown-reads-body asked more carried m run sequence bodies.Snapshot grows is = (refl, refl)
-grown-reads-body asked more carried m run sequence (bodies.Granted request leased) grows is = (refl, (refl, (refl, is.is ∙ sym (grows request is.question is.is))))
-grown-reads-body asked more carried m run sequence _ grows is = tt
+grown-reads-body asked more carried m incarnation sequence bodies.Snapshot grows is = (refl, refl)
+grown-reads-body asked more carried m incarnation sequence (bodies.Granted request leased) grows is = (refl, (refl, (refl, is.is ∙ sym (grows request is.question is.is))))
+grown-reads-body asked more carried m incarnation sequence _ grows is = tt
 
-grown-reads : (asked more : ℕ → Option Question) (carried : InFlightFacts) (from to : LinkEnd) (run sequence : ℕ) (body : Body) → Grows asked more → Answers asked from to run sequence body
+grown-reads : (asked more : ℕ → Option Question) (carried : InFlightFacts) (from to : LinkEnd) (incarnation sequence : ℕ) (body : Body) → Grows asked more → Answers asked from to incarnation sequence body
     → ReadsSame (past_at_sending asked carried) (past_at_sending more carried) from to body
-grown-reads asked more carried (ends.Member by) to run sequence body grows is = tt
-grown-reads asked more carried ends.Store ends.Store run sequence body grows is = tt
-grown-reads asked more carried ends.Store (ends.Member member) run sequence body grows is = grown-reads-body asked more carried member.id.number run sequence body grows is
+grown-reads asked more carried (ends.Member by) to incarnation sequence body grows is = tt
+grown-reads asked more carried ends.Store ends.Store incarnation sequence body grows is = tt
+grown-reads asked more carried ends.Store (ends.Member member) incarnation sequence body grows is = grown-reads-body asked more carried member.id.number incarnation sequence body grows is
 
-grown-body : (asked more : ℕ → Option Question) (m run sequence : ℕ) (body : Body) → Grows asked more → AnswersBody asked m run sequence body → AnswersBody more m run sequence body
-grown-body asked more m run sequence (bodies.Granted request leased) grows is =
+grown-body : (asked more : ℕ → Option Question) (m incarnation sequence : ℕ) (body : Body) → Grows asked more → AnswersBody asked m incarnation sequence body → AnswersBody more m incarnation sequence body
+grown-body asked more m incarnation sequence (bodies.Granted request leased) grows is =
     record { question = is.question; is = grows request is.question is.is; asker = is.asker; in_run = is.in_run; numbered = is.numbered; leasing = is.leasing }
-grown-body asked more m run sequence _ grows is = tt
+grown-body asked more m incarnation sequence _ grows is = tt
 
-grown-answers : (asked more : ℕ → Option Question) (from to : LinkEnd) (run sequence : ℕ) (body : Body) → Grows asked more → Answers asked from to run sequence body → Answers more from to run sequence body
-grown-answers asked more (ends.Member by) to run sequence body grows is = tt
-grown-answers asked more ends.Store ends.Store run sequence body grows is = tt
-grown-answers asked more ends.Store (ends.Member member) run sequence body grows is = grown-body asked more member.id.number run sequence body grows is
+grown-answers : (asked more : ℕ → Option Question) (from to : LinkEnd) (incarnation sequence : ℕ) (body : Body) → Grows asked more → Answers asked from to incarnation sequence body → Answers more from to incarnation sequence body
+grown-answers asked more (ends.Member by) to incarnation sequence body grows is = tt
+grown-answers asked more ends.Store ends.Store incarnation sequence body grows is = tt
+grown-answers asked more ends.Store (ends.Member member) incarnation sequence body grows is = grown-body asked more member.id.number incarnation sequence body grows is
 
 flying-grown : (asked more : ℕ → Option Question) (found : Option InFlightFacts) → Grows asked more
-    → ((carried : InFlightFacts) → found ≡ Some carried → Answers asked carried.message.from carried.message.to carried.message.run carried.message.sequence carried.message.body)
+    → ((carried : InFlightFacts) → found ≡ Some carried → Answers asked carried.message.from carried.message.to carried.message.incarnation carried.message.sequence carried.message.body)
     → flying_if asked found ≡ flying_if more found
 flying-grown asked more None grows is = refl
 flying-grown asked more (Some carried) grows is =
-    flying-same (past_at_sending asked carried) (past_at_sending more carried) carried.message.from carried.message.to carried.message.run carried.message.sequence carried.message.body refl
-    (grown-reads asked more carried carried.message.from carried.message.to carried.message.run carried.message.sequence carried.message.body grows (is carried refl))
+    flying-same (past_at_sending asked carried) (past_at_sending more carried) carried.message.from carried.message.to carried.message.incarnation carried.message.sequence carried.message.body refl
+    (grown-reads asked more carried carried.message.from carried.message.to carried.message.incarnation carried.message.sequence carried.message.body grows (is carried refl))
 
 -- ---- a message is sent
 pub failsafe_requested-requested : (b : FailsafeRequest) (q : Question) → ◌≡◌ {A = Option Flying} (Some (FailsafeRequested b)) (Some (Requested q)) → ⊥
@@ -237,45 +237,45 @@ asked-new asked number (Some (Acknowledged h)) q e = inr e
 asked-new asked number None q e = inr e
 
 -- a question is sent at the moment of its sending
-answer-now : (past : Past) (m run sequence : ℕ) (body : Body) (q : Question) → answer_in_flight_of past m run sequence body ≡ Some (Requested q) → q.sent ≡ past.clock
-answer-now past m run sequence bodies.Snapshot q e = absurd (answered-requested (answer_of past m run sequence true None) q e)
-answer-now past m run sequence (bodies.Granted request leased) q e = absurd (answered-requested (answer_of past m run sequence true (grant_of leased past (past.asked request))) q e)
-answer-now past m run sequence (bodies.Refused request key found) q e = absurd (answered-requested (answer_of past m run sequence false None) q e)
-answer-now past m run sequence _ q e = absurd (none-requested q e)
+answer-now : (past : Past) (m incarnation sequence : ℕ) (body : Body) (q : Question) → answer_in_flight_of past m incarnation sequence body ≡ Some (Requested q) → q.sent ≡ past.clock
+answer-now past m incarnation sequence bodies.Snapshot q e = absurd (answered-requested (answer_of past m incarnation sequence true None) q e)
+answer-now past m incarnation sequence (bodies.Granted request leased) q e = absurd (answered-requested (answer_of past m incarnation sequence true (grant_of leased past (past.asked request))) q e)
+answer-now past m incarnation sequence (bodies.Refused request key found) q e = absurd (answered-requested (answer_of past m incarnation sequence false None) q e)
+answer-now past m incarnation sequence _ q e = absurd (none-requested q e)
 
-question-now : (past : Past) (m run sequence : ℕ) (body : Body) (q : Question) → question_in_flight_of past m run sequence body ≡ Some (Requested q) → q.sent ≡ past.clock
-question-now past m run sequence bodies.Read q e = ap (λ (x : Question). x.sent) (sym (requested-is (record { member = m; run = run; sequence = sequence; sent = past.clock; query = Read }) q e))
-question-now past m run sequence (bodies.Request txn) q e = ap (λ (x : Question). x.sent) (sym (requested-is (record { member = m; run = run; sequence = sequence; sent = past.clock; query = query_of txn }) q e))
-question-now past m run sequence _ q e = absurd (none-requested q e)
+question-now : (past : Past) (m incarnation sequence : ℕ) (body : Body) (q : Question) → question_in_flight_of past m incarnation sequence body ≡ Some (Requested q) → q.sent ≡ past.clock
+question-now past m incarnation sequence bodies.Read q e = ap (λ (x : Question). x.sent) (sym (requested-is (record { member = m; incarnation = incarnation; sequence = sequence; sent = past.clock; query = Read }) q e))
+question-now past m incarnation sequence (bodies.Request txn) q e = ap (λ (x : Question). x.sent) (sym (requested-is (record { member = m; incarnation = incarnation; sequence = sequence; sent = past.clock; query = query_of txn }) q e))
+question-now past m incarnation sequence _ q e = absurd (none-requested q e)
 
-peer-now : (past : Past) (by m run sequence : ℕ) (body : Body) (q : Question) → peer_in_flight_of past by m run sequence body ≡ Some (Requested q) → q.sent ≡ past.clock
-peer-now past by m run sequence (bodies.FailsafeRequest ttl) q e = absurd (failsafe_requested-requested (record { member = by; run = run; sequence = sequence; ttl = ttl.0; sent = past.clock }) q e)
-peer-now past by m run sequence (bodies.FailsafeAnswer true) q e = absurd (acknowledged-requested (record { member = m; run = run; sequence = sequence; by = by }) q e)
-peer-now past by m run sequence (bodies.FailsafeAnswer false) q e = absurd (none-requested q e)
-peer-now past by m run sequence _ q e = absurd (none-requested q e)
+peer-now : (past : Past) (by m incarnation sequence : ℕ) (body : Body) (q : Question) → peer_in_flight_of past by m incarnation sequence body ≡ Some (Requested q) → q.sent ≡ past.clock
+peer-now past by m incarnation sequence (bodies.FailsafeRequest ttl) q e = absurd (failsafe_requested-requested (record { member = by; incarnation = incarnation; sequence = sequence; ttl = ttl.0; sent = past.clock }) q e)
+peer-now past by m incarnation sequence (bodies.FailsafeAnswer true) q e = absurd (acknowledged-requested (record { member = m; incarnation = incarnation; sequence = sequence; by = by }) q e)
+peer-now past by m incarnation sequence (bodies.FailsafeAnswer false) q e = absurd (none-requested q e)
+peer-now past by m incarnation sequence _ q e = absurd (none-requested q e)
 
-asks-now : (past : Past) (from to : LinkEnd) (run sequence : ℕ) (body : Body) (q : Question) → flying_of past from to run sequence body ≡ Some (Requested q) → q.sent ≡ past.clock
-asks-now past (ends.Member by) ends.Store run sequence body q e = question-now past by.id.number run sequence body q e
-asks-now past ends.Store (ends.Member member) run sequence body q e = answer-now past member.id.number run sequence body q e
-asks-now past (ends.Member by) (ends.Member member) run sequence body q e = peer-now past by.id.number member.id.number run sequence body q e
-asks-now past ends.Store ends.Store run sequence body q e = absurd (none-requested q e)
+asks-now : (past : Past) (from to : LinkEnd) (incarnation sequence : ℕ) (body : Body) (q : Question) → flying_of past from to incarnation sequence body ≡ Some (Requested q) → q.sent ≡ past.clock
+asks-now past (ends.Member by) ends.Store incarnation sequence body q e = question-now past by.id.number incarnation sequence body q e
+asks-now past ends.Store (ends.Member member) incarnation sequence body q e = answer-now past member.id.number incarnation sequence body q e
+asks-now past (ends.Member by) (ends.Member member) incarnation sequence body q e = peer-now past by.id.number member.id.number incarnation sequence body q e
+asks-now past ends.Store ends.Store incarnation sequence body q e = absurd (none-requested q e)
 
 -- a question of a number above those asked is one more
 asked-grows : (past : Past) (facts : Facts) (number : ℕ) (flying : Option Flying) → facts.sent < number → IsSameFlight past facts → Grows past.asked (asked_with past.asked number flying)
 asked-grows past facts number flying above old i q is = asked-there past.asked number flying i (λ e. omega (arith, e, above, old.asked i q is)) ∙ is
 
 sent-at : (past : Past) (facts : Facts) (number : ℕ) (message : Message) (i : ℕ) (b : Bool) → IsSameStore past facts → IsSameFlight past facts → facts.sent < number →
-    let flying : Option Flying = flying_of past message.from message.to message.run message.sequence message.body in
+    let flying : Option Flying = flying_of past message.from message.to message.incarnation message.sequence message.body in
     cond b flying (past.flight i) ≡ flying_if (asked_with past.asked number flying) (cond b (Some (launched facts.clock facts.keys message)) (in_flight facts.flight i))
 sent-at past facts number message i true store old above = flying-sent past facts message number store
 sent-at past facts number message i false store old above =
-    let flying : Option Flying = flying_of past message.from message.to message.run message.sequence message.body in
+    let flying : Option Flying = flying_of past message.from message.to message.incarnation message.sequence message.body in
     old.same i ∙ flying-grown past.asked (asked_with past.asked number flying) (in_flight facts.flight i) (asked-grows past facts number flying above old) (old.answers i)
 
-flight-sent : (past : Past) (facts : Facts) (number : ℕ) (message : Message) → facts.sent < number → Answers past.asked message.from message.to message.run message.sequence message.body
+flight-sent : (past : Past) (facts : Facts) (number : ℕ) (message : Message) → facts.sent < number → Answers past.asked message.from message.to message.incarnation message.sequence message.body
     → IsSameStore past facts → IsSameFlight past facts → IsSameFlight (past_after past (kinds.Message (Sent number message))) (facts_after facts (kinds.Message (Sent number message)))
 flight-sent past facts number message above answers store old =
-    let flying : Option Flying = flying_of past message.from message.to message.run message.sequence message.body in
+    let flying : Option Flying = flying_of past message.from message.to message.incarnation message.sequence message.body in
     let more : (ℕ → Option Question) = asked_with past.asked number flying in
     let one : InFlightFacts = launched facts.clock facts.keys message in
     let grows : Grows past.asked more = asked-grows past facts number flying above old in
@@ -295,18 +295,18 @@ flight-sent past facts number message above answers store old =
       grants = λ i carried e. put-all (in_flight facts.flight) number (Some one) (λ n o. o ≡ Some carried → (revision : ℕ) × (carried.grant ≡ grant_for carried.message.body carried.message.to revision))
           (λ is. subst (λ (c : InFlightFacts). (revision : ℕ) × (c.grant ≡ grant_for c.message.body c.message.to revision)) (some-is one carried is) (facts.keys.revision, refl))
           (λ n other is. old.grants n carried is) i (sym (in-with facts.flight number one i) ∙ e);
-      answers = λ i carried e. put-all (in_flight facts.flight) number (Some one) (λ n o. o ≡ Some carried → Answers more carried.message.from carried.message.to carried.message.run carried.message.sequence carried.message.body)
-          (λ is. subst (λ (c : InFlightFacts). Answers more c.message.from c.message.to c.message.run c.message.sequence c.message.body) (some-is one carried is)
-          (grown-answers past.asked more message.from message.to message.run message.sequence message.body grows answers))
-          (λ n other is. grown-answers past.asked more carried.message.from carried.message.to carried.message.run carried.message.sequence carried.message.body grows (old.answers n carried is))
+      answers = λ i carried e. put-all (in_flight facts.flight) number (Some one) (λ n o. o ≡ Some carried → Answers more carried.message.from carried.message.to carried.message.incarnation carried.message.sequence carried.message.body)
+          (λ is. subst (λ (c : InFlightFacts). Answers more c.message.from c.message.to c.message.incarnation c.message.sequence c.message.body) (some-is one carried is)
+          (grown-answers past.asked more message.from message.to message.incarnation message.sequence message.body grows answers))
+          (λ n other is. grown-answers past.asked more carried.message.from carried.message.to carried.message.incarnation carried.message.sequence carried.message.body grows (old.answers n carried is))
           i (sym (in-with facts.flight number one i) ∙ e);
     }
   where
     asked-below : (i : ℕ) (q : Question) → ((i ≡ number) ⊎ (i ≡ number → ⊥))
-        → asked_with past.asked number (flying_of past message.from message.to message.run message.sequence message.body) i ≡ Some q → i ≤ number
+        → asked_with past.asked number (flying_of past message.from message.to message.incarnation message.sequence message.body) i ≡ Some q → i ≤ number
     asked-below i q (inl e) is = omega (arith, e)
     asked-below i q (inr other) is =
-        omega (arith, above, old.asked i q (sym (asked-there past.asked number (flying_of past message.from message.to message.run message.sequence message.body) i other) ∙ is))
+        omega (arith, above, old.asked i q (sym (asked-there past.asked number (flying_of past message.from message.to message.incarnation message.sequence message.body) i other) ∙ is))
 
     moment-with : (i : ℕ) (carried : InFlightFacts) → ((i ≡ number) ⊎ (i ≡ number → ⊥)) → put_at (in_flight facts.flight) number (Some (launched facts.clock facts.keys message)) i ≡ Some carried
         → (put_at past.sent number (Some past.clock) i ≡ Some carried.sent.0) × (carried.sent.0 ≤ past.clock)
@@ -320,18 +320,18 @@ flight-sent past facts number message above answers store old =
         (put-there past.sent number (Some past.clock) i other ∙ m.0, m.1)
 
     when-with : (i : ℕ) (q : Question) → ((i ≡ number) ⊎ (i ≡ number → ⊥))
-        → asked_with past.asked number (flying_of past message.from message.to message.run message.sequence message.body) i ≡ Some q → put_at past.sent number (Some past.clock) i ≡ Some q.sent
+        → asked_with past.asked number (flying_of past message.from message.to message.incarnation message.sequence message.body) i ≡ Some q → put_at past.sent number (Some past.clock) i ≡ Some q.sent
     when-with i q (inl e) is =
-        let flying : Option Flying = flying_of past message.from message.to message.run message.sequence message.body in
+        let flying : Option Flying = flying_of past message.from message.to message.incarnation message.sequence message.body in
         let here : asked_with past.asked number flying number ≡ Some q = ap (λ (n : ℕ). asked_with past.asked number flying n) (sym e) ∙ is in
         ap (λ (n : ℕ). put_at past.sent number (Some past.clock) n) e ∙ put-here past.sent number (Some past.clock)
         ∙ ap (λ (n : ℕ). Some n) (sym (elim (asked-new past.asked number flying q here) [
-          | inl new ↦ asks-now past message.from message.to message.run message.sequence message.body q new
+          | inl new ↦ asks-now past message.from message.to message.incarnation message.sequence message.body q new
           | inr was ↦ absurd (omega (arith, above, old.asked number q was))
         ]))
     when-with i q (inr other) is =
         put-there past.sent number (Some past.clock) i other
-        ∙ old.asked_when i q (sym (asked-there past.asked number (flying_of past message.from message.to message.run message.sequence message.body) i other) ∙ is)
+        ∙ old.asked_when i q (sym (asked-there past.asked number (flying_of past message.from message.to message.incarnation message.sequence message.body) i other) ∙ is)
 
 -- ---- a message is in flight no more
 gone-at : (past : Past) (facts : Facts) (i : ℕ) (b : Bool) → IsSameFlight past facts

@@ -58,19 +58,19 @@ leasing-is (txns.Create info ttl failsafe sync) = refl
 leasing-is (txns.Renew revision info ttl status row failsafe) = refl
 leasing-is _ = refl
 
-pub granted-causal : (past : Past) (facts : Facts) (tick : Ticks) (i j : ℕ) (carried : InFlightFacts) (by : Member) (run sequence : ℕ) (txn : Txn) (standbys : List Name) → IsSameFlight past facts
-    → in_flight facts.flight i ≡ Some carried → carried.message ≡ record { from = ends.Member by; to = ends.Store; run = run; sequence = sequence; body = bodies.Request txn }
-    → facts.sent < j → IsSpannedTxn txn → AreCausal past facts (granted_events tick i j by run sequence txn standbys)
-granted-causal past facts tick i j carried by run sequence txn standbys old here is above span =
-    let heard = heard-request past facts i carried by run sequence txn old here is in
+pub granted-causal : (past : Past) (facts : Facts) (tick : Ticks) (i j : ℕ) (carried : InFlightFacts) (by : Member) (incarnation sequence : ℕ) (txn : Txn) (standbys : List Name) → IsSameFlight past facts
+    → in_flight facts.flight i ≡ Some carried → carried.message ≡ record { from = ends.Member by; to = ends.Store; incarnation = incarnation; sequence = sequence; body = bodies.Request txn }
+    → facts.sent < j → IsSpannedTxn txn → AreCausal past facts (granted_events tick i j by incarnation sequence txn standbys)
+granted-causal past facts tick i j carried by incarnation sequence txn standbys old here is above span =
+    let heard = heard-request past facts i carried by incarnation sequence txn old here is in
     (tt, (tt, (span, (tt, (tt, ((above, record { question = heard.0; is = old.kept i heard.0 heard.1.0; asker = heard.1.1.0; in_run = heard.1.1.1.0; numbered = heard.1.1.1.1.0; leasing = ap is_leasing heard.1.1.1.1.1 ∙ leasing-is txn }), tt))))))
 
-pub refused-causal : (past : Past) (facts : Facts) (tick : Ticks) (i j : ℕ) (by : Member) (run sequence : ℕ) (request : TxnKind) (key : Key) (found : Expected) → facts.sent < j
-    → AreCausal past facts (refused_events tick i j by run sequence request key found)
-refused-causal past facts tick i j by run sequence request key found above = (tt, (tt, (tt, (tt, (tt, ((above, tt), tt))))))
+pub refused-causal : (past : Past) (facts : Facts) (tick : Ticks) (i j : ℕ) (by : Member) (incarnation sequence : ℕ) (request : TxnKind) (key : Key) (found : Expected) → facts.sent < j
+    → AreCausal past facts (refused_events tick i j by incarnation sequence request key found)
+refused-causal past facts tick i j by incarnation sequence request key found above = (tt, (tt, (tt, (tt, (tt, ((above, tt), tt))))))
 
-pub read-causal : (past : Past) (facts : Facts) (tick : Ticks) (i j : ℕ) (by : Member) (run sequence : ℕ) → facts.sent < j → AreCausal past facts (read_events tick i j by run sequence)
-read-causal past facts tick i j by run sequence above = (tt, (tt, (tt, ((above, tt), tt))))
+pub read-causal : (past : Past) (facts : Facts) (tick : Ticks) (i j : ℕ) (by : Member) (incarnation sequence : ℕ) → facts.sent < j → AreCausal past facts (read_events tick i j by incarnation sequence)
+read-causal past facts tick i j by incarnation sequence above = (tt, (tt, (tt, ((above, tt), tt))))
 
 -- ---- a tick, a loss, a delivery to an agent, and all that its input brings
 pub members-spanned : (kind : EventKind) → IsOfMembers kind → IsSpanned kind
@@ -80,12 +80,12 @@ members-spanned (kinds.Store (stores.LeaderExpired holder)) is = tt
 members-spanned (kinds.Store (stores.Expired key)) is = tt
 members-spanned _ is = tt
 
-member-answers : (asked : ℕ → Option Question) (from to : LinkEnd) (run sequence : ℕ) (body : Body) → IsMemberEnd from → Answers asked from to run sequence body
-member-answers asked (ends.Member by) to run sequence body is = tt
-member-answers asked ends.Store to run sequence body is = absurd is
+member-answers : (asked : ℕ → Option Question) (from to : LinkEnd) (incarnation sequence : ℕ) (body : Body) → IsMemberEnd from → Answers asked from to incarnation sequence body
+member-answers asked (ends.Member by) to incarnation sequence body is = tt
+member-answers asked ends.Store to incarnation sequence body is = absurd is
 
 members-causal : (past : Past) (facts : Facts) (kind : EventKind) → IsOfMembers kind → IsNumberedAbove facts.sent kind → IsCausal past facts kind
-members-causal past facts (kinds.Message (Sent number message)) is above = (above, member-answers past.asked message.from message.to message.run message.sequence message.body is)
+members-causal past facts (kinds.Message (Sent number message)) is above = (above, member-answers past.asked message.from message.to message.incarnation message.sequence message.body is)
 members-causal past facts (kinds.Message (Delivered number)) is above = tt
 members-causal past facts (kinds.Message (Lost number)) is above = tt
 members-causal past facts _ is above = tt

@@ -116,7 +116,7 @@ deadline-kept deadlines deadline _ old = old
 
 -- ---- holds
 holds-long-by : (holds : List (Option Ticks)) (happening : WatchdogEvent) → length (holds_by holds happening) ≡ length holds
-holds-long-by holds (watchdogs.HoldTaken member until from run sequence) = length-changed holds member.id.number _
+holds-long-by holds (watchdogs.HoldTaken member until from incarnation sequence) = length-changed holds member.id.number _
 holds-long-by holds _ = refl
 
 holds-long : (holds : List (Option Ticks)) (kind : EventKind) → length (holds_after holds kind) ≡ length holds
@@ -128,7 +128,7 @@ prolonged before until None is = omega (arith, is)
 prolonged before until (Some one) is = ap (λ (n : ℕ). max n until.0) is
 
 hold-watched : (holds : List (Option Ticks)) (hold : ℕ → ℕ) (happening : WatchdogEvent) → Agrees hold_if holds hold → Agrees hold_if (holds_by holds happening) (hold_by hold happening)
-hold-watched holds hold (watchdogs.HoldTaken member until from run sequence) old =
+hold-watched holds hold (watchdogs.HoldTaken member until from incarnation sequence) old =
     let k = member.id.number in
     agrees-put hold_if holds hold k (prolonged_to until) (max (hold k) until.0)
     (λ item is. prolonged (hold k) until item (old k (slice_get_within holds k item is) ∙ ap hold_if is)) old
@@ -138,12 +138,12 @@ hold-kept : (holds : List (Option Ticks)) (hold : ℕ → ℕ) (kind : EventKind
 hold-kept holds hold (kinds.Watchdog happening) old = hold-watched holds hold happening old
 hold-kept holds hold _ old = old
 
--- ---- runs
+-- ---- incarnations
 agents-long-by : (states : List AgentProcess) (happening : AgentEvent) → length (processes_by states happening) ≡ length states
 agents-long-by states (agents.Suspended agent) = length-changed states agent.id.number _
 agents-long-by states (agents.Resumed agent) = length-changed states agent.id.number _
 agents-long-by states (agents.Killed agent) = length-changed states agent.id.number _
-agents-long-by states (agents.Started agent run) = length-changed states agent.id.number _
+agents-long-by states (agents.Started agent incarnation) = length-changed states agent.id.number _
 agents-long-by states _ = refl
 
 agents-long-watched : (states : List AgentProcess) (happening : WatchdogEvent) → length (processes_by_watchdog states happening) ≡ length states
@@ -159,7 +159,7 @@ runs-agent : (states : List AgentProcess) (runs : ℕ → ℕ) (happening : Agen
 runs-agent states runs (agents.Suspended agent) old = agrees-kept run_if states runs agent.id.number _ (λ item. refl) old
 runs-agent states runs (agents.Resumed agent) old = agrees-kept run_if states runs agent.id.number _ (λ item. refl) old
 runs-agent states runs (agents.Killed agent) old = agrees-kept run_if states runs agent.id.number _ (λ item. refl) old
-runs-agent states runs (agents.Started agent run) old = agrees-put run_if states runs agent.id.number (λ state. running_in run) run (λ item is. refl) old
+runs-agent states runs (agents.Started agent incarnation) old = agrees-put run_if states runs agent.id.number (λ state. running_in incarnation) incarnation (λ item is. refl) old
 runs-agent states runs _ old = old
 
 runs-watched : (states : List AgentProcess) (runs : ℕ → ℕ) (happening : WatchdogEvent) → Agrees run_if states runs → Agrees run_if (processes_by_watchdog states happening) runs

@@ -16,15 +16,15 @@ use Rattle.lease_book.specs.Groups.{IsMemberEnd, IsNumberedAbove, AreNumberedAbo
 use Rattle.lease_book.specs.Sending.{SendsOnly}
 use Rattle.lease_book.proofs.Flights.{flying-same}
 
-member-reads : (p q : Past) (from to : LinkEnd) (run sequence : ℕ) (body : Body) → IsMemberEnd from → p.clock ≡ q.clock → flying_of p from to run sequence body ≡ flying_of q from to run sequence body
-member-reads p q (ends.Member by) to run sequence body is same = flying-same p q (ends.Member by) to run sequence body same tt
-member-reads p q ends.Store to run sequence body is same = absurd is
+member-reads : (p q : Past) (from to : LinkEnd) (incarnation sequence : ℕ) (body : Body) → IsMemberEnd from → p.clock ≡ q.clock → flying_of p from to incarnation sequence body ≡ flying_of q from to incarnation sequence body
+member-reads p q (ends.Member by) to incarnation sequence body is same = flying-same p q (ends.Member by) to incarnation sequence body same tt
+member-reads p q ends.Store to incarnation sequence body is same = absurd is
 
 sent-or-old : (P : Flying → Type 0) (past : Past) (kind : EventKind) → SendsOnly P past.clock kind → (i : ℕ) (flying : Flying) → (past_after past kind).flight i ≡ Some flying → (past.flight i ≡ Some flying) ⊎ P flying
 sent-or-old P past (kinds.Message (Sent number message)) is =
-    let one : Option Flying = flying_of past message.from message.to message.run message.sequence message.body in
+    let one : Option Flying = flying_of past message.from message.to message.incarnation message.sequence message.body in
     put-all past.flight number one (λ n o. (flying : Flying) → o ≡ Some flying → (past.flight n ≡ Some flying) ⊎ P flying)
-    (λ flying e. inr (is.1 flying (member-reads (record first_past { clock = past.clock }) past message.from message.to message.run message.sequence message.body is.0 refl ∙ e)))
+    (λ flying e. inr (is.1 flying (member-reads (record first_past { clock = past.clock }) past message.from message.to message.incarnation message.sequence message.body is.0 refl ∙ e)))
     (λ n other flying e. inl e)
 sent-or-old P past (kinds.Message (Delivered number)) is = λ i flying e. inl (dropped past.flight number i flying e)
 sent-or-old P past (kinds.Message (Lost number)) is = λ i flying e. inl (dropped past.flight number i flying e)
@@ -48,7 +48,7 @@ old-or-sent P clock past (event ∷ events) now all i flying e =
 -- what is gone stays gone while numbers rise
 gone-by : (past : Past) (kind : EventKind) (last n : ℕ) → n ≤ last → IsNumberedAbove last kind → past.flight n ≡ None → (past_after past kind).flight n ≡ None
 gone-by past (kinds.Message (Sent number message)) last n small above gone =
-    put-there past.flight number (flying_of past message.from message.to message.run message.sequence message.body) n (λ e. omega (arith, e, small, above)) ∙ gone
+    put-there past.flight number (flying_of past message.from message.to message.incarnation message.sequence message.body) n (λ e. omega (arith, e, small, above)) ∙ gone
 gone-by past (kinds.Message (Delivered number)) last n small above gone = put-all past.flight number None (λ m o. past.flight m ≡ None → o ≡ None) (λ e. refl) (λ m other e. e) n gone
 gone-by past (kinds.Message (Lost number)) last n small above gone = put-all past.flight number None (λ m o. past.flight m ≡ None → o ≡ None) (λ e. refl) (λ m other e. e) n gone
 gone-by past _ last n small above gone = gone

@@ -36,7 +36,7 @@ past_at_sending asked carried = record first_past {
 
 -- what the law has of a message that is in flight with this snapshot and this grant
 abbrev pub flying_carried : (ℕ → Option Question) → InFlightFacts → Option Flying
-flying_carried asked carried = flying_of (past_at_sending asked carried) carried.message.from carried.message.to carried.message.run carried.message.sequence carried.message.body
+flying_carried asked carried = flying_of (past_at_sending asked carried) carried.message.from carried.message.to carried.message.incarnation carried.message.sequence carried.message.body
 
 -- the same of a message that may be in flight
 abbrev pub flying_if : (ℕ → Option Question) → Option InFlightFacts → Option Flying
@@ -49,24 +49,24 @@ is_leasing (Create ttl expected) = true
 is_leasing (Renew revision ttl carried) = true
 is_leasing _ = false
 
--- the request of this number was asked by this member, in this run and under this number of a question, for the lease or not
-pub record IsAnswerTo (asked : ℕ → Option Question) (member run sequence request : ℕ) (leased : Bool) : Type 0 where
+-- the request of this number was asked by this member, in this incarnation and under this number of a question, for the lease or not
+pub record IsAnswerTo (asked : ℕ → Option Question) (member incarnation sequence request : ℕ) (leased : Bool) : Type 0 where
   pub question : Question
   pub is : asked request ≡ Some question
   pub asker : question.member ≡ member
-  pub in_run : question.run ≡ run
+  pub in_run : question.incarnation ≡ incarnation
   pub numbered : question.sequence ≡ sequence
   pub leasing : is_leasing question.query ≡ leased
 
 -- a grant that the key store sends this member answers a question that was asked
 abbrev pub AnswersBody : (ℕ → Option Question) → ℕ → ℕ → ℕ → Body → Type 0
-AnswersBody asked member run sequence (bodies.Granted request leased) = IsAnswerTo asked member run sequence request leased
-AnswersBody asked member run sequence _ = Unit {0}
+AnswersBody asked member incarnation sequence (bodies.Granted request leased) = IsAnswerTo asked member incarnation sequence request leased
+AnswersBody asked member incarnation sequence _ = Unit {0}
 
 -- where a message is a grant of the key store, it answers a question that was asked
 abbrev pub Answers : (ℕ → Option Question) → LinkEnd → LinkEnd → ℕ → ℕ → Body → Type 0
-Answers asked ends.Store (ends.Member member) run sequence body = AnswersBody asked member.id.number run sequence body
-Answers asked _ to run sequence body = Unit {0}
+Answers asked ends.Store (ends.Member member) incarnation sequence body = AnswersBody asked member.id.number incarnation sequence body
+Answers asked _ to incarnation sequence body = Unit {0}
 
 -- the numbers rise from this one on
 abbrev pub Rises : ℕ → Flight → Type 0
@@ -88,11 +88,11 @@ pub record IsSameFlight (past : Past) (facts : Facts) : Type 0 where
   -- an answer that grants carries the grant
   pub grants : (i : ℕ) (carried : InFlightFacts) → in_flight facts.flight i ≡ Some carried → (revision : ℕ) × (carried.grant ≡ grant_for carried.message.body carried.message.to revision)
   pub answers : (i : ℕ) (carried : InFlightFacts) → in_flight facts.flight i ≡ Some carried
-      → Answers past.asked carried.message.from carried.message.to carried.message.run carried.message.sequence carried.message.body
+      → Answers past.asked carried.message.from carried.message.to carried.message.incarnation carried.message.sequence carried.message.body
 
 -- causes come first: a message is sent under a number above those before it, and a grant only for a question that was asked
 abbrev pub IsCausal : Past → Facts → EventKind → Type 0
-IsCausal past facts (kinds.Message (Sent number message)) = (facts.sent < number) × Answers past.asked message.from message.to message.run message.sequence message.body
+IsCausal past facts (kinds.Message (Sent number message)) = (facts.sent < number) × Answers past.asked message.from message.to message.incarnation message.sequence message.body
 IsCausal past facts _ = Unit {0}
 
 -- each of these events is causal, and no leader key is created that is absent at once

@@ -45,13 +45,13 @@ grant_if true revision moment question failsafe = Some (record { revision = revi
 grant_if false revision moment question failsafe = None
 
 -- the answer of this number carries a grant: of a question that was asked, under the revision that it carries, given as it was sent
-pub record CarriesGrant (past : Past) (i : ℕ) (carried : InFlightFacts) (member : Member) (run sequence request : ℕ) (leased : Bool) : Type 0 where
+pub record CarriesGrant (past : Past) (i : ℕ) (carried : InFlightFacts) (member : Member) (incarnation sequence request : ℕ) (leased : Bool) : Type 0 where
   pub revision : ℕ
   pub grant : carried.grant ≡ Some (record { revision = revision; by = member.id; leased = leased })
-  pub answers : IsAnswerTo past.asked member.id.number run sequence request leased
+  pub answers : IsAnswerTo past.asked member.id.number incarnation sequence request leased
   pub flying : past.flight i ≡ Some (Answered (record {
     member = member.id.number;
-    run = run;
+    incarnation = incarnation;
     sequence = sequence;
     leader = seen_of (leader_key_of (find key_cmp keys.Leader carried.snapshot));
     failsafe = failsafe_key_of (find key_cmp keys.Failsafe carried.snapshot);

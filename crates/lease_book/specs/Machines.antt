@@ -20,12 +20,12 @@ abbrev pub hold_if : Option (Option Ticks) → ℕ
 hold_if (Some (Some until)) = until.0
 hold_if _ = 0
 
--- the run of an agent, 0 where there is no such agent
+-- the incarnation of an agent, 0 where there is no such agent
 abbrev pub run_if : Option AgentProcess → ℕ
 run_if None = 0
-run_if (Some process) = process.run
+run_if (Some process) = process.incarnation
 
--- the law has the deadline, the hold, the run and the writing of each member as the book leaves them, and the book has each of these
+-- the law has the deadline, the hold, the incarnation and the writing of each member as the book leaves them, and the book has each of these
 -- for each agent
 pub record IsSameMachines (past : Past) (facts : Facts) : Type 0 where
   pub deadline_count : length facts.deadlines ≡ length facts.processes

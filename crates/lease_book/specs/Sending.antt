@@ -10,7 +10,7 @@ use Rattle.lease_book.specs.Groups.{IsMemberEnd}
 
 -- what the law reads of a message that a member sends at this moment
 abbrev pub flying_from : ℕ → Message → Option Flying
-flying_from clock message = flying_of (record first_past { clock = clock }) message.from message.to message.run message.sequence message.body
+flying_from clock message = flying_of (record first_past { clock = clock }) message.from message.to message.incarnation message.sequence message.body
 
 -- at this moment members alone send messages, and this holds of each that the law reads
 abbrev pub SendsOnly : (Flying → Type 0) → ℕ → EventKind → Type 0

@@ -1,4 +1,4 @@
--- Questions by their names: the member that asks, its run and the number in that run.
+-- Questions by their names: the member that asks, its incarnation and the number in that one.
 use Rattle.std.specs.Prelude.{ℕ, ◌≡◌, ◌≤◌, Option, Some}
 use Rattle.event_book.specs.declared.event.EventKind.{EventKind}
 use Rattle.event_book.specs.declared.event.EventKind.TheVariants as kinds
@@ -9,22 +9,22 @@ use Rattle.lease_law.specs.Leases.{Question}
 
 -- a question of this name that was asked is this one
 abbrev pub IsAskedOnce : (ℕ → Option Question) → Question → Type 0
-IsAskedOnce asked question = (i : ℕ) (q : Question) → asked i ≡ Some q → q.member ≡ question.member → q.run ≡ question.run → q.sequence ≡ question.sequence → q ≡ question
+IsAskedOnce asked question = (i : ℕ) (q : Question) → asked i ≡ Some q → q.member ≡ question.member → q.incarnation ≡ question.incarnation → q.sequence ≡ question.sequence → q ≡ question
 
--- in this run the member asked under no number above this one
+-- in this incarnation the member asked under no number above this one
 abbrev pub IsLastAsked : (ℕ → Option Question) → ℕ → ℕ → ℕ → Type 0
-IsLastAsked asked m run last = (i : ℕ) (q : Question) → asked i ≡ Some q → q.member ≡ m → q.run ≡ run → q.sequence ≤ last
+IsLastAsked asked m incarnation last = (i : ℕ) (q : Question) → asked i ≡ Some q → q.member ≡ m → q.incarnation ≡ incarnation → q.sequence ≤ last
 
--- the member asked in no run after this one
+-- the member asked in no incarnation after this one
 abbrev pub IsLastRun : (ℕ → Option Question) → ℕ → ℕ → Type 0
-IsLastRun asked m runs = (i : ℕ) (q : Question) → asked i ≡ Some q → q.member ≡ m → q.run ≤ runs
+IsLastRun asked m runs = (i : ℕ) (q : Question) → asked i ≡ Some q → q.member ≡ m → q.incarnation ≤ runs
 
--- where a message is a question to the key store, this holds of its member, run and number
+-- where a message is a question to the key store, this holds of its member, incarnation and number
 abbrev pub AsksFrom : (ℕ → ℕ → ℕ → Type 0) → LinkEnd → LinkEnd → ℕ → ℕ → Type 0
-AsksFrom P (ends.Member by) ends.Store run sequence = P by.id.number run sequence
-AsksFrom P _ to run sequence = Unit {0}
+AsksFrom P (ends.Member by) ends.Store incarnation sequence = P by.id.number incarnation sequence
+AsksFrom P _ to incarnation sequence = Unit {0}
 
 -- of the question that this event sends, if it sends one, this holds by its name
 abbrev pub AsksOnly : (ℕ → ℕ → ℕ → Type 0) → EventKind → Type 0
-AsksOnly P (kinds.Message (Sent number message)) = AsksFrom P message.from message.to message.run message.sequence
+AsksOnly P (kinds.Message (Sent number message)) = AsksFrom P message.from message.to message.incarnation message.sequence
 AsksOnly P _ = Unit {0}

@@ -62,82 +62,82 @@ pub fn same_book()
 /// A delivery to the key store of a message that the book has in flight is shown by its events, and they leave the same by the law as by
 /// the book.
 pub fn deliveries()
-    ensures granted { (declared : Declared) (book : List Event) (facts : Facts) (volatile_states : ℕ → VolatileState) (tick : Ticks) (i j : ℕ) (carried : InFlightFacts) (by : Member) (run sequence : ℕ) (txn : Txn) (standbys : List Name)
+    ensures granted { (declared : Declared) (book : List Event) (facts : Facts) (volatile_states : ℕ → VolatileState) (tick : Ticks) (i j : ℕ) (carried : InFlightFacts) (by : Member) (incarnation sequence : ℕ) (txn : Txn) (standbys : List Name)
         → IsSameBook (past_of book) facts
         → in_flight facts.flight i ≡ Some carried
-        → carried.message ≡ record { from = ToMember by; to = Store; run = run; sequence = sequence; body = bodies.Request txn }
+        → carried.message ≡ record { from = ToMember by; to = Store; incarnation = incarnation; sequence = sequence; body = bodies.Request txn }
         → facts.sent < j → IsSpannedTxn txn
         → decision_on facts.keys facts.clock txn ≡ Grants
-        → let events = granted_events tick i j by run sequence txn standbys in
+        → let events = granted_events tick i j by incarnation sequence txn standbys in
         IsShown declared book volatile_states (record { action = Deliver i j true; events = events; volatile_states = volatile_states }) × IsSameBook (past_of (book ++ events)) (facts_over facts events) }
-    ensures refused { (declared : Declared) (book : List Event) (facts : Facts) (volatile_states : ℕ → VolatileState) (tick : Ticks) (i j : ℕ) (carried : InFlightFacts) (by : Member) (run sequence : ℕ) (txn : Txn) (request : TxnKind) (key : Key) (found : Expected)
+    ensures refused { (declared : Declared) (book : List Event) (facts : Facts) (volatile_states : ℕ → VolatileState) (tick : Ticks) (i j : ℕ) (carried : InFlightFacts) (by : Member) (incarnation sequence : ℕ) (txn : Txn) (request : TxnKind) (key : Key) (found : Expected)
         → IsSameBook (past_of book) facts
         → in_flight facts.flight i ≡ Some carried
-        → carried.message ≡ record { from = ToMember by; to = Store; run = run; sequence = sequence; body = bodies.Request txn }
+        → carried.message ≡ record { from = ToMember by; to = Store; incarnation = incarnation; sequence = sequence; body = bodies.Request txn }
         → facts.sent < j
         → decision_on facts.keys facts.clock txn ≡ Refusal key found
-        → let events = refused_events tick i j by run sequence request key found in
+        → let events = refused_events tick i j by incarnation sequence request key found in
         IsShown declared book volatile_states (record { action = Deliver i j false; events = events; volatile_states = volatile_states }) × IsSameBook (past_of (book ++ events)) (facts_over facts events) }
-    ensures read { (declared : Declared) (book : List Event) (facts : Facts) (volatile_states : ℕ → VolatileState) (tick : Ticks) (i j : ℕ) (carried : InFlightFacts) (by : Member) (run sequence : ℕ)
+    ensures read { (declared : Declared) (book : List Event) (facts : Facts) (volatile_states : ℕ → VolatileState) (tick : Ticks) (i j : ℕ) (carried : InFlightFacts) (by : Member) (incarnation sequence : ℕ)
         → IsSameBook (past_of book) facts
         → in_flight facts.flight i ≡ Some carried
-        → carried.message ≡ record { from = ToMember by; to = Store; run = run; sequence = sequence; body = bodies.Read }
+        → carried.message ≡ record { from = ToMember by; to = Store; incarnation = incarnation; sequence = sequence; body = bodies.Read }
         → facts.sent < j
-        → let events = read_events tick i j by run sequence in
+        → let events = read_events tick i j by incarnation sequence in
         IsShown declared book volatile_states (record { action = Deliver i j true; events = events; volatile_states = volatile_states }) × IsSameBook (past_of (book ++ events)) (facts_over facts events) }
 {}
 
 /// What the law has of a message that comes to an agent.
 pub fn heard()
-    ensures snapshot { (past : Past) (facts : Facts) (i : ℕ) (carried : InFlightFacts) (member : Member) (run sequence : ℕ)
+    ensures snapshot { (past : Past) (facts : Facts) (i : ℕ) (carried : InFlightFacts) (member : Member) (incarnation sequence : ℕ)
         → IsSameFlight past facts
         → in_flight facts.flight i ≡ Some carried
-        → carried.message ≡ record { from = Store; to = ToMember member; run = run; sequence = sequence; body = bodies.Snapshot }
-        → past.flight i ≡ Some (Answered (record { member = member.id.number; run = run; sequence = sequence; leader = seen_of (leader_key_of (find key_cmp Leader carried.snapshot)); failsafe = failsafe_key_of (find key_cmp Failsafe carried.snapshot); grant = None })) }
-    ensures granted { (past : Past) (facts : Facts) (i : ℕ) (carried : InFlightFacts) (member : Member) (run sequence request : ℕ) (leased : Bool)
+        → carried.message ≡ record { from = Store; to = ToMember member; incarnation = incarnation; sequence = sequence; body = bodies.Snapshot }
+        → past.flight i ≡ Some (Answered (record { member = member.id.number; incarnation = incarnation; sequence = sequence; leader = seen_of (leader_key_of (find key_cmp Leader carried.snapshot)); failsafe = failsafe_key_of (find key_cmp Failsafe carried.snapshot); grant = None })) }
+    ensures granted { (past : Past) (facts : Facts) (i : ℕ) (carried : InFlightFacts) (member : Member) (incarnation sequence request : ℕ) (leased : Bool)
         → IsSameFlight past facts
         → in_flight facts.flight i ≡ Some carried
-        → carried.message ≡ record { from = Store; to = ToMember member; run = run; sequence = sequence; body = bodies.Granted request leased }
-        → CarriesGrant past i carried member run sequence request leased }
-    ensures refused { (past : Past) (facts : Facts) (i : ℕ) (carried : InFlightFacts) (member : Member) (run sequence request : ℕ) (key : Key) (found : Expected)
+        → carried.message ≡ record { from = Store; to = ToMember member; incarnation = incarnation; sequence = sequence; body = bodies.Granted request leased }
+        → CarriesGrant past i carried member incarnation sequence request leased }
+    ensures refused { (past : Past) (facts : Facts) (i : ℕ) (carried : InFlightFacts) (member : Member) (incarnation sequence request : ℕ) (key : Key) (found : Expected)
         → IsSameFlight past facts
         → in_flight facts.flight i ≡ Some carried
-        → carried.message ≡ record { from = Store; to = ToMember member; run = run; sequence = sequence; body = bodies.Refused request key found }
-        → past.flight i ≡ Some (Answered (record { member = member.id.number; run = run; sequence = sequence; leader = None; failsafe = None; grant = None })) }
-    ensures failsafe_request { (past : Past) (facts : Facts) (i : ℕ) (carried : InFlightFacts) (by member : Member) (run sequence : ℕ) (ttl : Ticks)
+        → carried.message ≡ record { from = Store; to = ToMember member; incarnation = incarnation; sequence = sequence; body = bodies.Refused request key found }
+        → past.flight i ≡ Some (Answered (record { member = member.id.number; incarnation = incarnation; sequence = sequence; leader = None; failsafe = None; grant = None })) }
+    ensures failsafe_request { (past : Past) (facts : Facts) (i : ℕ) (carried : InFlightFacts) (by member : Member) (incarnation sequence : ℕ) (ttl : Ticks)
         → IsSameFlight past facts
         → in_flight facts.flight i ≡ Some carried
-        → carried.message ≡ record { from = ToMember by; to = ToMember member; run = run; sequence = sequence; body = bodies.FailsafeRequest ttl }
-        → past.flight i ≡ Some (FailsafeRequested (record { member = by.id.number; run = run; sequence = sequence; ttl = ttl.0; sent = carried.sent.0 })) }
-    ensures acknowledgement { (past : Past) (facts : Facts) (i : ℕ) (carried : InFlightFacts) (by member : Member) (run sequence : ℕ)
+        → carried.message ≡ record { from = ToMember by; to = ToMember member; incarnation = incarnation; sequence = sequence; body = bodies.FailsafeRequest ttl }
+        → past.flight i ≡ Some (FailsafeRequested (record { member = by.id.number; incarnation = incarnation; sequence = sequence; ttl = ttl.0; sent = carried.sent.0 })) }
+    ensures acknowledgement { (past : Past) (facts : Facts) (i : ℕ) (carried : InFlightFacts) (by member : Member) (incarnation sequence : ℕ)
         → IsSameFlight past facts
         → in_flight facts.flight i ≡ Some carried
-        → carried.message ≡ record { from = ToMember by; to = ToMember member; run = run; sequence = sequence; body = bodies.FailsafeAnswer true }
-        → past.flight i ≡ Some (Acknowledged (record { member = member.id.number; run = run; sequence = sequence; by = by.id.number })) }
+        → carried.message ≡ record { from = ToMember by; to = ToMember member; incarnation = incarnation; sequence = sequence; body = bodies.FailsafeAnswer true }
+        → past.flight i ≡ Some (Acknowledged (record { member = member.id.number; incarnation = incarnation; sequence = sequence; by = by.id.number })) }
 {}
 
 /// What is waited for agrees with what is in flight: a question under a new number is the only one of its name, stays the only one while
 /// its member asks under others, and a grant of that name has its span and the moment of its sending.
 pub fn waiting()
-    ensures sent { (past : Past) (number : ℕ) (by : Member) (run sequence last : ℕ) (txn : Txn) → IsLastAsked past.asked by.id.number run last → last < sequence
-        → IsAskedOnce (past_after past (Message (Sent number (record { from = ToMember by; to = Store; run = run; sequence = sequence; body = bodies.Request txn })))).asked
-        (record { member = by.id.number; run = run; sequence = sequence; sent = past.clock; query = query_of txn }) }
+    ensures sent { (past : Past) (number : ℕ) (by : Member) (incarnation sequence last : ℕ) (txn : Txn) → IsLastAsked past.asked by.id.number incarnation last → last < sequence
+        → IsAskedOnce (past_after past (Message (Sent number (record { from = ToMember by; to = Store; incarnation = incarnation; sequence = sequence; body = bodies.Request txn })))).asked
+        (record { member = by.id.number; incarnation = incarnation; sequence = sequence; sent = past.clock; query = query_of txn }) }
     ensures kept { (past : Past) (kind : EventKind) (question : Question)
-        → AsksOnly (λ m run sequence. m ≡ question.member → run ≡ question.run → sequence ≡ question.sequence → ⊥) kind
+        → AsksOnly (λ m incarnation sequence. m ≡ question.member → incarnation ≡ question.incarnation → sequence ≡ question.sequence → ⊥) kind
         → IsAskedOnce past.asked question → IsAskedOnce (past_after past kind).asked question }
     // The numbers of a run's questions, and the runs.
-    ensures last { (past : Past) (kind : EventKind) (m run last : ℕ) → AsksOnly (λ by r sequence. by ≡ m → r ≡ run → sequence ≤ last) kind
-        → IsLastAsked past.asked m run last → IsLastAsked (past_after past kind).asked m run last }
-    ensures later { (asked : ℕ → Option Question) (m run last more : ℕ) → last ≤ more → IsLastAsked asked m run last → IsLastAsked asked m run more }
-    ensures run { (past : Past) (kind : EventKind) (m runs : ℕ) → AsksOnly (λ by r sequence. by ≡ m → r ≤ runs) kind
+    ensures last { (past : Past) (kind : EventKind) (m incarnation last : ℕ) → AsksOnly (λ by r sequence. by ≡ m → r ≡ incarnation → sequence ≤ last) kind
+        → IsLastAsked past.asked m incarnation last → IsLastAsked (past_after past kind).asked m incarnation last }
+    ensures later { (asked : ℕ → Option Question) (m incarnation last more : ℕ) → last ≤ more → IsLastAsked asked m incarnation last → IsLastAsked asked m incarnation more }
+    ensures incarnation { (past : Past) (kind : EventKind) (m runs : ℕ) → AsksOnly (λ by r sequence. by ≡ m → r ≤ runs) kind
         → IsLastRun past.asked m runs → IsLastRun (past_after past kind).asked m runs }
-    ensures new { (asked : ℕ → Option Question) (m runs run : ℕ) → runs < run → IsLastRun asked m runs → IsLastAsked asked m run 0 }
-    ensures granted { (past : Past) (facts : Facts) (i : ℕ) (carried : InFlightFacts) (member : Member) (run sequence request : ℕ) (leased : Bool) (question : Question)
+    ensures new { (asked : ℕ → Option Question) (m runs incarnation : ℕ) → runs < incarnation → IsLastRun asked m runs → IsLastAsked asked m incarnation 0 }
+    ensures granted { (past : Past) (facts : Facts) (i : ℕ) (carried : InFlightFacts) (member : Member) (incarnation sequence request : ℕ) (leased : Bool) (question : Question)
         → IsSameFlight past facts
         → in_flight facts.flight i ≡ Some carried
-        → carried.message ≡ record { from = Store; to = ToMember member; run = run; sequence = sequence; body = bodies.Granted request leased }
-        → IsAskedOnce past.asked question → question.member ≡ member.id.number → question.run ≡ run → question.sequence ≡ sequence
-        → (heard : CarriesGrant past i carried member run sequence request leased) × (heard.answers.question ≡ question) }
+        → carried.message ≡ record { from = Store; to = ToMember member; incarnation = incarnation; sequence = sequence; body = bodies.Granted request leased }
+        → IsAskedOnce past.asked question → question.member ≡ member.id.number → question.incarnation ≡ incarnation → question.sequence ≡ sequence
+        → (heard : CarriesGrant past i carried member incarnation sequence request leased) × (heard.answers.question ≡ question) }
 {}
 
 /// The messages in flight after the events of an input are as a lawful input leaves them, where each message that they send may be sent;
@@ -151,7 +151,7 @@ pub fn inputs_send()
         → event.kind ≡ Message (Delivered n) → n ≤ last → AreNumberedAbove last events → (past_over past (event ∷ events)).flight n ≡ None }
 {}
 
-/// A book leaves the same deadlines, holds, runs and writers of its members by the law's definitions as by its own.
+/// A book leaves the same deadlines, holds, incarnations and writers of its members by the law's definitions as by its own.
 pub fn same_machines()
     ensures first { (first : Settings) (names : List Name) (base : ℕ) → IsSameMachines first_past (start_of first names base) }
     ensures each { (past : Past) (facts : Facts) (kind : EventKind) → IsSameMachines past facts → IsSameMachines (past_after past kind) (facts_after facts kind) }

@@ -24,7 +24,7 @@ use Rattle.event_book.specs.Links.{is_cut}
 use Rattle.agent_model.specs.declared.heard.Heard.{Heard}
 use Rattle.agent_model.specs.declared.heard.Heard.TheVariants.{Operated, Wake}
 use Rattle.agent_model.specs.declared.machine.Machine.{Machine}
-use Rattle.agent_model.specs.Agents.{AgentFacts, Outcome, made}
+use Rattle.agent_model.specs.Agents.{AgentFacts, Outcome, outcome_from}
 use Rattle.agent_lease_law.specs.Lawful.{Hears}
 use Rattle.script_model.specs.Script.{HeadText}
 use Rattle.cluster_model.specs.declared.delivery.Delivery.TheVariants as deliveries
@@ -214,12 +214,12 @@ module _ (head : HeadText) (book : List Event) (cluster : Cluster) (number : ℕ
   opened = open-of message.message (slice_get cluster.facts.processes member.id.number) (is_cut cluster.facts.cuts (link_of_message message.message))
       (ap (λ (end : LinkEnd). cond (is_cut cluster.facts.cuts (link_of_message message.message)) deliveries.Cut (delivery_to cluster.facts.processes message.message end)) (sym to) ∙ open_is)
 
-  pub same-run : IsAnswer message.message.body → (agent : AgentFacts) → slice_get cluster.agents member.id.number ≡ Some (Some agent) → message.message.run ≡ agent.knows.run
+  pub same-run : IsAnswer message.message.body → (agent : AgentFacts) → slice_get cluster.agents member.id.number ≡ Some (Some agent) → message.message.incarnation ≡ agent.knows.incarnation
   same-run answered agent here =
       let knows = good.matched.agents member.id.number agent here in
       let one : knows.found ≡ opened.process = some-is knows.found opened.process (sym knows.is ∙ opened.is) in
-      eq-from message.message.run opened.process.run (not-not (is_answer message.message.body) (message.message.run == opened.process.run) (answers message.message.body answered) opened.fresh)
-      ∙ sym (knows.run ∙ ap (λ (p : AgentProcess). p.run) one)
+      eq-from message.message.incarnation opened.process.incarnation (not-not (is_answer message.message.body) (message.message.incarnation == opened.process.incarnation) (answers message.message.body answered) opened.fresh)
+      ∙ sym (knows.incarnation ∙ ap (λ (p : AgentProcess). p.incarnation) one)
 
   hear-by : (heard : Heard) (agent : Option AgentFacts) (machine : Option Machine) → heard_from cluster message ≡ Some heard → agent_at cluster.agents member.id.number ≡ agent → machine_of cluster member ≡ machine
       → IsKept head book cluster (event_of cluster Arrived ++ input_events (cluster_after cluster Arrived) member (heard_message number message) (outcome_at (moment_of cluster) (points_of cluster member) heard agent machine))
@@ -236,7 +236,7 @@ module _ (head : HeadText) (book : List Event) (cluster : Cluster) (number : ℕ
       (λ works. elim sender [
         | inl store ↦ hears-by head (past_of book) cluster good.matched (declared_of head) (volatile_of cluster) member agent machine machine_found here (works member.id.number)
             number message found store.0 to (same-run store.1 agent here) (moment_of cluster) message.message.body refl store.1 heard h
-        | inr peer ↦ peers-hear _ member.id.number (Some number) (moment_of cluster) (made agent.role agent.knows machine []) cluster message message.message.body peer heard h
+        | inr peer ↦ peers-hear _ member.id.number (Some number) (moment_of cluster) (outcome_from agent.role agent.knows machine []) cluster message message.message.body peer heard h
       ])
 
   heard-by : (heard : Option Heard) → heard_from cluster message ≡ heard

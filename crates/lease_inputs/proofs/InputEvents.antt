@@ -47,9 +47,9 @@ use Rattle.cluster_model.proofs.Lists.{AllKinds, HoldsIf, all-kinds, one-kind}
 use Rattle.lease_inputs.specs.InputEvents.{Asks, AsksPeer, AnswersPeer, IsOfInput, IsToBegin}
 
 -- ---- the events of one output
-module _ (member : Member) (run heard : ℕ) (Q : Output → Type 0) where
+module _ (member : Member) (incarnation heard : ℕ) (Q : Output → Type 0) where
   abbrev Mine : EventKind → Type 0
-  Mine kind = IsOfInput member run heard Q kind
+  Mine kind = IsOfInput member incarnation heard Q kind
 
   loss-mine : (test : Bool) → AllKinds Mine (kinds_of (loss_if member test))
   loss-mine true = (refl, tt)
@@ -107,19 +107,19 @@ module _ (member : Member) (run heard : ℕ) (Q : Output → Type 0) where
   lost-mine true number = (tt, tt)
   lost-mine false number = tt
 
-  sends-mine : (cluster : Cluster) (sequence : ℕ) (body : Body) (found : Option AgentProcess) → ((process : AgentProcess) → found ≡ Some process → process.run ≡ run) → Q (outputs.Send targets.Store sequence body)
+  sends-mine : (cluster : Cluster) (sequence : ℕ) (body : Body) (found : Option AgentProcess) → ((process : AgentProcess) → found ≡ Some process → process.incarnation ≡ incarnation) → Q (outputs.Send targets.Store sequence body)
       → AllAre Mine (sending_events cluster member found (Some ends.Store) sequence body)
   sends-mine cluster sequence body None runs is = tt
   sends-mine cluster sequence body (Some process) runs is =
-      all-kinds Mine cluster (kinds.Message (Sent (cluster.facts.sent + 1) (agent_message member ends.Store process.run sequence body)) ∷ lost_at_once (nat_le most_in_flight (length cluster.facts.flight)) (cluster.facts.sent + 1))
+      all-kinds Mine cluster (kinds.Message (Sent (cluster.facts.sent + 1) (agent_message member ends.Store process.incarnation sequence body)) ∷ lost_at_once (nat_le most_in_flight (length cluster.facts.flight)) (cluster.facts.sent + 1))
       (Asks (record { sequence = sequence; body = body; is = ap (λ (r : ℕ). agent_message member ends.Store r sequence body) (runs process refl); from = is }), lost-mine (nat_le most_in_flight (length cluster.facts.flight)) (cluster.facts.sent + 1))
 
-  asks-mine : (cluster : Cluster) (id : MemberId) (sequence : ℕ) (found : Option AgentProcess) (peer : Option Member) → ((process : AgentProcess) → found ≡ Some process → process.run ≡ run) → Q (outputs.Send (targets.Member id) sequence bodies.Ask)
+  asks-mine : (cluster : Cluster) (id : MemberId) (sequence : ℕ) (found : Option AgentProcess) (peer : Option Member) → ((process : AgentProcess) → found ≡ Some process → process.incarnation ≡ incarnation) → Q (outputs.Send (targets.Member id) sequence bodies.Ask)
       → AllAre Mine (sending_events cluster member found (option_map (λ (m : Member). ends.Member m) peer) sequence bodies.Ask)
   asks-mine cluster id sequence None peer runs is = tt
   asks-mine cluster id sequence (Some process) None runs is = tt
   asks-mine cluster id sequence (Some process) (Some peer) runs is =
-      all-kinds Mine cluster (kinds.Message (Sent (cluster.facts.sent + 1) (agent_message member (ends.Member peer) process.run sequence bodies.Ask)) ∷ lost_at_once (nat_le most_in_flight (length cluster.facts.flight)) (cluster.facts.sent + 1))
+      all-kinds Mine cluster (kinds.Message (Sent (cluster.facts.sent + 1) (agent_message member (ends.Member peer) process.incarnation sequence bodies.Ask)) ∷ lost_at_once (nat_le most_in_flight (length cluster.facts.flight)) (cluster.facts.sent + 1))
       (AsksPeer peer id sequence (ap (λ (r : ℕ). agent_message member (ends.Member peer) r sequence bodies.Ask) (runs process refl)) is, lost-mine (nat_le most_in_flight (length cluster.facts.flight)) (cluster.facts.sent + 1))
 
   replies-mine : (cluster : Cluster) (id : MemberId) (asked sequence : ℕ) (answer : PeerAnswer) (peer : Option Member) → Q (outputs.Answer id asked sequence answer)
@@ -129,7 +129,7 @@ module _ (member : Member) (run heard : ℕ) (Q : Output → Type 0) where
       all-kinds Mine cluster (kinds.Message (Sent (cluster.facts.sent + 1) (agent_message member (ends.Member peer) asked sequence (bodies.Answer answer))) ∷ lost_at_once (nat_le most_in_flight (length cluster.facts.flight)) (cluster.facts.sent + 1))
       (AnswersPeer peer id asked sequence answer refl is, lost-mine (nat_le most_in_flight (length cluster.facts.flight)) (cluster.facts.sent + 1))
 
-  member-mine : (cluster : Cluster) (id : MemberId) (sequence : ℕ) (body : Body) (found : Option AgentProcess) (peer : Option Member) → IsAsk body → ((process : AgentProcess) → found ≡ Some process → process.run ≡ run)
+  member-mine : (cluster : Cluster) (id : MemberId) (sequence : ℕ) (body : Body) (found : Option AgentProcess) (peer : Option Member) → IsAsk body → ((process : AgentProcess) → found ≡ Some process → process.incarnation ≡ incarnation)
       → Q (outputs.Send (targets.Member id) sequence body) → AllAre Mine (sending_events cluster member found (option_map (λ (m : Member). ends.Member m) peer) sequence body)
   member-mine cluster id sequence bodies.Ask found peer ask runs is = asks-mine cluster id sequence found peer runs is
   member-mine cluster id sequence _ found peer ask runs is = absurd ask
@@ -140,7 +140,7 @@ module _ (member : Member) (run heard : ℕ) (Q : Output → Type 0) where
   server-order-mine : (cluster : Cluster) (order : ServerFacts → Option EventKind) → ((s : ServerFacts) → HoldsIf Mine (order s)) → AllAre Mine (server_order_events cluster member order)
   server-order-mine cluster order all = kinds-mine cluster (option_and_then order (server_at cluster member)) (holds-then Mine order (server_at cluster member) all)
 
-  pub output-mine : (cluster : Cluster) (message : HeardMessage) → message.number ≡ heard → ((process : AgentProcess) → slice_get cluster.facts.processes member.id.number ≡ Some process → process.run ≡ run)
+  pub output-mine : (cluster : Cluster) (message : HeardMessage) → message.number ≡ heard → ((process : AgentProcess) → slice_get cluster.facts.processes member.id.number ≡ Some process → process.incarnation ≡ incarnation)
       → (output : Output) → IsOfTable output → Q output → AllAre Mine (output_events member message cluster output)
   output-mine cluster message at runs (outputs.Send targets.Store sequence body) table is = sends-mine cluster sequence body (slice_get cluster.facts.processes member.id.number) runs is
   output-mine cluster message at runs (outputs.Send (targets.Member id) sequence body) table is = member-mine cluster id sequence body (slice_get cluster.facts.processes member.id.number) (slice_get cluster.facts.members id.number) table runs is
@@ -167,7 +167,7 @@ module _ (member : Member) (run heard : ℕ) (Q : Output → Type 0) where
   output-mine cluster message at runs (outputs.Fed until) table is = all-kinds Mine cluster (feed_kinds member message (feeding member until message)) (refl, ((refl, ap (λ (n : ℕ). bases.Grant n) at, is), tt))
   output-mine cluster message at runs outputs.Disarmed table is = (refl, tt)
   output-mine cluster message at runs outputs.CannotArm table is = (tt, tt)
-  output-mine cluster message at runs outputs.Passes table is = (refl, tt)
+  output-mine cluster message at runs outputs.ClaimsOutsideSync table is = (refl, tt)
   output-mine cluster message at runs outputs.PostponesPromotion table is = (tt, tt)
   output-mine cluster message at runs outputs.DisablesWatchdog table is = (tt, tt)
   output-mine cluster message at runs outputs.RunsWithoutKey table is = (tt, tt)

@@ -24,9 +24,9 @@ use Rattle.event_book.specs.Flight.{Flight, InFlightFacts, in_flight}
 use Rattle.script_model.specs.Script.{HeadText}
 use Rattle.agent_model.specs.declared.heard.Heard.{Heard}
 use Rattle.agent_model.specs.declared.heard.Heard.TheVariants as heards
-use Rattle.agent_model.specs.declared.knowledge.Waited.{Waited}
+use Rattle.agent_model.specs.declared.knowledge.PendingQuestion.{PendingQuestion}
 use Rattle.agent_model.specs.declared.machine.Machine.{Machine}
-use Rattle.agent_model.specs.Agents.{AgentFacts, Outcome, made}
+use Rattle.agent_model.specs.Agents.{AgentFacts, Outcome, outcome_from}
 use Rattle.agent_model.specs.Decisions.{asks_lease, is_decision, is_lease_of}
 use Rattle.agent_lease_law.specs.Lawful.{HearsAnswer, HearsGrant, Hears}
 use Rattle.agent_roles.specs.Seen.{leader_entry_seen, failsafe_entry_seen}
@@ -81,11 +81,11 @@ failsafe-is (Some found) = failsafe-by found.revision found.value found.expiry
 
 -- ---- the parts of a message
 pub message-is : (message : Message) (from to : LinkEnd) (body : Body) → message.from ≡ from → message.to ≡ to → message.body ≡ body
-    → message ≡ record { from = from; to = to; run = message.run; sequence = message.sequence; body = body }
+    → message ≡ record { from = from; to = to; incarnation = message.incarnation; sequence = message.sequence; body = body }
 message-is message from to body a b c =
-    ap (λ (f : LinkEnd). let m : Message = record { from = f; to = message.to; run = message.run; sequence = message.sequence; body = message.body } in m) a
-    ∙ ap (λ (t : LinkEnd). let m : Message = record { from = from; to = t; run = message.run; sequence = message.sequence; body = message.body } in m) b
-    ∙ ap (λ (x : Body). let m : Message = record { from = from; to = to; run = message.run; sequence = message.sequence; body = x } in m) c
+    ap (λ (f : LinkEnd). let m : Message = record { from = f; to = message.to; incarnation = message.incarnation; sequence = message.sequence; body = message.body } in m) a
+    ∙ ap (λ (t : LinkEnd). let m : Message = record { from = from; to = t; incarnation = message.incarnation; sequence = message.sequence; body = message.body } in m) b
+    ∙ ap (λ (x : Body). let m : Message = record { from = from; to = to; incarnation = message.incarnation; sequence = message.sequence; body = x } in m) c
 
 -- ---- no snapshot in flight pauses
 unpaused-at : (here : Bool) (first : InFlightFacts) (rest : Option InFlightFacts) (carried : InFlightFacts) → cond here (Some first) rest ≡ Some carried → IsUnpausedIn first.snapshot → (rest ≡ Some carried → IsUnpausedIn carried.snapshot) → IsUnpausedIn carried.snapshot
@@ -114,15 +114,15 @@ calm-granted : (cluster : Cluster) (carried : InFlightFacts) (given : Option Gra
 calm-granted cluster carried None calm heard e = absurd (none-some heard e)
 calm-granted cluster carried (Some grant) calm heard e = subst (λ (h : Heard). tells_pause (told_by h) ≡ false) (some-is _ heard e) calm
 
-calm-asked : (run sequence : ℕ) (from : Option MemberId) (heard : Heard) → option_map (λ by. heards.Asked by run sequence) from ≡ Some heard → tells_pause (told_by heard) ≡ false
-calm-asked run sequence None heard e = absurd (none-some heard e)
-calm-asked run sequence (Some by) heard e = subst (λ (h : Heard). tells_pause (told_by h) ≡ false) (some-is _ heard e) refl
+calm-asked : (incarnation sequence : ℕ) (from : Option MemberId) (heard : Heard) → option_map (λ by. heards.Asked by incarnation sequence) from ≡ Some heard → tells_pause (told_by heard) ≡ false
+calm-asked incarnation sequence None heard e = absurd (none-some heard e)
+calm-asked incarnation sequence (Some by) heard e = subst (λ (h : Heard). tells_pause (told_by h) ≡ false) (some-is _ heard e) refl
 
 calm-in : (cluster : Cluster) (carried : InFlightFacts) (body : Body) → (config_in (snapshot_in cluster carried)).pause ≡ false → (heard : Heard) → heard_in cluster carried body ≡ Some heard → tells_pause (told_by heard) ≡ false
 calm-in cluster carried bodies.Snapshot calm heard e = subst (λ (h : Heard). tells_pause (told_by h) ≡ false) (some-is _ heard e) calm
 calm-in cluster carried (bodies.Granted request leased) calm heard e = calm-granted cluster carried carried.grant calm heard e
 calm-in cluster carried (bodies.Refused request key at) calm heard e = subst (λ (h : Heard). tells_pause (told_by h) ≡ false) (some-is _ heard e) refl
-calm-in cluster carried bodies.Ask calm heard e = calm-asked carried.message.run carried.message.sequence (member_at_end carried.message.from) heard e
+calm-in cluster carried bodies.Ask calm heard e = calm-asked carried.message.incarnation carried.message.sequence (member_at_end carried.message.from) heard e
 calm-in cluster carried (bodies.Answer answer) calm heard e = subst (λ (h : Heard). tells_pause (told_by h) ≡ false) (some-is _ heard e) refl
 calm-in cluster carried _ calm heard e = absurd (none-some heard e)
 
@@ -133,7 +133,7 @@ calm-from cluster carried calm heard e = calm-in cluster carried carried.message
 module _ (head : HeadText) (past : Past) (cluster : Cluster) (matched : IsMatched head past cluster) (declared : Declared) (volatile_states : ℕ → VolatileState)
     (member : Member) (agent : AgentFacts) (machine : Machine) (found : IsFound cluster member machine) (here : slice_get cluster.agents member.id.number ≡ Some (Some agent)) (works : works_of head member.id.number ≡ true)
     (number : ℕ) (carried : InFlightFacts) (there : in_flight cluster.facts.flight number ≡ Some carried) (from : carried.message.from ≡ ends.Store) (to : carried.message.to ≡ ends.Member member)
-    (run : carried.message.run ≡ agent.knows.run) (now : Ticks) where
+    (incarnation : carried.message.incarnation ≡ agent.knows.incarnation) (now : Ticks) where
   abbrev Law : State
   Law = state_of declared past volatile_states
 
@@ -148,9 +148,9 @@ module _ (head : HeadText) (past : Past) (cluster : Cluster) (matched : IsMatche
     number = number;
     answer = _;
     heard_is = refl;
-    is = heard-snapshot past cluster.facts number carried member carried.message.run carried.message.sequence matched.flight there (message-is carried.message ends.Store (ends.Member member) bodies.Snapshot from to body);
+    is = heard-snapshot past cluster.facts number carried member carried.message.incarnation carried.message.sequence matched.flight there (message-is carried.message ends.Store (ends.Member member) bodies.Snapshot from to body);
     member = refl;
-    run = run;
+    incarnation = incarnation;
     sequence_is = refl;
     leader = sym (leader-is (find key_cmp keys.Leader carried.snapshot) leased);
     failsafe = sym (failsafe-is (find key_cmp keys.Failsafe carried.snapshot));
@@ -161,7 +161,7 @@ module _ (head : HeadText) (past : Past) (cluster : Cluster) (matched : IsMatche
   is-leased : (grant : Granted) → is_lease_of agent.knows.who.me grant ≡ true → grant.leased ≡ true
   is-leased grant e = and-first grant.leased (grant.by.number == agent.knows.who.me.number) e
 
-  asks-and : (waited : Waited) (sequence : ℕ) → is_decision waited sequence ≡ true → (asks_lease waited.question ≡ true) × (waited.sequence ≡ sequence)
+  asks-and : (waited : PendingQuestion) (sequence : ℕ) → is_decision waited sequence ≡ true → (asks_lease waited.question ≡ true) × (waited.sequence ≡ sequence)
   asks-and waited sequence e = (and-first (asks_lease waited.question) (waited.sequence == sequence) e, same (waited.sequence) sequence (and-second (asks_lease waited.question) (waited.sequence == sequence) e))
     where
       and-second : (a b : Bool) → (a && b) ≡ true → b ≡ true
@@ -175,9 +175,9 @@ module _ (head : HeadText) (past : Past) (cluster : Cluster) (matched : IsMatche
       same a b e = grind (arith, nat_tests)
 
   granted-heard : (request : ℕ) (leased_is : Bool) → carried.message.body ≡ bodies.Granted request leased_is → (grant : Granted) → carried.grant ≡ Some grant
-      → HearsGrant Law member.id.number (Some number) now carried.message.sequence grant (snapshot_in cluster carried) (made agent.role agent.knows machine [])
+      → HearsGrant Law member.id.number (Some number) now carried.message.sequence grant (snapshot_in cluster carried) (outcome_from agent.role agent.knows machine [])
   granted-heard request leased_is body grant grant-is =
-      let told = heard-granted past cluster.facts number carried member carried.message.run carried.message.sequence request leased_is matched.flight there (message-is carried.message ends.Store (ends.Member member) (bodies.Granted request leased_is) from to body) in
+      let told = heard-granted past cluster.facts number carried member carried.message.incarnation carried.message.sequence request leased_is matched.flight there (message-is carried.message ends.Store (ends.Member member) (bodies.Granted request leased_is) from to body) in
       let same : grant ≡ record { revision = told.revision; by = member.id; leased = leased_is } = some-is grant _ (sym grant-is ∙ told.grant) in
       record {
         answer = record {
@@ -186,7 +186,7 @@ module _ (head : HeadText) (past : Past) (cluster : Cluster) (matched : IsMatche
           heard_is = refl;
           is = told.flying;
           member = refl;
-          run = run;
+          incarnation = incarnation;
           sequence_is = refl;
           leader = sym (leader-is (find key_cmp keys.Leader carried.snapshot) leased);
           failsafe = sym (failsafe-is (find key_cmp keys.Failsafe carried.snapshot));
@@ -197,7 +197,7 @@ module _ (head : HeadText) (past : Past) (cluster : Cluster) (matched : IsMatche
             let known = sound.waits awaited.waited awaited.is in
             let asks = asks-and awaited.waited carried.message.sequence awaited.decision in
             let question = told.answers.question in
-            let as_asked = known.as_asked asks.0 request question told.answers.is told.answers.asker (told.answers.in_run ∙ run) (told.answers.numbered ∙ sym asks.1) in
+            let as_asked = known.as_asked asks.0 request question told.answers.is told.answers.asker (told.answers.in_run ∙ incarnation) (told.answers.numbered ∙ sym asks.1) in
             let leases : leased_is ≡ true = sym (ap (λ (g : Granted). g.leased) same) ∙ is-leased grant awaited.mine in
             record {
               told = record { revision = told.revision; sent = question.sent; moment = carried.sent.0; ttl = lease_span question.query; failsafe = failsafe_key_of (find key_cmp keys.Failsafe carried.snapshot) };
@@ -214,26 +214,26 @@ module _ (head : HeadText) (past : Past) (cluster : Cluster) (matched : IsMatche
 
   granted-by : (request : ℕ) (leased_is : Bool) → carried.message.body ≡ bodies.Granted request leased_is → (given : Option Granted) → carried.grant ≡ given → (heard : Heard)
       → option_map (λ grant. heards.Granted carried.message.sequence grant (snapshot_in cluster carried)) given ≡ Some heard
-      → Hears Law member.id.number (Some number) now heard (made agent.role agent.knows machine [])
+      → Hears Law member.id.number (Some number) now heard (outcome_from agent.role agent.knows machine [])
   granted-by request leased_is body None is heard e = absurd (none-some heard e)
   granted-by request leased_is body (Some grant) is heard e =
-      subst (λ (h : Heard). Hears Law member.id.number (Some number) now h (made agent.role agent.knows machine [])) (some-is _ heard e) (granted-heard request leased_is body grant is)
+      subst (λ (h : Heard). Hears Law member.id.number (Some number) now h (outcome_from agent.role agent.knows machine [])) (some-is _ heard e) (granted-heard request leased_is body grant is)
 
   pub hears-by : (body : Body) → carried.message.body ≡ body → IsAnswer body → (heard : Heard) → heard_in cluster carried body ≡ Some heard
-      → Hears Law member.id.number (Some number) now heard (made agent.role agent.knows machine [])
+      → Hears Law member.id.number (Some number) now heard (outcome_from agent.role agent.knows machine [])
   hears-by bodies.Snapshot body is heard e =
-      subst (λ (h : Heard). Hears Law member.id.number (Some number) now h (made agent.role agent.knows machine [])) (some-is _ heard e) (snapshot-heard body)
+      subst (λ (h : Heard). Hears Law member.id.number (Some number) now h (outcome_from agent.role agent.knows machine [])) (some-is _ heard e) (snapshot-heard body)
   hears-by (bodies.Granted request leased_is) body is heard e = granted-by request leased_is body carried.grant refl heard e
   hears-by (bodies.Refused request key at) body is heard e =
-      subst (λ (h : Heard). Hears Law member.id.number (Some number) now h (made agent.role agent.knows machine [])) (some-is _ heard e) tt
+      subst (λ (h : Heard). Hears Law member.id.number (Some number) now h (outcome_from agent.role agent.knows machine [])) (some-is _ heard e) tt
   hears-by _ body is heard e = absurd is
 
 -- the law hears nothing of what other members ask and answer
-unheard : (law : State) (m : ℕ) (number : Option ℕ) (now : Ticks) (o : Outcome) (run sequence : ℕ) (from : Option MemberId) (heard : Heard) → option_map (λ by. heards.Asked by run sequence) from ≡ Some heard → Hears law m number now heard o
-unheard law m number now o run sequence None heard e = absurd (none-some heard e)
-unheard law m number now o run sequence (Some by) heard e = subst (λ (h : Heard). Hears law m number now h o) (some-is _ heard e) tt
+unheard : (law : State) (m : ℕ) (number : Option ℕ) (now : Ticks) (o : Outcome) (incarnation sequence : ℕ) (from : Option MemberId) (heard : Heard) → option_map (λ by. heards.Asked by incarnation sequence) from ≡ Some heard → Hears law m number now heard o
+unheard law m number now o incarnation sequence None heard e = absurd (none-some heard e)
+unheard law m number now o incarnation sequence (Some by) heard e = subst (λ (h : Heard). Hears law m number now h o) (some-is _ heard e) tt
 
 pub peers-hear : (law : State) (m : ℕ) (number : Option ℕ) (now : Ticks) (o : Outcome) (cluster : Cluster) (carried : InFlightFacts) (body : Body) → IsPeerBody body → (heard : Heard) → heard_in cluster carried body ≡ Some heard → Hears law m number now heard o
-peers-hear law m number now o cluster carried bodies.Ask is heard e = unheard law m number now o carried.message.run carried.message.sequence (member_at_end carried.message.from) heard e
+peers-hear law m number now o cluster carried bodies.Ask is heard e = unheard law m number now o carried.message.incarnation carried.message.sequence (member_at_end carried.message.from) heard e
 peers-hear law m number now o cluster carried (bodies.Answer answer) is heard e = subst (λ (h : Heard). Hears law m number now h o) (some-is _ heard e) tt
 peers-hear law m number now o cluster carried _ is heard e = absurd is

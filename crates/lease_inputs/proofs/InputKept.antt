@@ -26,7 +26,7 @@ use Rattle.agent_model.specs.declared.machine.Machine.{Machine}
 use Rattle.agent_model.specs.declared.output.Output.{Output}
 use Rattle.agent_model.specs.declared.output.Output.TheVariants as outputs
 use Rattle.agent_model.specs.declared.output.Target.TheVariants as targets
-use Rattle.agent_model.specs.Agents.{AgentFacts, Outcome, made, EndsAlone}
+use Rattle.agent_model.specs.Agents.{AgentFacts, Outcome, outcome_from, EndsAlone}
 use Rattle.agent_lease_law.specs.Lawful.{StandsIn, Hears, IsSentBy, IsInputOf, MayPromote, IsLawfulAnd}
 use Rattle.agent_outputs.specs.Orders.{IsOfTable}
 use Rattle.agent_model.specs.Pausing.{is_paused}
@@ -111,16 +111,16 @@ opening-sent heard (kinds.Agent (agents.Operated by action)) last is = refl
 opening-sent heard (kinds.Message (Delivered number)) last is = refl
 opening-sent heard _ last is = absurd is
 
-sent-addressed : (member : Member) (run : ℕ) (Q : Output → Type 0) → ((sequence : ℕ) (body : Body) → Q (outputs.Send targets.Store sequence body) → IsQuestion body) → (message : Message) → IsMessageOf member run Q message → IsAddressed message.from message.to message.body
-sent-addressed member run Q asks message (Asks is) = subst (λ (x : Message). IsAddressed x.from x.to x.body) (sym is.is) (asks is.sequence is.body is.from)
-sent-addressed member run Q asks message (AsksPeer peer id sequence is from) = subst (λ (x : Message). IsAddressed x.from x.to x.body) (sym is) tt
-sent-addressed member run Q asks message (AnswersPeer peer id asked sequence answer is from) = subst (λ (x : Message). IsAddressed x.from x.to x.body) (sym is) tt
+sent-addressed : (member : Member) (incarnation : ℕ) (Q : Output → Type 0) → ((sequence : ℕ) (body : Body) → Q (outputs.Send targets.Store sequence body) → IsQuestion body) → (message : Message) → IsMessageOf member incarnation Q message → IsAddressed message.from message.to message.body
+sent-addressed member incarnation Q asks message (Asks is) = subst (λ (x : Message). IsAddressed x.from x.to x.body) (sym is.is) (asks is.sequence is.body is.from)
+sent-addressed member incarnation Q asks message (AsksPeer peer id sequence is from) = subst (λ (x : Message). IsAddressed x.from x.to x.body) (sym is) tt
+sent-addressed member incarnation Q asks message (AnswersPeer peer id asked sequence answer is from) = subst (λ (x : Message). IsAddressed x.from x.to x.body) (sym is) tt
 
-mine-addressed : (member : Member) (run heard : ℕ) (Q : Output → Type 0) → ((sequence : ℕ) (body : Body) → Q (outputs.Send targets.Store sequence body) → IsQuestion body) → (kind : EventKind) → IsOfInput member run heard Q kind → SendsAddressed kind
-mine-addressed member run heard Q asks (kinds.Message (Sent number message)) is = sent-addressed member run Q asks message is
-mine-addressed member run heard Q asks (kinds.Message (Delivered number)) is = absurd is
-mine-addressed member run heard Q asks (kinds.Message (Lost number)) is = tt
-mine-addressed member run heard Q asks _ is = tt
+mine-addressed : (member : Member) (incarnation heard : ℕ) (Q : Output → Type 0) → ((sequence : ℕ) (body : Body) → Q (outputs.Send targets.Store sequence body) → IsQuestion body) → (kind : EventKind) → IsOfInput member incarnation heard Q kind → SendsAddressed kind
+mine-addressed member incarnation heard Q asks (kinds.Message (Sent number message)) is = sent-addressed member incarnation Q asks message is
+mine-addressed member incarnation heard Q asks (kinds.Message (Delivered number)) is = absurd is
+mine-addressed member incarnation heard Q asks (kinds.Message (Lost number)) is = tt
+mine-addressed member incarnation heard Q asks _ is = tt
 
 taken-over : (past : Past) (events : List Event) → AllAre (λ kind. (clock : ℕ) (taken : List Taking) → taken_after clock taken kind ≡ taken) events → (past_over past events).taken ≡ past.taken
 taken-over past [] all = refl
@@ -154,7 +154,7 @@ module _ (head : HeadText) (book : List Event) (cluster : Cluster) (good : Bridg
   M = member.id.number
 
   abbrev Before : Outcome
-  Before = made agent.role agent.knows machine []
+  Before = outcome_from agent.role agent.knows machine []
 
   abbrev Now : Ticks
   Now = moment_of cluster
@@ -201,29 +201,29 @@ module _ (head : HeadText) (book : List Event) (cluster : Cluster) (good : Bridg
   same-process : (a b process : AgentProcess) (o : Option AgentProcess) → o ≡ Some a → o ≡ Some process → a ≡ process
   same-process a b process o e f = some-is a process (sym e ∙ f)
 
-  pub runs : (process : AgentProcess) → slice_get First.facts.processes M ≡ Some process → process.run ≡ agent.knows.run
-  runs process e = ap (λ (p : AgentProcess). p.run) (some-is process knows-it.found (sym e ∙ ap (λ (l : List AgentProcess). slice_get l M) begun.processes ∙ knows-it.is)) ∙ sym knows-it.run
+  pub runs : (process : AgentProcess) → slice_get First.facts.processes M ≡ Some process → process.incarnation ≡ agent.knows.incarnation
+  runs process e = ap (λ (p : AgentProcess). p.incarnation) (some-is process knows-it.found (sym e ∙ ap (λ (l : List AgentProcess). slice_get l M) begun.processes ∙ knows-it.is)) ∙ sym knows-it.incarnation
 
-  pub mine : AllAre (IsOfInput member agent.knows.run message.number Q) Rest
-  mine = each-mine member agent.knows.run message.number Q First message refl runs After.outputs table
+  pub mine : AllAre (IsOfInput member agent.knows.incarnation message.number Q) Rest
+  mine = each-mine member agent.knows.incarnation message.number Q First message refl runs After.outputs table
       (both-all (Contains After.outputs) (SendsBetween agent.knows.sequence After.knows.sequence) After.outputs (All-contains_itself After.outputs) anew.sends)
 
   pub stays : Stays M First Later
-  stays = stays-over member agent.knows.run message.number Q First Rest mine
+  stays = stays-over member agent.knows.incarnation message.number Q First Rest mine
 
   -- ---- all its events
-  all-events : (P : EventKind → Type 0) → P opening → ((kind : EventKind) → IsOfInput member agent.knows.run message.number Q kind → P kind) → AllAre P Events
-  all-events P first rest = (first, all-more (IsOfInput member agent.knows.run message.number Q) P Rest rest mine)
+  all-events : (P : EventKind → Type 0) → P opening → ((kind : EventKind) → IsOfInput member agent.knows.incarnation message.number Q kind → P kind) → AllAre P Events
+  all-events P first rest = (first, all-more (IsOfInput member agent.knows.incarnation message.number Q) P Rest rest mine)
 
   pub numbers : AreNumberedAbove cluster.facts.sent Events
   numbers = (
     opening-above cluster.facts.sent hn opening opens,
-    subst (λ (n : ℕ). AreNumberedAbove n Rest) (begun.sent ∙ sym (opening-sent hn opening cluster.facts.sent opens)) (each-numbered member agent.knows.run message First After.outputs runs table),
+    subst (λ (n : ℕ). AreNumberedAbove n Rest) (begun.sent ∙ sym (opening-sent hn opening cluster.facts.sent opens)) (each-numbered member agent.knows.incarnation message First After.outputs runs table),
   )
 
-  sends : AllAre (SendsOnly (IsSentBy M agent.knows.run Told.clock After.outputs) Told.clock) Events
-  sends = all-events (SendsOnly (IsSentBy M agent.knows.run Told.clock After.outputs) Told.clock) (opening-sends (IsSentBy M agent.knows.run Told.clock After.outputs) Told.clock hn opening opens)
-      (mine-sends member agent.knows.run message.number Q (IsSentBy M agent.knows.run Told.clock After.outputs) Told.clock
+  sends : AllAre (SendsOnly (IsSentBy M agent.knows.incarnation Told.clock After.outputs) Told.clock) Events
+  sends = all-events (SendsOnly (IsSentBy M agent.knows.incarnation Told.clock After.outputs) Told.clock) (opening-sends (IsSentBy M agent.knows.incarnation Told.clock After.outputs) Told.clock hn opening opens)
+      (mine-sends member agent.knows.incarnation message.number Q (IsSentBy M agent.knows.incarnation Told.clock After.outputs) Told.clock
       (λ sequence body query is query-is. record { sequence = sequence; body = body; query = query; among = is.0; query_is = query-is; is = refl }))
 
   asks : (sequence : ℕ) (body : Body) → Q (outputs.Send targets.Store sequence body) → IsQuestion body
@@ -234,22 +234,22 @@ module _ (head : HeadText) (book : List Event) (cluster : Cluster) (good : Bridg
 
   pub fitting : AllAre (IsFitting (member_count head)) Events
   fitting = all-events (IsFitting (member_count head)) (opening-hands_off hn opening opens, opening-members (member_count head) hn opening opens, opening-addressed hn opening opens)
-      (λ kind is. (mine-hands_off member agent.knows.run message.number Q kind is, mine-members member agent.knows.run message.number Q (member_count head) small kind is, mine-addressed member agent.knows.run message.number Q asks kind is))
+      (λ kind is. (mine-hands_off member agent.knows.incarnation message.number Q kind is, mine-members member agent.knows.incarnation message.number Q (member_count head) small kind is, mine-addressed member agent.knows.incarnation message.number Q asks kind is))
 
   fits : Fits head (past_over Told Events) Later
   fits = fits-over head Told cluster Events
-      (own-causal Told cluster.facts Events (all-events IsFromMembers (opening-from hn opening opens) (mine-from member agent.knows.run message.number Q)) numbers)
+      (own-causal Told cluster.facts Events (all-events IsFromMembers (opening-from hn opening opens) (mine-from member agent.knows.incarnation message.number Q)) numbers)
       fitting (fits-of head Told cluster good.matched)
 
   -- ---- agents
   clock-is : Now.0 ≡ Told.clock
   clock-is = sym good.matched.store.clock
 
-  pub questions : (i : ℕ) (q : Question) → (past_over Told Events).asked i ≡ Some q → (Told.asked i ≡ Some q) ⊎ IsSentBy M agent.knows.run Told.clock After.outputs (Requested q)
-  questions = asked-over (IsSentBy M agent.knows.run Told.clock After.outputs) Told.clock Told Events refl sends
+  pub questions : (i : ℕ) (q : Question) → (past_over Told Events).asked i ≡ Some q → (Told.asked i ≡ Some q) ⊎ IsSentBy M agent.knows.incarnation Told.clock After.outputs (Requested q)
+  questions = asked-over (IsSentBy M agent.knows.incarnation Told.clock After.outputs) Told.clock Told Events refl sends
 
-  run-is : agent.knows.run ≡ run_in cluster.facts.processes M
-  run-is = knows-it.run ∙ sym (ap run_now knows-it.is)
+  run-is : agent.knows.incarnation ≡ run_in cluster.facts.processes M
+  run-is = knows-it.incarnation ∙ sym (ap run_now knows-it.is)
 
   module _ (acts : agent_facts_after cluster opening ≡ with_changed cluster.agents M (agent_after (Some After))) where
     pub agents-are : Later.agents ≡ with_changed cluster.agents M (agent_after (Some After))
@@ -280,7 +280,7 @@ module _ (head : HeadText) (book : List Event) (cluster : Cluster) (good : Bridg
     resembles-later =
         let carried = step-carried-out Now (points_of cluster member) heard agent.role agent.knows machine in
         subst (λ (x : Machine). Resembles Later M x) (sym carried.machine_is)
-        (each-resembles member agent.knows.run message Now First machine After.outputs runs table carried.last begun.clock mirrors-first)
+        (each-resembles member agent.knows.incarnation message Now First machine After.outputs runs table carried.last begun.clock mirrors-first)
 
   -- ---- where it reads of no pause
   module _ (acts : agent_facts_after cluster opening ≡ with_changed cluster.agents M (agent_after (Some After))) (calm : tells_pause (told_by heard) ≡ false) where
@@ -295,9 +295,9 @@ module _ (head : HeadText) (book : List Event) (cluster : Cluster) (good : Bridg
         (ap (λ (l : List (Option AgentFacts)). length l) (agents-are acts) ∙ length-changed cluster.agents M (agent_after (Some After)) ∙ good.matched.agents_sized)
         (subst (λ (p : List AgentProcess). KnowThemselves p Later.agents) (sym (processes-are acts))
         (subst (KnowThemselves cluster.facts.processes) (sym (agents-are acts))
-        (knows-after M agent After cluster.facts.processes cluster.agents here anew.who anew.run unpaused good.matched.agents)))
+        (knows-after M agent After cluster.facts.processes cluster.agents here anew.who anew.incarnation unpaused good.matched.agents)))
         (λ n. subst (λ (p : List AgentProcess). IsLastRun (past_over Told Events).asked n (run_in p n)) (sym (processes-are acts))
-        (runs-after M Told.clock agent.knows.run After.outputs Told.asked (past_over Told Events).asked cluster.facts.processes run-is questions good.matched.waiting.runs n))
+        (runs-after M Told.clock agent.knows.incarnation After.outputs Told.asked (past_over Told Events).asked cluster.facts.processes run-is questions good.matched.waiting.runs n))
         (subst (AreAgentsSound (past_over Told Events).asked) (sym (agents-are acts))
         (agents-after M Told.clock Now agent After Told.asked (past_over Told Events).asked cluster.agents here questions anew clock-is (ends-alone acts) good.matched.waiting.agents))
 
@@ -336,12 +336,12 @@ module _ (head : HeadText) (book : List Event) (cluster : Cluster) (good : Bridg
       machine = machine-later;
       gone = λ number e. heard-gone Told (record { tick = record { 0 = First.facts.clock }; kind = opening }) Rest cluster.facts.sent number (gone-if hn opening opens number e) (numbered number e).1
           (subst (λ (n : ℕ). AreNumberedAbove n Rest) (opening-sent hn opening cluster.facts.sent opens) numbers.1);
-      flight = λ i flying e. old-or-sent (IsSentBy M agent.knows.run Told.clock After.outputs) Told.clock Told Events refl sends i flying e;
+      flight = λ i flying e. old-or-sent (IsSentBy M agent.knows.incarnation Told.clock After.outputs) Told.clock Told Events refl sends i flying e;
     }
 
     -- ---- who begins, and what is fed
     kept : AllAre (KeepsMomentOf message.number) Rest
-    kept = moments-all member agent.knows.run message.number cluster.facts.sent message.number Q Rest low
+    kept = moments-all member agent.knows.incarnation message.number cluster.facts.sent message.number Q Rest low
         (subst (λ (n : ℕ). AreNumberedAbove n Rest) (opening-sent hn opening cluster.facts.sent opens) numbers.1) mine
 
     abbrev May : List Event → ℕ → Type 0
@@ -352,7 +352,7 @@ module _ (head : HeadText) (book : List Event) (cluster : Cluster) (good : Bridg
       may.0,
       elim may.1 [
         | inl acts ↦ inl acts
-        | inr armed ↦ inr (record { fed = armed.fed; free = armed.free; armed = armed-more member agent.knows.run message M armed.fed.hears.number before more armed.armed })
+        | inr armed ↦ inr (record { fed = armed.fed; free = armed.free; armed = armed-more member agent.knows.incarnation message M armed.fed.hears.number before more armed.armed })
       ],
     )
 
@@ -379,7 +379,7 @@ module _ (head : HeadText) (book : List Event) (cluster : Cluster) (good : Bridg
     begins-all : IsLawfulAnd S M After Theirs → BeginsBehind (MayBeginBehind S (Input M Theirs)) [] Events
     begins-all lawful = (
       opening-begins (May []) hn opening opens,
-      each-begins member agent.knows.run message (MayPromote S M Theirs) May grow makes First machine [] (record { tick = record { 0 = First.facts.clock }; kind = opening } ∷ []) After.outputs (mirrors-first acts)
+      each-begins member agent.knows.incarnation message (MayPromote S M Theirs) May grow makes First machine [] (record { tick = record { 0 = First.facts.clock }; kind = opening } ∷ []) After.outputs (mirrors-first acts)
           (λ alive. (refl, inl (inl (ap (λ (x : MachineSeen). x.live) stands.member ∙ alive)))) runs table (step-carried-out Now (points_of cluster member) heard agent.role agent.knows machine).last
           (opening-moments message.number hn opening opens, tt) kept (λ e. absurd (no-one e)) lawful.begins,
     )
@@ -391,7 +391,7 @@ module _ (head : HeadText) (book : List Event) (cluster : Cluster) (good : Bridg
     shows-if : (fed : Bool) → has_one is_feeding After.outputs ≡ fed → ShowsIt S (Input M Theirs) Events
     shows-if false is = inl is
     shows-if true is =
-        let fed = each-fed member agent.knows.run message First After.outputs is in
+        let fed = each-fed member agent.knows.incarnation message First After.outputs is in
         let first : Event = record { tick = record { 0 = First.facts.clock }; kind = opening } in
         inr (
           first ∷ fed.front,
@@ -427,8 +427,8 @@ module _ (head : HeadText) (book : List Event) (cluster : Cluster) (good : Bridg
     shown : IsShown (declared_of head) book (volatile_of cluster) (record { action = Input M Theirs; events = Events; volatile_states = volatile_of Later })
     shown = subst (λ (v : ℕ → VolatileState). IsShown (declared_of head) book (volatile_of cluster) (record { action = Input M Theirs; events = Events; volatile_states = v })) (sym (fun_ext volatile-put))
         (input-shown-of (declared_of head) book (volatile_of cluster) M (volatile_of Later M) hn (has_one is_feeding After.outputs) None Events
-        (all-events (IsOwn M) (opening-own M hn opening opens) (mine-own member agent.knows.run message.number Q))
-        (taken-over Told Events (all-events (λ kind. (clock : ℕ) (taken : List Taking) → taken_after clock taken kind ≡ taken) (λ clock taken. opening-taken clock taken hn opening opens) (λ kind is clock taken. mine-taken member agent.knows.run message.number Q clock taken kind is))))
+        (all-events (IsOwn M) (opening-own M hn opening opens) (mine-own member agent.knows.incarnation message.number Q))
+        (taken-over Told Events (all-events (λ kind. (clock : ℕ) (taken : List Taking) → taken_after clock taken kind ≡ taken) (λ clock taken. opening-taken clock taken hn opening opens) (λ kind is clock taken. mine-taken member agent.knows.incarnation message.number Q clock taken kind is))))
 
     pub input-kept : (((m : ℕ) → works_of head m ≡ true) → Hears S M hn Now heard Before) → IsKept head book cluster Events
     input-kept hears = kept-if-works head book cluster Events (λ works.

@@ -92,9 +92,9 @@ opening-moments n heard (kinds.Message (Delivered number)) is = tt
 opening-moments n heard _ is = absurd is
 
 -- ---- one of its further events
-module _ (member : Member) (run heard : ℕ) (Q : Output → Type 0) where
+module _ (member : Member) (incarnation heard : ℕ) (Q : Output → Type 0) where
   abbrev Mine : EventKind → Type 0
-  Mine kind = IsOfInput member run heard Q kind
+  Mine kind = IsOfInput member incarnation heard Q kind
 
   pub mine-own : (kind : EventKind) → Mine kind → IsOwn member.id.number kind
   mine-own (kinds.Watchdog (watchdogs.Armed by until answer)) is = ap (λ (b : Member). b.id.number) is.0
@@ -113,7 +113,7 @@ module _ (member : Member) (run heard : ℕ) (Q : Output → Type 0) where
   mine-taken clock taken (kinds.Watchdog (watchdogs.HoldTaken by until from r sequence)) is = absurd is
   mine-taken clock taken _ is = refl
 
-  sent-from : (message : Message) → IsMessageOf member run Q message → IsMemberEnd message.from
+  sent-from : (message : Message) → IsMessageOf member incarnation Q message → IsMemberEnd message.from
   sent-from message (Asks question) = subst (λ (x : Message). IsMemberEnd x.from) (sym question.is) tt
   sent-from message (AsksPeer peer id sequence is from) = subst (λ (x : Message). IsMemberEnd x.from) (sym is) tt
   sent-from message (AnswersPeer peer id asked sequence answer is from) = subst (λ (x : Message). IsMemberEnd x.from) (sym is) tt
@@ -145,8 +145,8 @@ module _ (member : Member) (run heard : ℕ) (Q : Output → Type 0) where
   mine-members count small _ is = tt
 
   -- what is flying of a question
-  flying-by : (P : Flying → Type 0) (clock sequence : ℕ) (body : Body) → ((query : Query) → query_in body ≡ Some query → P (Requested (record { member = member.id.number; run = run; sequence = sequence; sent = clock; query = query })))
-      → (flying : Flying) → flying_from clock (agent_message member ends.Store run sequence body) ≡ Some flying → P flying
+  flying-by : (P : Flying → Type 0) (clock sequence : ℕ) (body : Body) → ((query : Query) → query_in body ≡ Some query → P (Requested (record { member = member.id.number; incarnation = incarnation; sequence = sequence; sent = clock; query = query })))
+      → (flying : Flying) → flying_from clock (agent_message member ends.Store incarnation sequence body) ≡ Some flying → P flying
   flying-by P clock sequence bodies.Read is flying e = subst P (some-is _ flying e) (is Read refl)
   flying-by P clock sequence (bodies.Request txn) is flying e = subst P (some-is _ flying e) (is (query_of txn) refl)
   flying-by P clock sequence _ is flying e = absurd (no-flying flying e)
@@ -162,14 +162,14 @@ module _ (member : Member) (run heard : ℕ) (Q : Output → Type 0) where
       none-flies flying e = cc
 
   sent-flies : (P : Flying → Type 0) (clock : ℕ)
-      → ((sequence : ℕ) (body : Body) (query : Query) → Q (outputs.Send targets.Store sequence body) → query_in body ≡ Some query → P (Requested (record { member = member.id.number; run = run; sequence = sequence; sent = clock; query = query })))
-      → (message : Message) → IsMessageOf member run Q message → (flying : Flying) → flying_from clock message ≡ Some flying → P flying
+      → ((sequence : ℕ) (body : Body) (query : Query) → Q (outputs.Send targets.Store sequence body) → query_in body ≡ Some query → P (Requested (record { member = member.id.number; incarnation = incarnation; sequence = sequence; sent = clock; query = query })))
+      → (message : Message) → IsMessageOf member incarnation Q message → (flying : Flying) → flying_from clock message ≡ Some flying → P flying
   sent-flies P clock may message (Asks is) flying e = flying-by P clock is.sequence is.body (λ query here. may is.sequence is.body query is.from here) flying (ap (λ (x : Message). flying_from clock x) (sym is.is) ∙ e)
-  sent-flies P clock may message (AsksPeer peer id sequence is from) flying e = unread P clock message (agent_message member (ends.Member peer) run sequence bodies.Ask) is refl flying e
+  sent-flies P clock may message (AsksPeer peer id sequence is from) flying e = unread P clock message (agent_message member (ends.Member peer) incarnation sequence bodies.Ask) is refl flying e
   sent-flies P clock may message (AnswersPeer peer id asked sequence answer is from) flying e = unread P clock message (agent_message member (ends.Member peer) asked sequence (bodies.Answer answer)) is refl flying e
 
   pub mine-sends : (P : Flying → Type 0) (clock : ℕ)
-      → ((sequence : ℕ) (body : Body) (query : Query) → Q (outputs.Send targets.Store sequence body) → query_in body ≡ Some query → P (Requested (record { member = member.id.number; run = run; sequence = sequence; sent = clock; query = query })))
+      → ((sequence : ℕ) (body : Body) (query : Query) → Q (outputs.Send targets.Store sequence body) → query_in body ≡ Some query → P (Requested (record { member = member.id.number; incarnation = incarnation; sequence = sequence; sent = clock; query = query })))
       → (kind : EventKind) → Mine kind → SendsOnly P clock kind
   mine-sends P clock may (kinds.Message (Sent number message)) is = (
     sent-from message is,
@@ -180,16 +180,16 @@ module _ (member : Member) (run heard : ℕ) (Q : Output → Type 0) where
   mine-sends P clock may _ is = tt
 
 -- ---- the questions that events ask
-reads-now : (p q : Past) (from to : LinkEnd) (run sequence : ℕ) (body : Body) → IsMemberEnd from → p.clock ≡ q.clock → flying_of p from to run sequence body ≡ flying_of q from to run sequence body
-reads-now p q (ends.Member by) to run sequence body is same = flying-same p q (ends.Member by) to run sequence body same tt
-reads-now p q ends.Store to run sequence body is same = absurd is
+reads-now : (p q : Past) (from to : LinkEnd) (incarnation sequence : ℕ) (body : Body) → IsMemberEnd from → p.clock ≡ q.clock → flying_of p from to incarnation sequence body ≡ flying_of q from to incarnation sequence body
+reads-now p q (ends.Member by) to incarnation sequence body is same = flying-same p q (ends.Member by) to incarnation sequence body same tt
+reads-now p q ends.Store to incarnation sequence body is same = absurd is
 
 asked-one : (P : Flying → Type 0) (past : Past) (kind : EventKind) → SendsOnly P past.clock kind → (i : ℕ) (q : Question) → (past_after past kind).asked i ≡ Some q → (past.asked i ≡ Some q) ⊎ P (Requested q)
 asked-one P past (kinds.Message (Sent number message)) is i q e =
-    let one : Option Flying = flying_of past message.from message.to message.run message.sequence message.body in
+    let one : Option Flying = flying_of past message.from message.to message.incarnation message.sequence message.body in
     elim (cases_eq i number) [
       | inl here ↦ elim (asked-new past.asked number one q (ap (λ (n : ℕ). (past_after past (kinds.Message (Sent number message))).asked n) (sym here) ∙ e)) [
-        | inl new ↦ inr (is.1 (Requested q) (reads-now (record first_past { clock = past.clock }) past message.from message.to message.run message.sequence message.body is.0 refl ∙ new))
+        | inl new ↦ inr (is.1 (Requested q) (reads-now (record first_past { clock = past.clock }) past message.from message.to message.incarnation message.sequence message.body is.0 refl ∙ new))
         | inr old ↦ inl (ap past.asked here ∙ old)
       ]
       | inr other ↦ inl (sym (asked-there past.asked number one i other) ∙ e)

@@ -622,7 +622,7 @@ module _ (member : Member) where
   sends-here : (cluster : Cluster) (machine : Machine) (to : Option LinkEnd) (sequence : ℕ) (body : Body) (found : Option AgentProcess) → Here cluster machine → Here (cluster_over cluster (sending_events cluster member found to sequence body)) machine
   sends-here cluster machine to sequence body None old = old
   sends-here cluster machine None sequence body (Some process) old = old
-  sends-here cluster machine (Some to) sequence body (Some process) old = message-here cluster machine (agent_message member to process.run sequence body) old
+  sends-here cluster machine (Some to) sequence body (Some process) old = message-here cluster machine (agent_message member to process.incarnation sequence body) old
 
   replies-here : (cluster : Cluster) (machine : Machine) (to : Option LinkEnd) (asked sequence : ℕ) (body : Body) → Here cluster machine → Here (cluster_over cluster (replying_events cluster member to asked sequence body)) machine
   replies-here cluster machine None asked sequence body old = old
@@ -666,7 +666,7 @@ module _ (member : Member) where
   output-here cluster message machine outputs.CannotArm table none old = unmoved cluster (cluster_after cluster (kinds.Note (notes.CannotArm member))) member.id.number machine refl refl refl old
   output-here cluster message machine outputs.DisablesWatchdog table none old = unmoved cluster (cluster_after cluster (kinds.Note (notes.DisablesWatchdog member))) member.id.number machine refl refl refl old
   output-here cluster message machine outputs.RunsWithoutKey table none old = unmoved cluster (cluster_after cluster (kinds.Note (notes.RunsWithoutKey member))) member.id.number machine refl refl refl old
-  output-here cluster message machine outputs.Passes table none old = unmoved cluster (cluster_after cluster (kinds.Agent (agents.Passed member))) member.id.number machine refl refl refl old
+  output-here cluster message machine outputs.ClaimsOutsideSync table none old = unmoved cluster (cluster_after cluster (kinds.Agent (agents.Passed member))) member.id.number machine refl refl refl old
   output-here cluster message machine outputs.PostponesPromotion table none old = unmoved cluster (cluster_after cluster (kinds.Note (notes.PostponesPromotion member))) member.id.number machine refl refl refl old
   output-here cluster message machine (outputs.DoesNotRace bar) table none old = unmoved cluster (cluster_after cluster (not_racing cluster.facts.members member bar)) member.id.number machine refl refl refl old
   output-here cluster message machine (outputs.Restart as_primary) table none old = restart-here cluster machine old

@@ -34,7 +34,7 @@ use Rattle.agent_model.specs.declared.output.Repair.{Repair}
 use Rattle.agent_model.specs.declared.output.Target.TheVariants as targets
 use Rattle.agent_model.specs.Acting.{upstream_of}
 use Rattle.agent_outputs.specs.Orders.{EndsRepairing, IsOfTable, RepairsLast, machine_after_output, machine_after_outputs}
-use Rattle.agent_model.specs.Outputs.{is_arming, is_feeding, has_one, listed, BeginsOnly, OutputsBeginBehind}
+use Rattle.agent_model.specs.Outputs.{is_arming, is_feeding, has_one, with_output, BeginsOnly, OutputsBeginBehind}
 use Rattle.cluster_model.specs.declared.heard_message.HeardMessage.{HeardMessage}
 use Rattle.agent_roles.proofs.Living.{follow-live, restart-live, start-live, stop-live, wipe-live}
 use Rattle.cluster_model.specs.Beginnings.{server_restart_in, server_restart_kinds}
@@ -76,37 +76,37 @@ no_message (outputs.Send to sequence body) = ⊥
 no_message (outputs.Answer to asked sequence answer) = ⊥
 no_message _ = Unit {0}
 
-pub no-sent : (member : Member) (run : ℕ) (message : Message) → IsMessageOf member run no_message message → ⊥
-no-sent member run message (Asks question) = question.from
-no-sent member run message (AsksPeer peer id sequence is from) = from
-no-sent member run message (AnswersPeer peer id asked sequence answer is from) = from
+pub no-sent : (member : Member) (incarnation : ℕ) (message : Message) → IsMessageOf member incarnation no_message message → ⊥
+no-sent member incarnation message (Asks question) = question.from
+no-sent member incarnation message (AsksPeer peer id sequence is from) = from
+no-sent member incarnation message (AnswersPeer peer id asked sequence answer is from) = from
 
-unnumbered : (member : Member) (run heard last : ℕ) (kind : EventKind) → IsOfInput member run heard no_message kind → IsNumberedAbove last kind × (sent_after last kind ≡ last)
-unnumbered member run heard last (kinds.Message (Sent number message)) is = absurd (no-sent member run message is)
-unnumbered member run heard last (kinds.Message (Delivered number)) is = absurd is
-unnumbered member run heard last (kinds.Message (Lost number)) is = (tt, refl)
-unnumbered member run heard last _ is = (tt, refl)
+unnumbered : (member : Member) (incarnation heard last : ℕ) (kind : EventKind) → IsOfInput member incarnation heard no_message kind → IsNumberedAbove last kind × (sent_after last kind ≡ last)
+unnumbered member incarnation heard last (kinds.Message (Sent number message)) is = absurd (no-sent member incarnation message is)
+unnumbered member incarnation heard last (kinds.Message (Delivered number)) is = absurd is
+unnumbered member incarnation heard last (kinds.Message (Lost number)) is = (tt, refl)
+unnumbered member incarnation heard last _ is = (tt, refl)
 
-unnumbered-all : (member : Member) (run heard last : ℕ) (events : List Event) → AllAre (IsOfInput member run heard no_message) events → AreNumberedAbove last events
-unnumbered-all member run heard last [] all = tt
-unnumbered-all member run heard last (event ∷ events) all =
-    let one = unnumbered member run heard last event.kind all.0 in
-    (one.0, subst (λ (n : ℕ). AreNumberedAbove n events) (sym one.1) (unnumbered-all member run heard last events all.1))
+unnumbered-all : (member : Member) (incarnation heard last : ℕ) (events : List Event) → AllAre (IsOfInput member incarnation heard no_message) events → AreNumberedAbove last events
+unnumbered-all member incarnation heard last [] all = tt
+unnumbered-all member incarnation heard last (event ∷ events) all =
+    let one = unnumbered member incarnation heard last event.kind all.0 in
+    (one.0, subst (λ (n : ℕ). AreNumberedAbove n events) (sym one.1) (unnumbered-all member incarnation heard last events all.1))
 
 -- an event at which the clock stands, no agent starts, and the message of this number isn't sent
-moments-kept : (member : Member) (run heard n : ℕ) (kind : EventKind) → (n < 0 → ⊥) → IsOfInput member run heard no_message kind → KeepsMomentOf n kind
-moments-kept member run heard n kinds.Tick low is = absurd is
-moments-kept member run heard n (kinds.Agent (agents.Passed by)) low is = tt
-moments-kept member run heard n (kinds.Agent _) low is = absurd is
-moments-kept member run heard n (kinds.Message (Sent number message)) low is = absurd (no-sent member run message is)
-moments-kept member run heard n _ low is = tt
+moments-kept : (member : Member) (incarnation heard n : ℕ) (kind : EventKind) → (n < 0 → ⊥) → IsOfInput member incarnation heard no_message kind → KeepsMomentOf n kind
+moments-kept member incarnation heard n kinds.Tick low is = absurd is
+moments-kept member incarnation heard n (kinds.Agent (agents.Passed by)) low is = tt
+moments-kept member incarnation heard n (kinds.Agent _) low is = absurd is
+moments-kept member incarnation heard n (kinds.Message (Sent number message)) low is = absurd (no-sent member incarnation message is)
+moments-kept member incarnation heard n _ low is = tt
 
-above-kept : (member : Member) (run heard last n : ℕ) (Q : Output → Type 0) (kind : EventKind) → n ≤ last → IsNumberedAbove last kind → IsOfInput member run heard Q kind → KeepsMomentOf n kind
-above-kept member run heard last n Q kinds.Tick low above is = absurd is
-above-kept member run heard last n Q (kinds.Agent (agents.Passed by)) low above is = tt
-above-kept member run heard last n Q (kinds.Agent _) low above is = absurd is
-above-kept member run heard last n Q (kinds.Message (Sent number message)) low above is = λ e. omega (arith, e, low, above)
-above-kept member run heard last n Q _ low above is = tt
+above-kept : (member : Member) (incarnation heard last n : ℕ) (Q : Output → Type 0) (kind : EventKind) → n ≤ last → IsNumberedAbove last kind → IsOfInput member incarnation heard Q kind → KeepsMomentOf n kind
+above-kept member incarnation heard last n Q kinds.Tick low above is = absurd is
+above-kept member incarnation heard last n Q (kinds.Agent (agents.Passed by)) low above is = tt
+above-kept member incarnation heard last n Q (kinds.Agent _) low above is = absurd is
+above-kept member incarnation heard last n Q (kinds.Message (Sent number message)) low above is = λ e. omega (arith, e, low, above)
+above-kept member incarnation heard last n Q _ low above is = tt
 
 last-rises : (kind : EventKind) (last n : ℕ) → n ≤ last → IsNumberedAbove last kind → n ≤ sent_after last kind
 last-rises (kinds.Message (Sent number message)) last n small above = omega (arith, small, above)
@@ -114,10 +114,10 @@ last-rises (kinds.Message (Delivered number)) last n small above = small
 last-rises (kinds.Message (Lost number)) last n small above = small
 last-rises _ last n small above = small
 
-pub moments-all : (member : Member) (run heard last n : ℕ) (Q : Output → Type 0) (events : List Event) → n ≤ last → AreNumberedAbove last events → AllAre (IsOfInput member run heard Q) events → AllAre (KeepsMomentOf n) events
-moments-all member run heard last n Q [] low numbered all = tt
-moments-all member run heard last n Q (event ∷ events) low numbered all =
-    (above-kept member run heard last n Q event.kind low numbered.0 all.0, moments-all member run heard (sent_after last event.kind) n Q events (last-rises event.kind last n low numbered.0) numbered.1 all.1)
+pub moments-all : (member : Member) (incarnation heard last n : ℕ) (Q : Output → Type 0) (events : List Event) → n ≤ last → AreNumberedAbove last events → AllAre (IsOfInput member incarnation heard Q) events → AllAre (KeepsMomentOf n) events
+moments-all member incarnation heard last n Q [] low numbered all = tt
+moments-all member incarnation heard last n Q (event ∷ events) low numbered all =
+    (above-kept member incarnation heard last n Q event.kind low numbered.0 all.0, moments-all member incarnation heard (sent_after last event.kind) n Q events (last-rises event.kind last n low numbered.0) numbered.1 all.1)
 
 -- an output with which a server may come to accept writes has this
 abbrev MayBegin : Type 0 → Output → Type 0
@@ -131,9 +131,9 @@ RestartsNone (outputs.Restart as_primary) = ⊥
 RestartsNone _ = Unit {0}
 
 -- ---- the outputs
-module _ (member : Member) (run : ℕ) (message : HeardMessage) where
+module _ (member : Member) (incarnation : ℕ) (message : HeardMessage) where
   abbrev Runs : List AgentProcess → Type 0
-  Runs processes = (process : AgentProcess) → slice_get processes member.id.number ≡ Some process → process.run ≡ run
+  Runs processes = (process : AgentProcess) → slice_get processes member.id.number ≡ Some process → process.incarnation ≡ incarnation
 
   abbrev Brings : Cluster → Output → List Event
   Brings cluster output = output_events member message cluster output
@@ -148,7 +148,7 @@ module _ (member : Member) (run : ℕ) (message : HeardMessage) where
   any-all outs = λ k d h. tt
 
   pub stays-output : (cluster : Cluster) (output : Output) → Runs cluster.facts.processes → IsOfTable output → Stays member.id.number cluster (Later cluster output)
-  stays-output cluster output runs table = stays-over member run message.number Any cluster (Brings cluster output) (output-mine member run message.number Any cluster message refl runs output table tt)
+  stays-output cluster output runs table = stays-over member incarnation message.number Any cluster (Brings cluster output) (output-mine member incarnation message.number Any cluster message refl runs output table tt)
 
   runs-later : (cluster : Cluster) (output : Output) → Runs cluster.facts.processes → IsOfTable output → Runs (Later cluster output).facts.processes
   runs-later cluster output runs table = subst Runs (sym (stays-output cluster output runs table).processes) runs
@@ -166,7 +166,7 @@ module _ (member : Member) (run : ℕ) (message : HeardMessage) where
   send-numbered : (cluster : Cluster) (to : Option LinkEnd) (sequence : ℕ) (body : Body) (found : Option AgentProcess) → AreNumberedAbove cluster.facts.sent (sending_events cluster member found to sequence body)
   send-numbered cluster to sequence body None = tt
   send-numbered cluster None sequence body (Some process) = tt
-  send-numbered cluster (Some to) sequence body (Some process) = message-numbered cluster (agent_message member to process.run sequence body)
+  send-numbered cluster (Some to) sequence body (Some process) = message-numbered cluster (agent_message member to process.incarnation sequence body)
 
   reply-numbered : (cluster : Cluster) (to : Option LinkEnd) (asked sequence : ℕ) (body : Body) → AreNumberedAbove cluster.facts.sent (replying_events cluster member to asked sequence body)
   reply-numbered cluster None asked sequence body = tt
@@ -174,7 +174,7 @@ module _ (member : Member) (run : ℕ) (message : HeardMessage) where
 
   other-numbered : (cluster : Cluster) (output : Output) → Runs cluster.facts.processes → IsOfTable output → no_message output → AreNumberedAbove cluster.facts.sent (Brings cluster output)
   other-numbered cluster output runs table silent =
-      unnumbered-all member run message.number cluster.facts.sent (Brings cluster output) (output-mine member run message.number no_message cluster message refl runs output table silent)
+      unnumbered-all member incarnation message.number cluster.facts.sent (Brings cluster output) (output-mine member incarnation message.number no_message cluster message refl runs output table silent)
 
   pub output-numbered : (cluster : Cluster) (output : Output) → Runs cluster.facts.processes → IsOfTable output → AreNumberedAbove cluster.facts.sent (Brings cluster output)
   output-numbered cluster (outputs.Send to sequence body) runs table = send-numbered cluster (receiver_of cluster.facts.members to) sequence body (slice_get cluster.facts.processes member.id.number)
@@ -190,7 +190,7 @@ module _ (member : Member) (run : ℕ) (message : HeardMessage) where
   output-numbered cluster outputs.CannotArm runs table = other-numbered cluster outputs.CannotArm runs table tt
   output-numbered cluster outputs.DisablesWatchdog runs table = other-numbered cluster outputs.DisablesWatchdog runs table tt
   output-numbered cluster outputs.RunsWithoutKey runs table = other-numbered cluster outputs.RunsWithoutKey runs table tt
-  output-numbered cluster outputs.Passes runs table = other-numbered cluster outputs.Passes runs table tt
+  output-numbered cluster outputs.ClaimsOutsideSync runs table = other-numbered cluster outputs.ClaimsOutsideSync runs table tt
   output-numbered cluster outputs.PostponesPromotion runs table = other-numbered cluster outputs.PostponesPromotion runs table tt
   output-numbered cluster (outputs.DoesNotRace bar) runs table = other-numbered cluster (outputs.DoesNotRace bar) runs table tt
   output-numbered cluster outputs.ShutDown runs table = other-numbered cluster outputs.ShutDown runs table tt
@@ -273,12 +273,12 @@ module _ (member : Member) (run : ℕ) (message : HeardMessage) where
   to-begin X (inl x) = x
   to-begin X (inr again) = again.1
 
-  one-begins : (X : Type 0) (P : ℕ → Type 0) (kind : EventKind) → (X → P member.id.number) → IsOfInput member run message.number (MayBegin X) kind → BeginsKind P kind
+  one-begins : (X : Type 0) (P : ℕ → Type 0) (kind : EventKind) → (X → P member.id.number) → IsOfInput member incarnation message.number (MayBegin X) kind → BeginsKind P kind
   one-begins X P (kinds.Server (servers.Began server timeline)) may is = subst (λ (s : ServerOf). P s.id.number) (sym is.0) (may (to-begin X is.1))
   one-begins X P _ may is = tt
 
   output-begins : (X : Type 0) (R : List Event → ℕ → Type 0) → ((before more : List Event) → R before member.id.number → R (before ++ more) member.id.number) → (before events : List Event) → (X → R before member.id.number)
-      → AllAre (IsOfInput member run message.number (MayBegin X)) events → BeginsBehind R before events
+      → AllAre (IsOfInput member incarnation message.number (MayBegin X)) events → BeginsBehind R before events
   output-begins X R grow before [] may all = tt
   output-begins X R grow before (event ∷ events) may all =
       (one-begins X (R before) event.kind may all.0, output-begins X R grow (before ++ event ∷ []) events (λ x. grow before (event ∷ []) (may x)) all.1)
@@ -346,7 +346,7 @@ module _ (member : Member) (run : ℕ) (message : HeardMessage) where
   again-begins R grow cluster before states.Primary s may =
       let list = server_restart_in member cluster.facts.acknowledged states.Primary s in
       output-begins (R before member.id.number) R grow before (events_of cluster list) (λ begins. begins)
-      (all-kinds (IsOfInput member run message.number (MayBegin (R before member.id.number))) cluster list (again-mine member run message.number (MayBegin (R before member.id.number)) cluster.facts.acknowledged states.Primary s (inl (may refl))))
+      (all-kinds (IsOfInput member incarnation message.number (MayBegin (R before member.id.number))) cluster list (again-mine member incarnation message.number (MayBegin (R before member.id.number)) cluster.facts.acknowledged states.Primary s (inl (may refl))))
   again-begins R grow cluster before states.Replica s may = (tt, tt)
   again-begins R grow cluster before _ s may = tt
 
@@ -369,7 +369,7 @@ module _ (member : Member) (run : ℕ) (message : HeardMessage) where
       → (cluster : Cluster) (done : List Output) (before : List Event) (output : Output) → Runs cluster.facts.processes → IsOfTable output → BeginsOnly (P done) output → (P done → R before member.id.number)
       → (live_in cluster.facts.servers member.id.number ≡ true → R before member.id.number) → BeginsBehind R before (Brings cluster output)
   brings-begin P R grow cluster done before output runs table begin makes lives = elim (restarts-none output) [
-    | inl none ↦ output-begins (P done) R grow before (Brings cluster output) makes (output-mine member run message.number (MayBegin (P done)) cluster message refl runs output table (may-begin (P done) output none begin))
+    | inl none ↦ output-begins (P done) R grow before (Brings cluster output) makes (output-mine member incarnation message.number (MayBegin (P done)) cluster message refl runs output table (may-begin (P done) output none begin))
     | inr again ↦ subst (λ (x : Output). BeginsBehind R before (Brings cluster x)) (sym again.1)
         (restart-begins R grow cluster before (server_at cluster member) (λ s is alive. lives (ap live_now is ∙ alive)))
   ]
@@ -401,7 +401,7 @@ module _ (member : Member) (run : ℕ) (message : HeardMessage) where
       begins-both R before events rest
       (brings-begin P R grow cluster done before output runs one begin.0 may (λ alive. lives (sym (mirrored cluster member.id.number machine mirrors).lives ∙ alive)))
       (elim (repairs-none output more last.0) [
-        | inl none ↦ each-begins P R grow makes next (machine_after_output now machine output) (listed output done) (before ++ events) more (output-here member cluster message machine output one none mirrors)
+        | inl none ↦ each-begins P R grow makes next (machine_after_output now machine output) (with_output output done) (before ++ events) more (output-here member cluster message machine output one none mirrors)
             (lives-on now machine (P done) output begin.0 (λ p. grow before events (may p)) (λ alive. grow before events (lives alive)))
             (runs-later cluster output runs one) (All-tail IsOfTable output more table) last.1
             (all-both (KeepsMomentOf message.number) before events kept (all-front (KeepsMomentOf message.number) events rest all))

@@ -11,7 +11,7 @@ use Rattle.agent_model.specs.declared.machine.Machine.{Machine}
 use Rattle.agent_model.specs.Agents.{AgentFacts}
 use Rattle.agent_lease_law.specs.Lawful.{IsYoung}
 use Rattle.agent_roles.specs.Seen.{moment_seen, hold_seen, machine_seen}
-use Rattle.agent_model.specs.declared.knowledge.Waited.{Waited}
+use Rattle.agent_model.specs.declared.knowledge.PendingQuestion.{PendingQuestion}
 use Rattle.cluster_model.specs.Machines.{machine_from, machine_of, replication_of}
 use Rattle.pat_base.specs.declared.ticks.TheConstants.{TICKS_OF_SECOND}
 use Rattle.agent_model.specs.declared.machine.Replication.{Replication}
@@ -108,5 +108,5 @@ has-margin cluster member machine found = subst (λ (o : Option Ticks). IfSome o
     short : (options : MemberOptions) → 10 * options.margin.seconds ≤ 150
     short options = omega (arith, options.margin.most)
 
-pub is-young : (cluster : Cluster) (member : Member) (machine : Machine) (now : Ticks) (waited : Waited) → (found : IsFound cluster member machine) → IsYoung machine.watchdog.margin now waited
+pub is-young : (cluster : Cluster) (member : Member) (machine : Machine) (now : Ticks) (waited : PendingQuestion) → (found : IsFound cluster member machine) → IsYoung machine.watchdog.margin now waited
 is-young cluster member machine now waited found = subst (λ (o : Option Ticks). IsYoung o now waited) (sym found.margin) tt

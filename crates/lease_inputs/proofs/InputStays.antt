@@ -57,9 +57,9 @@ pub item-here : {A : Type 0} (xs : List A) (k : ℕ) (change : A → A) (x : A) 
 item-here xs k change x is = get-here xs k change ∙ ap (option_map change) is
 
 -- ---- one event of an input
-module _ (member : Member) (run heard : ℕ) (Q : Output → Type 0) where
+module _ (member : Member) (incarnation heard : ℕ) (Q : Output → Type 0) where
   abbrev Mine : EventKind → Type 0
-  Mine kind = IsOfInput member run heard Q kind
+  Mine kind = IsOfInput member incarnation heard Q kind
 
   agents-one : (cluster : Cluster) (kind : EventKind) → Mine kind → agent_facts_after cluster kind ≡ cluster.agents
   agents-one cluster (kinds.Message (Sent number message)) is = refl
@@ -127,12 +127,12 @@ module _ (member : Member) (run heard : ℕ) (Q : Output → Type 0) where
 
   -- ---- all outputs of an input
   abbrev Runs : List AgentProcess → Type 0
-  Runs processes = (process : AgentProcess) → slice_get processes member.id.number ≡ Some process → process.run ≡ run
+  Runs processes = (process : AgentProcess) → slice_get processes member.id.number ≡ Some process → process.incarnation ≡ incarnation
 
   pub each-mine : (cluster : Cluster) (message : HeardMessage) → message.number ≡ heard → Runs cluster.facts.processes → (outs : List Output) → All IsOfTable outs → All Q outs → AllAre Mine (each (output_events member message) cluster outs)
   each-mine cluster message at runs [] table all = tt
   each-mine cluster message at runs (output ∷ more) table all =
-      let first = output-mine member run heard Q cluster message at runs output (All-head IsOfTable output more table) (All-head Q output more all) in
+      let first = output-mine member incarnation heard Q cluster message at runs output (All-head IsOfTable output more table) (All-head Q output more all) in
       let events = output_events member message cluster output in
       let later = cluster_over cluster events in
       let stays = stays-over cluster events first in

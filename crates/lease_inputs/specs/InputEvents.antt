@@ -22,43 +22,43 @@ use Rattle.agent_model.specs.declared.output.Output.TheVariants as outputs
 use Rattle.agent_model.specs.declared.output.Target.TheVariants as targets
 use Rattle.cluster_model.specs.Messages.{agent_message}
 
--- a question of this member in its run, which an output with this property sends
-pub record IsQuestionOf (member : Member) (run : ℕ) (Q : Output → Type 0) (message : Message) : Type 0 where
+-- a question of this member in its incarnation, which an output with this property sends
+pub record IsQuestionOf (member : Member) (incarnation : ℕ) (Q : Output → Type 0) (message : Message) : Type 0 where
   pub sequence : ℕ
   pub body : Body
-  pub is : message ≡ agent_message member ends.Store run sequence body
+  pub is : message ≡ agent_message member ends.Store incarnation sequence body
   pub from : Q (outputs.Send targets.Store sequence body)
 
--- a message of this member that an output with this property sends: a question of its run, to the key store or to another member,
+-- a message of this member that an output with this property sends: a question of its incarnation, to the key store or to another member,
 -- or an answer to another member
-pub data IsMessageOf (member : Member) (run : ℕ) (Q : Output → Type 0) (message : Message) : Type 0 where
-  Asks : (question : IsQuestionOf member run Q message) → IsMessageOf member run Q message
-  AsksPeer : (peer : Member) → (id : MemberId) → (sequence : ℕ) → (is : message ≡ agent_message member (ends.Member peer) run sequence bodies.Ask) → (from : Q (outputs.Send (targets.Member id) sequence bodies.Ask)) → IsMessageOf member run Q message
-  AnswersPeer : (peer : Member) → (id : MemberId) → (asked sequence : ℕ) → (answer : PeerAnswer) → (is : message ≡ agent_message member (ends.Member peer) asked sequence (bodies.Answer answer)) → (from : Q (outputs.Answer id asked sequence answer)) → IsMessageOf member run Q message
+pub data IsMessageOf (member : Member) (incarnation : ℕ) (Q : Output → Type 0) (message : Message) : Type 0 where
+  Asks : (question : IsQuestionOf member incarnation Q message) → IsMessageOf member incarnation Q message
+  AsksPeer : (peer : Member) → (id : MemberId) → (sequence : ℕ) → (is : message ≡ agent_message member (ends.Member peer) incarnation sequence bodies.Ask) → (from : Q (outputs.Send (targets.Member id) sequence bodies.Ask)) → IsMessageOf member incarnation Q message
+  AnswersPeer : (peer : Member) → (id : MemberId) → (asked sequence : ℕ) → (answer : PeerAnswer) → (is : message ≡ agent_message member (ends.Member peer) asked sequence (bodies.Answer answer)) → (from : Q (outputs.Answer id asked sequence answer)) → IsMessageOf member incarnation Q message
 
 -- its server begins to accept writes by an output with this property: it is to begin, or to start again
 abbrev pub IsToBegin : (Output → Type 0) → Type 0
 IsToBegin Q = Q outputs.Begin ⊎ ((as_primary : Bool) × Q (outputs.Restart as_primary))
 
--- what an output with this property brings, of an agent of this member in its run that heard the message of this number
+-- what an output with this property brings, of an agent of this member in its incarnation that heard the message of this number
 abbrev pub IsOfInput : Member → ℕ → ℕ → (Output → Type 0) → EventKind → Type 0
-IsOfInput member run heard Q (kinds.Message (messages.Sent number message)) = IsMessageOf member run Q message
-IsOfInput member run heard Q (kinds.Message (messages.Lost number)) = Unit {0}
-IsOfInput member run heard Q (kinds.Server (servers.Began server timeline)) = (server ≡ server_of member) × IsToBegin Q
-IsOfInput member run heard Q (kinds.Server (servers.StartsAsReplica server)) = server ≡ server_of member
-IsOfInput member run heard Q (kinds.Server (servers.StartsAsPrimary server)) = server ≡ server_of member
-IsOfInput member run heard Q (kinds.Server (servers.Follows server upstream)) = server ≡ server_of member
-IsOfInput member run heard Q (kinds.Server (servers.Ended server)) = server ≡ server_of member
-IsOfInput member run heard Q (kinds.Server (servers.Stops server)) = server ≡ server_of member
-IsOfInput member run heard Q (kinds.Log (logs.Rewound server from kept at)) = server ≡ server_of member
-IsOfInput member run heard Q (kinds.Log (logs.Copied server from)) = server ≡ server_of member
-IsOfInput member run heard Q (kinds.Log (logs.Wiped server)) = server ≡ server_of member
-IsOfInput member run heard Q (kinds.Watchdog (watchdogs.Armed by until answer)) = (by ≡ member) × (answer ≡ heard) × Q (outputs.Armed until)
-IsOfInput member run heard Q (kinds.Watchdog (watchdogs.Fed by until basis)) = (by ≡ member) × (basis ≡ bases.Grant heard) × Q (outputs.Fed until)
-IsOfInput member run heard Q (kinds.Watchdog (watchdogs.Disarmed by)) = by ≡ member
-IsOfInput member run heard Q (kinds.Watchdog (watchdogs.Measured by from)) = by ≡ member
-IsOfInput member run heard Q (kinds.Replication (replications.RequiredSet server required names)) = server ≡ server_of member
-IsOfInput member run heard Q (kinds.Replication (replications.Lacks server)) = server ≡ server_of member
-IsOfInput member run heard Q (kinds.Agent (agents.Passed by)) = by ≡ member
-IsOfInput member run heard Q (kinds.Note note) = Unit {0}
-IsOfInput member run heard Q _ = ⊥
+IsOfInput member incarnation heard Q (kinds.Message (messages.Sent number message)) = IsMessageOf member incarnation Q message
+IsOfInput member incarnation heard Q (kinds.Message (messages.Lost number)) = Unit {0}
+IsOfInput member incarnation heard Q (kinds.Server (servers.Began server timeline)) = (server ≡ server_of member) × IsToBegin Q
+IsOfInput member incarnation heard Q (kinds.Server (servers.StartsAsReplica server)) = server ≡ server_of member
+IsOfInput member incarnation heard Q (kinds.Server (servers.StartsAsPrimary server)) = server ≡ server_of member
+IsOfInput member incarnation heard Q (kinds.Server (servers.Follows server upstream)) = server ≡ server_of member
+IsOfInput member incarnation heard Q (kinds.Server (servers.Ended server)) = server ≡ server_of member
+IsOfInput member incarnation heard Q (kinds.Server (servers.Stops server)) = server ≡ server_of member
+IsOfInput member incarnation heard Q (kinds.Log (logs.Rewound server from kept at)) = server ≡ server_of member
+IsOfInput member incarnation heard Q (kinds.Log (logs.Copied server from)) = server ≡ server_of member
+IsOfInput member incarnation heard Q (kinds.Log (logs.Wiped server)) = server ≡ server_of member
+IsOfInput member incarnation heard Q (kinds.Watchdog (watchdogs.Armed by until answer)) = (by ≡ member) × (answer ≡ heard) × Q (outputs.Armed until)
+IsOfInput member incarnation heard Q (kinds.Watchdog (watchdogs.Fed by until basis)) = (by ≡ member) × (basis ≡ bases.Grant heard) × Q (outputs.Fed until)
+IsOfInput member incarnation heard Q (kinds.Watchdog (watchdogs.Disarmed by)) = by ≡ member
+IsOfInput member incarnation heard Q (kinds.Watchdog (watchdogs.Measured by from)) = by ≡ member
+IsOfInput member incarnation heard Q (kinds.Replication (replications.RequiredSet server required names)) = server ≡ server_of member
+IsOfInput member incarnation heard Q (kinds.Replication (replications.Lacks server)) = server ≡ server_of member
+IsOfInput member incarnation heard Q (kinds.Agent (agents.Passed by)) = by ≡ member
+IsOfInput member incarnation heard Q (kinds.Note note) = Unit {0}
+IsOfInput member incarnation heard Q _ = ⊥

@@ -65,7 +65,7 @@ Remembers asked flight = (i : ℕ) (q : Question) → flight i ≡ Some (Request
 
 remembers-message : (past : Past) (e : MessageEvent) → Remembers past.asked past.flight → Remembers (asked_by past e) (past_flight_by past e)
 remembers-message past (messages.Sent number message) old i q at =
-    let flying : Option Flying = flying_of past message.from message.to message.run message.sequence message.body in
+    let flying : Option Flying = flying_of past message.from message.to message.incarnation message.sequence message.body in
     put-all past.flight number flying (λ n o. o ≡ Some (Requested q) → asked_with past.asked number flying n ≡ Some q)
     (λ e. asked-here past.asked number flying q e)
     (λ n other e. asked-there past.asked number flying n other ∙ old n q e) i at
@@ -114,10 +114,10 @@ parts-shown declared book volatile_states transition = λ clock leader failsafe 
     ∙ declared-eq declared s.declared s.clock s.leader s.failsafe s.revision s.flight s.taken s.members w (sym (declared-kept (state_of declared (past_of book) volatile_states) transition.action))
 
 -- ---- a delivery
-granted-grant : (past : Past) (member run sequence sent : ℕ) (txn : Txn) → grant_of (is_lease txn) past (Some (record { member = member; run = run; sequence = sequence; sent = sent; query = query_of txn })) ≡ lease_given past.clock past.revision past.failsafe sent (query_of txn)
-granted-grant past member run sequence sent (txns.Create info ttl failsafe sync) = refl
-granted-grant past member run sequence sent (txns.Renew compared info ttl status row failsafe) = refl
-granted-grant past member run sequence sent _ = refl
+granted-grant : (past : Past) (member incarnation sequence sent : ℕ) (txn : Txn) → grant_of (is_lease txn) past (Some (record { member = member; incarnation = incarnation; sequence = sequence; sent = sent; query = query_of txn })) ≡ lease_given past.clock past.revision past.failsafe sent (query_of txn)
+granted-grant past member incarnation sequence sent (txns.Create info ttl failsafe sync) = refl
+granted-grant past member incarnation sequence sent (txns.Renew compared info ttl status row failsafe) = refl
+granted-grant past member incarnation sequence sent _ = refl
 
 delivered-is : (s : State) (i j : ℕ) (granted : Bool) (q : Question) (d : Outcome) → s.flight i ≡ Some (Requested q) → outcome_of s.clock s.leader s.failsafe s.revision q.member q.sent granted q.query ≡ d → delivered s i j granted ≡ with_outcome s i j q d
 delivered-is s i j granted q d at is = ap (λ (o : Option Flying). with_question s i j granted o) at ∙ ap (λ (x : Outcome). with_outcome s i j q x) is
@@ -134,37 +134,37 @@ shown-from declared book volatile_states i j granted events q d at is same =
     ap (λ (past : Past). state_of declared past volatile_states) (past-append first_past book events) ∙ same
     ∙ sym (ap (λ (s : State). record s { writes = writes_over (past_of book).writes events }) (delivered-is (state_of declared (past_of book) volatile_states) i j granted q d at is))
 
-pub granted-shown : (declared : Declared) (book : List Event) (facts : Facts) (volatile_states : ℕ → VolatileState) (tick : Ticks) (i j : ℕ) (by : Member) (run sequence sent : ℕ) (txn : Txn) (standbys : List Name) →
+pub granted-shown : (declared : Declared) (book : List Event) (facts : Facts) (volatile_states : ℕ → VolatileState) (tick : Ticks) (i j : ℕ) (by : Member) (incarnation sequence sent : ℕ) (txn : Txn) (standbys : List Name) →
     IsSameStore (past_of book) facts → decision_on facts.keys facts.clock txn ≡ Granting →
-    (past_of book).flight i ≡ Some (Requested (record { member = by.id.number; run = run; sequence = sequence; sent = sent; query = query_of txn })) →
-    IsShown declared book volatile_states (record { action = Deliver i j true; events = granted_events tick i j by run sequence txn standbys; volatile_states = volatile_states })
-granted-shown declared book facts volatile_states tick i j by run sequence sent txn standbys same decision at =
+    (past_of book).flight i ≡ Some (Requested (record { member = by.id.number; incarnation = incarnation; sequence = sequence; sent = sent; query = query_of txn })) →
+    IsShown declared book volatile_states (record { action = Deliver i j true; events = granted_events tick i j by incarnation sequence txn standbys; volatile_states = volatile_states })
+granted-shown declared book facts volatile_states tick i j by incarnation sequence sent txn standbys same decision at =
     let past : Past = past_of book in
-    let q : Question = record { member = by.id.number; run = run; sequence = sequence; sent = sent; query = query_of txn } in
+    let q : Question = record { member = by.id.number; incarnation = incarnation; sequence = sequence; sent = sent; query = query_of txn } in
     let d : Outcome = granted_outcome past.clock past.leader past.failsafe past.revision by.id.number sent (query_of txn) in
     let mid : Past = Granted past i by txn standbys in
     let is : outcome_of past.clock past.leader past.failsafe past.revision by.id.number sent true (query_of txn) ≡ d =
     subst (λ (x : Decision). outcome_of past.clock past.leader past.failsafe past.revision by.id.number sent (is_granted x) (query_of txn) ≡ outcome_by x past.clock past.leader past.failsafe past.revision by.id.number sent (query_of txn)) decision
     (outcome-decision_if past facts by.id.number sent txn same) in
-    let grant : grant_of (is_lease txn) mid (past.asked i) ≡ d.grant = ap (λ (o : Option Question). grant_of (is_lease txn) mid o) (remembers book i q at) ∙ granted-grant mid by.id.number run sequence sent txn in
-    shown-from declared book volatile_states i j true (granted_events tick i j by run sequence txn standbys) q d at is
+    let grant : grant_of (is_lease txn) mid (past.asked i) ≡ d.grant = ap (λ (o : Option Question). grant_of (is_lease txn) mid o) (remembers book i q at) ∙ granted-grant mid by.id.number incarnation sequence sent txn in
+    shown-from declared book volatile_states i j true (granted_events tick i j by incarnation sequence txn standbys) q d at is
     (ap (λ (g : Option Grant). record (with_outcome (state_of declared past volatile_states) i j q (record d { grant = g })) { writes = past.writes }) grant)
 
-pub refused_outcome-shown : (declared : Declared) (book : List Event) (facts : Facts) (volatile_states : ℕ → VolatileState) (tick : Ticks) (i j : ℕ) (by : Member) (run sequence sent : ℕ) (txn : Txn) (request : TxnKind) (key : Key) (found : Expected) →
+pub refused_outcome-shown : (declared : Declared) (book : List Event) (facts : Facts) (volatile_states : ℕ → VolatileState) (tick : Ticks) (i j : ℕ) (by : Member) (incarnation sequence sent : ℕ) (txn : Txn) (request : TxnKind) (key : Key) (found : Expected) →
     IsSameStore (past_of book) facts → decision_on facts.keys facts.clock txn ≡ Refusing key found →
-    (past_of book).flight i ≡ Some (Requested (record { member = by.id.number; run = run; sequence = sequence; sent = sent; query = query_of txn })) →
-    IsShown declared book volatile_states (record { action = Deliver i j false; events = refused_events tick i j by run sequence request key found; volatile_states = volatile_states })
-refused_outcome-shown declared book facts volatile_states tick i j by run sequence sent txn request key found same decision at =
+    (past_of book).flight i ≡ Some (Requested (record { member = by.id.number; incarnation = incarnation; sequence = sequence; sent = sent; query = query_of txn })) →
+    IsShown declared book volatile_states (record { action = Deliver i j false; events = refused_events tick i j by incarnation sequence request key found; volatile_states = volatile_states })
+refused_outcome-shown declared book facts volatile_states tick i j by incarnation sequence sent txn request key found same decision at =
     let past : Past = past_of book in
-    shown-from declared book volatile_states i j false (refused_events tick i j by run sequence request key found) (record { member = by.id.number; run = run; sequence = sequence; sent = sent; query = query_of txn }) (refused_outcome past.leader past.failsafe past.revision) at
+    shown-from declared book volatile_states i j false (refused_events tick i j by incarnation sequence request key found) (record { member = by.id.number; incarnation = incarnation; sequence = sequence; sent = sent; query = query_of txn }) (refused_outcome past.leader past.failsafe past.revision) at
     (subst (λ (x : Decision). outcome_of past.clock past.leader past.failsafe past.revision by.id.number sent (is_granted x) (query_of txn) ≡ outcome_by x past.clock past.leader past.failsafe past.revision by.id.number sent (query_of txn)) decision
     (outcome-decision_if past facts by.id.number sent txn same))
     refl
 
-pub read-shown : (declared : Declared) (book : List Event) (volatile_states : ℕ → VolatileState) (tick : Ticks) (i j : ℕ) (by : Member) (run sequence sent : ℕ) →
-    (past_of book).flight i ≡ Some (Requested (record { member = by.id.number; run = run; sequence = sequence; sent = sent; query = Read })) →
-    IsShown declared book volatile_states (record { action = Deliver i j true; events = read_events tick i j by run sequence; volatile_states = volatile_states })
-read-shown declared book volatile_states tick i j by run sequence sent at =
+pub read-shown : (declared : Declared) (book : List Event) (volatile_states : ℕ → VolatileState) (tick : Ticks) (i j : ℕ) (by : Member) (incarnation sequence sent : ℕ) →
+    (past_of book).flight i ≡ Some (Requested (record { member = by.id.number; incarnation = incarnation; sequence = sequence; sent = sent; query = Read })) →
+    IsShown declared book volatile_states (record { action = Deliver i j true; events = read_events tick i j by incarnation sequence; volatile_states = volatile_states })
+read-shown declared book volatile_states tick i j by incarnation sequence sent at =
     let past : Past = past_of book in
-    shown-from declared book volatile_states i j true (read_events tick i j by run sequence) (record { member = by.id.number; run = run; sequence = sequence; sent = sent; query = Read })
+    shown-from declared book volatile_states i j true (read_events tick i j by incarnation sequence) (record { member = by.id.number; incarnation = incarnation; sequence = sequence; sent = sent; query = Read })
     (record { leader = past.leader; failsafe = past.failsafe; revision = past.revision; snapshot = true; grant = None }) at refl refl

@@ -117,14 +117,14 @@ spans-listed s m input inv timely law ya leads =
       | inr f ↦ fed f.0
     ]
 
-pub took-same : (taken : List Taking) (p p' m m' run run' seq seq' : ℕ) → p ≡ p' → m ≡ m' → run ≡ run' → seq ≡ seq' → HasTaken taken p m run seq → HasTaken taken p' m' run' seq'
-took-same taken p p' m m' run run' seq seq' e f g h t =
-    subst (λ (x : ℕ). HasTaken taken x m' run' seq') e (subst (λ (x : ℕ). HasTaken taken p x run' seq') f (subst (λ (x : ℕ). HasTaken taken p m x seq') g (subst (λ (x : ℕ). HasTaken taken p m run x) h t)))
+pub took-same : (taken : List Taking) (p p' m m' incarnation run' seq seq' : ℕ) → p ≡ p' → m ≡ m' → incarnation ≡ run' → seq ≡ seq' → HasTaken taken p m incarnation seq → HasTaken taken p' m' run' seq'
+took-same taken p p' m m' incarnation run' seq seq' e f g h t =
+    subst (λ (x : ℕ). HasTaken taken x m' run' seq') e (subst (λ (x : ℕ). HasTaken taken p x run' seq') f (subst (λ (x : ℕ). HasTaken taken p m x seq') g (subst (λ (x : ℕ). HasTaken taken p m incarnation x) h t)))
 
 -- who said yes took a hold
-pub said-yes : (s : State) (m : ℕ) (was : Agent) (b : FailsafeCheck) (p : ℕ) → IsSound s → (s.members m).agent ≡ Some was → was.failsafe_check ≡ Some b → (b.yes p ≡ true) ⊎ HeardYes s m was.run b.sequence p → HasTaken s.taken p m was.run b.sequence
+pub said-yes : (s : State) (m : ℕ) (was : Agent) (b : FailsafeCheck) (p : ℕ) → IsSound s → (s.members m).agent ≡ Some was → was.failsafe_check ≡ Some b → (b.yes p ≡ true) ⊎ HeardYes s m was.incarnation b.sequence p → HasTaken s.taken p m was.incarnation b.sequence
 said-yes s m was b p inv was_is failsafe_request (inl e) = (inv.failsafe_check m was b was_is failsafe_request).yes p e
-said-yes s m was b p inv was_is failsafe_request (inr h) = took-same s.taken h.said.by p h.said.member m h.said.run was.run h.said.sequence b.sequence h.by h.member h.run_is h.sequence_is (inv.yeses h.number h.said h.is)
+said-yes s m was b p inv was_is failsafe_request (inr h) = took-same s.taken h.said.by p h.said.member m h.said.incarnation was.incarnation h.said.sequence b.sequence h.by h.member h.run_is h.sequence_is (inv.yeses h.number h.said h.is)
 
 -- who owns the key while m acts
 owner-of : (s : State) (m : ℕ) (f : FailsafeKey) → IsSound s → Acts (s.members m) → s.failsafe ≡ Some f → (k : LeaderKey) → s.leader ≡ Some k → (k.holder ≡ m) ⊎ (f.members k.holder ≡ true)
@@ -146,7 +146,7 @@ informed-there s m input inv law informed = elim (law.informed informed) [
 yes-holds : (s : State) (m : ℕ) (input : AgentInput) (was : Agent) (until : ℕ) → IsSound s → IsInTime s m input → (s.members m).agent ≡ Some was → input.feeds ≡ true → input.machine.by_failsafe ≡ true → (all : AllYes s m was until) → (p : ℕ) → all.failsafe_check.members p ≡ true → until ≤ (s.members p).hold
 yes-holds s m input was until inv timely was_is feeds basis all p e =
     let t = said-yes s m was all.failsafe_check p inv was_is all.is (all.yes p e) in
-    let y = (inv.taken (record { by = p; from = m; run = was.run; sequence = all.failsafe_check.sequence; moment = t.moment }) t.is).matches all.failsafe_check (record { agent = was; is = was_is; run_is = refl; failsafe_check = all.is; sequence_is = refl }) in
+    let y = (inv.taken (record { by = p; from = m; incarnation = was.incarnation; sequence = all.failsafe_check.sequence; moment = t.moment }) t.is).matches all.failsafe_check (record { agent = was; is = was_is; run_is = refl; failsafe_check = all.is; sequence_is = refl }) in
     let time = timely.by_failsafe feeds basis was all.failsafe_check was_is all.is p t.moment e t.is in
     omega (arith, (set-in-time (s.declared.margin m) s.clock all.failsafe_check.ttl all.failsafe_check.sent t.moment until all.deadline_is time y.1).1, y.0)
 

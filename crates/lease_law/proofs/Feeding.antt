@@ -46,36 +46,36 @@ none-answer a e = cc
 requested-no : (q : Question) (a : Answer) → ◌≡◌ {A = Option Flying} (Some (Requested q)) (Some (Answered a)) → ⊥
 requested-no q a e = cc
 
-asked-moment : (past : Past) (member run sequence : ℕ) (body : Body) (a : Answer) → question_in_flight_of past member run sequence body ≡ Some (Answered a) → ⊥
-asked-moment past member run sequence bodies.Read a e = requested-no _ a e
-asked-moment past member run sequence (bodies.Request txn) a e = requested-no _ a e
-asked-moment past member run sequence _ a e = none-answer a e
+asked-moment : (past : Past) (member incarnation sequence : ℕ) (body : Body) (a : Answer) → question_in_flight_of past member incarnation sequence body ≡ Some (Answered a) → ⊥
+asked-moment past member incarnation sequence bodies.Read a e = requested-no _ a e
+asked-moment past member incarnation sequence (bodies.Request txn) a e = requested-no _ a e
+asked-moment past member incarnation sequence _ a e = none-answer a e
 
-shown-moment : (past : Past) (member run sequence : ℕ) (body : Body) (a : Answer) (g : Grant) → answer_in_flight_of past member run sequence body ≡ Some (Answered a) → a.grant ≡ Some g → g.moment ≡ past.clock
-shown-moment past member run sequence bodies.Snapshot a g e is = absurd (none-some g (answered-is a (answer_of past member run sequence true None) g e is))
-shown-moment past member run sequence (bodies.Granted request leased) a g e is = granted-moment leased past (past.asked request) g (answered-is a (answer_of past member run sequence true (grant_of leased past (past.asked request))) g e is)
-shown-moment past member run sequence (bodies.Refused request key found) a g e is = absurd (none-some g (answered-is a (answer_of past member run sequence false None) g e is))
-shown-moment past member run sequence _ a g e is = absurd (none-answer a e)
+shown-moment : (past : Past) (member incarnation sequence : ℕ) (body : Body) (a : Answer) (g : Grant) → answer_in_flight_of past member incarnation sequence body ≡ Some (Answered a) → a.grant ≡ Some g → g.moment ≡ past.clock
+shown-moment past member incarnation sequence bodies.Snapshot a g e is = absurd (none-some g (answered-is a (answer_of past member incarnation sequence true None) g e is))
+shown-moment past member incarnation sequence (bodies.Granted request leased) a g e is = granted-moment leased past (past.asked request) g (answered-is a (answer_of past member incarnation sequence true (grant_of leased past (past.asked request))) g e is)
+shown-moment past member incarnation sequence (bodies.Refused request key found) a g e is = absurd (none-some g (answered-is a (answer_of past member incarnation sequence false None) g e is))
+shown-moment past member incarnation sequence _ a g e is = absurd (none-answer a e)
 
-said-moment : (past : Past) (by member run sequence : ℕ) (body : Body) (a : Answer) → peer_in_flight_of past by member run sequence body ≡ Some (Answered a) → ⊥
-said-moment past by member run sequence (bodies.FailsafeRequest ttl) a e = cc
-said-moment past by member run sequence (bodies.FailsafeAnswer true) a e = cc
-said-moment past by member run sequence _ a e = none-answer a e
+said-moment : (past : Past) (by member incarnation sequence : ℕ) (body : Body) (a : Answer) → peer_in_flight_of past by member incarnation sequence body ≡ Some (Answered a) → ⊥
+said-moment past by member incarnation sequence (bodies.FailsafeRequest ttl) a e = cc
+said-moment past by member incarnation sequence (bodies.FailsafeAnswer true) a e = cc
+said-moment past by member incarnation sequence _ a e = none-answer a e
 
-flying-moment : (past : Past) (from to : LinkEnd) (run sequence : ℕ) (body : Body) (a : Answer) (g : Grant) → flying_of past from to run sequence body ≡ Some (Answered a) → a.grant ≡ Some g → g.moment ≡ past.clock
-flying-moment past (ends.Member member) ends.Store run sequence body a g e is = absurd (asked-moment past member.id.number run sequence body a e)
-flying-moment past ends.Store (ends.Member member) run sequence body a g e is = shown-moment past member.id.number run sequence body a g e is
-flying-moment past (ends.Member by) (ends.Member member) run sequence body a g e is = absurd (said-moment past by.id.number member.id.number run sequence body a e)
-flying-moment past ends.Store ends.Store run sequence body a g e is = absurd (none-answer a e)
+flying-moment : (past : Past) (from to : LinkEnd) (incarnation sequence : ℕ) (body : Body) (a : Answer) (g : Grant) → flying_of past from to incarnation sequence body ≡ Some (Answered a) → a.grant ≡ Some g → g.moment ≡ past.clock
+flying-moment past (ends.Member member) ends.Store incarnation sequence body a g e is = absurd (asked-moment past member.id.number incarnation sequence body a e)
+flying-moment past ends.Store (ends.Member member) incarnation sequence body a g e is = shown-moment past member.id.number incarnation sequence body a g e is
+flying-moment past (ends.Member by) (ends.Member member) incarnation sequence body a g e is = absurd (said-moment past by.id.number member.id.number incarnation sequence body a e)
+flying-moment past ends.Store ends.Store incarnation sequence body a g e is = absurd (none-answer a e)
 
 -- each answer in flight tells a grant of the moment of its sending
 abbrev Agrees : (ℕ → Option ℕ) → (ℕ → Option Flying) → Type 0
 Agrees sent flight = (i : ℕ) (a : Answer) (g : Grant) → flight i ≡ Some (Answered a) → a.grant ≡ Some g → sent i ≡ Some g.moment
 
 agrees-message : (past : Past) (e : MessageEvent) → Agrees past.sent past.flight → Agrees (moments_sent_after past.clock past.sent (kinds.Message e)) (past_flight_by past e)
-agrees-message past (messages.Sent number message) old i a g e is = put-all past.flight number (flying_of past message.from message.to message.run message.sequence message.body)
+agrees-message past (messages.Sent number message) old i a g e is = put-all past.flight number (flying_of past message.from message.to message.incarnation message.sequence message.body)
     (λ n o. o ≡ Some (Answered a) → a.grant ≡ Some g → put_at past.sent number (Some past.clock) n ≡ Some g.moment)
-    (λ e is. put-here past.sent number (Some past.clock) ∙ ap (λ (n : ℕ). Some n) (sym (flying-moment past message.from message.to message.run message.sequence message.body a g e is)))
+    (λ e is. put-here past.sent number (Some past.clock) ∙ ap (λ (n : ℕ). Some n) (sym (flying-moment past message.from message.to message.incarnation message.sequence message.body a g e is)))
     (λ n other e is. put-there past.sent number (Some past.clock) n other ∙ old n a g e is) i e is
 agrees-message past (messages.Delivered number) old i a g e is = old i a g (dropped past.flight number i (Answered a) e) is
 agrees-message past (messages.Lost number) old i a g e is = old i a g (dropped past.flight number i (Answered a) e) is
@@ -97,7 +97,7 @@ still-clock clock kinds.Tick is = absurd is
 still-clock clock _ is = refl
 
 still-runs : (runs : ℕ → ℕ) (kind : EventKind) → KeepsClockAndRuns kind → runs_after runs kind ≡ runs
-still-runs runs (kinds.Agent (agents.Started agent run)) is = absurd is
+still-runs runs (kinds.Agent (agents.Started agent incarnation)) is = absurd is
 still-runs runs _ is = refl
 
 aside-still : (number : ℕ) (kind : EventKind) → KeepsMomentOf number kind → KeepsClockAndRuns kind
@@ -119,7 +119,7 @@ aside-sent clock number sent (kinds.Message (messages.Sent other message)) is = 
 aside-sent clock number sent _ is = refl
 
 more-taken : (clock : ℕ) (taken : List Taking) (kind : EventKind) (t : Taking) → IsTaken taken t → IsTaken (taken_after clock taken kind) t
-more-taken clock taken (kinds.Watchdog (watchdogs.HoldTaken member until from run sequence)) t is = inr is
+more-taken clock taken (kinds.Watchdog (watchdogs.HoldTaken member until from incarnation sequence)) t is = inr is
 more-taken clock taken _ t is = is
 
 stills-clock : (past : Past) (front : List Event) → AllAre KeepsClockAndRuns front → (past_over past front).clock ≡ past.clock
@@ -149,7 +149,7 @@ fed-by margin moments m number (kinds.Watchdog (watchdogs.Fed member until (base
 fed-by margin moments m number _ is fed = absurd fed
 
 abbrev HoldsInTime : (ℕ → Option ℕ) → Moments → ℕ → (ℕ → Bool) → ℕ → Type 0
-HoldsInTime margin moments m members sequence = (p moment : ℕ) → members p ≡ true → IsTaken moments.taken (record { by = p; from = m; run = moments.runs m; sequence = sequence; moment = moment }) → IsOnTime (margin m) moments.clock moment
+HoldsInTime margin moments m members sequence = (p moment : ℕ) → members p ≡ true → IsTaken moments.taken (record { by = p; from = m; incarnation = moments.runs m; sequence = sequence; moment = moment }) → IsOnTime (margin m) moments.clock moment
 
 fed-on : (margin : ℕ → Option ℕ) (moments : Moments) (m : ℕ) (members : ℕ → Bool) (sequence : ℕ) (kind : EventKind) → IsKindInTime margin moments kind → IsFedOn m members sequence kind → HoldsInTime margin moments m members sequence
 fed-on margin moments m members sequence (kinds.Watchdog (watchdogs.Fed member until (bases.Acknowledgements acknowledging number))) is fed =
@@ -170,19 +170,19 @@ grant-in-time margin book front event rest m number answer grant timely aside fe
     subst (λ (k : ℕ). IsOnTime (margin m) k grant.moment) (stills-clock (past_of book) front (asides-still number front aside))
     (fed-by margin (moments_of past) m number event.kind (event-in-time margin book front event rest timely) fed grant.moment (asides-sent number (past_of book) front aside ∙ agrees book number answer grant at is))
 
-hold-in-time : (margin : ℕ → Option ℕ) (book front : List Event) (event : Event) (rest : List Event) (m : ℕ) (members : ℕ → Bool) (run sequence p moment : ℕ) → IsTimely margin (Behind book front event rest) → AllAre KeepsClockAndRuns front → IsFedOn m members sequence event.kind → run ≡ (past_of book).runs m → members p ≡ true → IsTaken (past_of book).taken (record { by = p; from = m; run = run; sequence = sequence; moment = moment }) → IsOnTime (margin m) (past_of book).clock moment
-hold-in-time margin book front event rest m members run sequence p moment timely still fed same e taken =
+hold-in-time : (margin : ℕ → Option ℕ) (book front : List Event) (event : Event) (rest : List Event) (m : ℕ) (members : ℕ → Bool) (incarnation sequence p moment : ℕ) → IsTimely margin (Behind book front event rest) → AllAre KeepsClockAndRuns front → IsFedOn m members sequence event.kind → incarnation ≡ (past_of book).runs m → members p ≡ true → IsTaken (past_of book).taken (record { by = p; from = m; incarnation = incarnation; sequence = sequence; moment = moment }) → IsOnTime (margin m) (past_of book).clock moment
+hold-in-time margin book front event rest m members incarnation sequence p moment timely still fed same e taken =
     let past : Past = past_over (past_of book) front in
-    let run_is : run ≡ past.runs m = same ∙ ap (λ (f : ℕ → ℕ). f m) (sym (stills-runs (past_of book) front still)) in
+    let run_is : incarnation ≡ past.runs m = same ∙ ap (λ (f : ℕ → ℕ). f m) (sym (stills-runs (past_of book) front still)) in
     subst (λ (k : ℕ). IsOnTime (margin m) k moment) (stills-clock (past_of book) front still)
     (fed-on margin (moments_of past) m members sequence event.kind (event-in-time margin book front event rest timely) fed p moment e
-    (subst (λ (k : ℕ). IsTaken past.taken (record { by = p; from = m; run = k; sequence = sequence; moment = moment })) run_is
-    (mores-taken (past_of book) front (record { by = p; from = m; run = run; sequence = sequence; moment = moment }) taken)))
+    (subst (λ (k : ℕ). IsTaken past.taken (record { by = p; from = m; incarnation = k; sequence = sequence; moment = moment })) run_is
+    (mores-taken (past_of book) front (record { by = p; from = m; incarnation = incarnation; sequence = sequence; moment = moment }) taken)))
 
 pub input-in-time : (declared : Declared) (book : List Event) (volatile_states : ℕ → VolatileState) (m : ℕ) (input : AgentInput) (front : List Event) (event : Event) (rest : List Event) → IsTimely declared.margin (Behind book front event rest) → ShowsFeed (state_of declared (past_of book) volatile_states) m input front event → IsInTime (state_of declared (past_of book) volatile_states) m input
 input-in-time declared book volatile_states m input front event rest timely shows = record {
   by_grant = λ feeds basis grant h. let shown = shows.by_grant feeds basis h.number h.heard_is in
       grant-in-time declared.margin book front event rest m h.number h.answer grant timely shown.0 shown.1 h.is h.grant_is;
   by_failsafe = λ feeds basis was failsafe_check was_is is p moment e taken. let shown = shows.by_failsafe feeds basis was failsafe_check was_is is in
-      hold-in-time declared.margin book front event rest m failsafe_check.members was.run failsafe_check.sequence p moment timely shown.1 shown.2 shown.0 e taken;
+      hold-in-time declared.margin book front event rest m failsafe_check.members was.incarnation failsafe_check.sequence p moment timely shown.1 shown.2 shown.0 e taken;
 }

@@ -77,31 +77,31 @@ new-asked s m input seq Write inv timely law may = tt
 new-asked s m input seq Read inv timely law may = tt
 
 -- the numbers of old messages stay old
-numbered-input : (x y : Machine) (was agent : Agent) (run seq : ℕ) → x.agent ≡ Some was → y.agent ≡ Some agent → y.runs ≡ x.runs → agent.run ≡ was.run → was.last ≤ agent.last → IsNumbered x run seq → IsNumbered y run seq
-numbered-input x y was agent run seq was_is agent_is runs same last n = record {
+numbered-input : (x y : Machine) (was agent : Agent) (incarnation seq : ℕ) → x.agent ≡ Some was → y.agent ≡ Some agent → y.runs ≡ x.runs → agent.incarnation ≡ was.incarnation → was.last ≤ agent.last → IsNumbered x incarnation seq → IsNumbered y incarnation seq
+numbered-input x y was agent incarnation seq was_is agent_is runs same last n = record {
   run_old = omega (arith, n.run_old, runs);
   sequence_old = λ g is e. let one : agent ≡ g = some-is agent g (sym agent_is ∙ is) in
-      omega (arith, n.sequence_old was was_is (sym same ∙ ap (λ (z : Agent). z.run) one ∙ e), last, ap (λ (z : Agent). z.last) one);
+      omega (arith, n.sequence_old was was_is (sym same ∙ ap (λ (z : Agent). z.incarnation) one ∙ e), last, ap (λ (z : Agent). z.last) one);
 }
 
 -- new numbers are counted
-numbered-new : (s : State) (m : ℕ) (input : AgentInput) (run seq : ℕ) → IsSound s → (law : IsLawful s m input) → run ≡ law.was.run → seq ≤ law.agent.last → IsNumbered input.machine run seq
-numbered-new s m input run seq inv law same counted = record {
-  run_old = omega (arith, same, (inv.kept m law.was law.was_is).run, law.runs);
+numbered-new : (s : State) (m : ℕ) (input : AgentInput) (incarnation seq : ℕ) → IsSound s → (law : IsLawful s m input) → incarnation ≡ law.was.incarnation → seq ≤ law.agent.last → IsNumbered input.machine incarnation seq
+numbered-new s m input incarnation seq inv law same counted = record {
+  run_old = omega (arith, same, (inv.kept m law.was law.was_is).incarnation, law.runs);
   sequence_old = λ g is e. omega (arith, counted, ap (λ (z : Agent). z.last) (some-is law.agent g (sym law.agent_is ∙ is)));
 }
 
 -- what is waited for after an input with an old number was waited for before it
-record WasMatched (s : State) (m : ℕ) (run seq : ℕ) (b : FailsafeCheck) : Type 0 where
+record WasMatched (s : State) (m : ℕ) (incarnation seq : ℕ) (b : FailsafeCheck) : Type 0 where
   before : FailsafeCheck
-  matches : AwaitsIt (s.members m) run seq before
+  matches : AwaitsIt (s.members m) incarnation seq before
   ttl : b.ttl ≡ before.ttl
   sent : b.sent ≡ before.sent
 
-was-matched : (s : State) (m : ℕ) (input : AgentInput) (run seq : ℕ) (b : FailsafeCheck) → (law : IsLawful s m input) → IsNumbered (s.members m) run seq → AwaitsIt input.machine run seq b → WasMatched s m run seq b
-was-matched s m input run seq b law numbered w =
+was-matched : (s : State) (m : ℕ) (input : AgentInput) (incarnation seq : ℕ) (b : FailsafeCheck) → (law : IsLawful s m input) → IsNumbered (s.members m) incarnation seq → AwaitsIt input.machine incarnation seq b → WasMatched s m incarnation seq b
+was-matched s m input incarnation seq b law numbered w =
     let one : law.agent ≡ w.agent = some-is law.agent w.agent (sym law.agent_is ∙ w.is) in
-    let same : law.was.run ≡ run = sym law.run ∙ ap (λ (z : Agent). z.run) one ∙ w.run_is in
+    let same : law.was.incarnation ≡ incarnation = sym law.incarnation ∙ ap (λ (z : Agent). z.incarnation) one ∙ w.run_is in
     elim (law.failsafe_check b (ap (λ (z : Agent). z.failsafe_check) one ∙ w.failsafe_check)) [
       | inl g ↦ record { before = g.before; matches = record { agent = law.was; is = law.was_is; run_is = same; failsafe_check = g.is; sequence_is = sym g.sequence ∙ w.sequence_is }; ttl = g.ttl; sent = g.sent }
       | inr n ↦ absurd (omega (arith, numbered.sequence_old law.was law.was_is same, n.later, w.sequence_is))
@@ -109,15 +109,15 @@ was-matched s m input run seq b law numbered w =
 
 failsafe_request-input : (s : State) (m : ℕ) (input : AgentInput) (q : FailsafeRequest) → (law : IsLawful s m input) → IsFailsafeRequestKept s.clock (s.members m) q → IsFailsafeRequestKept s.clock input.machine q
 failsafe_request-input s m input q law ok = record {
-  numbered = numbered-input (s.members m) input.machine law.was law.agent q.run q.sequence law.was_is law.agent_is law.runs law.run law.last ok.numbered;
+  numbered = numbered-input (s.members m) input.machine law.was law.agent q.incarnation q.sequence law.was_is law.agent_is law.runs law.incarnation law.last ok.numbered;
   sent = ok.sent;
-  matches = λ b w. let p = was-matched s m input q.run q.sequence b law ok.numbered w in let old = ok.matches p.before p.matches in (old.0 ∙ sym p.ttl, old.1 ∙ sym p.sent);
+  matches = λ b w. let p = was-matched s m input q.incarnation q.sequence b law ok.numbered w in let old = ok.matches p.before p.matches in (old.0 ∙ sym p.ttl, old.1 ∙ sym p.sent);
 }
 
 taken-input : (s : State) (m : ℕ) (input : AgentInput) (hold : ℕ) (t : Taking) → (law : IsLawful s m input) → IsTakingKept (s.members m) hold t → IsTakingKept input.machine hold t
 taken-input s m input hold t law ok = record {
-  numbered = numbered-input (s.members m) input.machine law.was law.agent t.run t.sequence law.was_is law.agent_is law.runs law.run law.last ok.numbered;
-  matches = λ b w. let p = was-matched s m input t.run t.sequence b law ok.numbered w in let old = ok.matches p.before p.matches in (omega (arith, old.0, p.ttl), omega (arith, old.1, p.sent));
+  numbered = numbered-input (s.members m) input.machine law.was law.agent t.incarnation t.sequence law.was_is law.agent_is law.runs law.incarnation law.last ok.numbered;
+  matches = λ b w. let p = was-matched s m input t.incarnation t.sequence b law ok.numbered w in let old = ok.matches p.before p.matches in (omega (arith, old.0, p.ttl), omega (arith, old.1, p.sent));
 }
 
 -- the holds that are taken after an input
@@ -125,14 +125,14 @@ taken-more : (m clock : ℕ) (takes : Option FailsafeRequest) (taken : List Taki
 taken-more m clock None taken t old = old
 taken-more m clock (Some failsafe_request) taken t old = inr old
 
-took-more : (m clock : ℕ) (takes : Option FailsafeRequest) (taken : List Taking) (p n run seq : ℕ) → HasTaken taken p n run seq → HasTaken (taken_by m clock takes taken) p n run seq
-took-more m clock takes taken p n run seq t = record { moment = t.moment; is = taken-more m clock takes taken (record { by = p; from = n; run = run; sequence = seq; moment = t.moment }) t.is }
+took-more : (m clock : ℕ) (takes : Option FailsafeRequest) (taken : List Taking) (p n incarnation seq : ℕ) → HasTaken taken p n incarnation seq → HasTaken (taken_by m clock takes taken) p n incarnation seq
+took-more m clock takes taken p n incarnation seq t = record { moment = t.moment; is = taken-more m clock takes taken (record { by = p; from = n; incarnation = incarnation; sequence = seq; moment = t.moment }) t.is }
 
-took-new : (m clock : ℕ) (takes : Option FailsafeRequest) (taken : List Taking) (failsafe_request : FailsafeRequest) → takes ≡ Some failsafe_request → HasTaken (taken_by m clock takes taken) m failsafe_request.member failsafe_request.run failsafe_request.sequence
+took-new : (m clock : ℕ) (takes : Option FailsafeRequest) (taken : List Taking) (failsafe_request : FailsafeRequest) → takes ≡ Some failsafe_request → HasTaken (taken_by m clock takes taken) m failsafe_request.member failsafe_request.incarnation failsafe_request.sequence
 took-new m clock None taken failsafe_request is = absurd (none-some failsafe_request is)
-took-new m clock (Some b) taken failsafe_request is = record { moment = clock; is = inl (ap (λ (z : FailsafeRequest). record { by = m; from = z.member; run = z.run; sequence = z.sequence; moment = clock }) (some-is b failsafe_request is)) }
+took-new m clock (Some b) taken failsafe_request is = record { moment = clock; is = inl (ap (λ (z : FailsafeRequest). record { by = m; from = z.member; incarnation = z.incarnation; sequence = z.sequence; moment = clock }) (some-is b failsafe_request is)) }
 
-taken-cases : (m clock : ℕ) (takes : Option FailsafeRequest) (taken : List Taking) (P : Taking → Type 0) → ((t : Taking) → IsTaken taken t → P t) → ((failsafe_request : FailsafeRequest) → takes ≡ Some failsafe_request → P (record { by = m; from = failsafe_request.member; run = failsafe_request.run; sequence = failsafe_request.sequence; moment = clock })) → (t : Taking) → IsTaken (taken_by m clock takes taken) t → P t
+taken-cases : (m clock : ℕ) (takes : Option FailsafeRequest) (taken : List Taking) (P : Taking → Type 0) → ((t : Taking) → IsTaken taken t → P t) → ((failsafe_request : FailsafeRequest) → takes ≡ Some failsafe_request → P (record { by = m; from = failsafe_request.member; incarnation = failsafe_request.incarnation; sequence = failsafe_request.sequence; moment = clock })) → (t : Taking) → IsTaken (taken_by m clock takes taken) t → P t
 taken-cases m clock None taken P old new t is = old t is
 taken-cases m clock (Some failsafe_request) taken P old new t (inl e) = subst P e (new failsafe_request refl)
 taken-cases m clock (Some failsafe_request) taken P old new t (inr before) = old t before
@@ -153,8 +153,8 @@ failsafe_check-input s m input b inv timely law is (inl g) = let old = inv.fails
         (spans-input s m input law.was law.agent m (λ p. g.before.members p ≡ true) (sends-of s m input law) (λ set c p e. absurd (none-some b (sym c.failsafe_check ∙ is))) (old.spans ax))
     | inr f ↦ absurd (none-some b (sym f.1 ∙ is))
   ];
-  yes = λ p e. took-more m s.clock input.takes s.taken p m law.agent.run b.sequence
-      (took-same s.taken p p m m law.was.run law.agent.run g.before.sequence b.sequence refl refl (sym law.run) (sym g.sequence) (said-yes s m law.was g.before p inv law.was_is g.is (g.yes p e)));
+  yes = λ p e. took-more m s.clock input.takes s.taken p m law.agent.incarnation b.sequence
+      (took-same s.taken p p m m law.was.incarnation law.agent.incarnation g.before.sequence b.sequence refl refl (sym law.incarnation) (sym g.sequence) (said-yes s m law.was g.before p inv law.was_is g.is (g.yes p e)));
 }
 failsafe_check-input s m input b inv timely law is (inr n) = record {
   counted = n.counted;
@@ -170,9 +170,9 @@ After s m input = put_at s.members m input.machine
 input-holds : (s : State) (m : ℕ) (input : AgentInput) → IsLawful s m input → (p : ℕ) → (s.members p).hold ≤ (After s m input p).hold
 input-holds s m input law = put-all s.members m input.machine (λ n z. (s.members n).hold ≤ z.hold) law.hold (λ n other. omega arith)
 
-input-numbered : (s : State) (m : ℕ) (input : AgentInput) (run seq : ℕ) → (law : IsLawful s m input) → (n : ℕ) → IsNumbered (s.members n) run seq → IsNumbered (After s m input n) run seq
-input-numbered s m input run seq law = put-all s.members m input.machine (λ k z. IsNumbered (s.members k) run seq → IsNumbered z run seq)
-    (numbered-input (s.members m) input.machine law.was law.agent run seq law.was_is law.agent_is law.runs law.run law.last) (λ k other old. old)
+input-numbered : (s : State) (m : ℕ) (input : AgentInput) (incarnation seq : ℕ) → (law : IsLawful s m input) → (n : ℕ) → IsNumbered (s.members n) incarnation seq → IsNumbered (After s m input n) incarnation seq
+input-numbered s m input incarnation seq law = put-all s.members m input.machine (λ k z. IsNumbered (s.members k) incarnation seq → IsNumbered z incarnation seq)
+    (numbered-input (s.members m) input.machine law.was law.agent incarnation seq law.was_is law.agent_is law.runs law.incarnation law.last) (λ k other old. old)
 
 input-failsafe_requests : (s : State) (m : ℕ) (input : AgentInput) (q : FailsafeRequest) → (law : IsLawful s m input) → (n : ℕ) → IsFailsafeRequestKept s.clock (s.members n) q → IsFailsafeRequestKept s.clock (After s m input n) q
 input-failsafe_requests s m input q law = put-all s.members m input.machine (λ k z. IsFailsafeRequestKept s.clock (s.members k) q → IsFailsafeRequestKept s.clock z q) (failsafe_request-input s m input q law) (λ k other old. old)
@@ -209,9 +209,9 @@ input-sole s m input inv timely law = let alone = input-alone s m input inv time
 
 input-asked : (s : State) (m : ℕ) (input : AgentInput) → IsSound s → IsInTime s m input → IsLawful s m input → (i : ℕ) (q : Question) → input.flight i ≡ Some (Requested q) → IsQuestionKept s.declared.failsafe s.clock s.leader s.failsafe s.revision (After s m input) q
 input-asked s m input inv timely law i q at = elim (law.flight i (Requested q) at) [
-  | inl old ↦ let ok = inv.asked i q old in record { numbered = input-numbered s m input q.run q.sequence law q.member ok.numbered; sent = ok.sent; query = old-asked s m input law.was law.agent i q q.query inv timely law.watchdog old refl ok.query }
+  | inl old ↦ let ok = inv.asked i q old in record { numbered = input-numbered s m input q.incarnation q.sequence law q.member ok.numbered; sent = ok.sent; query = old-asked s m input law.was law.agent i q q.query inv timely law.watchdog old refl ok.query }
   | inr new ↦ record {
-    numbered = put-all s.members m input.machine (λ n z. n ≡ m → IsNumbered z q.run q.sequence) (λ mine. numbered-new s m input q.run q.sequence inv law new.run new.counted) (λ n other mine. absurd (other mine)) q.member new.member;
+    numbered = put-all s.members m input.machine (λ n z. n ≡ m → IsNumbered z q.incarnation q.sequence) (λ mine. numbered-new s m input q.incarnation q.sequence inv law new.incarnation new.counted) (λ n other mine. absurd (other mine)) q.member new.member;
     sent = omega (arith, new.sent);
     query = subst (λ (n : ℕ). IsQueryKept s.declared.failsafe s.leader s.failsafe s.revision (After s m input) n q.query) (sym new.member) (new-asked s m input q.sequence q.query inv timely law new.query);
   }
@@ -222,7 +222,7 @@ input-failsafe_request s m input inv law i q at = elim (law.flight i (FailsafeRe
   | inl old ↦ input-failsafe_requests s m input q law q.member (inv.failsafe_requests i q old)
   | inr new ↦ put-all s.members m input.machine (λ n z. n ≡ m → IsFailsafeRequestKept s.clock z q)
       (λ mine. record {
-        numbered = numbered-new s m input q.run q.sequence inv law new.run (omega (arith, new.sequence, counted-failsafe_request s m input new.failsafe_check inv law new.is));
+        numbered = numbered-new s m input q.incarnation q.sequence inv law new.incarnation (omega (arith, new.sequence, counted-failsafe_request s m input new.failsafe_check inv law new.is));
         sent = omega (arith, new.sent);
         matches = λ b w.
             let one : law.agent ≡ w.agent = some-is law.agent w.agent (sym law.agent_is ∙ w.is) in
@@ -232,10 +232,10 @@ input-failsafe_request s m input inv law i q at = elim (law.flight i (FailsafeRe
       (λ n other mine. absurd (other mine)) q.member new.member
 ]
 
-input-yes : (s : State) (m : ℕ) (input : AgentInput) → IsSound s → IsLawful s m input → (i : ℕ) (h : Acknowledgement) → input.flight i ≡ Some (Acknowledged h) → HasTaken (taken_by m s.clock input.takes s.taken) h.by h.member h.run h.sequence
+input-yes : (s : State) (m : ℕ) (input : AgentInput) → IsSound s → IsLawful s m input → (i : ℕ) (h : Acknowledgement) → input.flight i ≡ Some (Acknowledged h) → HasTaken (taken_by m s.clock input.takes s.taken) h.by h.member h.incarnation h.sequence
 input-yes s m input inv law i h at = elim (law.flight i (Acknowledged h) at) [
-  | inl old ↦ took-more m s.clock input.takes s.taken h.by h.member h.run h.sequence (inv.yeses i h old)
-  | inr new ↦ took-same (taken_by m s.clock input.takes s.taken) m h.by new.failsafe_request.member h.member new.failsafe_request.run h.run new.failsafe_request.sequence h.sequence (sym new.by) new.member new.run new.sequence
+  | inl old ↦ took-more m s.clock input.takes s.taken h.by h.member h.incarnation h.sequence (inv.yeses i h old)
+  | inr new ↦ took-same (taken_by m s.clock input.takes s.taken) m h.by new.failsafe_request.member h.member new.failsafe_request.incarnation h.incarnation new.failsafe_request.sequence h.sequence (sym new.by) new.member new.incarnation new.sequence
       (took-new m s.clock input.takes s.taken new.failsafe_request new.takes)
 ]
 
@@ -252,7 +252,7 @@ input-taken s m input inv law = taken-cases m s.clock input.takes s.taken (λ t.
 input-kept : (s : State) (m : ℕ) (input : AgentInput) → IsSound s → IsLawful s m input → (n : ℕ) (g : Agent) → (After s m input n).agent ≡ Some g → IsAgentKept s.leader s.failsafe s.revision n (After s m input n).runs g
 input-kept s m input inv law = put-all s.members m input.machine (λ n z. (g : Agent) → z.agent ≡ Some g → IsAgentKept s.leader s.failsafe s.revision n z.runs g)
     (λ g is. subst (λ (h : Agent). IsAgentKept s.leader s.failsafe s.revision m input.machine.runs h) (some-is law.agent g (sym law.agent_is ∙ is)) (record {
-      run = omega (arith, (inv.kept m law.was law.was_is).run, law.run, law.runs);
+      incarnation = omega (arith, (inv.kept m law.was law.was_is).incarnation, law.incarnation, law.runs);
       lease = λ r e. owns-vouched s m input.heard law.was r inv law.was_is (law.lease r e);
       seen = λ z e. seen-vouched s m input.heard law.was z inv law.was_is (law.leader z e);
       failsafe = λ f e. failsafe-vouched s m input.heard law.was f inv law.was_is (law.failsafe f e);
@@ -274,7 +274,7 @@ input-failsafe_check s m input inv timely law n g b = put-all s.members m input.
       counted = old.counted;
       there = old.there;
       spans = λ ak. spans-input s m input law.was law.agent k (λ p. b.members p ≡ true) (sends-of s m input law) (λ set r p e'. absurd (input-alone s m input inv timely law (inl r.live) k ak other)) (old.spans ak);
-      yes = λ p t. took-more m s.clock input.takes s.taken p k g.run b.sequence (old.yes p t);
+      yes = λ p t. took-more m s.clock input.takes s.taken p k g.incarnation b.sequence (old.yes p t);
     })
     n
 
@@ -284,10 +284,10 @@ input-fresh s m input inv law i a grant at is = let at' = answered-before s m in
     (λ mine w.
     let one : law.agent ≡ w.agent = some-is law.agent w.agent (sym law.agent_is ∙ w.is) in
     let waits : law.agent.waits ≡ Some a.sequence = ap (λ (z : Agent). z.waits) one ∙ w.sequence in
-    let run : law.was.run ≡ a.run = sym law.run ∙ ap (λ (z : Agent). z.run) one ∙ w.run in
-    let old-seq : a.sequence ≤ law.was.last = (subst (λ (n : ℕ). IsNumbered (s.members n) a.run a.sequence) mine (inv.said i a at').numbered).sequence_old law.was law.was_is run in
+    let incarnation : law.was.incarnation ≡ a.incarnation = sym law.incarnation ∙ ap (λ (z : Agent). z.incarnation) one ∙ w.incarnation in
+    let old-seq : a.sequence ≤ law.was.last = (subst (λ (n : ℕ). IsNumbered (s.members n) a.incarnation a.sequence) mine (inv.said i a at').numbered).sequence_old law.was law.was_is incarnation in
     elim (law.waits a.sequence waits) [
-      | inl before ↦ elim (inv.fresh i a grant at' is (record { agent = law.was; is = ap (λ (n : ℕ). (s.members n).agent) mine ∙ law.was_is; run = run; sequence = before })) [
+      | inl before ↦ elim (inv.fresh i a grant at' is (record { agent = law.was; is = ap (λ (n : ℕ). (s.members n).agent) mine ∙ law.was_is; incarnation = incarnation; sequence = before })) [
         | inl over ↦ inl over
         | inr p ↦ inr (record {
           found_key = p.found_key;
@@ -347,7 +347,7 @@ inv-input s m input inv timely law = record {
   failsafe_bounded = inv.failsafe_bounded;
   asked = input-asked s m input inv timely law;
   said = λ i a at. let old = inv.said i a (answered-before s m input law i a at) in
-      record { numbered = input-numbered s m input a.run a.sequence law a.member old.numbered; seen = old.seen; grant = old.grant; order = old.order; listed = old.listed };
+      record { numbered = input-numbered s m input a.incarnation a.sequence law a.member old.numbered; seen = old.seen; grant = old.grant; order = old.order; listed = old.listed };
   failsafe_requests = input-failsafe_request s m input inv law;
   yeses = input-yes s m input inv law;
   taken = input-taken s m input inv law;

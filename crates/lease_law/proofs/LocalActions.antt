@@ -30,7 +30,7 @@ same-one : (f : Past) (kind : EventKind) → IsLocal kind → Same f (past_after
 same-one f kinds.Tick is = absurd is
 same-one f (kinds.Message e) is = absurd is
 same-one f (kinds.Store (stores.Granted number by txn standbys)) is = absurd is
-same-one f (kinds.Watchdog (watchdogs.HoldTaken member until from run sequence)) is = absurd is
+same-one f (kinds.Watchdog (watchdogs.HoldTaken member until from incarnation sequence)) is = absurd is
 same-one f _ is = record { clock = refl; leader = refl; failsafe = refl; revision = refl; flight = refl; taken = refl }
 
 same-both : (f g h : Past) → Same f g → Same g h → Same f h

@@ -67,7 +67,7 @@ answer-after key key' fkey fkey' top top' x c a b ok = record {
 
 pub agent-after : (key key' : Option LeaderKey) (fkey fkey' : Option FailsafeKey) (top top' m runs : ℕ) (agent : Agent) → KeyAfter key top key' top' → FAfter fkey top fkey' top' → IsAgentKept key fkey top m runs agent → IsAgentKept key' fkey' top' m runs agent
 agent-after key key' fkey fkey' top top' m runs agent a b ok = record {
-  run = ok.run;
+  incarnation = ok.incarnation;
   lease = λ r is. vouched-after key key' top top' m r a (ok.lease r is);
   seen = λ z is. vouched-after key key' top top' z.holder z.revision a (ok.seen z is);
   failsafe = λ f is. fvouched-after fkey fkey' top top' f b (ok.failsafe f is);

@@ -85,7 +85,7 @@ frame-watchdog m f (watchdogs.Measured member since) mine = record {
   by_failsafe = λ n o. refl;
   hold = λ n o. refl;
 }
-frame-watchdog m f (watchdogs.HoldTaken member until from run sequence) mine = record {
+frame-watchdog m f (watchdogs.HoldTaken member until from incarnation sequence) mine = record {
   clock = refl;
   leader = refl;
   failsafe = refl;
@@ -100,7 +100,7 @@ frame-one : (m : ℕ) (f : Past) (kind : EventKind) → IsOwn m kind → Frame m
 frame-one m f kinds.Tick mine = absurd mine
 frame-one m f (kinds.Store (stores.Granted number by txn standbys)) mine = absurd mine
 frame-one m f (kinds.Watchdog e) mine = frame-watchdog m f e mine
-frame-one m f (kinds.Agent (agents.Started agent run)) mine = absurd mine
+frame-one m f (kinds.Agent (agents.Started agent incarnation)) mine = absurd mine
 frame-one m f _ mine = record { clock = refl; leader = refl; failsafe = refl; revision = refl; runs = refl; deadline = λ n o. refl; by_failsafe = λ n o. refl; hold = λ n o. refl }
 
 frame-both : (m : ℕ) (f g h : Past) → Frame m f g → Frame m g h → Frame m f h

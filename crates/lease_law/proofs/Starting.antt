@@ -12,7 +12,7 @@ rests-at-start m (inl e) = both e
 rests-at-start m (inr e) = both e
 
 first : (m : ℕ) (agent : Agent) → ◌≡◌ {A = Option Agent} (Some (fresh_agent 1)) (Some agent) → IsAgentKept None None 1 m 1 agent
-first m agent e = subst (λ (a : Agent). IsAgentKept None None 1 m 1 a) (some-is (fresh_agent 1) agent e) (record { run = omega arith; lease = λ r is. absurd (none-some r is); seen = λ z is. absurd (none-some z is); failsafe = λ f is. absurd (none-some f is); informed = λ is. absurd (both is) })
+first m agent e = subst (λ (a : Agent). IsAgentKept None None 1 m 1 a) (some-is (fresh_agent 1) agent e) (record { incarnation = omega arith; lease = λ r is. absurd (none-some r is); seen = λ z is. absurd (none-some z is); failsafe = λ f is. absurd (none-some f is); informed = λ is. absurd (both is) })
 
 -- the empty book
 pub inv-start : (declared : Declared) → IsSound (state_of declared (past_of []) first_volatile_states)

@@ -11,8 +11,8 @@ use Rattle.lease_law.proofs.Onward.{KeyAfter, f-same, request-after, answer-afte
 
 -- an agent that has just started
 record NewRun (x y : Machine) (agent : Agent) : Type 0 where
-  later : x.runs < agent.run
-  known : agent.run ≤ y.runs
+  later : x.runs < agent.incarnation
+  known : agent.incarnation ≤ y.runs
   waits : agent.waits ≡ None
   lease : agent.lease ≡ None
   leader : agent.leader ≡ None
@@ -32,8 +32,8 @@ record NobodyActsAnew (x y : Machine) : Type 0 where
   runs : x.runs ≤ y.runs
   agent : (g : Agent) → y.agent ≡ Some g → (x.agent ≡ Some g) ⊎ NewRun x y g
 
-numbered-uncontended : (x y : Machine) (run seq : ℕ) → NobodyActsAnew x y → IsNumbered x run seq → IsNumbered y run seq
-numbered-uncontended x y run seq c n = record {
+numbered-uncontended : (x y : Machine) (incarnation seq : ℕ) → NobodyActsAnew x y → IsNumbered x incarnation seq → IsNumbered y incarnation seq
+numbered-uncontended x y incarnation seq c n = record {
   run_old = omega (arith, n.run_old, c.runs);
   sequence_old = λ g is same. elim (c.agent g is) [ inl p ↦ n.sequence_old g p same | inr p ↦ absurd (omega (arith, p.later, same, n.run_old)) ];
 }
@@ -56,22 +56,22 @@ guarded-uncontended clock fkey key flight members members' m deadline deadline' 
   cover = elim g.cover [ inl c ↦ inl (sym b ∙ c.0, c.1) | inr c ↦ inr (sym b ∙ c.0, holds-grow fkey key flight members members' m g.until grow c.1) ];
 }
 
-matches-uncontended : (x y : Machine) (run seq : ℕ) (b : FailsafeCheck) → NobodyActsAnew x y → AwaitsIt y run seq b → AwaitsIt x run seq b
-matches-uncontended x y run seq b c w = elim (c.agent w.agent w.is) [
+matches-uncontended : (x y : Machine) (incarnation seq : ℕ) (b : FailsafeCheck) → NobodyActsAnew x y → AwaitsIt y incarnation seq b → AwaitsIt x incarnation seq b
+matches-uncontended x y incarnation seq b c w = elim (c.agent w.agent w.is) [
   | inl p ↦ record { agent = w.agent; is = p; run_is = w.run_is; failsafe_check = w.failsafe_check; sequence_is = w.sequence_is }
   | inr p ↦ absurd (none-some b (sym p.failsafe_check ∙ w.failsafe_check))
 ]
 
 taken-uncontended : (x y : Machine) (hold hold' : ℕ) (t : Taking) → NobodyActsAnew x y → hold ≤ hold' → IsTakingKept x hold t → IsTakingKept y hold' t
 taken-uncontended x y hold hold' t c longer old = record {
-  numbered = numbered-uncontended x y t.run t.sequence c old.numbered;
-  matches = λ b w. let o = old.matches b (matches-uncontended x y t.run t.sequence b c w) in (omega (arith, o.0, longer), o.1);
+  numbered = numbered-uncontended x y t.incarnation t.sequence c old.numbered;
+  matches = λ b w. let o = old.matches b (matches-uncontended x y t.incarnation t.sequence b c w) in (omega (arith, o.0, longer), o.1);
 }
 
 agent-uncontended : (s : State) (m : ℕ) (y : Machine) (g : Agent) → IsSound s → NobodyActsAnew (s.members m) y → y.agent ≡ Some g → IsAgentKept s.leader s.failsafe s.revision m y.runs g
 agent-uncontended s m y g inv c is = elim (c.agent g is) [
-  | inl p ↦ let old = inv.kept m g p in record { run = omega (arith, old.run, c.runs); lease = old.lease; seen = old.seen; failsafe = old.failsafe; informed = old.informed }
-  | inr p ↦ record { run = p.known; lease = λ r e. absurd (none-some r (sym p.lease ∙ e)); seen = λ z e. absurd (none-some z (sym p.leader ∙ e)); failsafe = λ f e. absurd (none-some f (sym p.failsafe ∙ e)); informed = λ e. absurd (not-false g.informed p.informed e) }
+  | inl p ↦ let old = inv.kept m g p in record { incarnation = omega (arith, old.incarnation, c.runs); lease = old.lease; seen = old.seen; failsafe = old.failsafe; informed = old.informed }
+  | inr p ↦ record { incarnation = p.known; lease = λ r e. absurd (none-some r (sym p.lease ∙ e)); seen = λ z e. absurd (none-some z (sym p.leader ∙ e)); failsafe = λ f e. absurd (none-some f (sym p.failsafe ∙ e)); informed = λ e. absurd (not-false g.informed p.informed e) }
 ]
 
 inv-uncontended : (s : State) (members : ℕ → Machine) → ((n : ℕ) → NobodyActsAnew (s.members n) (members n)) → IsSound s → IsSound (record s { members = members })
@@ -84,11 +84,11 @@ inv-uncontended s members uncontended inv = record {
   bounded = inv.bounded;
   failsafe_bounded = inv.failsafe_bounded;
   asked = λ i q at. let old = inv.asked i q at in
-      record { numbered = numbered-uncontended (s.members q.member) (members q.member) q.run q.sequence (uncontended q.member) old.numbered; sent = old.sent; query = asked-uncontended s.declared.failsafe s.leader s.failsafe s.revision s.members members q.member q.query uncontended old.query };
+      record { numbered = numbered-uncontended (s.members q.member) (members q.member) q.incarnation q.sequence (uncontended q.member) old.numbered; sent = old.sent; query = asked-uncontended s.declared.failsafe s.leader s.failsafe s.revision s.members members q.member q.query uncontended old.query };
   said = λ i a at. let old = inv.said i a at in
-      record { numbered = numbered-uncontended (s.members a.member) (members a.member) a.run a.sequence (uncontended a.member) old.numbered; seen = old.seen; grant = old.grant; order = old.order; listed = old.listed };
+      record { numbered = numbered-uncontended (s.members a.member) (members a.member) a.incarnation a.sequence (uncontended a.member) old.numbered; seen = old.seen; grant = old.grant; order = old.order; listed = old.listed };
   failsafe_requests = λ i q at. let old = inv.failsafe_requests i q at in
-      record { numbered = numbered-uncontended (s.members q.member) (members q.member) q.run q.sequence (uncontended q.member) old.numbered; sent = old.sent; matches = λ b w. old.matches b (matches-uncontended (s.members q.member) (members q.member) q.run q.sequence b (uncontended q.member) w) };
+      record { numbered = numbered-uncontended (s.members q.member) (members q.member) q.incarnation q.sequence (uncontended q.member) old.numbered; sent = old.sent; matches = λ b w. old.matches b (matches-uncontended (s.members q.member) (members q.member) q.incarnation q.sequence b (uncontended q.member) w) };
   yeses = inv.yeses;
   taken = λ t at. taken-uncontended (s.members t.from) (members t.from) (s.members t.by).hold (members t.by).hold t (uncontended t.from) (uncontended t.by).hold (inv.taken t at);
   kept = λ m g is. agent-uncontended s m (members m) g inv (uncontended m) is;
@@ -101,7 +101,7 @@ inv-uncontended s members uncontended inv = record {
     | inr p ↦ absurd (none-some b (sym p.failsafe_check ∙ e))
   ];
   fresh = λ i a grant at is w. elim ((uncontended a.member).agent w.agent w.is) [
-    | inl p ↦ inv.fresh i a grant at is (record { agent = w.agent; is = p; run = w.run; sequence = w.sequence })
+    | inl p ↦ inv.fresh i a grant at is (record { agent = w.agent; is = p; incarnation = w.incarnation; sequence = w.sequence })
     | inr p ↦ absurd (none-some a.sequence (sym p.waits ∙ w.sequence))
   ];
   tokens = λ i a grant at is. let t = inv.tokens i a grant at is in record {

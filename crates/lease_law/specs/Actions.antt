@@ -24,7 +24,7 @@ pub data Action : Type 0 where
 -- the holds that were taken, with one that this member takes now
 abbrev pub taken_by : ℕ → ℕ → Option FailsafeRequest → List Taking → List Taking
 taken_by member clock None taken = taken
-taken_by member clock (Some failsafe_request) taken = record { by = member; from = failsafe_request.member; run = failsafe_request.run; sequence = failsafe_request.sequence; moment = clock } ∷ taken
+taken_by member clock (Some failsafe_request) taken = record { by = member; from = failsafe_request.member; incarnation = failsafe_request.incarnation; sequence = failsafe_request.sequence; moment = clock } ∷ taken
 
 -- the state with this machine in place of the member's own
 abbrev pub with_machine : State → ℕ → Machine → State

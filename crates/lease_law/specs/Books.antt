@@ -21,7 +21,7 @@ AreAllowed declared book volatile_states [] = Unit {0}
 AreAllowed declared book volatile_states (transition ∷ transitions) =
     IsAllowed (state_of declared (past_of book) volatile_states) transition.action transition.events × (IsShown declared book volatile_states transition × AreAllowed declared (book ++ transition.events) transition.volatile_states transitions)
 
--- before the first event: no server is live, and each agent is in its first run
+-- before the first event: no server is live, and each agent is in its first incarnation
 abbrev pub first_volatile_states : ℕ → VolatileState
 first_volatile_states m = first_volatile_state
 

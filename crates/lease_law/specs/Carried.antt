@@ -72,51 +72,51 @@ IsQueryKept mode key failsafe_key greatest members m (Release compared) = IsVouc
 IsQueryKept mode key failsafe_key greatest members m Write = Unit {0}
 IsQueryKept mode key failsafe_key greatest members m Read = Unit {0}
 
--- numbers and runs were given before
-pub record IsNumbered (machine : Machine) (run sequence : ℕ) : Type 0 where
-  pub run_old : run ≤ machine.runs
-  pub sequence_old : (agent : Agent) → machine.agent ≡ Some agent → agent.run ≡ run → sequence ≤ agent.last
+-- numbers and incarnations were given before
+pub record IsNumbered (machine : Machine) (incarnation sequence : ℕ) : Type 0 where
+  pub run_old : incarnation ≤ machine.runs
+  pub sequence_old : (agent : Agent) → machine.agent ≡ Some agent → agent.incarnation ≡ incarnation → sequence ≤ agent.last
 
 -- a question in flight
 pub record IsQuestionKept (mode : Bool) (clock : ℕ) (key : Option LeaderKey) (failsafe_key : Option FailsafeKey) (greatest : ℕ) (members : ℕ → Machine) (q : Question) : Type 0 where
-  pub numbered : IsNumbered (members q.member) q.run q.sequence
+  pub numbered : IsNumbered (members q.member) q.incarnation q.sequence
   pub sent : q.sent ≤ clock
   pub query : IsQueryKept mode key failsafe_key greatest members q.member q.query
 
 -- what is waited for that a failsafe request or its acknowledgement belongs to
-pub record AwaitsIt (machine : Machine) (run sequence : ℕ) (b : FailsafeCheck) : Type 0 where
+pub record AwaitsIt (machine : Machine) (incarnation sequence : ℕ) (b : FailsafeCheck) : Type 0 where
   pub agent : Agent
   pub is : machine.agent ≡ Some agent
-  pub run_is : agent.run ≡ run
+  pub run_is : agent.incarnation ≡ incarnation
   pub failsafe_check : agent.failsafe_check ≡ Some b
   pub sequence_is : b.sequence ≡ sequence
 
 -- a failsafe request in flight says the span and the moment of what is waited for
 pub record IsFailsafeRequestKept (clock : ℕ) (machine : Machine) (q : FailsafeRequest) : Type 0 where
-  pub numbered : IsNumbered machine q.run q.sequence
+  pub numbered : IsNumbered machine q.incarnation q.sequence
   pub sent : q.sent ≤ clock
-  pub matches : (b : FailsafeCheck) → AwaitsIt machine q.run q.sequence b → (q.ttl ≡ b.ttl) × (q.sent ≡ b.sent)
+  pub matches : (b : FailsafeCheck) → AwaitsIt machine q.incarnation q.sequence b → (q.ttl ≡ b.ttl) × (q.sent ≡ b.sent)
 
 -- a hold that was taken for what is waited for lasts for its span from then on
 pub record IsTakingKept (machine : Machine) (hold : ℕ) (t : Taking) : Type 0 where
-  pub numbered : IsNumbered machine t.run t.sequence
-  pub matches : (b : FailsafeCheck) → AwaitsIt machine t.run t.sequence b → (t.moment + b.ttl ≤ hold) × (b.sent ≤ t.moment)
+  pub numbered : IsNumbered machine t.incarnation t.sequence
+  pub matches : (b : FailsafeCheck) → AwaitsIt machine t.incarnation t.sequence b → (t.moment + b.ttl ≤ hold) × (b.sent ≤ t.moment)
 
 -- p took a hold for this failsafe request of m
-pub record HasTaken (taken : List Taking) (p m run sequence : ℕ) : Type 0 where
+pub record HasTaken (taken : List Taking) (p m incarnation sequence : ℕ) : Type 0 where
   pub moment : ℕ
-  pub is : IsTaken taken (record { by = p; from = m; run = run; sequence = sequence; moment = moment })
+  pub is : IsTaken taken (record { by = p; from = m; incarnation = incarnation; sequence = sequence; moment = moment })
 
 -- while acknowledgements are waited for: the members that were asked span the failsafe key, and who said yes took a hold
 pub record IsFailsafeCheckKept (failsafe_key : Option FailsafeKey) (key : Option LeaderKey) (flight : ℕ → Option Flying) (taken : List Taking) (m : ℕ) (machine : Machine) (agent : Agent) (b : FailsafeCheck) : Type 0 where
   pub counted : b.sequence ≤ agent.last
   pub there : IsThere failsafe_key
   pub spans : Acts machine → Spans failsafe_key key flight m (λ p. b.members p ≡ true)
-  pub yes : (p : ℕ) → b.yes p ≡ true → HasTaken taken p m agent.run b.sequence
+  pub yes : (p : ℕ) → b.yes p ≡ true → HasTaken taken p m agent.incarnation b.sequence
 
 -- an answer in flight
 pub record IsAnswerKept (key : Option LeaderKey) (failsafe_key : Option FailsafeKey) (greatest : ℕ) (machine : Machine) (a : Answer) : Type 0 where
-  pub numbered : IsNumbered machine a.run a.sequence
+  pub numbered : IsNumbered machine a.incarnation a.sequence
   pub seen : (z : LeaderSeen) → a.leader ≡ Some z → IsVouched key greatest z.holder z.revision
   pub grant : (g : Grant) → a.grant ≡ Some g → IsVouched key greatest a.member g.revision
   pub order : (g : Grant) → a.grant ≡ Some g → g.sent ≤ g.moment
@@ -124,7 +124,7 @@ pub record IsAnswerKept (key : Option LeaderKey) (failsafe_key : Option Failsafe
 
 -- what an agent keeps of keys
 pub record IsAgentKept (key : Option LeaderKey) (failsafe_key : Option FailsafeKey) (greatest m runs : ℕ) (agent : Agent) : Type 0 where
-  pub run : agent.run ≤ runs
+  pub incarnation : agent.incarnation ≤ runs
   pub lease : (r : ℕ) → agent.lease ≡ Some r → IsVouched key greatest m r
   pub seen : (z : LeaderSeen) → agent.leader ≡ Some z → IsVouched key greatest z.holder z.revision
   pub failsafe : (f : FailsafeKey) → agent.failsafe ≡ Some f → IsFailsafeVouched failsafe_key greatest f
@@ -167,7 +167,7 @@ pub record IsSound (s : State) : Type 0 where
   pub asked : (i : ℕ) (q : Question) → s.flight i ≡ Some (Requested q) → IsQuestionKept s.declared.failsafe s.clock s.leader s.failsafe s.revision s.members q
   pub said : (i : ℕ) (a : Answer) → s.flight i ≡ Some (Answered a) → IsAnswerKept s.leader s.failsafe s.revision (s.members a.member) a
   pub failsafe_requests : (i : ℕ) (q : FailsafeRequest) → s.flight i ≡ Some (FailsafeRequested q) → IsFailsafeRequestKept s.clock (s.members q.member) q
-  pub yeses : (i : ℕ) (h : Acknowledgement) → s.flight i ≡ Some (Acknowledged h) → HasTaken s.taken h.by h.member h.run h.sequence
+  pub yeses : (i : ℕ) (h : Acknowledgement) → s.flight i ≡ Some (Acknowledged h) → HasTaken s.taken h.by h.member h.incarnation h.sequence
   pub taken : (t : Taking) → IsTaken s.taken t → IsTakingKept (s.members t.from) (s.members t.by).hold t
   pub kept : (m : ℕ) (agent : Agent) → (s.members m).agent ≡ Some agent → IsAgentKept s.leader s.failsafe s.revision m (s.members m).runs agent
   -- while a member acts whose agent is Ready or Leader, the members that it knows span the failsafe key

@@ -12,10 +12,10 @@ use Rattle.lease_law.specs.States.{FailsafeCheck, Agent, State}
 use Rattle.lease_law.specs.Inputs.{AgentInput}
 use Rattle.event_book.specs.Functions.{set_members}
 
--- an event at which the clock and the runs stay as they are
+-- an event at which the clock and the incarnations stay as they are
 abbrev pub KeepsClockAndRuns : EventKind → Type 0
 KeepsClockAndRuns kinds.Tick = ⊥
-KeepsClockAndRuns (kinds.Agent (agents.Started agent run)) = ⊥
+KeepsClockAndRuns (kinds.Agent (agents.Started agent incarnation)) = ⊥
 KeepsClockAndRuns _ = Unit {0}
 
 -- such an event that doesn't send the message of this number
@@ -39,4 +39,4 @@ IsFedOn m members sequence _ = ⊥
 pub record ShowsFeed (s : State) (m : ℕ) (input : AgentInput) (front : List Event) (event : Event) : Type 0 where
   pub by_grant : input.feeds ≡ true → input.machine.by_failsafe ≡ false → (number : ℕ) → input.heard ≡ Some number → AllAre (KeepsMomentOf number) front × IsFedBy m number event.kind
   pub by_failsafe : input.feeds ≡ true → input.machine.by_failsafe ≡ true → (was : Agent) (failsafe_check : FailsafeCheck) → (s.members m).agent ≡ Some was → was.failsafe_check ≡ Some failsafe_check
-      → (was.run ≡ (s.members m).runs) × AllAre KeepsClockAndRuns front × IsFedOn m failsafe_check.members failsafe_check.sequence event.kind
+      → (was.incarnation ≡ (s.members m).runs) × AllAre KeepsClockAndRuns front × IsFedOn m failsafe_check.members failsafe_check.sequence event.kind

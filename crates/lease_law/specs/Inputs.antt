@@ -19,7 +19,7 @@ pub record AgentInput : Type 0 where
 pub record Waits (machine : Machine) (answer : Answer) : Type 0 where
   pub agent : Agent
   pub is : machine.agent ≡ Some agent
-  pub run : agent.run ≡ answer.run
+  pub incarnation : agent.incarnation ≡ answer.incarnation
   pub sequence : agent.waits ≡ Some answer.sequence
 
 -- this member hears the grant of the create or the renewal that it waited for
@@ -49,12 +49,12 @@ pub record HeardFailsafe (s : State) (heard : Option ℕ) (key : FailsafeKey) : 
   pub key_is : answer.failsafe ≡ Some key
 
 -- it hears the acknowledgement of p to its failsafe request of this number
-pub record HeardYes (s : State) (m run sequence p : ℕ) : Type 0 where
+pub record HeardYes (s : State) (m incarnation sequence p : ℕ) : Type 0 where
   pub number : ℕ
   pub said : Acknowledgement
   pub is : s.flight number ≡ Some (Acknowledged said)
   pub member : said.member ≡ m
-  pub run_is : said.run ≡ run
+  pub run_is : said.incarnation ≡ incarnation
   pub sequence_is : said.sequence ≡ sequence
   pub by : said.by ≡ p
 
@@ -96,7 +96,7 @@ pub record AllYes (s : State) (m : ℕ) (was : Agent) (deadline : ℕ) : Type 0 
   pub deadline_is : IsDeadline (s.declared.margin m) s.clock failsafe_check.ttl failsafe_check.sent deadline
   -- all that were asked acknowledged, before or in this input. It forbids to stay primary with one silent: that one holds
   -- nothing, creates the key at its expiry and begins
-  pub yes : (p : ℕ) → failsafe_check.members p ≡ true → (failsafe_check.yes p ≡ true) ⊎ HeardYes s m was.run failsafe_check.sequence p
+  pub yes : (p : ℕ) → failsafe_check.members p ≡ true → (failsafe_check.yes p ≡ true) ⊎ HeardYes s m was.incarnation failsafe_check.sequence p
 
 -- a deadline with nobody to ask
 pub record NobodyAsked (s : State) (m : ℕ) (agent : Agent) (deadline : ℕ) : Type 0 where
@@ -177,10 +177,10 @@ MayQuery s m input was agent sequence Read = Unit {0}
 
 -- a question that an input may send
 pub record MayAsk (s : State) (m : ℕ) (input : AgentInput) (was agent : Agent) (request : Question) : Type 0 where
-  -- it says who asks, in which run: else another waits for its answer, or takes it as its own
+  -- it says who asks, in which incarnation: else another waits for its answer, or takes it as its own
   pub member : request.member ≡ m
-  pub run : request.run ≡ was.run
-  -- its number is above all before it in its run, and counted: else the answer to an older question, granted long ago, is taken
+  pub incarnation : request.incarnation ≡ was.incarnation
+  -- its number is above all before it in its incarnation, and counted: else the answer to an older question, granted long ago, is taken
   -- for that to it
   pub later : was.last < request.sequence
   pub counted : request.sequence ≤ agent.last
@@ -198,7 +198,7 @@ pub record ContinuesCheck (s : State) (m : ℕ) (was : Agent) (failsafe_check : 
   pub ttl : failsafe_check.ttl ≡ before.ttl
   pub sent : failsafe_check.sent ≡ before.sent
   pub members : failsafe_check.members ≡ before.members
-  pub yes : (p : ℕ) → failsafe_check.yes p ≡ true → (before.yes p ≡ true) ⊎ HeardYes s m was.run before.sequence p
+  pub yes : (p : ℕ) → failsafe_check.yes p ≡ true → (before.yes p ≡ true) ⊎ HeardYes s m was.incarnation before.sequence p
 
 -- the agent begins to wait for acknowledgements
 pub record BeginsCheck (s : State) (m : ℕ) (was agent : Agent) (failsafe_check : FailsafeCheck) : Type 0 where
@@ -217,7 +217,7 @@ pub record BeginsCheck (s : State) (m : ℕ) (was agent : Agent) (failsafe_check
 -- a failsafe request that an input may send
 pub record MayRequestFailsafe (s : State) (m : ℕ) (was agent : Agent) (failsafe_request : FailsafeRequest) : Type 0 where
   pub member : failsafe_request.member ≡ m
-  pub run : failsafe_request.run ≡ was.run
+  pub incarnation : failsafe_request.incarnation ≡ was.incarnation
   pub sent : failsafe_request.sent ≡ s.clock
   -- it says the number and the span of what is waited for: a shorter span is a hold that ends before the deadline that it lets
   -- set
@@ -234,7 +234,7 @@ pub record MayAcknowledge (m : ℕ) (input : AgentInput) (said : Acknowledgement
   pub failsafe_request : FailsafeRequest
   pub takes : input.takes ≡ Some failsafe_request
   pub member : failsafe_request.member ≡ said.member
-  pub run : failsafe_request.run ≡ said.run
+  pub incarnation : failsafe_request.incarnation ≡ said.incarnation
   pub sequence : failsafe_request.sequence ≡ said.sequence
 
 -- a hold that an input may take: for a failsafe request that came, and for its span from now on. It forbids a hold that ends a
@@ -253,14 +253,14 @@ MaySend s m input was agent (Acknowledged said) = MayAcknowledge m input said
 
 -- an input of the agent of this member is lawful
 pub record IsLawful (s : State) (m : ℕ) (input : AgentInput) : Type 0 where
-  -- the agent runs, and goes on in its run; the numbers of its questions don't fall. It forbids that an old number comes to be
+  -- the agent runs, and goes on in its incarnation; the numbers of its questions don't fall. It forbids that an old number comes to be
   -- new again
   pub was : Agent
   pub was_is : (s.members m).agent ≡ Some was
   pub agent : Agent
   pub agent_is : input.machine.agent ≡ Some agent
   pub runs : input.machine.runs ≡ (s.members m).runs
-  pub run : agent.run ≡ was.run
+  pub incarnation : agent.incarnation ≡ was.incarnation
   pub last : was.last ≤ agent.last
   pub watchdog : WatchdogMay s m input was agent
   -- holds aren't shortened: who acknowledged could else create the key while the other writes on
@@ -276,7 +276,7 @@ pub record IsLawful (s : State) (m : ℕ) (input : AgentInput) : Type 0 where
   pub gone : (number : ℕ) → input.heard ≡ Some number → input.flight number ≡ None
   pub flight : (i : ℕ) (flying : Flying) → input.flight i ≡ Some flying → (s.flight i ≡ Some flying) ⊎ MaySend s m input was agent flying
   pub failsafe_check : (failsafe_check : FailsafeCheck) → agent.failsafe_check ≡ Some failsafe_check → ContinuesCheck s m was failsafe_check ⊎ BeginsCheck s m was agent failsafe_check
-  -- known members aren't forgotten in a run
+  -- known members aren't forgotten in an incarnation
   pub known : (p : ℕ) → was.known p ≡ true → agent.known p ≡ true
   -- an agent comes to lead only by a grant: who leads knows the members of the failsafe key then
   pub leads : agent.leads ≡ true → (was.leads ≡ true) ⊎ FedKnown s m input agent
@@ -293,4 +293,4 @@ pub record IsLawful (s : State) (m : ℕ) (input : AgentInput) : Type 0 where
 pub record IsInTime (s : State) (m : ℕ) (input : AgentInput) : Type 0 where
   pub by_grant : input.feeds ≡ true → input.machine.by_failsafe ≡ false → (grant : Grant) → HeardGrant s m input.heard grant → IsOnTime (s.declared.margin m) s.clock grant.moment
   pub by_failsafe : input.feeds ≡ true → input.machine.by_failsafe ≡ true → (was : Agent) (failsafe_check : FailsafeCheck) → (s.members m).agent ≡ Some was → was.failsafe_check ≡ Some failsafe_check
-      → (p moment : ℕ) → failsafe_check.members p ≡ true → IsTaken s.taken (record { by = p; from = m; run = was.run; sequence = failsafe_check.sequence; moment = moment }) → IsOnTime (s.declared.margin m) s.clock moment
+      → (p moment : ℕ) → failsafe_check.members p ≡ true → IsTaken s.taken (record { by = p; from = m; incarnation = was.incarnation; sequence = failsafe_check.sequence; moment = moment }) → IsOnTime (s.declared.margin m) s.clock moment

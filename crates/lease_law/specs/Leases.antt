@@ -27,10 +27,10 @@ pub data Query : Type 0 where
   Write : Query
   Read : Query
 
--- a question to the key store: its sender, the sender's run, its number in that run, and the moment of its sending
+-- a question to the key store: its sender, the sender's incarnation, its number in that one, and the moment of its sending
 pub record Question : Type 0 where
   pub member : ℕ
-  pub run : ℕ
+  pub incarnation : ℕ
   pub sequence : ℕ
   pub sent : ℕ
   pub query : Query
@@ -46,7 +46,7 @@ pub record Grant : Type 0 where
 -- the key store's answer to a question of this member, with the keys of its snapshot
 pub record Answer : Type 0 where
   pub member : ℕ
-  pub run : ℕ
+  pub incarnation : ℕ
   pub sequence : ℕ
   pub leader : Option LeaderSeen
   pub failsafe : Option FailsafeKey
@@ -55,7 +55,7 @@ pub record Answer : Type 0 where
 -- a failsafe request of this member
 pub record FailsafeRequest : Type 0 where
   pub member : ℕ
-  pub run : ℕ
+  pub incarnation : ℕ
   pub sequence : ℕ
   pub ttl : ℕ
   pub sent : ℕ
@@ -63,7 +63,7 @@ pub record FailsafeRequest : Type 0 where
 -- an acknowledgement by another member of a failsafe request of this member
 pub record Acknowledgement : Type 0 where
   pub member : ℕ
-  pub run : ℕ
+  pub incarnation : ℕ
   pub sequence : ℕ
   pub by : ℕ
 

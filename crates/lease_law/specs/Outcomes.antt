@@ -105,7 +105,7 @@ shown_if false told = None
 abbrev pub outcome_answer : Question → Outcome → Answer
 outcome_answer request outcome = record {
   member = request.member;
-  run = request.run;
+  incarnation = request.incarnation;
   sequence = request.sequence;
   leader = shown_if outcome.snapshot (seen_of outcome.leader);
   failsafe = shown_if outcome.snapshot outcome.failsafe;

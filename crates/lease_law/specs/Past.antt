@@ -101,33 +101,33 @@ grant_of _ past _ = None
 
 -- an answer to this member: with a snapshot it shows the keys as they are, and it may tell a grant
 abbrev pub answer_of : Past → ℕ → ℕ → ℕ → Bool → Option Grant → Answer
-answer_of past member run sequence snapshot grant = record { member = member; run = run; sequence = sequence; leader = shown_if snapshot (seen_of past.leader); failsafe = shown_if snapshot past.failsafe; grant = grant }
+answer_of past member incarnation sequence snapshot grant = record { member = member; incarnation = incarnation; sequence = sequence; leader = shown_if snapshot (seen_of past.leader); failsafe = shown_if snapshot past.failsafe; grant = grant }
 
 -- a message of this member to the key store
 abbrev pub question_in_flight_of : Past → ℕ → ℕ → ℕ → Body → Option Flying
-question_in_flight_of past member run sequence bodies.Read = Some (Requested (record { member = member; run = run; sequence = sequence; sent = past.clock; query = Read }))
-question_in_flight_of past member run sequence (bodies.Request txn) = Some (Requested (record { member = member; run = run; sequence = sequence; sent = past.clock; query = query_of txn }))
-question_in_flight_of past member run sequence _ = None
+question_in_flight_of past member incarnation sequence bodies.Read = Some (Requested (record { member = member; incarnation = incarnation; sequence = sequence; sent = past.clock; query = Read }))
+question_in_flight_of past member incarnation sequence (bodies.Request txn) = Some (Requested (record { member = member; incarnation = incarnation; sequence = sequence; sent = past.clock; query = query_of txn }))
+question_in_flight_of past member incarnation sequence _ = None
 
 -- a message of the key store to this member
 abbrev pub answer_in_flight_of : Past → ℕ → ℕ → ℕ → Body → Option Flying
-answer_in_flight_of past member run sequence bodies.Snapshot = Some (Answered (answer_of past member run sequence true None))
-answer_in_flight_of past member run sequence (bodies.Granted request leased) = Some (Answered (answer_of past member run sequence true (grant_of leased past (past.asked request))))
-answer_in_flight_of past member run sequence (bodies.Refused request key found) = Some (Answered (answer_of past member run sequence false None))
-answer_in_flight_of past member run sequence _ = None
+answer_in_flight_of past member incarnation sequence bodies.Snapshot = Some (Answered (answer_of past member incarnation sequence true None))
+answer_in_flight_of past member incarnation sequence (bodies.Granted request leased) = Some (Answered (answer_of past member incarnation sequence true (grant_of leased past (past.asked request))))
+answer_in_flight_of past member incarnation sequence (bodies.Refused request key found) = Some (Answered (answer_of past member incarnation sequence false None))
+answer_in_flight_of past member incarnation sequence _ = None
 
 -- a message of the first member to the second
 abbrev pub peer_in_flight_of : Past → ℕ → ℕ → ℕ → ℕ → Body → Option Flying
-peer_in_flight_of past by member run sequence (bodies.FailsafeRequest ttl) = Some (FailsafeRequested (record { member = by; run = run; sequence = sequence; ttl = ttl.0; sent = past.clock }))
-peer_in_flight_of past by member run sequence (bodies.FailsafeAnswer true) = Some (Acknowledged (record { member = member; run = run; sequence = sequence; by = by }))
-peer_in_flight_of past by member run sequence _ = None
+peer_in_flight_of past by member incarnation sequence (bodies.FailsafeRequest ttl) = Some (FailsafeRequested (record { member = by; incarnation = incarnation; sequence = sequence; ttl = ttl.0; sent = past.clock }))
+peer_in_flight_of past by member incarnation sequence (bodies.FailsafeAnswer true) = Some (Acknowledged (record { member = member; incarnation = incarnation; sequence = sequence; by = by }))
+peer_in_flight_of past by member incarnation sequence _ = None
 
 -- what the lease reads of a message that is sent
 abbrev pub flying_of : Past → LinkEnd → LinkEnd → ℕ → ℕ → Body → Option Flying
-flying_of past (ends.Member member) ends.Store run sequence body = question_in_flight_of past member.id.number run sequence body
-flying_of past ends.Store (ends.Member member) run sequence body = answer_in_flight_of past member.id.number run sequence body
-flying_of past (ends.Member by) (ends.Member member) run sequence body = peer_in_flight_of past by.id.number member.id.number run sequence body
-flying_of past ends.Store ends.Store run sequence body = None
+flying_of past (ends.Member member) ends.Store incarnation sequence body = question_in_flight_of past member.id.number incarnation sequence body
+flying_of past ends.Store (ends.Member member) incarnation sequence body = answer_in_flight_of past member.id.number incarnation sequence body
+flying_of past (ends.Member by) (ends.Member member) incarnation sequence body = peer_in_flight_of past by.id.number member.id.number incarnation sequence body
+flying_of past ends.Store ends.Store incarnation sequence body = None
 
 -- the questions so far, and the one that this message carries, if it is a question
 abbrev pub asked_with : (ℕ → Option Question) → ℕ → Option Flying → ℕ → Option Question
@@ -136,13 +136,13 @@ asked_with asked number _ = asked
 
 -- the messages in flight, after one is sent, delivered or lost
 abbrev pub past_flight_by : Past → MessageEvent → ℕ → Option Flying
-past_flight_by past (Sent number message) = put_at past.flight number (flying_of past message.from message.to message.run message.sequence message.body)
+past_flight_by past (Sent number message) = put_at past.flight number (flying_of past message.from message.to message.incarnation message.sequence message.body)
 past_flight_by past (Delivered number) = put_at past.flight number None
 past_flight_by past (Lost number) = put_at past.flight number None
 
 -- the questions so far, after a message is sent, delivered or lost
 abbrev pub asked_by : Past → MessageEvent → ℕ → Option Question
-asked_by past (Sent number message) = asked_with past.asked number (flying_of past message.from message.to message.run message.sequence message.body)
+asked_by past (Sent number message) = asked_with past.asked number (flying_of past message.from message.to message.incarnation message.sequence message.body)
 asked_by past _ = past.asked
 
 -- the messages in flight, after an event
@@ -176,7 +176,7 @@ by_failsafe_by by_failsafe _ = by_failsafe
 
 -- when the hold of each member ends, after one takes a hold, which never ends earlier than the one before
 abbrev pub hold_by : (ℕ → ℕ) → WatchdogEvent → ℕ → ℕ
-hold_by hold (watchdogs.HoldTaken member until from run sequence) = put_at hold member.id.number (max (hold member.id.number) until.0)
+hold_by hold (watchdogs.HoldTaken member until from incarnation sequence) = put_at hold member.id.number (max (hold member.id.number) until.0)
 hold_by hold _ = hold
 
 -- the deadline of each watchdog, after an event
@@ -217,7 +217,7 @@ abbrev pub past_over : Past → List Event → Past
 past_over past [] = past
 past_over past (event ∷ events) = past_over (past_after past event.kind) events
 
--- before the first event: there is no leader key and no failsafe key, nothing is in flight, and each agent is in its first run
+-- before the first event: there is no leader key and no failsafe key, nothing is in flight, and each agent is in its first incarnation
 abbrev pub first_past : Past
 first_past = record {
   clock = 0;
@@ -244,7 +244,7 @@ pub record VolatileState : Type 0 where
   pub live : Bool
   pub agent : Option Agent
 
--- before the first event: the server isn't live, and the agent is in its first run
+-- before the first event: the server isn't live, and the agent is in its first incarnation
 abbrev pub first_volatile_state : VolatileState
 first_volatile_state = record { live = false; agent = Some (fresh_agent 1) }
 

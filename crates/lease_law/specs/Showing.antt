@@ -30,14 +30,14 @@ IsOwnWatchdog m (watchdogs.Fed member until basis) = member.id.number ≡ m
 IsOwnWatchdog m (watchdogs.Disarmed member) = member.id.number ≡ m
 IsOwnWatchdog m (watchdogs.Reset member) = member.id.number ≡ m
 IsOwnWatchdog m (watchdogs.Measured member since) = member.id.number ≡ m
-IsOwnWatchdog m (watchdogs.HoldTaken member until from run sequence) = member.id.number ≡ m
+IsOwnWatchdog m (watchdogs.HoldTaken member until from incarnation sequence) = member.id.number ≡ m
 
 -- an event that one input of this member's agent may bring: of watchdogs and holds it changes that member's alone
 abbrev pub IsOwn : ℕ → EventKind → Type 0
 IsOwn m kinds.Tick = ⊥
 IsOwn m (kinds.Store (stores.Granted number by txn standbys)) = ⊥
 IsOwn m (kinds.Watchdog happening) = IsOwnWatchdog m happening
-IsOwn m (kinds.Agent (agents.Started agent run)) = ⊥
+IsOwn m (kinds.Agent (agents.Started agent incarnation)) = ⊥
 IsOwn m _ = Unit {0}
 
 -- the input that these events behind the past tell, where this is the volatile state after it
@@ -52,25 +52,25 @@ input_of past m volatile_state heard feeds takes events = record {
 
 -- the events of one delivery to the key store at this moment: of a request that is granted, of one that is refused, and of a read
 abbrev pub granted_events : Ticks → ℕ → ℕ → Member → ℕ → ℕ → Txn → List Name → List Event
-granted_events tick number answer by run sequence txn standbys =
+granted_events tick number answer by incarnation sequence txn standbys =
     record { tick = tick; kind = kinds.Message (messages.Delivered number) }
     ∷ record { tick = tick; kind = kinds.Store (stores.Granted number by txn standbys) }
-    ∷ record { tick = tick; kind = kinds.Message (messages.Sent answer (record { from = ends.Store; to = ends.Member by; run = run; sequence = sequence; body = bodies.Granted number (is_lease txn) })) }
+    ∷ record { tick = tick; kind = kinds.Message (messages.Sent answer (record { from = ends.Store; to = ends.Member by; incarnation = incarnation; sequence = sequence; body = bodies.Granted number (is_lease txn) })) }
     ∷ []
 
 -- the events of one delivery to the key store, of a request that is refused
 abbrev pub refused_events : Ticks → ℕ → ℕ → Member → ℕ → ℕ → TxnKind → Key → Expected → List Event
-refused_events tick number answer by run sequence request key found =
+refused_events tick number answer by incarnation sequence request key found =
     record { tick = tick; kind = kinds.Message (messages.Delivered number) }
     ∷ record { tick = tick; kind = kinds.Store (stores.Refused number by request key found) }
-    ∷ record { tick = tick; kind = kinds.Message (messages.Sent answer (record { from = ends.Store; to = ends.Member by; run = run; sequence = sequence; body = bodies.Refused number key found })) }
+    ∷ record { tick = tick; kind = kinds.Message (messages.Sent answer (record { from = ends.Store; to = ends.Member by; incarnation = incarnation; sequence = sequence; body = bodies.Refused number key found })) }
     ∷ []
 
 -- the events of one delivery to the key store, of a read
 abbrev pub read_events : Ticks → ℕ → ℕ → Member → ℕ → ℕ → List Event
-read_events tick number answer by run sequence =
+read_events tick number answer by incarnation sequence =
     record { tick = tick; kind = kinds.Message (messages.Delivered number) }
-    ∷ record { tick = tick; kind = kinds.Message (messages.Sent answer (record { from = ends.Store; to = ends.Member by; run = run; sequence = sequence; body = bodies.Snapshot })) }
+    ∷ record { tick = tick; kind = kinds.Message (messages.Sent answer (record { from = ends.Store; to = ends.Member by; incarnation = incarnation; sequence = sequence; body = bodies.Snapshot })) }
     ∷ []
 
 -- an event that changes neither clock nor keys nor messages nor holds
@@ -78,7 +78,7 @@ abbrev pub IsLocal : EventKind → Type 0
 IsLocal kinds.Tick = ⊥
 IsLocal (kinds.Message happening) = ⊥
 IsLocal (kinds.Store (stores.Granted number by txn standbys)) = ⊥
-IsLocal (kinds.Watchdog (watchdogs.HoldTaken member until from run sequence)) = ⊥
+IsLocal (kinds.Watchdog (watchdogs.HoldTaken member until from incarnation sequence)) = ⊥
 IsLocal _ = Unit {0}
 
 -- an action that changes machines alone

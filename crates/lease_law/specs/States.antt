@@ -14,8 +14,8 @@ pub record FailsafeCheck : Type 0 where
 
 -- an agent that runs
 pub record Agent : Type 0 where
-  -- its run, and the greatest number of a question of this run
-  pub run : ℕ
+  -- its incarnation, and the greatest number of a question of this incarnation
+  pub incarnation : ℕ
   pub last : ℕ
   -- the number of the create or the renewal that it waits for
   pub waits : Option ℕ
@@ -29,9 +29,9 @@ pub record Agent : Type 0 where
   pub leader : Option LeaderSeen
   -- the failsafe key of its turn's snapshot
   pub failsafe : Option FailsafeKey
-  -- the members that a failsafe key which it accepted in this run listed, or that a renewal which it sent in this run carried
+  -- the members that a failsafe key which it accepted in this incarnation listed, or that a renewal which it sent in this incarnation carried
   pub known : ℕ → Bool
-  -- it accepted a snapshot with a failsafe key in this run
+  -- it accepted a snapshot with a failsafe key in this incarnation
   pub informed : Bool
   pub failsafe_check : Option FailsafeCheck
 
@@ -46,7 +46,7 @@ pub record Machine : Type 0 where
   -- its hold ends at this moment
   pub hold : ℕ
   pub agent : Option Agent
-  -- how many runs of its agent have begun
+  -- how many incarnations of its agent have begun
   pub runs : ℕ
 
 -- what the head of a script declares: the margin between a watchdog's deadline and the end of the lease in ticks, none where the
@@ -113,9 +113,9 @@ abbrev pub deadline_if : Bool → Option ℕ → Option ℕ
 deadline_if true deadline = deadline
 deadline_if false deadline = None
 
--- an agent at the beginning of its run: it waits for nothing, and knows nothing
+-- an agent at the beginning of its incarnation: it waits for nothing, and knows nothing
 abbrev pub fresh_agent : ℕ → Agent
-fresh_agent run = record { run = run; last = 0; waits = None; lease = None; ready = false; leads = false; leader = None; failsafe = None; known = λ p. false; informed = false; failsafe_check = None }
+fresh_agent incarnation = record { incarnation = incarnation; last = 0; waits = None; lease = None; ready = false; leads = false; leader = None; failsafe = None; known = λ p. false; informed = false; failsafe_check = None }
 
 -- an agent that starts removes a deadline, but over a live server leaves it
 abbrev pub start_machine : Machine → Machine

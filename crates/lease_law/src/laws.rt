@@ -102,19 +102,19 @@ pub fn same_store()
 /// The events of a delivery to the key store, folded, are the action; and any action is shown where what the book leaves is, part by part,
 /// the state after it.
 pub fn delivery_is_shown()
-    ensures granted { (declared : Declared) (book : List Event) (facts : Facts) (volatile_states : ℕ → VolatileState) (tick : Ticks) (i j : ℕ) (by : Member) (run sequence sent : ℕ) (txn : Txn) (standbys : List Name)
+    ensures granted { (declared : Declared) (book : List Event) (facts : Facts) (volatile_states : ℕ → VolatileState) (tick : Ticks) (i j : ℕ) (by : Member) (incarnation sequence sent : ℕ) (txn : Txn) (standbys : List Name)
         → IsSameStore (past_of book) facts
         → decision_on facts.keys facts.clock txn ≡ Grants
-        → (past_of book).flight i ≡ Some (Requested (record { member = by.id.number; run = run; sequence = sequence; sent = sent; query = query_of txn }))
-        → IsShown declared book volatile_states (record { action = Deliver i j true; events = granted_events tick i j by run sequence txn standbys; volatile_states = volatile_states }) }
-    ensures refused { (declared : Declared) (book : List Event) (facts : Facts) (volatile_states : ℕ → VolatileState) (tick : Ticks) (i j : ℕ) (by : Member) (run sequence sent : ℕ) (txn : Txn) (request : TxnKind) (key : Key) (found : Expected)
+        → (past_of book).flight i ≡ Some (Requested (record { member = by.id.number; incarnation = incarnation; sequence = sequence; sent = sent; query = query_of txn }))
+        → IsShown declared book volatile_states (record { action = Deliver i j true; events = granted_events tick i j by incarnation sequence txn standbys; volatile_states = volatile_states }) }
+    ensures refused { (declared : Declared) (book : List Event) (facts : Facts) (volatile_states : ℕ → VolatileState) (tick : Ticks) (i j : ℕ) (by : Member) (incarnation sequence sent : ℕ) (txn : Txn) (request : TxnKind) (key : Key) (found : Expected)
         → IsSameStore (past_of book) facts
         → decision_on facts.keys facts.clock txn ≡ Refusal key found
-        → (past_of book).flight i ≡ Some (Requested (record { member = by.id.number; run = run; sequence = sequence; sent = sent; query = query_of txn }))
-        → IsShown declared book volatile_states (record { action = Deliver i j false; events = refused_events tick i j by run sequence request key found; volatile_states = volatile_states }) }
-    ensures read { (declared : Declared) (book : List Event) (volatile_states : ℕ → VolatileState) (tick : Ticks) (i j : ℕ) (by : Member) (run sequence sent : ℕ)
-        → (past_of book).flight i ≡ Some (Requested (record { member = by.id.number; run = run; sequence = sequence; sent = sent; query = Read }))
-        → IsShown declared book volatile_states (record { action = Deliver i j true; events = read_events tick i j by run sequence; volatile_states = volatile_states }) }
+        → (past_of book).flight i ≡ Some (Requested (record { member = by.id.number; incarnation = incarnation; sequence = sequence; sent = sent; query = query_of txn }))
+        → IsShown declared book volatile_states (record { action = Deliver i j false; events = refused_events tick i j by incarnation sequence request key found; volatile_states = volatile_states }) }
+    ensures read { (declared : Declared) (book : List Event) (volatile_states : ℕ → VolatileState) (tick : Ticks) (i j : ℕ) (by : Member) (incarnation sequence sent : ℕ)
+        → (past_of book).flight i ≡ Some (Requested (record { member = by.id.number; incarnation = incarnation; sequence = sequence; sent = sent; query = Read }))
+        → IsShown declared book volatile_states (record { action = Deliver i j true; events = read_events tick i j by incarnation sequence; volatile_states = volatile_states }) }
     ensures parts { (declared : Declared) (book : List Event) (volatile_states : ℕ → VolatileState) (transition : Transition)
         → let past = past_of (book ++ transition.events) in let s = act (state_of declared (past_of book) volatile_states) transition.action in
         past.clock ≡ s.clock → past.leader ≡ s.leader → past.failsafe ≡ s.failsafe → past.revision ≡ s.revision

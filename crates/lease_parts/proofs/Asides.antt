@@ -72,7 +72,7 @@ aside-sized May cluster (kinds.Watchdog (watchdogs.Reset member)) is = length-ch
 aside-sized May cluster (kinds.Agent (agents.Woken agent)) is = absurd is
 aside-sized May cluster (kinds.Agent (agents.Operated agent action)) is = absurd is
 aside-sized May cluster (kinds.Agent (agents.Killed agent)) is = length-changed cluster.agents _ _
-aside-sized May cluster (kinds.Agent (agents.Started agent run)) is = absurd is
+aside-sized May cluster (kinds.Agent (agents.Started agent incarnation)) is = absurd is
 aside-sized May cluster _ is = refl
 
 -- an agent and its process change together
@@ -106,7 +106,7 @@ suspended-knows m to true process agent old = record {
   found = let changed : AgentProcess = record old.found { suspended = to } in changed;
   is = ap (option_map (λ (process : AgentProcess). let changed : AgentProcess = record process { suspended = to } in changed)) old.is;
   running = old.running;
-  run = old.run;
+  incarnation = old.incarnation;
   me = old.me;
   unpaused = old.unpaused;
 }
@@ -127,7 +127,7 @@ aside-knows May cluster (kinds.Agent (agents.Woken agent)) is old = absurd is
 aside-knows May cluster (kinds.Agent (agents.Operated agent action)) is old = absurd is
 aside-knows May cluster (kinds.Agent (agents.Killed member)) is old =
     knows-changed cluster.facts.processes cluster.agents member.id.number _ _ (λ m agent here none. absurd (none-there (slice_get cluster.agents m) agent none)) old
-aside-knows May cluster (kinds.Agent (agents.Started member run)) is old = absurd is
+aside-knows May cluster (kinds.Agent (agents.Started member incarnation)) is old = absurd is
 aside-knows May cluster (kinds.Agent (agents.Suspended member)) is old = knows-suspended true cluster.facts.processes cluster.agents member.id.number old
 aside-knows May cluster (kinds.Agent (agents.Resumed member)) is old = knows-suspended false cluster.facts.processes cluster.agents member.id.number old
 aside-knows May cluster _ is old = old
@@ -170,26 +170,26 @@ pub matched-behind : (head : HeadText) (book : List Event) (cluster : Cluster) (
 matched-behind head book cluster events all old = matched-behind-as (λ n. ⊥) head book cluster events all (λ n e. absurd e) old
 
 -- ---- an agent starts
-started-knows : (count : ℕ) (cluster : Cluster) (member : Member) (run : ℕ) → length cluster.facts.processes ≡ count → member.id.number < count
-    → KnowThemselves cluster.facts.processes cluster.agents → KnowThemselves (processes_after cluster.facts.processes (kinds.Agent (agents.Started member run))) (agent_facts_after cluster (kinds.Agent (agents.Started member run)))
-started-knows count cluster member run sized is old =
+started-knows : (count : ℕ) (cluster : Cluster) (member : Member) (incarnation : ℕ) → length cluster.facts.processes ≡ count → member.id.number < count
+    → KnowThemselves cluster.facts.processes cluster.agents → KnowThemselves (processes_after cluster.facts.processes (kinds.Agent (agents.Started member incarnation))) (agent_facts_after cluster (kinds.Agent (agents.Started member incarnation)))
+started-knows count cluster member incarnation sized is old =
     knows-changed cluster.facts.processes cluster.agents member.id.number _ _ (λ m agent here started.
     let one = the-started (slice_get cluster.agents m) _ agent started in
     let process = there cluster.facts.processes m (subst (λ (n : ℕ). n < length cluster.facts.processes) (sym here) (subst (λ (n : ℕ). member.id.number < n) (sym sized) is)) in
     record {
-      found = running_in run;
-      is = ap (option_map (λ (process : AgentProcess). running_in run)) process.1;
+      found = running_in incarnation;
+      is = ap (option_map (λ (process : AgentProcess). running_in incarnation)) process.1;
       running = refl;
-      run = ap (λ (a : AgentFacts). a.knows.run) (sym one);
+      incarnation = ap (λ (a : AgentFacts). a.knows.incarnation) (sym one);
       me = ap (λ (a : AgentFacts). a.knows.who.me.number) (sym one) ∙ sym here;
       unpaused = ap (λ (a : AgentFacts). is_paused a.knows) (sym one);
     }) old
 
 -- in a run above that of its process
-pub started-matched : (head : HeadText) (past : Past) (cluster : Cluster) (member : Member) (run : ℕ) → member.id.number < member_count head → run_in cluster.facts.processes member.id.number < run
-    → IsMatched head past cluster → IsMatched head (past_after past (kinds.Agent (agents.Started member run))) (cluster_after cluster (kinds.Agent (agents.Started member run)))
-started-matched head past cluster member run small later old =
-    let kind : EventKind = kinds.Agent (agents.Started member run) in
+pub started-matched : (head : HeadText) (past : Past) (cluster : Cluster) (member : Member) (incarnation : ℕ) → member.id.number < member_count head → run_in cluster.facts.processes member.id.number < incarnation
+    → IsMatched head past cluster → IsMatched head (past_after past (kinds.Agent (agents.Started member incarnation))) (cluster_after cluster (kinds.Agent (agents.Started member incarnation)))
+started-matched head past cluster member incarnation small later old =
+    let kind : EventKind = kinds.Agent (agents.Started member incarnation) in
     record {
       members = old.members;
       options = old.options;
@@ -199,6 +199,6 @@ started-matched head past cluster member run small later old =
       flight = flight-by past cluster.facts kind tt old.store old.flight;
       machines = machines-by (member_count head) past cluster.facts kind old.sized small old.machines;
       unpaused = pauses-by cluster.facts kind tt old.unpaused;
-      agents = started-knows (member_count head) cluster member run old.sized.agents small old.agents;
-      waiting = waiting-started head past cluster member run small later old;
+      agents = started-knows (member_count head) cluster member incarnation old.sized.agents small old.agents;
+      waiting = waiting-started head past cluster member incarnation small later old;
     }

@@ -92,7 +92,7 @@ knows-first scope options members count m (Some member) agent is small number th
       found = running_in 1;
       is = first-process count m small;
       running = refl;
-      run = ap (λ (a : AgentFacts). a.knows.run) (sym same);
+      incarnation = ap (λ (a : AgentFacts). a.knows.incarnation) (sym same);
       me = ap (λ (a : AgentFacts). a.knows.who.me.number) (sym same) ∙ number member is;
       unpaused = ap (λ (a : AgentFacts). is_paused a.knows) (sym same);
     }

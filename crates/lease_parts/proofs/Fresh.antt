@@ -9,7 +9,7 @@ use Rattle.lease_law.specs.States.{Agent, fresh_agent}
 use Rattle.lease_parts.specs.AgentSeen.{agent_seen}
 
 -- it knows nothing
-pub fresh-seen : (who : Who) (now run : ℕ) → agent_seen (starting_agent who now run) ≡ fresh_agent run
-fresh-seen who now run =
+pub fresh-seen : (who : Who) (now incarnation : ℕ) → agent_seen (starting_agent who now incarnation) ≡ fresh_agent incarnation
+fresh-seen who now incarnation =
     let none : ◌≡◌ {A = ℕ → Bool} (λ p. bit_at 0 p == 1) (λ p. false) = fun_ext (λ p. ap (λ b. b == 1) (bit_at-zero p)) in
-    ap (λ (known : ℕ → Bool). let agent : Agent = record (fresh_agent run) { known = known } in agent) none
+    ap (λ (known : ℕ → Bool). let agent : Agent = record (fresh_agent incarnation) { known = known } in agent) none

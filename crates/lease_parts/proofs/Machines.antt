@@ -90,7 +90,7 @@ later-hold hold until (Some held) is moment at = ap (λ u. max held.0 u) at ∙ 
 
 hold-watched : (before : ℕ → ℕ) (holds : List (Option Ticks)) (happening : WatchdogEvent) → IsWithinMembers (length holds) (kinds.Watchdog happening)
     → ((m : ℕ) → before m ≡ hold_in holds m) → (m : ℕ) → hold_by before happening m ≡ hold_in (holds_by holds happening) m
-hold-watched before holds (watchdogs.HoldTaken member until from run sequence) is same m =
+hold-watched before holds (watchdogs.HoldTaken member until from incarnation sequence) is same m =
     let found = there holds member.id.number is in
     seen-put hold_now before holds member.id.number m _ (max (before member.id.number) until.0)
     (ap (λ (o : Option (Option Ticks)). hold_now (option_map (prolonged_to until) o)) found.1 ∙ later-hold (before member.id.number) until.0 found.0 (same member.id.number ∙ ap hold_now found.1) until refl)
@@ -112,8 +112,8 @@ suspended-run to (Some process) = refl
 
 runs-by : (before : ℕ → ℕ) (processes : List AgentProcess) (happening : AgentEvent) → IsWithinMembers (length processes) (kinds.Agent happening)
     → ((m : ℕ) → before m ≡ run_in processes m) → (m : ℕ) → runs_after before (kinds.Agent happening) m ≡ run_in (processes_by processes happening) m
-runs-by before processes (agents.Started agent run) is same m =
-    seen-put run_now before processes agent.id.number m _ run (seen-there run_now processes agent.id.number _ run is (λ found. refl)) (same m)
+runs-by before processes (agents.Started agent incarnation) is same m =
+    seen-put run_now before processes agent.id.number m _ incarnation (seen-there run_now processes agent.id.number _ incarnation is (λ found. refl)) (same m)
 runs-by before processes (agents.Suspended agent) is same m = same m ∙ sym (seen-kept run_now processes agent.id.number m _ (suspended-run true))
 runs-by before processes (agents.Resumed agent) is same m = same m ∙ sym (seen-kept run_now processes agent.id.number m _ (suspended-run false))
 runs-by before processes (agents.Killed agent) is same m = same m ∙ sym (seen-kept run_now processes agent.id.number m _ ended-run)
@@ -196,14 +196,14 @@ deadlines-sized deadlines (watchdogs.Reset member) = length-changed deadlines _ 
 deadlines-sized deadlines _ = refl
 
 holds-sized : (holds : List (Option Ticks)) (happening : WatchdogEvent) → length (holds_by holds happening) ≡ length holds
-holds-sized holds (watchdogs.HoldTaken member until from run sequence) = length-changed holds _ _
+holds-sized holds (watchdogs.HoldTaken member until from incarnation sequence) = length-changed holds _ _
 holds-sized holds _ = refl
 
 agents-sized : (processes : List AgentProcess) (happening : AgentEvent) → length (processes_by processes happening) ≡ length processes
 agents-sized processes (agents.Suspended agent) = length-changed processes _ _
 agents-sized processes (agents.Resumed agent) = length-changed processes _ _
 agents-sized processes (agents.Killed agent) = length-changed processes _ _
-agents-sized processes (agents.Started agent run) = length-changed processes _ _
+agents-sized processes (agents.Started agent incarnation) = length-changed processes _ _
 agents-sized processes _ = refl
 
 agents-reset : (processes : List AgentProcess) (happening : WatchdogEvent) → length (processes_by_watchdog processes happening) ≡ length processes

@@ -53,33 +53,33 @@ abbrev IsStartOf : Member → Bool → Option ℕ → Option EventKind → Type 
 IsStartOf member live deadline None = deadline_if live deadline ≡ deadline
 IsStartOf member live deadline (Some kind) = (kind ≡ kinds.Watchdog (watchdogs.Disarmed member)) × (deadline_if live deadline ≡ None)
 
-fresh-there : (agents : List (Option AgentFacts)) (k run : ℕ) (agent : AgentFacts) → k < length agents → agent_now (Some (Some agent)) ≡ Some (fresh_agent run)
-    → agent_now (option_map (λ (before : Option AgentFacts). Some agent) (slice_get agents k)) ≡ Some (fresh_agent run)
-fresh-there agents k run agent small fresh = let found = there agents k small in ap (λ (o : Option (Option AgentFacts)). agent_now (option_map (λ (before : Option AgentFacts). Some agent) o)) found.1 ∙ fresh
+fresh-there : (agents : List (Option AgentFacts)) (k incarnation : ℕ) (agent : AgentFacts) → k < length agents → agent_now (Some (Some agent)) ≡ Some (fresh_agent incarnation)
+    → agent_now (option_map (λ (before : Option AgentFacts). Some agent) (slice_get agents k)) ≡ Some (fresh_agent incarnation)
+fresh-there agents k incarnation agent small fresh = let found = there agents k small in ap (λ (o : Option (Option AgentFacts)). agent_now (option_map (λ (before : Option AgentFacts). Some agent) o)) found.1 ∙ fresh
 
-started-run : (processes : List AgentProcess) (k run : ℕ) → k < length processes → run_now (option_map (λ (process : AgentProcess). running_in run) (slice_get processes k)) ≡ run
-started-run processes k run small = let found = there processes k small in ap (λ (o : Option AgentProcess). run_now (option_map (λ (process : AgentProcess). running_in run) o)) found.1
+started-run : (processes : List AgentProcess) (k incarnation : ℕ) → k < length processes → run_now (option_map (λ (process : AgentProcess). running_in incarnation) (slice_get processes k)) ≡ incarnation
+started-run processes k incarnation small = let found = there processes k small in ap (λ (o : Option AgentProcess). run_now (option_map (λ (process : AgentProcess). running_in incarnation) o)) found.1
 
 started-machine : (cluster : Cluster) (member : Member) (found : Option EventKind) → member.id.number < length cluster.agents → member.id.number < length cluster.facts.processes
     → IsStartOf member (live_in cluster.facts.servers member.id.number) (deadline_in cluster.facts.deadlines member.id.number) found → (m : ℕ)
-    → let run : ℕ = run_in cluster.facts.processes member.id.number + 1 in
-    let started : Cluster = cluster_after cluster (kinds.Agent (agents.Started member run)) in
-    machine_in (cluster_over cluster (event_of cluster (kinds.Agent (agents.Started member run)) ++ events_of started (kinds_of found))) m
+    → let incarnation : ℕ = run_in cluster.facts.processes member.id.number + 1 in
+    let started : Cluster = cluster_after cluster (kinds.Agent (agents.Started member incarnation)) in
+    machine_in (cluster_over cluster (event_of cluster (kinds.Agent (agents.Started member incarnation)) ++ events_of started (kinds_of found))) m
     ≡ put_at (machine_in cluster) member.id.number (start_machine (machine_in cluster member.id.number)) m
 started-machine cluster member None few small is =
     let k : ℕ = member.id.number in
-    let run : ℕ = run_in cluster.facts.processes k + 1 in
-    machines-put (machine_in cluster) (machine_in (cluster_after cluster (kinds.Agent (agents.Started member run)))) k (start_machine (machine_in cluster k))
-    (machine-same _ _ _ _ _ _ _ _ _ _ _ _ refl (sym is) refl refl (ap agent_now (get-here cluster.agents k _) ∙ fresh-there cluster.agents k run _ few (ap Some (fresh-seen (who_of cluster.scope cluster.options cluster.facts.members member) cluster.facts.clock run))) (ap run_now (get-here cluster.facts.processes k _) ∙ started-run cluster.facts.processes k run small))
+    let incarnation : ℕ = run_in cluster.facts.processes k + 1 in
+    machines-put (machine_in cluster) (machine_in (cluster_after cluster (kinds.Agent (agents.Started member incarnation)))) k (start_machine (machine_in cluster k))
+    (machine-same _ _ _ _ _ _ _ _ _ _ _ _ refl (sym is) refl refl (ap agent_now (get-here cluster.agents k _) ∙ fresh-there cluster.agents k incarnation _ few (ap Some (fresh-seen (who_of cluster.scope cluster.options cluster.facts.members member) cluster.facts.clock incarnation))) (ap run_now (get-here cluster.facts.processes k _) ∙ started-run cluster.facts.processes k incarnation small))
     (λ m other. machine-same _ _ _ _ _ _ _ _ _ _ _ _ refl refl refl refl (ap agent_now (get-elsewhere cluster.agents k m _ other)) (ap run_now (get-elsewhere cluster.facts.processes k m _ other)))
 started-machine cluster member (Some kind) few small is =
     let k : ℕ = member.id.number in
-    let run : ℕ = run_in cluster.facts.processes k + 1 in
-    let started : Cluster = cluster_after cluster (kinds.Agent (agents.Started member run)) in
+    let incarnation : ℕ = run_in cluster.facts.processes k + 1 in
+    let started : Cluster = cluster_after cluster (kinds.Agent (agents.Started member incarnation)) in
     subst (λ (z : EventKind). (m : ℕ) → machine_in (cluster_after started z) m ≡ put_at (machine_in cluster) k (start_machine (machine_in cluster k)) m) (sym is.0)
     (machines-put (machine_in cluster) (machine_in (cluster_after started (kinds.Watchdog (watchdogs.Disarmed member)))) k (start_machine (machine_in cluster k))
     (machine-same _ _ _ _ _ _ _ _ _ _ _ _ refl (ap deadline_now (get-here cluster.facts.deadlines k _) ∙ no-deadline (slice_get cluster.facts.deadlines k) ∙ sym is.1) refl refl
-    (ap agent_now (get-here cluster.agents k _) ∙ fresh-there cluster.agents k run _ few (ap Some (fresh-seen (who_of cluster.scope cluster.options cluster.facts.members member) cluster.facts.clock run))) (ap run_now (get-here cluster.facts.processes k _) ∙ started-run cluster.facts.processes k run small))
+    (ap agent_now (get-here cluster.agents k _) ∙ fresh-there cluster.agents k incarnation _ few (ap Some (fresh-seen (who_of cluster.scope cluster.options cluster.facts.members member) cluster.facts.clock incarnation))) (ap run_now (get-here cluster.facts.processes k _) ∙ started-run cluster.facts.processes k incarnation small))
     (λ m other. machine-same _ _ _ _ _ _ _ _ _ _ _ _ refl (ap deadline_now (get-elsewhere cluster.facts.deadlines k m _ other)) refl refl
     (ap agent_now (get-elsewhere cluster.agents k m _ other)) (ap run_now (get-elsewhere cluster.facts.processes k m _ other))))
 
@@ -133,19 +133,19 @@ disarm-local started member None is_live deadline is = tt
 disarm-local started member (Some kind) is_live deadline is = (subst IsLocal (sym is.0) tt, tt)
 
 -- the run of a process has a next one
-next-later : (run : ℕ) → run < run + 1
-next-later run = omega arith
+next-later : (incarnation : ℕ) → incarnation < incarnation + 1
+next-later incarnation = omega arith
 
-kept-start : (head : HeadText) (book : List Event) (cluster : Cluster) (member : Member) (run : ℕ) → member.id.number < member_count head → run ≡ run_in cluster.facts.processes member.id.number + 1 → Bridged head book cluster
-    → let started : Cluster = cluster_after cluster (kinds.Agent (agents.Started member run)) in
-    IsKept head book cluster (event_of cluster (kinds.Agent (agents.Started member run)) ++ events_of started (kinds_of (disarm_of member (machine_of cluster member))))
-kept-start head book cluster member run small next good =
+kept-start : (head : HeadText) (book : List Event) (cluster : Cluster) (member : Member) (incarnation : ℕ) → member.id.number < member_count head → incarnation ≡ run_in cluster.facts.processes member.id.number + 1 → Bridged head book cluster
+    → let started : Cluster = cluster_after cluster (kinds.Agent (agents.Started member incarnation)) in
+    IsKept head book cluster (event_of cluster (kinds.Agent (agents.Started member incarnation)) ++ events_of started (kinds_of (disarm_of member (machine_of cluster member))))
+kept-start head book cluster member incarnation small next good =
     let k : ℕ = member.id.number in
     let found : Option EventKind = disarm_of member (machine_of cluster member) in
     let is = start-disarms head book cluster member small good in
     subst (λ (r : ℕ). IsKept head book cluster (event_of cluster (kinds.Agent (agents.Started member r)) ++ events_of (cluster_after cluster (kinds.Agent (agents.Started member r))) (kinds_of found))) (sym next)
-    (let run : ℕ = run_in cluster.facts.processes k + 1 in
-    let kind : EventKind = kinds.Agent (agents.Started member run) in
+    (let incarnation : ℕ = run_in cluster.facts.processes k + 1 in
+    let kind : EventKind = kinds.Agent (agents.Started member incarnation) in
     let started : Cluster = cluster_after cluster kind in
     let rest : List Event = events_of started (kinds_of found) in
     let asides : AllAre IsAside rest = disarm-asides started member found (live_in cluster.facts.servers k) (deadline_in cluster.facts.deadlines k) is in
@@ -154,17 +154,17 @@ kept-start head book cluster member run small next good =
     (tt, disarm-local started member found (live_in cluster.facts.servers k) (deadline_in cluster.facts.deadlines k) is)
     (tt, asides-begin (MayBeginBehind s (Start k)) (event_of cluster kind) rest asides)
     (subst (λ (past : Past). IsMatched head past (cluster_over started rest)) (sym (past-append first_past book (event_of cluster kind ++ rest)))
-    (asides-matched head (past_after (past_of book) kind) started rest asides (started-matched head (past_of book) cluster member run small (next-later (run_in cluster.facts.processes k)) good.matched)))
+    (asides-matched head (past_after (past_of book) kind) started rest asides (started-matched head (past_of book) cluster member incarnation small (next-later (run_in cluster.facts.processes k)) good.matched)))
     (started-machine cluster member found (subst (λ (n : ℕ). k < n) (sym good.matched.agents_sized) small) (subst (λ (n : ℕ). k < n) (sym good.matched.sized.agents) small) is))
 
 -- an agent that is to start, by its process
 restart-by : (head : HeadText) (book : List Event) (cluster : Cluster) (member : Member) (process : AgentProcess) (running : Bool) → process.running ≡ running → member.id.number < member_count head
     → slice_get cluster.facts.processes member.id.number ≡ Some process → Bridged head book cluster
-    → IsKept head book cluster (events_of cluster (cond running (kinds.Note (AlreadyRunning member)) (kinds.Agent (agents.Started member (process.run + 1))) ∷ kinds_of (cond running None (disarm_of member (machine_of cluster member)))))
+    → IsKept head book cluster (events_of cluster (cond running (kinds.Note (AlreadyRunning member)) (kinds.Agent (agents.Started member (process.incarnation + 1))) ∷ kinds_of (cond running None (disarm_of member (machine_of cluster member)))))
 restart-by head book cluster member process true runs small is good =
     kept-then head book cluster (event_of cluster (kinds.Note (AlreadyRunning member))) [] (kept-quiet head book cluster (kinds.Note (AlreadyRunning member)) tt good) (λ later. kept-none head _ _ later)
 restart-by head book cluster member process false runs small is good =
-    kept-start head book cluster member (process.run + 1) small (ap (λ (o : Option AgentProcess). run_now o + 1) (sym is)) good
+    kept-start head book cluster member (process.incarnation + 1) small (ap (λ (o : Option AgentProcess). run_now o + 1) (sym is)) good
 
 pub kept-restart : (head : HeadText) (book : List Event) (cluster : Cluster) (member : Member) → member.id.number < member_count head → Bridged head book cluster → IsKept head book cluster (agent_start_events cluster member)
 kept-restart head book cluster member small good =

@@ -100,7 +100,7 @@ more-sent : (sent : ℕ) → sent < sent + 1
 more-sent sent = omega arith
 
 module _ (head : HeadText) (book : List Event) (cluster : Cluster) (number : ℕ) (message : InFlightFacts) (good : Bridged head book cluster)
-    (found : in_flight cluster.facts.flight number ≡ Some message) (by : Member) (run sequence : ℕ) where
+    (found : in_flight cluster.facts.flight number ≡ Some message) (by : Member) (incarnation sequence : ℕ) where
   abbrev Later : Cluster
   Later = cluster_after cluster (kinds.Message (Delivered number))
 
@@ -108,7 +108,7 @@ module _ (head : HeadText) (book : List Event) (cluster : Cluster) (number : ℕ
   Moment = record { 0 = cluster.facts.clock }
 
   abbrev Asks : Body → Type 0
-  Asks body = message.message ≡ record { from = ends.Member by; to = ends.Store; run = run; sequence = sequence; body = body }
+  Asks body = message.message ≡ record { from = ends.Member by; to = ends.Store; incarnation = incarnation; sequence = sequence; body = body }
 
   same-book : IsSameBook (past_of book) cluster.facts
   same-book = record { store = good.matched.store; flight = good.matched.flight }
@@ -116,60 +116,60 @@ module _ (head : HeadText) (book : List Event) (cluster : Cluster) (number : ℕ
   reached : (body : Body) → Asks body → agent_facts_reached cluster (in_flight cluster.facts.flight number) ≡ cluster.agents
   reached body is = ap (agent_facts_reached cluster) found ∙ ap (λ (m : Message). agent_facts_reached_at cluster message m.to) is
 
-  read-kept : Asks bodies.Read → IsKept head book cluster (event_of cluster (kinds.Message (Delivered number)) ++ answer_events Later number (record { from = ends.Member by; to = ends.Store; run = run; sequence = sequence; body = bodies.Read }))
+  read-kept : Asks bodies.Read → IsKept head book cluster (event_of cluster (kinds.Message (Delivered number)) ++ answer_events Later number (record { from = ends.Member by; to = ends.Store; incarnation = incarnation; sequence = sequence; body = bodies.Read }))
   read-kept is =
       let answer : ℕ = cluster.facts.sent + 1 in
-      let events : List Event = read_events Moment number answer by run sequence in
+      let events : List Event = read_events Moment number answer by incarnation sequence in
       let above = more-sent cluster.facts.sent in
       kept-then head book cluster events (events_of (cluster_over cluster events) (lost_at_once (nat_le most_in_flight (length Later.facts.flight)) answer))
       (delivery-kept head book cluster events number answer true good (λ P. (tt, (tt, tt)))
       (record { agents = reached bodies.Read is; servers = refl; processes = refl; asked = refl })
-      (read-causal (past_of book) cluster.facts Moment number answer by run sequence above)
+      (read-causal (past_of book) cluster.facts Moment number answer by incarnation sequence above)
       (λ hands_off. ((tt, tt, tt), ((tt, tt, tt), tt)))
-      (read-delivery (declared_of head) book cluster.facts (volatile_of cluster) Moment number answer message by run sequence same-book found is above).0)
+      (read-delivery (declared_of head) book cluster.facts (volatile_of cluster) Moment number answer message by incarnation sequence same-book found is above).0)
       (λ later. lost-kept head (book ++ events) (cluster_over cluster events) (nat_le most_in_flight (length Later.facts.flight)) answer later)
 
   decision-kept : (txn : Txn) (decision : Decision) → Asks (bodies.Request txn) → IsSpannedTxn txn → decision_on cluster.facts.keys cluster.facts.clock txn ≡ decision
-      → IsKept head book cluster (event_of cluster (kinds.Message (Delivered number)) ++ decision_events Later number (record { from = ends.Member by; to = ends.Store; run = run; sequence = sequence; body = bodies.Request txn }) txn decision (ends.Member by))
+      → IsKept head book cluster (event_of cluster (kinds.Message (Delivered number)) ++ decision_events Later number (record { from = ends.Member by; to = ends.Store; incarnation = incarnation; sequence = sequence; body = bodies.Request txn }) txn decision (ends.Member by))
   decision-kept txn Grant is span decides =
       let answer : ℕ = cluster.facts.sent + 1 in
       let names : List Name = published_names cluster.facts.members txn in
-      let events : List Event = granted_events Moment number answer by run sequence txn names in
+      let events : List Event = granted_events Moment number answer by incarnation sequence txn names in
       let above = more-sent cluster.facts.sent in
       kept-then head book cluster events (events_of (cluster_over cluster events) (lost_at_once (nat_le most_in_flight (length Later.facts.flight)) answer))
       (delivery-kept head book cluster events number answer true good (λ P. (tt, (tt, (tt, tt))))
       (record { agents = reached (bodies.Request txn) is; servers = refl; processes = refl; asked = refl })
-      (granted-causal (past_of book) cluster.facts Moment number answer message by run sequence txn names good.matched.flight found is above span)
+      (granted-causal (past_of book) cluster.facts Moment number answer message by incarnation sequence txn names good.matched.flight found is above span)
       (λ hands_off. ((tt, tt, tt), ((hands_off.1.0, tt, tt), ((tt, tt, tt), tt))))
-      (granted-delivery (declared_of head) book cluster.facts (volatile_of cluster) Moment number answer message by run sequence txn names same-book found is above span decides).0)
+      (granted-delivery (declared_of head) book cluster.facts (volatile_of cluster) Moment number answer message by incarnation sequence txn names same-book found is above span decides).0)
       (λ later. lost-kept head (book ++ events) (cluster_over cluster events) (nat_le most_in_flight (length Later.facts.flight)) answer later)
   decision-kept txn (Refusal key expected) is span decides =
       let answer : ℕ = cluster.facts.sent + 1 in
-      let events : List Event = refused_events Moment number answer by run sequence (txn_kind_of txn) key expected in
+      let events : List Event = refused_events Moment number answer by incarnation sequence (txn_kind_of txn) key expected in
       let above = more-sent cluster.facts.sent in
       kept-then head book cluster events (events_of (cluster_over cluster events) (lost_at_once (nat_le most_in_flight (length Later.facts.flight)) answer))
       (delivery-kept head book cluster events number answer false good (λ P. (tt, (tt, (tt, tt))))
       (record { agents = reached (bodies.Request txn) is; servers = refl; processes = refl; asked = refl })
-      (refused-causal (past_of book) cluster.facts Moment number answer by run sequence (txn_kind_of txn) key expected above)
+      (refused-causal (past_of book) cluster.facts Moment number answer by incarnation sequence (txn_kind_of txn) key expected above)
       (λ hands_off. ((tt, tt, tt), ((tt, tt, tt), ((tt, tt, tt), tt))))
-      (refused-delivery (declared_of head) book cluster.facts (volatile_of cluster) Moment number answer message by run sequence txn (txn_kind_of txn) key expected same-book found is above decides).0)
+      (refused-delivery (declared_of head) book cluster.facts (volatile_of cluster) Moment number answer message by incarnation sequence txn (txn_kind_of txn) key expected same-book found is above decides).0)
       (λ later. lost-kept head (book ++ events) (cluster_over cluster events) (nat_le most_in_flight (length Later.facts.flight)) answer later)
 
 -- by whom it comes, and what it says
-store-by : (head : HeadText) (book : List Event) (cluster : Cluster) (number : ℕ) (message : InFlightFacts) (from : LinkEnd) (run sequence : ℕ) (body : Body) → Bridged head book cluster
-    → in_flight cluster.facts.flight number ≡ Some message → message.message ≡ record { from = from; to = ends.Store; run = run; sequence = sequence; body = body } → IsAddressed from ends.Store body
-    → IsKept head book cluster (event_of cluster (kinds.Message (Delivered number)) ++ answer_events (cluster_after cluster (kinds.Message (Delivered number))) number (record { from = from; to = ends.Store; run = run; sequence = sequence; body = body }))
-store-by head book cluster number message ends.Store run sequence body good found is addressed = absurd addressed
-store-by head book cluster number message (ends.Member by) run sequence bodies.Read good found is addressed = read-kept head book cluster number message good found by run sequence is
-store-by head book cluster number message (ends.Member by) run sequence (bodies.Request txn) good found is addressed =
-    decision-kept head book cluster number message good found by run sequence txn (decision_on cluster.facts.keys cluster.facts.clock txn) is addressed refl
-store-by head book cluster number message (ends.Member by) run sequence _ good found is addressed = absurd addressed
+store-by : (head : HeadText) (book : List Event) (cluster : Cluster) (number : ℕ) (message : InFlightFacts) (from : LinkEnd) (incarnation sequence : ℕ) (body : Body) → Bridged head book cluster
+    → in_flight cluster.facts.flight number ≡ Some message → message.message ≡ record { from = from; to = ends.Store; incarnation = incarnation; sequence = sequence; body = body } → IsAddressed from ends.Store body
+    → IsKept head book cluster (event_of cluster (kinds.Message (Delivered number)) ++ answer_events (cluster_after cluster (kinds.Message (Delivered number))) number (record { from = from; to = ends.Store; incarnation = incarnation; sequence = sequence; body = body }))
+store-by head book cluster number message ends.Store incarnation sequence body good found is addressed = absurd addressed
+store-by head book cluster number message (ends.Member by) incarnation sequence bodies.Read good found is addressed = read-kept head book cluster number message good found by incarnation sequence is
+store-by head book cluster number message (ends.Member by) incarnation sequence (bodies.Request txn) good found is addressed =
+    decision-kept head book cluster number message good found by incarnation sequence txn (decision_on cluster.facts.keys cluster.facts.clock txn) is addressed refl
+store-by head book cluster number message (ends.Member by) incarnation sequence _ good found is addressed = absurd addressed
 
 pub kept-store-arrival : (head : HeadText) (book : List Event) (cluster : Cluster) (number : ℕ) (message : InFlightFacts) → Bridged head book cluster
     → in_flight cluster.facts.flight number ≡ Some message → message.message.to ≡ ends.Store → IsKept head book cluster (arrival_events_at cluster number message ends.Store)
 kept-store-arrival head book cluster number message good found to =
     let m : Message = message.message in
-    let is : m ≡ record { from = m.from; to = ends.Store; run = m.run; sequence = m.sequence; body = m.body } = ap (λ (end : LinkEnd). let one : Message = record { from = m.from; to = end; run = m.run; sequence = m.sequence; body = m.body } in one) to in
+    let is : m ≡ record { from = m.from; to = ends.Store; incarnation = m.incarnation; sequence = m.sequence; body = m.body } = ap (λ (end : LinkEnd). let one : Message = record { from = m.from; to = end; incarnation = m.incarnation; sequence = m.sequence; body = m.body } in one) to in
     let well = good.matched.waiting.carried number message found in
     subst (λ (one : Message). IsKept head book cluster (event_of cluster (kinds.Message (Delivered number)) ++ answer_events (cluster_after cluster (kinds.Message (Delivered number))) number one)) (sym is)
-    (store-by head book cluster number message m.from m.run m.sequence m.body good found is (subst (λ (end : LinkEnd). IsAddressed m.from end m.body) to well.addressed))
+    (store-by head book cluster number message m.from m.incarnation m.sequence m.body good found is (subst (λ (end : LinkEnd). IsAddressed m.from end m.body) to well.addressed))

@@ -53,13 +53,13 @@ aside-sends May _ is = tt
 pub aside-within : (May : ℕ → Type 0) (count : ℕ) (kind : EventKind) → IsAsideIn May kind → BeginsKind (λ n. n < count) kind → IsWithinMembers count kind
 aside-within May count (kinds.Watchdog (watchdogs.Armed member until answer)) is begins = absurd is
 aside-within May count (kinds.Watchdog (watchdogs.Fed member until basis)) is begins = absurd is
-aside-within May count (kinds.Watchdog (watchdogs.HoldTaken member until from run sequence)) is begins = absurd is
+aside-within May count (kinds.Watchdog (watchdogs.HoldTaken member until from incarnation sequence)) is begins = absurd is
 aside-within May count (kinds.Server (servers.Began server timeline)) is begins = begins
-aside-within May count (kinds.Agent (agents.Started agent run)) is begins = absurd is
+aside-within May count (kinds.Agent (agents.Started agent incarnation)) is begins = absurd is
 aside-within May count _ is begins = tt
 
 aside-runs : (May : ℕ → Type 0) (runs : ℕ → ℕ) (kind : EventKind) (m : ℕ) → IsAsideIn May kind → runs_after runs kind m ≡ runs m
-aside-runs May runs (kinds.Agent (agents.Started agent run)) m is = absurd is
+aside-runs May runs (kinds.Agent (agents.Started agent incarnation)) m is = absurd is
 aside-runs May runs (kinds.Agent _) m is = refl
 aside-runs May runs _ m is = refl
 
@@ -83,7 +83,7 @@ aside-left May cluster (kinds.Watchdog (watchdogs.Reset member)) m agent is e = 
 aside-left May cluster (kinds.Agent (agents.Woken member)) m agent is e = absurd is
 aside-left May cluster (kinds.Agent (agents.Operated member action)) m agent is e = absurd is
 aside-left May cluster (kinds.Agent (agents.Killed member)) m agent is e = left-there cluster.agents member.id.number m agent e
-aside-left May cluster (kinds.Agent (agents.Started member run)) m agent is e = absurd is
+aside-left May cluster (kinds.Agent (agents.Started member incarnation)) m agent is e = absurd is
 aside-left May cluster _ m agent is e = e
 
 pub waiting-aside : (May : ℕ → Type 0) (head : HeadText) (past : Past) (cluster : Cluster) (kind : EventKind) → IsAsideIn May kind → IsMatched head past cluster
@@ -97,9 +97,9 @@ waiting-aside May head past cluster kind aside old =
     }
 
 -- ---- the start of an agent
-fresh-sound : (asked : ℕ → Option Question) (m runs run now : ℕ) (scope : Name) (options : List MemberOptions) (members : List Member) (member : Member) → runs < run → IsLastRun asked m runs → IsAgentSound asked m (starting_agent (who_of scope options members member) now run)
-fresh-sound asked m runs run now scope options members member later last = record {
-  last = run-new asked m runs run later last;
+fresh-sound : (asked : ℕ → Option Question) (m runs incarnation now : ℕ) (scope : Name) (options : List MemberOptions) (members : List Member) (member : Member) → runs < incarnation → IsLastRun asked m runs → IsAgentSound asked m (starting_agent (who_of scope options members member) now incarnation)
+fresh-sound asked m runs incarnation now scope options members member later last = record {
+  last = run-new asked m runs incarnation later last;
   waits = λ waited is. absurd (none-some waited is);
   ends = tt;
 }
@@ -113,19 +113,19 @@ started-by asked m k (Some found) true started agent is here there e = subst (Is
 later-run : (asked : ℕ → Option Question) (m low high : ℕ) → low < high → IsLastRun asked m low → IsLastRun asked m high
 later-run asked m low high h old i q e member = let small = old i q e member in omega (arith, small, h)
 
-pub waiting-started : (head : HeadText) (past : Past) (cluster : Cluster) (member : Member) (run : ℕ) → member.id.number < member_count head → run_in cluster.facts.processes member.id.number < run → IsMatched head past cluster
-    → AgentsAreSound (past_after past (kinds.Agent (agents.Started member run))) (cluster_after cluster (kinds.Agent (agents.Started member run)))
-waiting-started head past cluster member run small later old =
-    let kind : EventKind = kinds.Agent (agents.Started member run) in
+pub waiting-started : (head : HeadText) (past : Past) (cluster : Cluster) (member : Member) (incarnation : ℕ) → member.id.number < member_count head → run_in cluster.facts.processes member.id.number < incarnation → IsMatched head past cluster
+    → AgentsAreSound (past_after past (kinds.Agent (agents.Started member incarnation))) (cluster_after cluster (kinds.Agent (agents.Started member incarnation)))
+waiting-started head past cluster member incarnation small later old =
+    let kind : EventKind = kinds.Agent (agents.Started member incarnation) in
     let k : ℕ = member.id.number in
     let runs : ℕ → ℕ = run_in cluster.facts.processes in
-    let started : AgentFacts = starting_agent (who_of cluster.scope cluster.options cluster.facts.members member) cluster.facts.clock run in
+    let started : AgentFacts = starting_agent (who_of cluster.scope cluster.options cluster.facts.members member) cluster.facts.clock incarnation in
     record {
       carried = carried-by past cluster.facts kind (record { store = old.store; flight = old.flight }) tt old.waiting.carried;
       runs = λ m. subst (λ (n : ℕ). IsLastRun past.asked m n) (runs-of runs cluster.facts.processes kind (subst (λ (n : ℕ). k < n) (sym old.sized.agents) small) (λ n. refl) m)
-          (put-all runs k run (λ n r. IsLastRun past.asked n r) (later-run past.asked k (runs k) run later (old.waiting.runs k)) (λ n other. old.waiting.runs n) m);
+          (put-all runs k incarnation (λ n r. IsLastRun past.asked n r) (later-run past.asked k (runs k) incarnation later (old.waiting.runs k)) (λ n other. old.waiting.runs n) m);
       agents = λ m agent e. started-by past.asked m k (slice_get cluster.agents m) (m == k) started agent refl
-          (λ here. fresh-sound past.asked m (runs k) run cluster.facts.clock cluster.scope cluster.options cluster.facts.members member later (subst (λ (n : ℕ). IsLastRun past.asked n (runs k)) (sym here) (old.waiting.runs k)))
+          (λ here. fresh-sound past.asked m (runs k) incarnation cluster.facts.clock cluster.scope cluster.options cluster.facts.members member later (subst (λ (n : ℕ). IsLastRun past.asked n (runs k)) (sym here) (old.waiting.runs k)))
           (old.waiting.agents m agent) (sym (get-changed cluster.agents k m (λ (agent : Option AgentFacts). Some started)) ∙ e);
     }
 

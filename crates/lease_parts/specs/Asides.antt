@@ -16,12 +16,12 @@ IsAsideIn May (kinds.Message (messages.Delivered number)) = ⊥
 IsAsideIn May (kinds.Store (stores.Granted number by txn standbys)) = ⊥
 IsAsideIn May (kinds.Watchdog (watchdogs.Armed member until answer)) = ⊥
 IsAsideIn May (kinds.Watchdog (watchdogs.Fed member until basis)) = ⊥
-IsAsideIn May (kinds.Watchdog (watchdogs.HoldTaken member until from run sequence)) = ⊥
+IsAsideIn May (kinds.Watchdog (watchdogs.HoldTaken member until from incarnation sequence)) = ⊥
 IsAsideIn May (kinds.Server (servers.Began server timeline)) = May server.id.number
 IsAsideIn May (kinds.Server (servers.Promoted server)) = ⊥
 IsAsideIn May (kinds.Agent (agents.Woken agent)) = ⊥
 IsAsideIn May (kinds.Agent (agents.Operated agent action)) = ⊥
-IsAsideIn May (kinds.Agent (agents.Started agent run)) = ⊥
+IsAsideIn May (kinds.Agent (agents.Started agent incarnation)) = ⊥
 IsAsideIn May _ = Unit {0}
 
 -- such an event in which nobody begins

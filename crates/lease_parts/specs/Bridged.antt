@@ -23,7 +23,7 @@ pub record KnowsItself (m : ℕ) (process : Option AgentProcess) (agent : AgentF
   pub found : AgentProcess
   pub is : process ≡ Some found
   pub running : found.running ≡ true
-  pub run : agent.knows.run ≡ found.run
+  pub incarnation : agent.knows.incarnation ≡ found.incarnation
   pub me : agent.knows.who.me.number ≡ m
   pub unpaused : is_paused agent.knows ≡ false
 

@@ -42,12 +42,12 @@ hold_now _ = 0
 abbrev pub hold_in : List (Option Ticks) → ℕ → ℕ
 hold_in holds m = hold_now (slice_get holds m)
 
--- the run of an agent, the first where there is no such member
+-- the incarnation of an agent, the first where there is no such member
 abbrev pub run_now : Option AgentProcess → ℕ
 run_now None = 1
-run_now (Some process) = process.run
+run_now (Some process) = process.incarnation
 
--- the run of the agent of this number
+-- the incarnation of the agent of this number
 abbrev pub run_in : List AgentProcess → ℕ → ℕ
 run_in processes m = run_now (slice_get processes m)
 
@@ -77,7 +77,7 @@ IsByGrant (bases.Acknowledgements members sequence) = ⊥
 abbrev pub IsWithinMembers : ℕ → EventKind → Type 0
 IsWithinMembers count (kinds.Watchdog (watchdogs.Armed member until answer)) = member.id.number < count
 IsWithinMembers count (kinds.Watchdog (watchdogs.Fed member until basis)) = (member.id.number < count) × IsByGrant basis
-IsWithinMembers count (kinds.Watchdog (watchdogs.HoldTaken member until from run sequence)) = member.id.number < count
+IsWithinMembers count (kinds.Watchdog (watchdogs.HoldTaken member until from incarnation sequence)) = member.id.number < count
 IsWithinMembers count (kinds.Server (servers.Began server timeline)) = server.id.number < count
-IsWithinMembers count (kinds.Agent (agents.Started agent run)) = agent.id.number < count
+IsWithinMembers count (kinds.Agent (agents.Started agent incarnation)) = agent.id.number < count
 IsWithinMembers count _ = Unit {0}

@@ -10,7 +10,7 @@ use Rattle.event_book.specs.declared.link.LinkEnd.TheVariants as ends
 use Rattle.event_book.specs.declared.message.Body.{Body}
 use Rattle.event_book.specs.declared.message.Body.TheVariants as bodies
 use Rattle.event_book.specs.Flight.{InFlightFacts, Flight, in_flight}
-use Rattle.agent_model.specs.declared.knowledge.Waited.{Waited}
+use Rattle.agent_model.specs.declared.knowledge.PendingQuestion.{PendingQuestion}
 use Rattle.agent_model.specs.Agents.{AgentFacts, EndsAlone}
 use Rattle.agent_model.specs.Decisions.{asks_lease}
 use Rattle.cluster_model.specs.State.{Cluster}
@@ -22,20 +22,20 @@ use Rattle.lease_book.specs.Waiting.{IsLastAsked, IsLastRun}
 use Rattle.lease_parts.specs.Machines.{run_in}
 
 -- a question of this member that has the run and the number of what is waited for was asked when that was, for a lease of its span
-abbrev pub IsAskedAs : (ℕ → Option Question) → ℕ → ℕ → Waited → Type 0
-IsAskedAs asked m run waited = (i : ℕ) (question : Question) → asked i ≡ Some question → question.member ≡ m → question.run ≡ run → question.sequence ≡ waited.sequence
+abbrev pub IsAskedAs : (ℕ → Option Question) → ℕ → ℕ → PendingQuestion → Type 0
+IsAskedAs asked m incarnation waited = (i : ℕ) (question : Question) → asked i ≡ Some question → question.member ≡ m → question.incarnation ≡ incarnation → question.sequence ≡ waited.sequence
     → (question.sent ≡ waited.sent.0) × (lease_span question.query ≡ waited.ttl.0)
 
 -- what an agent of this member waits for: the span is that of a lease, its number is counted, and so it was asked if it asks for a lease
-pub record IsAwaited (asked : ℕ → Option Question) (m run last : ℕ) (waited : Waited) : Type 0 where
+pub record IsAwaited (asked : ℕ → Option Question) (m incarnation last : ℕ) (waited : PendingQuestion) : Type 0 where
   pub span : IsLeaseSpan waited.ttl.0
   pub counted : waited.sequence ≤ last
-  pub as_asked : asks_lease waited.question ≡ true → IsAskedAs asked m run waited
+  pub as_asked : asks_lease waited.question ≡ true → IsAskedAs asked m incarnation waited
 
 -- an agent of this member has counted its questions, and knows what it waits for; who ends its server waits for nothing
 pub record IsAgentSound (asked : ℕ → Option Question) (m : ℕ) (agent : AgentFacts) : Type 0 where
-  pub last : IsLastAsked asked m agent.knows.run agent.knows.sequence
-  pub waits : ForSome agent.knows.waited (IsAwaited asked m agent.knows.run agent.knows.sequence)
+  pub last : IsLastAsked asked m agent.knows.incarnation agent.knows.sequence
+  pub waits : ForSome agent.knows.waited (IsAwaited asked m agent.knows.incarnation agent.knows.sequence)
   pub ends : EndsAlone agent.role agent.knows.waited
 
 -- each agent that is there is such

@@ -21,7 +21,7 @@ use Rattle.agent_model.specs.declared.knowledge.Knowledge.{Knowledge}
 use Rattle.agent_model.specs.declared.machine.Machine.{Machine}
 use Rattle.agent_model.specs.declared.output.Output.{Output}
 use Rattle.agent_model.specs.declared.output.Output.TheVariants as outputs
-use Rattle.agent_model.specs.Agents.{AgentFacts, RoleFacts, made}
+use Rattle.agent_model.specs.Agents.{AgentFacts, RoleFacts, outcome_from}
 use Rattle.agent_outputs.specs.Orders.{IsOfTable}
 use Rattle.agent_model.specs.Table.{step}
 use Rattle.agent_outputs.proofs.Orders.{step-carried-out}
@@ -49,10 +49,10 @@ use Rattle.lease_runs.proofs.Moments.{KnowsSending, moments_over}
 use Rattle.agent_roles.proofs.Unfed.{FeedsNone, actions-feed-none, wakes-feed-none}
 
 -- an input's events that come of no feed
-mine-unfed : (member : Member) (run heard : ℕ) (kind : EventKind) → IsOfInput member run heard FeedsNone kind → IsUnfed kind
-mine-unfed member run heard (kinds.Watchdog (watchdogs.Armed by until answer)) is = absurd is.2
-mine-unfed member run heard (kinds.Watchdog (watchdogs.Fed by until basis)) is = absurd is.2
-mine-unfed member run heard _ is = tt
+mine-unfed : (member : Member) (incarnation heard : ℕ) (kind : EventKind) → IsOfInput member incarnation heard FeedsNone kind → IsUnfed kind
+mine-unfed member incarnation heard (kinds.Watchdog (watchdogs.Armed by until answer)) is = absurd is.2
+mine-unfed member incarnation heard (kinds.Watchdog (watchdogs.Fed by until basis)) is = absurd is.2
+mine-unfed member incarnation heard _ is = tt
 
 -- whatever an output is
 abbrev IsAny : Output → Type 0
@@ -62,9 +62,9 @@ all-any : (outs : List Output) → All IsAny outs
 all-any [] = All-nil IsAny
 all-any (output ∷ more) = All-cons IsAny output more tt (all-any more)
 
-mine-ungranted : (member : Member) (run heard : ℕ) (kind : EventKind) → IsOfInput member run heard IsAny kind → IsUngranted kind
-mine-ungranted member run heard (kinds.Store happening) is = absurd is
-mine-ungranted member run heard _ is = tt
+mine-ungranted : (member : Member) (incarnation heard : ℕ) (kind : EventKind) → IsOfInput member incarnation heard IsAny kind → IsUngranted kind
+mine-ungranted member incarnation heard (kinds.Store happening) is = absurd is
+mine-ungranted member incarnation heard _ is = tt
 
 -- the moment at which this message was sent is known, and its number is none of those to come
 record IsHeardAt (moments : Moments) (cluster : Cluster) (message : HeardMessage) : Type 0 where
@@ -91,9 +91,9 @@ heard-over moments cluster message [] above old = old
 heard-over moments cluster message (event ∷ events) above old =
     heard-over (moments_after moments event.kind) (cluster_after cluster event.kind) message events above.1 (heard-one moments cluster message event.kind above.0 old)
 
-module _ (member : Member) (run : ℕ) (message : HeardMessage) where
+module _ (member : Member) (incarnation : ℕ) (message : HeardMessage) where
   abbrev Runs : List AgentProcess → Type 0
-  Runs processes = (process : AgentProcess) → slice_get processes member.id.number ≡ Some process → process.run ≡ run
+  Runs processes = (process : AgentProcess) → slice_get processes member.id.number ≡ Some process → process.incarnation ≡ incarnation
 
   abbrev Brings : Cluster → Output → List Event
   Brings cluster output = output_events member message cluster output
@@ -101,7 +101,7 @@ module _ (member : Member) (run : ℕ) (message : HeardMessage) where
   silent : (moments : Moments) (since : Ticks) (cluster : Cluster) (output : Output) → Runs cluster.facts.processes → IsOfTable output → FeedsNone output → AreMeasured moments since (Brings cluster output)
   silent moments since cluster output runs table none =
       unfed-measured moments since (Brings cluster output)
-      (all-more (IsOfInput member run message.number FeedsNone) IsUnfed (Brings cluster output) (mine-unfed member run message.number) (output-mine member run message.number FeedsNone cluster message refl runs output table none))
+      (all-more (IsOfInput member incarnation message.number FeedsNone) IsUnfed (Brings cluster output) (mine-unfed member incarnation message.number) (output-mine member incarnation message.number FeedsNone cluster message refl runs output table none))
 
   -- one output
   output-measured : (moments : Moments) (since : Ticks) (cluster : Cluster) (output : Output) → Runs cluster.facts.processes → IsOfTable output → IsHeardAt moments cluster message → AreMeasured moments since (Brings cluster output)
@@ -118,7 +118,7 @@ module _ (member : Member) (run : ℕ) (message : HeardMessage) where
   output-measured moments since cluster outputs.CannotArm runs table heard = silent moments since cluster outputs.CannotArm runs table tt
   output-measured moments since cluster outputs.DisablesWatchdog runs table heard = silent moments since cluster outputs.DisablesWatchdog runs table tt
   output-measured moments since cluster outputs.RunsWithoutKey runs table heard = silent moments since cluster outputs.RunsWithoutKey runs table tt
-  output-measured moments since cluster outputs.Passes runs table heard = silent moments since cluster outputs.Passes runs table tt
+  output-measured moments since cluster outputs.ClaimsOutsideSync runs table heard = silent moments since cluster outputs.ClaimsOutsideSync runs table tt
   output-measured moments since cluster outputs.PostponesPromotion runs table heard = silent moments since cluster outputs.PostponesPromotion runs table tt
   output-measured moments since cluster outputs.ShutDown runs table heard = silent moments since cluster outputs.ShutDown runs table tt
   output-measured moments since cluster (outputs.Repair leader repair) runs table heard = silent moments since cluster (outputs.Repair leader repair) runs table tt
@@ -136,30 +136,30 @@ module _ (member : Member) (run : ℕ) (message : HeardMessage) where
       let one = All-head IsOfTable output more table in
       let next : Cluster = cluster_over cluster (Brings cluster output) in
       measured-both moments since (Brings cluster output) (each (output_events member message) next more) (output-measured moments since cluster output runs one heard)
-      (λ later. each-measured (moments_over moments (Brings cluster output)) later next more (subst Runs (sym (stays-output member run message cluster output runs one).processes) runs) (All-tail IsOfTable output more table)
-      (heard-over moments cluster message (Brings cluster output) (output-numbered member run message cluster output runs one) heard))
+      (λ later. each-measured (moments_over moments (Brings cluster output)) later next more (subst Runs (sym (stays-output member incarnation message cluster output runs one).processes) runs) (All-tail IsOfTable output more table)
+      (heard-over moments cluster message (Brings cluster output) (output-numbered member incarnation message cluster output runs one) heard))
 
   -- where nothing is fed
   each-unfed : (moments : Moments) (since : Ticks) (cluster : Cluster) (outs : List Output) → Runs cluster.facts.processes → All IsOfTable outs → All FeedsNone outs → AreMeasured moments since (each (output_events member message) cluster outs)
   each-unfed moments since cluster outs runs table none =
       unfed-measured moments since (each (output_events member message) cluster outs)
-      (all-more (IsOfInput member run message.number FeedsNone) IsUnfed (each (output_events member message) cluster outs) (mine-unfed member run message.number)
-      (each-mine member run message.number FeedsNone cluster message refl runs outs table none))
+      (all-more (IsOfInput member incarnation message.number FeedsNone) IsUnfed (each (output_events member message) cluster outs) (mine-unfed member incarnation message.number)
+      (each-mine member incarnation message.number FeedsNone cluster message refl runs outs table none))
 
   -- the key store alone grants
   each-decided : (cluster : Cluster) (outs : List Output) → Runs cluster.facts.processes → All IsOfTable outs → AreDecided cluster (each (output_events member message) cluster outs)
   each-decided cluster outs runs table =
       ungranted-decided cluster (each (output_events member message) cluster outs)
-      (all-more (IsOfInput member run message.number IsAny) IsUngranted (each (output_events member message) cluster outs) (mine-ungranted member run message.number)
-      (each-mine member run message.number IsAny cluster message refl runs outs table (all-any outs)))
+      (all-more (IsOfInput member incarnation message.number IsAny) IsUngranted (each (output_events member message) cluster outs) (mine-ungranted member incarnation message.number)
+      (each-mine member incarnation message.number IsAny cluster message refl runs outs table (all-any outs)))
 
-runs-in : (cluster : Cluster) (k : ℕ) (process : AgentProcess) → slice_get cluster.facts.processes k ≡ Some process → process.run ≡ run_in cluster.facts.processes k
+runs-in : (cluster : Cluster) (k : ℕ) (process : AgentProcess) → slice_get cluster.facts.processes k ≡ Some process → process.incarnation ≡ run_in cluster.facts.processes k
 runs-in cluster k process e = sym (ap run_now e)
 
 -- ---- an agent that hears no message
 -- such an input feeds nothing
 abbrev FeedsNothing : Ticks → List HistoryPoint → Heard → Type 0
-FeedsNothing now points heard = (role : RoleFacts) (knows : Knowledge) (machine : Machine) → All FeedsNone (step now points heard (made role knows machine [])).outputs
+FeedsNothing now points heard = (role : RoleFacts) (knows : Knowledge) (machine : Machine) → All FeedsNone (step now points heard (outcome_from role knows machine [])).outputs
 
 -- behind this event, at which no process changes
 module _ (moments : Moments) (cluster : Cluster) (member : Member) (heard : Heard) (happening : AgentEvent) (same : processes_after cluster.facts.processes (kinds.Agent happening) ≡ cluster.facts.processes)
@@ -178,7 +178,7 @@ module _ (moments : Moments) (cluster : Cluster) (member : Member) (heard : Hear
   called-told None machine = record { measured = λ since. (tt, tt); numbered = (tt, tt); decided = (tt, tt) }
   called-told (Some agent) None = record { measured = λ since. (tt, tt); numbered = (tt, tt); decided = (tt, tt) }
   called-told (Some agent) (Some machine) =
-      let outs = (step (moment_of cluster) (points_of cluster member) heard (made agent.role agent.knows machine [])).outputs in
+      let outs = (step (moment_of cluster) (points_of cluster member) heard (outcome_from agent.role agent.knows machine [])).outputs in
       let table = (step-carried-out (moment_of cluster) (points_of cluster member) heard agent.role agent.knows machine).kinds in
       record {
         measured = λ since. (tt, each-unfed member Run no_message (moments_after moments Called) since (cluster_after cluster Called) outs runs-on table (none agent.role agent.knows machine));
@@ -205,17 +205,17 @@ module _ (moments : Moments) (cluster : Cluster) (number : ℕ) (message : InFli
   hears-told heard None machine = record { measured = λ since. (tt, tt); numbered = (tt, tt); decided = (tt, tt) }
   hears-told heard (Some agent) None = record { measured = λ since. (tt, tt); numbered = (tt, tt); decided = (tt, tt) }
   hears-told heard (Some agent) (Some machine) =
-      let outs = (step (moment_of cluster) (points_of cluster member) heard (made agent.role agent.knows machine [])).outputs in
+      let outs = (step (moment_of cluster) (points_of cluster member) heard (outcome_from agent.role agent.knows machine [])).outputs in
       let table = (step-carried-out (moment_of cluster) (points_of cluster member) heard agent.role agent.knows machine).kinds in
-      let run : ℕ = run_in cluster.facts.processes member.id.number in
+      let incarnation : ℕ = run_in cluster.facts.processes member.id.number in
       record {
         measured = λ since. (
           tt,
-          each-measured member run (heard_message number message) (moments_after moments Arrived) since (cluster_after cluster Arrived) outs (runs-in cluster member.id.number) table
+          each-measured member incarnation (heard_message number message) (moments_after moments Arrived) since (cluster_after cluster Arrived) outs (runs-in cluster member.id.number) table
               (record { known = knows.known number message found; old = knows.flown number message found }),
         );
-        numbered = (tt, each-numbered member run (heard_message number message) (cluster_after cluster Arrived) outs (runs-in cluster member.id.number) table);
-        decided = (tt, each-decided member run (heard_message number message) (cluster_after cluster Arrived) outs (runs-in cluster member.id.number) table);
+        numbered = (tt, each-numbered member incarnation (heard_message number message) (cluster_after cluster Arrived) outs (runs-in cluster member.id.number) table);
+        decided = (tt, each-decided member incarnation (heard_message number message) (cluster_after cluster Arrived) outs (runs-in cluster member.id.number) table);
       }
 
   heard-told : (heard : Option Heard)

@@ -147,14 +147,14 @@ module _ (P : EventKind → Type 0) (member : Member) where
   disarms-hold None is = tt
   disarms-hold (Some machine) is = holds-unless P (live machine.server.state) _ (disarm-holds machine.watchdog.deadline is)
 
-  starts-by : (test : Bool) (run : ℕ) → P (kinds.Note (AlreadyRunning member)) → P (kinds.Agent (agents.Started member run)) → P (cond test (kinds.Note (AlreadyRunning member)) (kinds.Agent (agents.Started member run)))
-  starts-by true run runs starts = runs
-  starts-by false run runs starts = starts
+  starts-by : (test : Bool) (incarnation : ℕ) → P (kinds.Note (AlreadyRunning member)) → P (kinds.Agent (agents.Started member incarnation)) → P (cond test (kinds.Note (AlreadyRunning member)) (kinds.Agent (agents.Started member incarnation)))
+  starts-by true incarnation runs starts = runs
+  starts-by false incarnation runs starts = starts
 
-  pub starts-hold : (process : AgentProcess) (machine : Option Machine) → P (kinds.Note (AlreadyRunning member)) → P (kinds.Agent (agents.Started member (process.run + 1))) → P (kinds.Watchdog (watchdogs.Disarmed member))
+  pub starts-hold : (process : AgentProcess) (machine : Option Machine) → P (kinds.Note (AlreadyRunning member)) → P (kinds.Agent (agents.Started member (process.incarnation + 1))) → P (kinds.Watchdog (watchdogs.Disarmed member))
       → AllKinds P (agent_started member process ∷ kinds_of (disarm_at_start member process machine))
   starts-hold process machine runs starts disarmed = (
-    starts-by process.running (process.run + 1) runs starts,
+    starts-by process.running (process.incarnation + 1) runs starts,
     one-kind P (disarm_at_start member process machine) (holds-unless P process.running (disarm_of member machine) (disarms-hold machine disarmed)),
   )
 

@@ -74,36 +74,36 @@ module _ (head : HeadText) (few : length (names_of head) ≤ MOST_MEMBERS) where
         → AllAre Own (sending_events cluster member found to sequence body)
     sending-own cluster None to sequence body own = tt
     sending-own cluster (Some process) None sequence body own = tt
-    sending-own cluster (Some process) (Some to) sequence body own = sends-own head few cluster (agent_message member to process.run sequence body) (is, own)
+    sending-own cluster (Some process) (Some to) sequence body own = sends-own head few cluster (agent_message member to process.incarnation sequence body) (is, own)
 
-    replying-own : (cluster : Cluster) (to : Option LinkEnd) (run sequence : ℕ) (body : Body) → IsOwnReceiver to
-        → AllAre Own (replying_events cluster member to run sequence body)
-    replying-own cluster None run sequence body own = tt
-    replying-own cluster (Some to) run sequence body own = sends-own head few cluster (agent_message member to run sequence body) (is, own)
+    replying-own : (cluster : Cluster) (to : Option LinkEnd) (incarnation sequence : ℕ) (body : Body) → IsOwnReceiver to
+        → AllAre Own (replying_events cluster member to incarnation sequence body)
+    replying-own cluster None incarnation sequence body own = tt
+    replying-own cluster (Some to) incarnation sequence body own = sends-own head few cluster (agent_message member to incarnation sequence body) (is, own)
 
     -- what comes of an output that sends no message
-    mine-own : (run heard : ℕ) (kind : EventKind) → IsOfInput member run heard sends_none kind → Own kind
-    mine-own run heard (kinds.Message (Sent number message)) mine = absurd (no-sent member run message mine)
-    mine-own run heard (kinds.Server (servers.Began server timeline)) mine =
+    mine-own : (incarnation heard : ℕ) (kind : EventKind) → IsOfInput member incarnation heard sends_none kind → Own kind
+    mine-own incarnation heard (kinds.Message (Sent number message)) mine = absurd (no-sent member incarnation message mine)
+    mine-own incarnation heard (kinds.Server (servers.Began server timeline)) mine =
         subst (λ (s : ServerOf). slice_get (names_of head) s.id.number ≡ Some s.name) (sym mine.0) (declared-named head few member is)
-    mine-own run heard _ mine = tt
+    mine-own incarnation heard _ mine = tt
 
     output-own : (heard : HeardMessage) (output : Output) (cluster : Cluster) → cluster.facts.members ≡ declared_members head
         → AllAre Own (output_events member heard cluster output)
     output-own heard (outputs.Send to sequence body) cluster members =
         sending-own cluster (slice_get cluster.facts.processes member.id.number) (receiver_of cluster.facts.members to) sequence body
         (receiver-declared cluster.facts.members members to)
-    output-own heard (outputs.Answer to run sequence answer) cluster members =
-        replying-own cluster (receiver_of cluster.facts.members (targets.Member to)) run sequence (bodies.Answer answer)
+    output-own heard (outputs.Answer to incarnation sequence answer) cluster members =
+        replying-own cluster (receiver_of cluster.facts.members (targets.Member to)) incarnation sequence (bodies.Answer answer)
         (receiver-declared cluster.facts.members members (targets.Member to))
     output-own heard (outputs.HoldTaken until from sequence) cluster members =
         let found = slice_get cluster.facts.members from.number in
-        let hold = hold_taken member until heard.run sequence in
+        let hold = hold_taken member until heard.incarnation sequence in
         found-own head few cluster (option_map hold found) (holds-mapped Own hold found (λ m. tt))
     output-own heard output cluster members =
-        let run = run_in cluster.facts.processes member.id.number in
-        all-more (IsOfInput member run heard.number sends_none) Own (output_events member heard cluster output) (mine-own run heard.number)
-        (output-mine member run heard.number sends_none cluster heard refl (λ process found. sym (ap run_now found)) output tt tt)
+        let incarnation = run_in cluster.facts.processes member.id.number in
+        all-more (IsOfInput member incarnation heard.number sends_none) Own (output_events member heard cluster output) (mine-own incarnation heard.number)
+        (output-mine member incarnation heard.number sends_none cluster heard refl (λ process found. sym (ap run_now found)) output tt tt)
 
     upholds-output : (heard : HeardMessage) (output : Output) → UpholdsAlways (names_told head) (λ cluster. output_events member heard cluster output)
     upholds-output heard output book cluster good =

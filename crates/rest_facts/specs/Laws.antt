@@ -42,7 +42,7 @@ abbrev pub allowed_span : State → Config → ℕ
 allowed_span states.Primary config = primary_span config
 allowed_span _ config = other_span config
 
--- a turn of this run began, the last one no longer ago than allowed
+-- a turn of this incarnation began, the last one no longer ago than allowed
 abbrev pub TakesTurns : AgentView → Option SnapshotFacts → Type 0
 TakesTurns view seen = (turn : Ticks) × (view.last_turn ≡ Some turn) × (view.moment.0 ≤ turn.0 + allowed_span view.state (config_on seen))
 

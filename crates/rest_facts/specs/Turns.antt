@@ -24,7 +24,7 @@ ttls_of_others = 2
 abbrev pub other_span : Config → ℕ
 other_span config = ttls_of_others * primary_span config
 
--- a turn of this run began, the last one at most so long ago
+-- a turn of this incarnation began, the last one at most so long ago
 abbrev pub is_fresh : Ticks → Option Ticks → ℕ → Bool
 is_fresh moment None most = false
 is_fresh moment (Some turn) most = nat_le (moment.0 - turn.0) most

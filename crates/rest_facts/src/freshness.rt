@@ -21,7 +21,7 @@ pub(crate) fn config_on(seen: Option<&Snapshot>) -> Config
     }
 }
 
-/// Whether a turn of this run began, and the last one at most so many ticks ago.
+/// Whether a turn of this incarnation began, and the last one at most so many ticks ago.
 pub(crate) fn is_fresh(moment: Ticks, last_turn: Option<Ticks>, most: Ticks) -> bool
     ensures { result ≡ is_fresh moment last_turn most.0 }
 {

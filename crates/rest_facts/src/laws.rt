@@ -37,7 +37,7 @@ pub fn standbys_serve_as_named()
         (TakesLoad view × (IsNamed view seen → ⊥) × KeepsUp view seen lag) }
 {}
 
-/// `/liveness` is healthy exactly where a turn of this run began, and the last one at most the ttl ago on a primary, and at most twice the
+/// `/liveness` is healthy exactly where a turn of this incarnation began, and the last one at most the ttl ago on a primary, and at most twice the
 /// ttl ago else.
 pub fn agents_live_by_their_turns()
     ensures { (view : AgentView) (seen : Option SnapshotFacts) (lag : Option (List ℕ))

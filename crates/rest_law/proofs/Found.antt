@@ -33,7 +33,7 @@ use Rattle.rest_answer.specs.Answers.{Replies, answer_by, answer_to, health_repl
 use Rattle.rest_message.specs.Replies.{ReplyText}
 use Rattle.agent_model.specs.declared.machine.Machine.{Machine}
 use Rattle.agent_model.specs.declared.machine.Replication.{Replication}
-use Rattle.agent_model.specs.Agents.{AgentFacts, Outcome, made}
+use Rattle.agent_model.specs.Agents.{AgentFacts, Outcome, outcome_from}
 use Rattle.agent_model.specs.Views.{shown}
 use Rattle.cluster_model.specs.Cluster.{cluster_after, cluster_over}
 use Rattle.cluster_model.specs.Inputs.{agent_at, moment_of, standing}
@@ -89,7 +89,7 @@ check-status view seen asked endpoint told reply asks_so is =
 
 -- an agent stands with its machine, whose server is that of its number
 standing-machine : (agent : Option AgentFacts) (machine : Option Machine) (o : Outcome) → standing agent machine ≡ Some o → machine ≡ Some o.machine
-standing-machine (Some agent) (Some machine) o is = ap Some (ap (λ (f : Outcome). f.machine) (same_Some (made agent.role agent.knows machine []) o is))
+standing-machine (Some agent) (Some machine) o is = ap Some (ap (λ (f : Outcome). f.machine) (same_Some (outcome_from agent.role agent.knows machine []) o is))
 standing-machine (Some agent) None o is = absurd (none-some o is)
 standing-machine None machine o is = absurd (none-some o is)
 

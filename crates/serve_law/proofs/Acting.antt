@@ -25,8 +25,8 @@ use Rattle.agent_model.specs.declared.heard.Heard.TheVariants.{Operated}
 use Rattle.agent_model.specs.declared.machine.Machine.{Machine}
 use Rattle.agent_model.specs.declared.operating.Operating.{Operating}
 use Rattle.agent_model.specs.declared.output.Output.{Output}
-use Rattle.agent_model.specs.Agents.{AgentFacts, Outcome, made}
-use Rattle.agent_model.specs.Before.{before}
+use Rattle.agent_model.specs.Agents.{AgentFacts, Outcome, outcome_from}
+use Rattle.agent_model.specs.Reconciling.{reconciled}
 use Rattle.agent_model.specs.Table.{step}
 use Rattle.agent_model.specs.Views.{shown}
 use Rattle.agent_answers.proofs.OperatorAnswers.{step-right}
@@ -59,7 +59,7 @@ record IsStanding (agent : Option AgentFacts) (machine : Option Machine) (stands
   its_machine : Machine
   agent_is : agent ≡ Some found
   machine_is : machine ≡ Some its_machine
-  stands_so : made found.role found.knows its_machine [] ≡ stands
+  stands_so : outcome_from found.role found.knows its_machine [] ≡ stands
 
 is-standing : (agent : Option AgentFacts) (machine : Option Machine) (stands : Outcome) → standing agent machine ≡ Some stands → IsStanding agent machine stands
 is-standing None machine stands e = absurd (none-some _ e)
@@ -133,7 +133,7 @@ module _ (cluster : Cluster) (id : MemberId) (member : Member) (request : Reques
   its = is-standing (agent_at cluster.agents member.id.number) (machine_of cluster member) stands stand
 
   abbrev After : Outcome
-  After = step (moment_of cluster) (points_of cluster member) (Operated Action) (made its.found.role its.found.knows its.its_machine [])
+  After = step (moment_of cluster) (points_of cluster member) (Operated Action) (outcome_from its.found.role its.found.knows its.its_machine [])
 
   made-so : Made ≡ Some After
   made-so = rw (its.agent_is, its.machine_is) refl
@@ -141,7 +141,7 @@ module _ (cluster : Cluster) (id : MemberId) (member : Member) (request : Reques
   -- what is done at once is replied
   done-replied : IsDoneAtOnce asked → reply_in id Input ≢ None
   done-replied done none =
-      let told = told-at-once (moment_of cluster) Number asked (before (moment_of cluster) (made its.found.role its.found.knows its.its_machine [])) done in
+      let told = told-at-once (moment_of cluster) Number asked (reconciled (moment_of cluster) (outcome_from its.found.role its.found.knows its.its_machine [])) done in
       each-replied id member no_message same Later told.0 [] Number ok told.1.0
       (ap (λ (outs : List Output). reply_in id (input_events Later member no_message (Some (record After { outputs = outs })))) (sym told.1.1)
       ∙ (ap (λ (o : Option Outcome). reply_in id (input_events Later member no_message o)) (sym made-so) ∙ none))

@@ -122,9 +122,9 @@ sending-apart cluster member None to sequence body = tt
 sending-apart cluster member (Some process) None sequence body = tt
 sending-apart cluster member (Some process) (Some to) sequence body = send-apart cluster _
 
-replying-apart : (cluster : Cluster) (member : Member) (to : Option LinkEnd) (run sequence : ℕ) (body : Body) → AllAre IsApart (replying_events cluster member to run sequence body)
-replying-apart cluster member None run sequence body = tt
-replying-apart cluster member (Some to) run sequence body = send-apart cluster _
+replying-apart : (cluster : Cluster) (member : Member) (to : Option LinkEnd) (incarnation sequence : ℕ) (body : Body) → AllAre IsApart (replying_events cluster member to incarnation sequence body)
+replying-apart cluster member None incarnation sequence body = tt
+replying-apart cluster member (Some to) incarnation sequence body = send-apart cluster _
 
 -- the key store answers
 decision-apart : (cluster : Cluster) (number : ℕ) (message : Message) (txn : Txn) (decision : Decision) (from : LinkEnd) → AllAre IsApart (decision_events cluster number message txn decision from)
@@ -197,7 +197,7 @@ IsSilent _ = Unit {0}
 
 pub output-apart : (member : Member) (heard : HeardMessage) (cluster : Cluster) (output : Output) → IsSilent output → AllAre IsApart (output_events member heard cluster output)
 output-apart member heard cluster (outputs.Send to sequence body) is = sending-apart cluster member (slice_get cluster.facts.processes member.id.number) (receiver_of cluster.facts.members to) sequence body
-output-apart member heard cluster (outputs.Answer to run sequence answer) is = replying-apart cluster member (receiver_of cluster.facts.members (targets.Member to)) run sequence (bodies.Answer answer)
+output-apart member heard cluster (outputs.Answer to incarnation sequence answer) is = replying-apart cluster member (receiver_of cluster.facts.members (targets.Member to)) incarnation sequence (bodies.Answer answer)
 output-apart member heard cluster outputs.Begin is = begins-apart cluster member (server_at cluster member)
 output-apart member heard cluster (outputs.StartReplica leader) is = starts-apart cluster member (declared_member cluster.facts.members leader) (server_at cluster member)
 output-apart member heard cluster (outputs.Stop reason) is = stops-apart cluster member reason (server_at cluster member)
@@ -221,7 +221,7 @@ output-apart member heard cluster (outputs.HandsOver candidate) is =
     apart-if cluster (option_map (handing_over member) found) (holds-mapped IsApart (handing_over member) found (λ m. tt))
 output-apart member heard cluster (outputs.HoldTaken until from sequence) is =
     let found = slice_get cluster.facts.members from.number in
-    let hold = hold_taken member until heard.run sequence in
+    let hold = hold_taken member until heard.incarnation sequence in
     apart-if cluster (option_map hold found) (holds-mapped IsApart hold found (λ m. tt))
 output-apart member heard cluster (outputs.Told request told) is = absurd is
 output-apart member heard cluster _ is = (tt, tt)

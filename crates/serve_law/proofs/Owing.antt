@@ -21,7 +21,7 @@ use Rattle.agent_model.specs.declared.operating.Operating.{Operating}
 use Rattle.agent_model.specs.declared.operating.Told.{Told}
 use Rattle.agent_model.specs.declared.output.Output.{Output}
 use Rattle.agent_model.specs.declared.output.Output.TheVariants as outputs
-use Rattle.agent_model.specs.Agents.{AgentFacts, Outcome, made}
+use Rattle.agent_model.specs.Agents.{AgentFacts, Outcome, outcome_from}
 use Rattle.agent_model.specs.Table.{step}
 use Rattle.agent_answers.specs.OperatorAnswers.{AnswersAtOnce, AnswersOneAtMost, AnswersWaiting, WaitsForHeard, told_in}
 use Rattle.agent_answers.proofs.OperatorAnswers.{step-right}
@@ -105,7 +105,7 @@ unheard-owes number k cluster (kinds.Message (messages.Delivered n)) is owes = a
 unheard-owes number k cluster (kinds.Agent (agents.Woken by)) is owes = absurd is
 unheard-owes number k cluster (kinds.Agent (agents.Operated by action)) is owes = absurd is
 unheard-owes number k cluster (kinds.Agent (agents.Killed by)) is owes = owes-with number cluster.agents by.id.number k _ (λ same. none-owes number (slice_get cluster.agents k)) owes
-unheard-owes number k cluster (kinds.Agent (agents.Started by run)) is owes = owes-with number cluster.agents by.id.number k _ (λ same. fresh-owes number (slice_get cluster.agents k) _ refl) owes
+unheard-owes number k cluster (kinds.Agent (agents.Started by incarnation)) is owes = owes-with number cluster.agents by.id.number k _ (λ same. fresh-owes number (slice_get cluster.agents k) _ refl) owes
 unheard-owes number k cluster (kinds.Watchdog (watchdogs.Reset by)) is owes = owes-with number cluster.agents by.id.number k _ (λ same. none-owes number (slice_get cluster.agents k)) owes
 unheard-owes number k cluster _ is owes = owes
 
@@ -139,10 +139,10 @@ pub step-owes : (number : ℕ) (now : Ticks) (points : List HistoryPoint) (heard
 step-owes number now points heard None machine new owes = tt
 step-owes number now points heard (Some agent) None new owes = owes
 step-owes number now points heard (Some agent) (Some machine) new owes =
-    let after = step now points heard (made agent.role agent.knows machine []) in
+    let after = step now points heard (outcome_from agent.role agent.knows machine []) in
     owed-by number after.knows.operating (λ waiting is. elim ((step-right now points heard agent.role agent.knows machine).waits waiting is) [
       | inl before ↦ owed-as number agent.knows.operating waiting owes before
-      | inr asked ↦ new (made agent.role agent.knows machine []) after waiting asked
+      | inr asked ↦ new (outcome_from agent.role agent.knows machine []) after waiting asked
     ])
 
 -- what it tells operators is one answer at most, to the request of this number
@@ -253,7 +253,7 @@ module _ (number : ℕ) (id : MemberId) where
     module _ (once : (after : Outcome) (answer : ℕ × Told) → AnswersAtOnce heard after answer → answer.0 ≡ number) where
       -- a request that waits is answered with this number
       abbrev pub AnswersRight : Option AgentFacts → Type 0
-      AnswersRight agent = (found : AgentFacts) → agent ≡ Some found → (machine : Machine) (after : Outcome) (answer : ℕ × Told) → AnswersWaiting (moment_of cluster) heard (made found.role found.knows machine []) after answer → answer.0 ≡ number
+      AnswersRight agent = (found : AgentFacts) → agent ≡ Some found → (machine : Machine) (after : Outcome) (answer : ℕ × Told) → AnswersWaiting (moment_of cluster) heard (outcome_from found.role found.knows machine []) after answer → answer.0 ≡ number
 
       -- its outputs come of one agent with its machine
       outputs-told : (agent : Option AgentFacts) (machine : Option Machine) (reply : ReplyText) → member.id.number ≡ id.number → AnswersRight agent → outcome_of cluster member heard ≡ Made agent machine
@@ -261,7 +261,7 @@ module _ (number : ℕ) (id : MemberId) where
       outputs-told None machine reply same right is e = absurd (none-some _ e)
       outputs-told (Some agent) None reply same right is e = absurd (none-some _ e)
       outputs-told (Some agent) (Some machine) reply same right is e =
-          let o = made agent.role agent.knows machine [] in
+          let o = outcome_from agent.role agent.knows machine [] in
           let after = step (moment_of cluster) (points_of cluster member) heard o in
           let noted = each-noted id member message same Later after.outputs reply e in
           record {
@@ -319,6 +319,6 @@ module _ (number : ℕ) (id : MemberId) where
               (step-owes number (moment_of cluster) (points_of cluster member) heard (agent_at cluster.agents member.id.number) (machine_of cluster member) (λ o after waiting is. absurd (new o after waiting is)))) owes) owes));
           told = input-told (λ after answer at. absurd (once after answer at))
               (λ same found is machine after answer waited.
-              owed-answer number (moment_of cluster) heard (made found.role found.knows machine []) after answer
+              owed-answer number (moment_of cluster) heard (outcome_from found.role found.knows machine []) after answer
               (subst (OwesOf number) is (subst (λ (k : ℕ). OwesOf number (agent_at cluster.agents k)) (sym same) owes)) waited);
         }

@@ -63,7 +63,7 @@ from-message : (cluster : Cluster) (message : InFlightFacts) (body : Body) (hear
 from-message cluster message bodies.Snapshot heard e = says-so tt e
 from-message cluster message (bodies.Granted request leased) heard e = granted-from (λ grant. heards.Granted message.message.sequence grant (snapshot_in cluster message)) (λ grant. tt) message.grant heard e
 from-message cluster message (bodies.Refused request key found) heard e = says-so tt e
-from-message cluster message bodies.Ask heard e = granted-from (λ from. heards.Asked from message.message.run message.message.sequence) (λ from. tt) (member_at_end message.message.from) heard e
+from-message cluster message bodies.Ask heard e = granted-from (λ from. heards.Asked from message.message.incarnation message.message.sequence) (λ from. tt) (member_at_end message.message.from) heard e
 from-message cluster message (bodies.Answer answer) heard e = says-so tt e
 from-message cluster message _ heard e = absurd (none-some _ e)
 

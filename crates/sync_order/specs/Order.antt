@@ -106,6 +106,6 @@ pub record KeepsOrder (start : Facts) (noted : List Event → ℕ → ℕ) (book
       → front ++ record { tick = tick; kind = kinds.Store (stores.Granted number by (txns.Claim leader sync) names) } ∷ back ≡ book
       → IsNamed (facts_over start front).keys by.id.number
   -- who asked to publish standbys did so in order
-  pub publishes : (front back : List Event) (tick : Ticks) (number run sequence leader : ℕ) (by : Member) (to : LinkEnd) (sync : Expected) (standbys : MemberSet)
-      → front ++ record { tick = tick; kind = kinds.Message (messages.Sent number (record { from = ends.Member by; to = to; run = run; sequence = sequence; body = bodies.Request (txns.SetSync leader sync standbys) })) } ∷ back ≡ book
+  pub publishes : (front back : List Event) (tick : Ticks) (number incarnation sequence leader : ℕ) (by : Member) (to : LinkEnd) (sync : Expected) (standbys : MemberSet)
+      → front ++ record { tick = tick; kind = kinds.Message (messages.Sent number (record { from = ends.Member by; to = to; incarnation = incarnation; sequence = sequence; body = bodies.Request (txns.SetSync leader sync standbys) })) } ∷ back ≡ book
       → PublishesInOrder start front by.id.number (noted front by.id.number) sync standbys

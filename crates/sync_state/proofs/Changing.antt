@@ -114,19 +114,19 @@ second : (p q : Bool) → (p && q) ≡ true → q ≡ true
 second true q e = e
 second false q e = absurd (no e)
 
-pub publishes-confirmed : (view : LeaderView) (seen : SnapshotFacts) (standbys : MemberSet) (k : ℕ) → plan_of view seen ≡ plans.Publish standbys → bit_at standbys.bits k ≡ 1 → has_confirmed view.noted (get_or view.connected k None) ≡ true
+pub publishes-confirmed : (view : LeaderView) (seen : SnapshotFacts) (standbys : MemberSet) (k : ℕ) → plan_of view seen ≡ plans.Publish standbys → bit_at standbys.bits k ≡ 1 → has_confirmed view.noted (get_or view.confirmed_positions k None) ≡ true
 publishes-confirmed view seen standbys k e is =
     let wanted = wanted_in view seen in
     let row = (rows view seen).published standbys e in
     let all = second (not (are_same wanted (published_in seen))) (is_within wanted (confirmed_in view)) row.1 in
-    (chosen-from (has_confirmed view.noted) view.connected k None (is-within wanted (confirmed_in view) all k (ap (λ (s : MemberSet). bit_at s.bits k) row.2 ∙ is))).1
+    (chosen-from (has_confirmed view.noted) view.confirmed_positions k None (is-within wanted (confirmed_in view) all k (ap (λ (s : MemberSet). bit_at s.bits k) row.2 ∙ is))).1
 
 confirmed-some : (noted end : Option Lsn) → has_confirmed noted end ≡ true → IsSome end
 confirmed-some noted None e = absurd (no e)
 confirmed-some noted (Some end) e = refl
 
-pub publishes-connected : (view : LeaderView) (seen : SnapshotFacts) (standbys : MemberSet) (k : ℕ) → plan_of view seen ≡ plans.Publish standbys → bit_at standbys.bits k ≡ 1 → IsSome (get_or view.connected k None)
-publishes-connected view seen standbys k e is = confirmed-some view.noted (get_or view.connected k None) (publishes-confirmed view seen standbys k e is)
+pub publishes-connected : (view : LeaderView) (seen : SnapshotFacts) (standbys : MemberSet) (k : ℕ) → plan_of view seen ≡ plans.Publish standbys → bit_at standbys.bits k ≡ 1 → IsSome (get_or view.confirmed_positions k None)
+publishes-connected view seen standbys k e is = confirmed-some view.noted (get_or view.confirmed_positions k None) (publishes-confirmed view seen standbys k e is)
 
 pub publishes-tags : (view : LeaderView) (seen : SnapshotFacts) (standbys : MemberSet) (member : MemberId) → plan_of view seen ≡ plans.Publish standbys → bit_at standbys.bits member.number ≡ 1 → may_sync member seen ≡ true
 publishes-tags view seen standbys member e is = wanted-tags view seen member (ap (λ (s : MemberSet). bit_at s.bits member.number) (sym (publishes-wanted view seen standbys e)) ∙ is)

@@ -40,7 +40,7 @@ may_sync member seen = may_sync_of_entry (entry_in (keys.Member member) seen)
 
 -- the position that the member confirmed, if it is connected
 abbrev pub connected_end : MemberId → LeaderView → Option Lsn
-connected_end member view = slice_index_or view.connected member.number None
+connected_end member view = slice_index_or view.confirmed_positions member.number None
 
 -- the name of one of these members
 abbrev pub name_by : Option (Name × Host) → Option Name

@@ -29,7 +29,7 @@ has_confirmed noted (Some end) = nat_le (noted_position noted) end.position
 
 -- the members that have confirmed the noted position
 abbrev pub confirmed_in : LeaderView → MemberSet
-confirmed_in view = set_of (map (has_confirmed view.noted) view.connected)
+confirmed_in view = set_of (map (has_confirmed view.noted) view.confirmed_positions)
 
 -- whom the sync key names, whose confirmation commits wait for, who is wanted, who has confirmed the noted position
 abbrev pub standbys_in : LeaderView → SnapshotFacts → Standbys

@@ -100,7 +100,7 @@ fn may_sync_by(value: &Value) -> bool
 fn connected_end(view: &LeaderView<'_>, member: MemberId) -> Option<Lsn>
     ensures { result ≡ connected_end member view.now }
 {
-    position_of(&view.connected, member)
+    position_of(&view.confirmed_positions, member)
 }
 
 fn position_of(connected: &[Option<Lsn>; MOST_MEMBERS], member: MemberId) -> Option<Lsn>

@@ -21,8 +21,8 @@ ghost use Rattle.sync_state.specs.Standbys.{required_members, has_confirmed};
 pub fn who_is_published()
     ensures wanted { (view : LeaderView) (seen : SnapshotFacts) (standbys : MemberSet) → plan_of view seen ≡ plans.Publish standbys → standbys ≡ wanted_in view seen }
     ensures required { (view : LeaderView) (seen : SnapshotFacts) (standbys : MemberSet) → plan_of view seen ≡ plans.Publish standbys → IsWithin standbys (required_members view.required) }
-    ensures connected { (view : LeaderView) (seen : SnapshotFacts) (standbys : MemberSet) (k : ℕ) → plan_of view seen ≡ plans.Publish standbys → bit_at standbys.bits k ≡ 1 → IsSome (slice_index_or view.connected k None) }
-    ensures confirmed { (view : LeaderView) (seen : SnapshotFacts) (standbys : MemberSet) (k : ℕ) → plan_of view seen ≡ plans.Publish standbys → bit_at standbys.bits k ≡ 1 → has_confirmed view.noted (slice_index_or view.connected k None) ≡ true }
+    ensures connected { (view : LeaderView) (seen : SnapshotFacts) (standbys : MemberSet) (k : ℕ) → plan_of view seen ≡ plans.Publish standbys → bit_at standbys.bits k ≡ 1 → IsSome (slice_index_or view.confirmed_positions k None) }
+    ensures confirmed { (view : LeaderView) (seen : SnapshotFacts) (standbys : MemberSet) (k : ℕ) → plan_of view seen ≡ plans.Publish standbys → bit_at standbys.bits k ≡ 1 → has_confirmed view.noted (slice_index_or view.confirmed_positions k None) ≡ true }
     ensures tags { (view : LeaderView) (seen : SnapshotFacts) (standbys : MemberSet) (member : MemberId) → plan_of view seen ≡ plans.Publish standbys → bit_at standbys.bits member.number ≡ 1 → may_sync member seen ≡ true }
 {}
 

@@ -21,7 +21,7 @@ pub(crate) fn standbys_of(view: &LeaderView<'_>, seen: &Snapshot) -> Standbys
             seen.config().synchronous_node_count,
             &candidates(view, seen),
         ),
-        confirmed: confirmed(view.noted, &view.connected),
+        confirmed: confirmed(view.noted, &view.confirmed_positions),
     }
 }
 

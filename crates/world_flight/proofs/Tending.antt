@@ -95,7 +95,7 @@ receiver-stays states happening message ends.Store apart = refl
 receiver-stays states (agents.Suspended agent) message (ends.Member member) apart = ap (delivery_to_agent message) (get-elsewhere states agent.id.number member.id.number _ apart)
 receiver-stays states (agents.Resumed agent) message (ends.Member member) apart = ap (delivery_to_agent message) (get-elsewhere states agent.id.number member.id.number _ apart)
 receiver-stays states (agents.Killed agent) message (ends.Member member) apart = ap (delivery_to_agent message) (get-elsewhere states agent.id.number member.id.number _ apart)
-receiver-stays states (agents.Started agent run) message (ends.Member member) apart = ap (delivery_to_agent message) (get-elsewhere states agent.id.number member.id.number _ apart)
+receiver-stays states (agents.Started agent incarnation) message (ends.Member member) apart = ap (delivery_to_agent message) (get-elsewhere states agent.id.number member.id.number _ apart)
 receiver-stays states _ message (ends.Member member) apart = refl
 
 machine-stays : (states : List AgentProcess) (happening : WatchdogEvent) (message : Message) (to : LinkEnd) → (ConcernsMachine happening (end_number to) → ⊥) → delivery_to (processes_by_watchdog states happening) message to ≡ delivery_to states message to

@@ -76,7 +76,7 @@ abbrev pub ConcernsReceiver : AgentEvent → ℕ → Type 0
 ConcernsReceiver (agents.Suspended agent) to = to ≡ agent.id.number
 ConcernsReceiver (agents.Resumed agent) to = to ≡ agent.id.number
 ConcernsReceiver (agents.Killed agent) to = to ≡ agent.id.number
-ConcernsReceiver (agents.Started agent run) to = to ≡ agent.id.number
+ConcernsReceiver (agents.Started agent incarnation) to = to ≡ agent.id.number
 ConcernsReceiver _ to = ⊥
 
 -- the reset of a machine concerns messages to its member

@@ -17,10 +17,10 @@ use Rattle.world_model.proofs.Idling.{at_moment}
 use Rattle.world_model.proofs.ServerRooms.{HasTimeline}
 
 abbrev RunsBelow : ℕ → AgentProcess → Type 0
-RunsBelow bound state = state.run < bound
+RunsBelow bound state = state.incarnation < bound
 
 abbrev RunsWith : ℕ → AgentProcess → Type 0
-RunsWith events state = state.run + events < 2 ^ 60
+RunsWith events state = state.incarnation + events < 2 ^ 60
 
 abbrev HasTimelineBelow : ℕ → ServerFacts → Type 0
 HasTimelineBelow bound s = s.timeline < bound

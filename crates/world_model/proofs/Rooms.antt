@@ -28,7 +28,7 @@ use Rattle.event_book.specs.Keys.{keys_after}
 use Rattle.agent_model.specs.declared.heard.Heard.{Heard}
 use Rattle.agent_model.specs.declared.heard.Heard.TheVariants.{Wake, Operated}
 use Rattle.agent_model.specs.declared.machine.Machine.{Machine}
-use Rattle.agent_model.specs.Agents.{AgentFacts, made, most_messages}
+use Rattle.agent_model.specs.Agents.{AgentFacts, outcome_from, most_messages}
 use Rattle.agent_model.specs.Table.{step}
 use Rattle.wal_model.specs.declared.entry.HistoryPoint.{HistoryPoint}
 use Rattle.member_options.specs.declared.member_option.MemberOptions.{MemberOptions}
@@ -72,15 +72,15 @@ sent-more cluster (kinds.Message happening) counts = message-more cluster.facts.
 sent-more cluster _ counts = omega arith
 
 abbrev HasRun : ℕ → AgentProcess → Type 0
-HasRun events state = state.run + events < 2 ^ 60
+HasRun events state = state.incarnation + events < 2 ^ 60
 
-run-at : (agents : List AgentProcess) (events place : ℕ) (found : Option AgentProcess) (process : AgentProcess) → All (HasRun events) agents → slice_get agents place ≡ found → found ≡ Some process → process.run < 2 ^ 60
+run-at : (agents : List AgentProcess) (events place : ℕ) (found : Option AgentProcess) (process : AgentProcess) → All (HasRun events) agents → slice_get agents place ≡ found → found ≡ Some process → process.incarnation < 2 ^ 60
 run-at agents events place found process all is there =
     let has : HasRun events process = All-at AgentProcess (HasRun events) agents place process all (is ∙ there) in
     omega (arith, has)
 
 -- an agent may begin one more run
-pub run-below : (cluster : Cluster) (events place : ℕ) (process : AgentProcess) → HasRoom cluster events → slice_get cluster.facts.processes place ≡ Some process → process.run < 2 ^ 60
+pub run-below : (cluster : Cluster) (events place : ℕ) (process : AgentProcess) → HasRoom cluster events → slice_get cluster.facts.processes place ≡ Some process → process.incarnation < 2 ^ 60
 run-below cluster events place process room is = run-at cluster.facts.processes events place (slice_get cluster.facts.processes place) process room.runs refl is
 
 run-fewer : (events : ℕ) (state : AgentProcess) → HasRun (1 + events) state → HasRun events state
@@ -90,7 +90,7 @@ agents-room : (states : List AgentProcess) (events : ℕ) (happening : AgentEven
 agents-room states events (agents.Suspended agent) counts all = with_member_changed-all AgentProcess _ _ states agent _ all (run-fewer events) (λ state is. run-fewer events state)
 agents-room states events (agents.Resumed agent) counts all = with_member_changed-all AgentProcess _ _ states agent _ all (run-fewer events) (λ state is. run-fewer events state)
 agents-room states events (agents.Killed agent) counts all = with_member_changed-all AgentProcess _ _ states agent _ all (run-fewer events) (λ state is. run-fewer events state)
-agents-room states events (agents.Started agent run) counts all = with_member_changed-all AgentProcess _ _ states agent _ all (run-fewer events) (λ state is room. omega (arith, room, counts state is))
+agents-room states events (agents.Started agent incarnation) counts all = with_member_changed-all AgentProcess _ _ states agent _ all (run-fewer events) (λ state is room. omega (arith, room, counts state is))
 agents-room states events _ counts all = All-weaker AgentProcess _ _ states (run-fewer events) all
 
 agents-watched : (states : List AgentProcess) (events : ℕ) (happening : WatchdogEvent) → All (HasRun (1 + events)) states → All (HasRun events) (processes_by_watchdog states happening)
@@ -113,8 +113,8 @@ numbered-fewer : (cost events : ℕ) (agents : List (Option AgentFacts)) → Num
 numbered-fewer cost events agents = All-weaker (Option AgentFacts) (HasNumbers (cost + events)) (HasNumbers events) agents (numbers-fewer (cost + events) events (omega arith))
 
 stepped : (now : Ticks) (points : List HistoryPoint) (heard : Heard) (events : ℕ) (agent : AgentFacts) (machine : Machine) → agent.knows.sequence + (hearing_cost + events) ≤ most_messages
-    → (step now points heard (made agent.role agent.knows machine [])).knows.sequence + events ≤ most_messages
-stepped now points heard events agent machine room = let small = step-small now points heard (made agent.role agent.knows machine []) in omega (arith, room, small.sequence)
+    → (step now points heard (outcome_from agent.role agent.knows machine [])).knows.sequence + events ≤ most_messages
+stepped now points heard events agent machine room = let small = step-small now points heard (outcome_from agent.role agent.knows machine []) in omega (arith, room, small.sequence)
 
 heard-numbers : (now : Ticks) (points : List HistoryPoint) (heard : Heard) (events : ℕ) (agent : Option AgentFacts) (machine : Option Machine) → HasNumbers (hearing_cost + events) agent
     → (found : Option AgentFacts) → agent ≡ found → HasNumbers events (agent_after (outcome_at now points heard agent machine) found)
@@ -141,7 +141,7 @@ input-numbers-if cluster member (Some heard) events all = input-numbers cluster 
 moved-numbers : (scope : Name) (options : List MemberOptions) (members : List Member) (now events : ℕ) (known : List (Option AgentFacts)) (happening : AgentEvent) → 1 + events ≤ most_messages → Numbered (1 + events) known → Numbered events (agent_facts_moved scope options members now known happening)
 moved-numbers scope options members now events known (agents.Killed member) enough all =
     with_member_changed-all (Option AgentFacts) (HasNumbers (1 + events)) (HasNumbers events) known member _ all (numbers-fewer (1 + events) events (omega arith)) (λ found is has. tt)
-moved-numbers scope options members now events known (agents.Started member run) enough all =
+moved-numbers scope options members now events known (agents.Started member incarnation) enough all =
     with_member_changed-all (Option AgentFacts) (HasNumbers (1 + events)) (HasNumbers events) known member _ all (numbers-fewer (1 + events) events (omega arith)) (λ found is has. omega (arith, enough))
 moved-numbers scope options members now events known _ enough all = numbered-fewer 1 events known all
 

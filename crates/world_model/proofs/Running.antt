@@ -133,8 +133,8 @@ by-agent cluster (agents.Operated member action) alike = agent-changes cluster.f
 by-agent cluster (agents.Suspended member) alike = process-changes cluster.facts.processes cluster.agents member.id.number alike (λ process. record process { suspended = true }) (λ process. refl)
 by-agent cluster (agents.Resumed member) alike = process-changes cluster.facts.processes cluster.agents member.id.number alike (λ process. record process { suspended = false }) (λ process. refl)
 by-agent cluster (agents.Killed member) alike = both-change cluster.facts.processes cluster.agents member.id.number alike ended_process (λ agent. None) (λ process agent is. refl)
-by-agent cluster (agents.Started member run) alike =
-    both-change cluster.facts.processes cluster.agents member.id.number alike (λ process. running_in run) (λ agent. Some (starting_agent (who_of cluster.scope cluster.options cluster.facts.members member) cluster.facts.clock run)) (λ process agent is. refl)
+by-agent cluster (agents.Started member incarnation) alike =
+    both-change cluster.facts.processes cluster.agents member.id.number alike (λ process. running_in incarnation) (λ agent. Some (starting_agent (who_of cluster.scope cluster.options cluster.facts.members member) cluster.facts.clock incarnation)) (λ process agent is. refl)
 by-agent cluster _ alike = alike
 
 -- each event keeps it so

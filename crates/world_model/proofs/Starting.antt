@@ -72,9 +72,9 @@ rest-end X all done place so h = sym (append-nil done) ∙ ap (λ xs. done ++ xs
 abbrev pub ample : ℕ
 ample = 2 ^ 59
 
-first-run : (count : ℕ) → All (λ (state : AgentProcess). state.run + ample < 2 ^ 60) (first_processes count)
-first-run zero = All-nil (λ (state : AgentProcess). state.run + ample < 2 ^ 60)
-first-run (suc count) = All-cons (λ (state : AgentProcess). state.run + ample < 2 ^ 60) (running_in 1) (first_processes count) (omega arith) (first-run count)
+first-run : (count : ℕ) → All (λ (state : AgentProcess). state.incarnation + ample < 2 ^ 60) (first_processes count)
+first-run zero = All-nil (λ (state : AgentProcess). state.incarnation + ample < 2 ^ 60)
+first-run (suc count) = All-cons (λ (state : AgentProcess). state.incarnation + ample < 2 ^ 60) (running_in 1) (first_processes count) (omega arith) (first-run count)
 
 first-numbers : (scope : Name) (options : List MemberOptions) (members all : List Member) → All (HasNumbers ample) (map (first_agent scope options members) all)
 first-numbers scope options members [] = All-nil (HasNumbers ample)

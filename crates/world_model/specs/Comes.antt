@@ -30,7 +30,7 @@ CountsMessage sent _ = Unit {0}
 
 -- an agent that starts is at most in the run after its last one
 abbrev pub CountsAgent : List AgentProcess → AgentEvent → Type 0
-CountsAgent states (agents.Started agent run) = (state : AgentProcess) → slice_get states agent.id.number ≡ Some state → run ≤ state.run + 1
+CountsAgent states (agents.Started agent incarnation) = (state : AgentProcess) → slice_get states agent.id.number ≡ Some state → incarnation ≤ state.incarnation + 1
 CountsAgent states _ = Unit {0}
 
 -- a commit has at most the next number

@@ -14,7 +14,7 @@ pub record AreCounted (cluster : Cluster) (bound : ℕ) : Type 0 where
   pub clock : cluster.facts.clock < bound
   pub revision : cluster.facts.keys.revision < bound
   pub sent : cluster.facts.sent < bound
-  pub runs : All (λ state. state.run < bound) cluster.facts.processes
+  pub runs : All (λ state. state.incarnation < bound) cluster.facts.processes
   pub agents : All (HasNumbered bound) cluster.agents
   pub timelines : All (λ s. s.timeline < bound) cluster.facts.servers
   pub commits : cluster.facts.commits < bound

@@ -21,7 +21,7 @@ pub record HasRoom (cluster : Cluster) (cost : ℕ) : Type 0 where
   pub clock : cluster.facts.clock + cost < 2 ^ 60
   pub revision : cluster.facts.keys.revision + cost < 2 ^ 60
   pub sent : cluster.facts.sent + cost < 2 ^ 60
-  pub runs : All (λ state. state.run + cost < 2 ^ 60) cluster.facts.processes
+  pub runs : All (λ state. state.incarnation + cost < 2 ^ 60) cluster.facts.processes
   -- an agent that starts has numbers too
   pub numbers : cost ≤ most_messages
   pub agents : All (HasNumbers cost) cluster.agents

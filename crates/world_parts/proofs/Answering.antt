@@ -18,7 +18,7 @@ use Rattle.event_book.specs.declared.event.Event.{Event}
 use Rattle.event_book.specs.declared.event.EventKind.{EventKind}
 use Rattle.event_book.specs.declared.member.Member.{Member}
 use Rattle.agent_model.specs.declared.machine.Machine.{Machine}
-use Rattle.agent_model.specs.Agents.{AgentFacts, Outcome, made, most_messages}
+use Rattle.agent_model.specs.Agents.{AgentFacts, Outcome, outcome_from, most_messages}
 use Rattle.agent_model.specs.Views.{shown}
 use Rattle.cluster_model.specs.Inputs.{agent_at, moment_of, standing, standing_of}
 use Rattle.cluster_model.specs.Machines.{machine_of}
@@ -76,25 +76,25 @@ numbers-left cluster member agent room is =
 pub record IsAsked (cluster : Cluster) (member : Member) (agent : AgentFacts) (machine : Machine) (view : AgentView) (request : ℕ) : Type 0 where
   pub agent_is : agent_at cluster.agents member.id.number ≡ Some agent
   pub machine_is : machine_of cluster member ≡ Some machine
-  pub shows : record view { seen = None } ≡ shown (moment_of cluster) (made agent.role agent.knows machine [])
+  pub shows : record view { seen = None } ≡ shown (moment_of cluster) (outcome_from agent.role agent.knows machine [])
   pub seen : option_copied view.seen ≡ agent.knows.seen
   pub next : request ≡ agent.knows.sequence + 1
 
 -- an agent is found with its machine, and asked by what it shows at this moment
 pub found-asked : (cluster : Cluster) (member : Member) (agent : AgentFacts) (machine : Machine) (view : AgentView) (request : ℕ) (moment : Ticks) (found : Option AgentFacts) (has : Option Machine)
     → found ≡ agent_at cluster.agents member.id.number → found ≡ Some agent → has ≡ machine_of cluster member → has ≡ Some machine → moment.0 ≡ cluster.facts.clock
-    → record view { seen = None } ≡ shown moment (made agent.role agent.knows machine []) → option_copied view.seen ≡ agent.knows.seen → request ≡ agent.knows.sequence + 1 → IsAsked cluster member agent machine view request
+    → record view { seen = None } ≡ shown moment (outcome_from agent.role agent.knows machine []) → option_copied view.seen ≡ agent.knows.seen → request ≡ agent.knows.sequence + 1 → IsAsked cluster member agent machine view request
 found-asked cluster member agent machine view request moment found has at is its there clock shows seen next = record {
   agent_is = sym at ∙ is;
   machine_is = sym its ∙ there;
-  shows = shows ∙ ap (λ (t : ℕ). shown (record { 0 = t }) (made agent.role agent.knows machine [])) clock;
+  shows = shows ∙ ap (λ (t : ℕ). shown (record { 0 = t }) (outcome_from agent.role agent.knows machine [])) clock;
   seen = seen;
   next = next;
 }
 
 module _ (cluster : Cluster) (member : Member) (agent : AgentFacts) (machine : Machine) (view : AgentView) (request : ℕ) (asks : IsAsked cluster member agent machine view request) where
   abbrev stands : Outcome
-  stands = made agent.role agent.knows machine []
+  stands = outcome_from agent.role agent.knows machine []
 
   stands-so : standing_of cluster member ≡ Some stands
   stands-so = ap (λ (a : Option AgentFacts). standing a (machine_of cluster member)) asks.agent_is ∙ ap (λ (m : Option Machine). standing (Some agent) m) asks.machine_is

@@ -52,7 +52,7 @@ fn delivery_to_agent(message: &Message, state: Option<AgentProcess>) -> Delivery
 fn is_stale(message: &Message, state: AgentProcess) -> bool
     ensures { result ≡ is_stale message.now state }
 {
-    is_answer(&message.body) && message.run != state.run
+    is_answer(&message.body) && message.incarnation != state.incarnation
 }
 
 fn is_answer(body: &Body) -> bool

@@ -77,7 +77,7 @@ pub fn hosts_of(
     Ok(hosts)
 }
 
-/// So many processes of agents, each in its first run.
+/// So many processes of agents, each in its first incarnation.
 pub fn processes_of(alloc: Global, count: usize) -> Result<Vec<AgentProcess>, AllocError>
     ensures { IfOk result (λ processes. processes.items ≡ first_processes count) }
 {
@@ -86,7 +86,7 @@ pub fn processes_of(alloc: Global, count: usize) -> Result<Vec<AgentProcess>, Al
         processes.push(AgentProcess {
             running: true,
             suspended: false,
-            run: 1,
+            incarnation: 1,
         })?;
     }
     Ok(processes)

@@ -150,11 +150,11 @@ fn is_same_required(first: Required, second: Required) -> bool
 pub fn hold_of_request(
     member: Member,
     until: Ticks,
-    run: u64,
+    incarnation: u64,
     sequence: u64,
     from: Option<Member>,
 ) -> Option<EventKind>
-    ensures kind { result ≡ option_map (hold_taken member until run sequence) from }
+    ensures kind { result ≡ option_map (hold_taken member until incarnation sequence) from }
     ensures comes { (cluster : Cluster) → IfSome result (MayCome cluster) }
 {
     let from = from?;
@@ -162,7 +162,7 @@ pub fn hold_of_request(
         member,
         until,
         from,
-        run,
+        incarnation,
         sequence,
     }))
 }

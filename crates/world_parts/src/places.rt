@@ -19,7 +19,7 @@ use pat_base::{Name, Ticks};
 use std::alloc::{AllocError, Global};
 use wal_model::History;
 
-/// The agents of a cluster of this name with these members, of whom these options are declared, each in its first run. It fails only for want of memory.
+/// The agents of a cluster of this name with these members, of whom these options are declared, each in its first incarnation. It fails only for want of memory.
 pub fn first_agents(
     alloc: Global,
     scope: Name,
@@ -134,13 +134,13 @@ pub fn change_agents_by(
 {
     match happening {
         AgentEvent::Killed { agent } => end(agents, *agent),
-        AgentEvent::Started { agent, run } => {
+        AgentEvent::Started { agent, incarnation } => {
             begin(
                 agents,
                 *agent,
                 who_of(scope, options, members, *agent),
                 now,
-                *run,
+                *incarnation,
             )
         }
         _ => {}
@@ -166,13 +166,13 @@ fn end(agents: &mut Vec<Option<Agent>>, member: Member)
     }
 }
 
-/// The agent of a member starts, in its run of this number; one that is there ends.
-fn begin(agents: &mut Vec<Option<Agent>>, member: Member, who: Who, now: Ticks, run: u64)
+/// The agent of a member starts, in its incarnation of this number; one that is there ends.
+fn begin(agents: &mut Vec<Option<Agent>>, member: Member, who: Who, now: Ticks, incarnation: u64)
     requires { now.0 ≤ latest }
-    ensures { agents.new.items ≡ with_changed agents.old.items member.id.number (λ agent. Some (starting_agent who now.0 run)) }
+    ensures { agents.new.items ≡ with_changed agents.old.items member.id.number (λ agent. Some (starting_agent who now.0 incarnation)) }
 {
     let place = member.id.number as usize;
     if place < agents.len() {
-        wreck(agents[place].replace(Agent::begin(who, now, run)));
+        wreck(agents[place].replace(Agent::begin(who, now, incarnation)));
     }
 }

@@ -53,15 +53,15 @@ pub fn kill_of(member: Member, process: AgentProcess) -> Option<EventKind>
 
 /// The start of an agent: it is in its next run then. Of one that runs it is said that it does.
 pub fn agent_started(member: Member, process: AgentProcess) -> EventKind
-    requires { process.run < 2 ^ 60 }
+    requires { process.incarnation < 2 ^ 60 }
     ensures { result ≡ agent_started member process }
 {
     let agent = member;
     if process.running {
         EventKind::Note(Note::AlreadyRunning { agent })
     } else {
-        let run = process.run + 1;
-        EventKind::Agent(AgentEvent::Started { agent, run })
+        let incarnation = process.incarnation + 1;
+        EventKind::Agent(AgentEvent::Started { agent, incarnation })
     }
 }
 
@@ -73,7 +73,7 @@ pub fn change_process(agents: &mut Vec<AgentProcess>, happening: &AgentEvent)
         AgentEvent::Suspended { agent } => suspend(agents, *agent),
         AgentEvent::Resumed { agent } => resume(agents, *agent),
         AgentEvent::Killed { agent } => end(agents, *agent),
-        AgentEvent::Started { agent, run } => begin(agents, *agent, *run),
+        AgentEvent::Started { agent, incarnation } => begin(agents, *agent, *incarnation),
         _ => {}
     }
 }
@@ -118,15 +118,15 @@ fn end(agents: &mut Vec<AgentProcess>, agent: Member)
     }
 }
 
-fn begin(agents: &mut Vec<AgentProcess>, agent: Member, run: u64)
-    ensures { agents.new.items ≡ with_member_changed agents.old.items agent (λ state. running_in run) }
+fn begin(agents: &mut Vec<AgentProcess>, agent: Member, incarnation: u64)
+    ensures { agents.new.items ≡ with_member_changed agents.old.items agent (λ state. running_in incarnation) }
 {
     let place = agent.id.number as usize;
     if place < agents.len() {
         agents[place] = AgentProcess {
             running: true,
             suspended: false,
-            run,
+            incarnation,
         };
     }
 }

@@ -24,7 +24,7 @@ pub fn replication_of(
     let server = servers.get(member.id.number as usize)?;
     Some(Replication {
         required: server.required(),
-        connected: confirmed_to(members, servers, cuts, member, server),
+        confirmed_positions: confirmed_to(members, servers, cuts, member, server),
     })
 }
 

@@ -156,9 +156,9 @@ sending-above last cluster member None to sequence body low = tt
 sending-above last cluster member (Some process) None sequence body low = tt
 sending-above last cluster member (Some process) (Some to) sequence body low = send-above last cluster _ low
 
-replying-above : (last : ℕ) (cluster : Cluster) (member : Member) (to : Option LinkEnd) (run sequence : ℕ) (body : Body) → last ≤ cluster.facts.sent → AllAre (IsAbove last) (replying_events cluster member to run sequence body)
-replying-above last cluster member None run sequence body low = tt
-replying-above last cluster member (Some to) run sequence body low = send-above last cluster _ low
+replying-above : (last : ℕ) (cluster : Cluster) (member : Member) (to : Option LinkEnd) (incarnation sequence : ℕ) (body : Body) → last ≤ cluster.facts.sent → AllAre (IsAbove last) (replying_events cluster member to incarnation sequence body)
+replying-above last cluster member None incarnation sequence body low = tt
+replying-above last cluster member (Some to) incarnation sequence body low = send-above last cluster _ low
 
 loss-above : (last : ℕ) (member : Member) (test : Bool) → AllKinds (IsAbove last) (kinds_of (loss_if member test))
 loss-above last member true = (tt, tt)
@@ -229,7 +229,7 @@ server-order-above last cluster member order all = kinds-above last cluster (opt
 
 output-above : (last : ℕ) (cluster : Cluster) (member : Member) (heard : HeardMessage) (output : Output) → last ≤ cluster.facts.sent → AllAre (IsAbove last) (output_events member heard cluster output)
 output-above last cluster member heard (outputs.Send to sequence body) low = sending-above last cluster member (slice_get cluster.facts.processes member.id.number) (receiver_of cluster.facts.members to) sequence body low
-output-above last cluster member heard (outputs.Answer to run sequence answer) low = replying-above last cluster member (receiver_of cluster.facts.members (targets.Member to)) run sequence (bodies.Answer answer) low
+output-above last cluster member heard (outputs.Answer to incarnation sequence answer) low = replying-above last cluster member (receiver_of cluster.facts.members (targets.Member to)) incarnation sequence (bodies.Answer answer) low
 output-above last cluster member heard outputs.Begin low = begins-above last cluster member (server_at cluster member)
 output-above last cluster member heard (outputs.StartReplica leader) low = starts-above last cluster member (declared_member cluster.facts.members leader) (server_at cluster member)
 output-above last cluster member heard (outputs.Stop reason) low = stops-above last cluster member reason (server_at cluster member)
@@ -252,7 +252,7 @@ output-above last cluster member heard (outputs.Armed until) low = all-kinds (Is
 output-above last cluster member heard (outputs.Fed until) low = all-kinds (IsAbove last) cluster (feed_kinds member heard (feeding member until heard)) (tt, (tt, tt))
 output-above last cluster member heard outputs.Disarmed low = (tt, tt)
 output-above last cluster member heard outputs.CannotArm low = (tt, tt)
-output-above last cluster member heard outputs.Passes low = (tt, tt)
+output-above last cluster member heard outputs.ClaimsOutsideSync low = (tt, tt)
 output-above last cluster member heard outputs.PostponesPromotion low = (tt, tt)
 output-above last cluster member heard outputs.DisablesWatchdog low = (tt, tt)
 output-above last cluster member heard outputs.RunsWithoutKey low = (tt, tt)
@@ -265,7 +265,7 @@ output-above last cluster member heard (outputs.Told request told) low =
     kinds-above last cluster (told_kind member agent told) (told-above last member agent told)
 output-above last cluster member heard (outputs.HoldTaken until from sequence) low =
     let found = slice_get cluster.facts.members from.number in
-    let hold = hold_taken member until heard.run sequence in
+    let hold = hold_taken member until heard.incarnation sequence in
     kinds-above last cluster (option_map hold found) (mapped-above last hold found (λ from. tt))
 
 outputs-above : (last : ℕ) (cluster : Cluster) (member : Member) (heard : HeardMessage) (outs : List Output) → last ≤ cluster.facts.sent → AllAre (IsAbove last) (each (output_events member heard) cluster outs)

@@ -15,7 +15,7 @@ use Rattle.agent_model.specs.declared.heard.Heard.{Heard}
 use Rattle.agent_model.specs.declared.heard.Heard.TheVariants.{Wake, Operated as HearsOperator}
 use Rattle.agent_model.specs.declared.machine.Machine.{Machine}
 use Rattle.agent_model.specs.declared.output.Output.{Output}
-use Rattle.agent_model.specs.Agents.{AgentFacts, made}
+use Rattle.agent_model.specs.Agents.{AgentFacts, outcome_from}
 use Rattle.agent_model.specs.Outputs.{most_outputs}
 use Rattle.cluster_model.specs.Inputs.{agent_at, is_to_wake, may_act, moment_of, outcome_at, outcome_of, outcome_of_heard, outputs_of, standing_of}
 use Rattle.cluster_model.specs.Machines.{machine_of, points_of}
@@ -40,7 +40,7 @@ outcome-few : (now : Ticks) (points : List HistoryPoint) (heard : Heard) (agent 
 outcome-few now points heard None machine = no-outputs
 outcome-few now points heard (Some agent) None = no-outputs
 outcome-few now points heard (Some agent) (Some machine) =
-    let small = step-small now points heard (made agent.role agent.knows machine []) in
+    let small = step-small now points heard (outcome_from agent.role agent.knows machine []) in
     record { few = small.few; short = small.short (All-nil AsksShortly) }
 
 pub input-few : (cluster : Cluster) (member : Member) (heard : Option Heard) → AreFew (outputs_of (outcome_of_heard cluster member heard))

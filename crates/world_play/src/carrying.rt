@@ -62,10 +62,10 @@ fn carry(
         Output::Send { to, sequence, body } => write(stage, member, to, sequence, body, events),
         Output::Answer {
             to,
-            run,
+            incarnation,
             sequence,
             answer,
-        } => reply(stage, member, to, run, sequence, answer, events),
+        } => reply(stage, member, to, incarnation, sequence, answer, events),
         Output::Begin => begin(stage, member, events),
         Output::StartReplica { leader } => start_replica(stage, member, leader, events),
         Output::Stop { reason } => stop(stage, member, reason, events),
@@ -79,7 +79,7 @@ fn carry(
         Output::Fed { until } => tell_feeding(stage, member, until, heard, events),
         Output::Disarmed => tell_disarming(stage, member, events),
         Output::CannotArm => tell_note(stage, Note::CannotArm { member }, events),
-        Output::Passes => tell_passing(stage, member, events),
+        Output::ClaimsOutsideSync => tell_passing(stage, member, events),
         Output::PostponesPromotion => tell_note(stage, Note::PostponesPromotion { member }, events),
         Output::DisablesWatchdog => tell_note(stage, Note::DisablesWatchdog { member }, events),
         Output::RunsWithoutKey => tell_note(stage, Note::RunsWithoutKey { member }, events),
@@ -90,7 +90,15 @@ fn carry(
             until,
             from,
             sequence,
-        } => tell_hold(stage, member, until, from, heard.run, sequence, events),
+        } => tell_hold(
+            stage,
+            member,
+            until,
+            from,
+            heard.incarnation,
+            sequence,
+            events,
+        ),
     }
 }
 
@@ -116,7 +124,7 @@ fn write(
     let message = Message {
         from: LinkEnd::Member(member),
         to,
-        run: process.run,
+        incarnation: process.incarnation,
         sequence,
         body,
     };
@@ -128,13 +136,13 @@ fn reply(
     stage: &mut Stage,
     member: Member,
     to: MemberId,
-    run: u64,
+    incarnation: u64,
     sequence: u64,
     answer: PeerAnswer,
     events: &mut Vec<Event>,
 ) -> Result<(), AllocError>
     requires room { HasRoom stage.old sending_cost }
-    ensures { OnOk result (Emits stage.old stage.new events.old.items events.new.items (replying_events stage.old member (receiver_of stage.old.facts.members (targets.Member to)) run sequence (bodies.Answer answer)) sending_cost) }
+    ensures { OnOk result (Emits stage.old stage.new events.old.items events.new.items (replying_events stage.old member (receiver_of stage.old.facts.members (targets.Member to)) incarnation sequence (bodies.Answer answer)) sending_cost) }
 {
     let Some(to) = receiver_of(stage.members(), Target::Member(to)) else {
         return Ok(());
@@ -142,7 +150,7 @@ fn reply(
     let message = Message {
         from: LinkEnd::Member(member),
         to,
-        run,
+        incarnation,
         sequence,
         body: Body::Answer(answer),
     };

@@ -152,13 +152,16 @@ pub fn tell_hold(
     member: Member,
     until: Ticks,
     from: MemberId,
-    run: u64,
+    incarnation: u64,
     sequence: u64,
     events: &mut Vec<Event>,
 ) -> Result<(), AllocError>
     requires { HasRoom stage.old 1 }
-    ensures { OnOk result (Emits stage.old stage.new events.old.items events.new.items (events_of stage.old (kinds_of (option_map (hold_taken member until run sequence) (slice_get stage.old.facts.members from.number)))) 1) }
+    ensures { OnOk result (Emits stage.old stage.new events.old.items events.new.items (events_of stage.old (kinds_of (option_map (hold_taken member until incarnation sequence) (slice_get stage.old.facts.members from.number)))) 1) }
 {
     let from = member_at(stage.members(), from);
-    stage.happen_if(hold_of_request(member, until, run, sequence, from), events)
+    stage.happen_if(
+        hold_of_request(member, until, incarnation, sequence, from),
+        events,
+    )
 }

@@ -19,7 +19,7 @@ use world_stage::Stage;
 /// No message is heard by an agent that is woken.
 pub const NO_MESSAGE: HeardMessage = HeardMessage {
     number: 0,
-    run: 0,
+    incarnation: 0,
     sent: Ticks(0),
 };
 

@@ -163,7 +163,7 @@ impl Stage {
         match &message.body {
             Body::Snapshot => {
                 let snapshot = self.snapshot(snapshot)?;
-                Ok(Some(Heard::Got { sequence, snapshot }))
+                Ok(Some(Heard::ReadAnswered { sequence, snapshot }))
             }
             Body::Granted { .. } => {
                 let Some(granted) = grant else {
@@ -260,7 +260,7 @@ impl Stage {
         places::agent_at(&self.agents, member.id.number as usize)
     }
 
-    /// The process of a member's agent: whether it runs, whether it is suspended, and in which run.
+    /// The process of a member's agent: whether it runs, whether it is suspended, and in which incarnation.
     pub fn process(&self, member: Member) -> Option<AgentProcess>
         ensures { result ≡ slice_get self.now.facts.processes member.id.number }
     {
@@ -271,12 +271,12 @@ impl Stage {
 
 /// What an ask says to an agent: the member that asks, if one does.
 fn asked_by(message: &Message) -> Option<Heard>
-    ensures { result ≡ option_map (λ from. heards.Asked from message.now.run message.now.sequence) (member_at_end message.now.from) }
+    ensures { result ≡ option_map (λ from. heards.Asked from message.now.incarnation message.now.sequence) (member_at_end message.now.from) }
 {
     let from = member_at_end(message.from)?;
     Some(Heard::Asked {
         from,
-        run: message.run,
+        incarnation: message.incarnation,
         sequence: message.sequence,
     })
 }

@@ -131,7 +131,7 @@ impl Stage {
             LinkEnd::Member(member) => {
                 let heard = HeardMessage {
                     number,
-                    run: carried.message.get().run,
+                    incarnation: carried.message.get().incarnation,
                     sent: carried.sent,
                 };
                 let said = self.heard_from(carried)?;
@@ -260,7 +260,7 @@ fn answer_message(message: &Message, body: Body) -> Message
     Message {
         from: LinkEnd::Store,
         to: message.from,
-        run: message.run,
+        incarnation: message.incarnation,
         sequence: message.sequence,
         body,
     }

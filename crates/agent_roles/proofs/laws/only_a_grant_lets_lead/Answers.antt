@@ -11,7 +11,7 @@ pub returns-clause-refusal : goal.returns-clause-refusal
 returns-clause-refusal c now points sequence key found o = refusal-brings now sequence o
 
 pub returns-clause-ask : goal.returns-clause-ask
-returns-clause-ask c now points from run sequence o = asked-brings now from run sequence o
+returns-clause-ask c now points from incarnation sequence o = asked-brings now from incarnation sequence o
 
 pub returns-clause-answer : goal.returns-clause-answer
 returns-clause-answer c now points sequence answer o = answered-brings now sequence answer o

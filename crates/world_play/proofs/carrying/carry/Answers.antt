@@ -46,8 +46,8 @@ returns-in-Disarmed c = on_ok_weaker c.tell_disarming.result (carried _ _ _ _ c.
 pub returns-in-CannotArm : goal.returns-in-CannotArm
 returns-in-CannotArm c = on_ok_weaker c.tell_note.result (carried _ _ _ _ c.args.member c.args.heard c.args.output _ 1 c.in-CannotArm.is (omega arith)) c.tell_note.ensures
 
-pub returns-in-Passes : goal.returns-in-Passes
-returns-in-Passes c = on_ok_weaker c.tell_passing.result (carried _ _ _ _ c.args.member c.args.heard c.args.output _ 1 c.in-Passes.is (omega arith)) c.tell_passing.ensures
+pub returns-in-ClaimsOutsideSync : goal.returns-in-ClaimsOutsideSync
+returns-in-ClaimsOutsideSync c = on_ok_weaker c.tell_passing.result (carried _ _ _ _ c.args.member c.args.heard c.args.output _ 1 c.in-ClaimsOutsideSync.is (omega arith)) c.tell_passing.ensures
 
 pub returns-in-PostponesPromotion : goal.returns-in-PostponesPromotion
 returns-in-PostponesPromotion c = on_ok_weaker c.tell_note-in-PostponesPromotion.result (carried _ _ _ _ c.args.member c.args.heard c.args.output _ 1 c.in-PostponesPromotion.is (omega arith)) c.tell_note-in-PostponesPromotion.ensures

@@ -5,7 +5,7 @@ use Rattle.pat_base.specs.ServerState.{live}
 use Rattle.agent_model.specs.declared.why.Why.{Why}
 use Rattle.agent_model.specs.declared.why.Why.TheVariants.{HandOver, Lost}
 use Rattle.agent_model.specs.Acting.{disarming, releasing}
-use Rattle.agent_model.specs.Agents.{RoleFacts, Follower, Holder, Ready, Leader, Ending, Stray, Outcome}
+use Rattle.agent_model.specs.Agents.{RoleFacts, Follower, Holder, Ready, Leader, Ending, Unleased, Outcome}
 
 -- the moment that was noted, or this one
 abbrev pub noted_or : Ticks → Option Ticks → Ticks
@@ -23,11 +23,11 @@ has_ended Lost revision o = record (disarming o) { role = Follower }
 
 -- an agent finds its server live, without a lease of its making: any lease counts as lost
 abbrev pub finds_live : Outcome → Outcome
-finds_live o = record o { role = Stray }
+finds_live o = record o { role = Unleased }
 
 -- an agent without a lease finds that its server has ended
-abbrev pub stray_finds_ended : Outcome → Outcome
-stray_finds_ended o = record (disarming o) { role = Follower }
+abbrev pub unleased_finds_ended : Outcome → Outcome
+unleased_finds_ended o = record (disarming o) { role = Follower }
 
 -- what each role comes to before an input, by whether its server is live
 abbrev pub before_as : Ticks → RoleFacts → Outcome → Outcome
@@ -36,8 +36,8 @@ before_as now (Ending revision why) o = if live o.machine.server.state then o el
 before_as now Follower o = if live o.machine.server.state then finds_live o else o
 before_as now (Holder revision) o = if live o.machine.server.state then finds_live o else o
 before_as now (Ready revision) o = if live o.machine.server.state then finds_live (disarming o) else o
-before_as now Stray o = if live o.machine.server.state then o else stray_finds_ended o
+before_as now Unleased o = if live o.machine.server.state then o else unleased_finds_ended o
 
 -- what comes before an input
-abbrev pub before : Ticks → Outcome → Outcome
-before now o = before_as now o.role o
+abbrev pub reconciled : Ticks → Outcome → Outcome
+reconciled now o = before_as now o.role o

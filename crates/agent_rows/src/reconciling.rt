@@ -1,8 +1,8 @@
 //! What comes before every input: the agent's role is brought to what it finds of its server.
 ghost use Rattle.std.specs.Prelude.{false, ◌≡◌};
 ghost use Rattle.agent_turn.specs.Turns.{ComesTo, HasLeft, Spent, reached};
-ghost use Rattle.agent_model.specs.Agents.{Ending, Follower, Holder, IsSound, Leader, Ready, Stray, made};
-ghost use Rattle.agent_model.specs.Before.{before, before_as, finds_live, has_ended, leader_finds_ended, noted_or, stray_finds_ended};
+ghost use Rattle.agent_model.specs.Agents.{Ending, Follower, Holder, IsSound, Leader, Ready, Unleased, outcome_from};
+ghost use Rattle.agent_model.specs.Reconciling.{reconciled, before_as, finds_live, has_ended, leader_finds_ended, noted_or, unleased_finds_ended};
 ghost use Rattle.agent_model.specs.Acting.{disarmed, disarming, without_deadline};
 ghost use Rattle.pat_base.specs.ServerState.{live};
 ghost use Rattle.agent_turn.specs.Roles.{role_of};
@@ -14,9 +14,9 @@ use leader_key::{Armed, Lease, Writer};
 use pat_base::Ticks;
 
 /// What comes before an input: the role after it.
-pub(crate) fn before(role: Role, turn: &mut Turn) -> Role
+pub(crate) fn reconcile(role: Role, turn: &mut Turn) -> Role
     requires { HasLeft 2 1 turn.old }
-    ensures outcome { reached (role_of result) turn.new ≡ before turn.old.moment (reached (role_of role) turn.old) }
+    ensures outcome { reached (role_of result) turn.new ≡ reconciled turn.old.moment (reached (role_of role) turn.old) }
     ensures server { turn.new.machine.now.server ≡ turn.old.machine.now.server }
     ensures left { Spent 2 1 turn.old turn.new }
 {
@@ -24,10 +24,10 @@ pub(crate) fn before(role: Role, turn: &mut Turn) -> Role
     match role {
         Role::Leader(writer) if !live => leader_finds_ended(writer, turn),
         Role::Ending(writer, why) if !live => has_ended(writer, why, turn),
-        Role::Follower if live => Role::Stray,
+        Role::Follower if live => Role::Unleased,
         Role::Holder(lease) if live => holder_finds_live(lease),
         Role::Ready(armed) if live => ready_finds_live(armed, turn),
-        Role::Stray if !live => stray_finds_ended(turn),
+        Role::Unleased if !live => unleased_finds_ended(turn),
         role => role,
     }
 }
@@ -71,25 +71,25 @@ fn has_ended(writer: Writer, why: Why, turn: &mut Turn) -> Role
 
 /// A holder finds its server live: its lease counts as lost.
 fn holder_finds_live(lease: Lease) -> Role
-    ensures { role_of result ≡ Stray }
+    ensures { role_of result ≡ Unleased }
 {
     lease.lost();
-    Role::Stray
+    Role::Unleased
 }
 
 /// What was armed is given up where the server is found live.
 fn ready_finds_live(armed: Armed, turn: &mut Turn) -> Role
     requires { HasLeft 1 0 turn.old }
-    ensures role { role_of result ≡ Stray }
+    ensures role { role_of result ≡ Unleased }
     ensures outcome { ComesTo disarming turn.old turn.new }
     ensures left { Spent 1 0 turn.old turn.new }
 {
     turn.undo(armed).lost();
-    Role::Stray
+    Role::Unleased
 }
 
 /// An agent without a lease finds that its server has ended.
-fn stray_finds_ended(turn: &mut Turn) -> Role
+fn unleased_finds_ended(turn: &mut Turn) -> Role
     requires { HasLeft 1 0 turn.old }
     ensures role { role_of result ≡ Follower }
     ensures outcome { ComesTo disarming turn.old turn.new }
