@@ -1,8 +1,6 @@
 -- An input on its way: what it has come to, and what it may still use.
 use Rattle.std.specs.Prelude.{ℕ, ◌≡◌, ◌≤◌, ◌+◌}
 use Rattle.pat_base.specs.Moments.{latest}
-use Rattle.agent_model.specs.declared.knowledge.Knowledge.{Knowledge}
-use Rattle.agent_model.specs.declared.machine.Machine.{Machine}
 use Rattle.agent_model.specs.Agents.{RoleFacts, Follower, IsSound, Outcome, outcome_from, most_messages}
 use Rattle.agent_turn.specs.declared.turn.Turn.{Turn}
 
