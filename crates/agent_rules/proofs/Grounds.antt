@@ -1,12 +1,11 @@
 -- Each input has its grounds, by the rows of the decision table.
-use Rattle.std.proofs.Common.{ℕ, ◌≡◌, ◌⊎◌, ◌+◌, ◌++◌, ◌&&◌, Bool, true, false, if◌then◌else◌, List, [], Option, Some, None, All, Contains, refl, sym, subst, ap, ◌∙◌, inl, inr, zero, suc}
+use Rattle.std.proofs.Common.{ℕ, ◌≡◌, ◌⊎◌, ◌+◌, ◌&&◌, Bool, true, false, if◌then◌else◌, List, [], Option, Some, None, All, Contains, refl, sym, subst, ap, ◌∙◌, inl, inr, zero, suc}
 use Rattle.std.proofs.lemmas.List.Elements.{All-push, All-nil, All-contains}
 use Rattle.lease_law.proofs.Tools.{none-some}
 use Rattle.pat_base.specs.MemberId.{member_of}
 use Rattle.pat_base.specs.declared.member_id.MemberId.{MemberId}
 use Rattle.pat_base.specs.declared.member_id.TheConstants.{MOST_MEMBERS}
 use Rattle.pat_base.specs.declared.peer_answer.PeerAnswer.{PeerAnswer}
-use Rattle.pat_base.specs.declared.server_state.Required.{Required}
 use Rattle.pat_base.specs.declared.ticks.Ticks.{Ticks}
 use Rattle.pat_base.specs.ServerState.{live}
 use Rattle.lease_store.specs.declared.action.OperatorRequest.{OperatorRequest}
@@ -29,32 +28,29 @@ use Rattle.agent_model.specs.declared.heard.Heard.TheVariants as heards
 use Rattle.agent_model.specs.declared.knowledge.Knowledge.{Knowledge}
 use Rattle.agent_model.specs.declared.knowledge.PendingQuestion.{PendingQuestion}
 use Rattle.agent_model.specs.declared.machine.Machine.{Machine}
-use Rattle.agent_model.specs.declared.operating.Told.{Told}
 use Rattle.agent_model.specs.declared.output.Output.{Output}
 use Rattle.agent_model.specs.declared.output.Output.TheVariants as outputs
 use Rattle.agent_model.specs.declared.output.Target.TheVariants as targets
 use Rattle.agent_model.specs.declared.who.Who.{Who}
 use Rattle.agent_model.specs.declared.why.Why.{Why}
 use Rattle.agent_model.specs.declared.why.Why.TheVariants.{HandOver, Lost}
-use Rattle.agent_model.specs.Acting.{arming, requiring, feeding, armed, fed_until, deadline_after, disarmed, ending_server, starting_replica, following_server, is_refusing, shutting_down, touching, waiting_no_more}
+use Rattle.agent_model.specs.Acting.{arming, armed, fed_until, deadline_after, disarmed, ending_server, starting_replica, is_refusing, touching, waiting_no_more}
 use Rattle.agent_model.specs.Agents.{RoleFacts, Follower, Holder, Ready, Leader, Ending, Unleased, Outcome, EndsAlone, IsSoundAgent, outcome_from}
 use Rattle.agent_model.specs.Answers.{is_other, asking_one, asking_first}
-use Rattle.agent_model.specs.Reconciling.{has_ended, reconciled}
+use Rattle.agent_model.specs.Reconciling.{has_ended, before}
 use Rattle.agent_model.specs.Claiming.{begins, begins_or_claims, claims, passing, postpones}
-use Rattle.agent_model.specs.Decisions.{arms, gives_back, granted, has_primary, is_decision, is_lease_of, may_create, may_take, refused, unleased_renewed, takes_key, takes_key_in_pause, takes_over, leader_renewed}
+use Rattle.agent_model.specs.Decisions.{arms, gives_back, granted, has_primary, may_create, may_take, refused, unleased_renewed, takes_key, takes_key_in_pause, takes_over, leader_renewed}
 use Rattle.agent_model.specs.HandingOver.{asking_whom}
-use Rattle.agent_model.specs.Operators.{given_up, learned, looked, operated, restarting, telling, wiping}
+use Rattle.agent_model.specs.Operators.{given_up, learned, looked, operated}
 use Rattle.agent_model.specs.Outputs.{with_output}
 use Rattle.agent_model.specs.Pausing.{is_paused, is_wanted, may_start_behind, disabling_told, disabling_watchdog, running_without_key}
 use Rattle.agent_model.specs.Peers.{answered, asked, awaits_others, keeping}
-use Rattle.agent_model.specs.Planning.{noting}
 use Rattle.agent_model.specs.Racing.{finds_free, judged, unheard}
-use Rattle.agent_model.specs.Repairs.{repairing}
-use Rattle.agent_model.specs.Snapshots.{asks_as_unleased, follow_row, follows, read_answered, informed, led_by_another, read_noted}
+use Rattle.agent_model.specs.Snapshots.{follow_row, follows, read_answered, informed, led_by_another, read_noted}
 use Rattle.agent_model.specs.Synchronous.{expected_of, unnamed}
-use Rattle.agent_model.specs.Table.{step, granted_any, refused_any}
-use Rattle.agent_model.specs.Wake.{overdue, turn_noted, turned, woken}
-use Rattle.agent_model.proofs.Rows.{HandoverRows, ReplyRows, DutyRows, IsOperatorTxn, WritesSync, dropping, led_on, rested_on, if-cases, before-by, looked-by, given-up-by, granted-any-by, refused-any-by, operated-by, renewed-by, duties-of, passing-by, overdue-when, turn-by, wake-by, got-when, refused-when, answered-when, granted-when, follow-by, free-by, judged-by}
+use Rattle.agent_model.specs.Table.{step, granted_any}
+use Rattle.agent_model.specs.Wake.{overdue, turned, woken}
+use Rattle.agent_model.proofs.Rows.{HandoverRows, ReplyRows, DutyRows, WritesSync, led_on, rested_on, if-cases, before-by, looked-by, given-up-by, granted-any-by, refused-any-by, renewed-by, duties-of, passing-by, overdue-when, turn-by, wake-by, got-when, refused-when, answered-when, granted-when, follow-by, free-by, judged-by}
 use Rattle.agent_roles.specs.Powers.{lease_of}
 use Rattle.agent_roles.proofs.Living.{no-way}
 use Rattle.agent_rules.specs.Grounds.{HasGround, HasGrounds, HearsNoLeader, IsReinit, CreateGround, RequestGround, TakeGround}
@@ -435,7 +431,7 @@ ended-grounds : (now : Ticks) (heard : Heard) (b : Outcome) (why : Why) (held : 
 ended-grounds now heard b HandOver held o all = All-push (HasGround now heard b) _ _ (disarmed-all (HasGround now heard b) tt o.machine.watchdog.deadline o.outputs all) tt
 ended-grounds now heard b Lost held o all = disarmed-all (HasGround now heard b) tt o.machine.watchdog.deadline o.outputs all
 
-before-grounds : (now : Ticks) (heard : Heard) (b o : Outcome) → All (HasGround now heard b) o.outputs → All (HasGround now heard b) (reconciled now o).outputs
+before-grounds : (now : Ticks) (heard : Heard) (b o : Outcome) → All (HasGround now heard b) o.outputs → All (HasGround now heard b) (before now o).outputs
 before-grounds now heard b o all =
     let rest : All (HasGround now heard b) (disarmed o.machine.watchdog.deadline o.outputs) = disarmed-all (HasGround now heard b) tt o.machine.watchdog.deadline o.outputs all in
     before-by (λ (x : Outcome). All (HasGround now heard b) x.outputs) now o (record {
@@ -452,7 +448,7 @@ ended-fresh : (why : Why) (held : ℕ) (o : Outcome) → o.knows.waited ≡ None
 ended-fresh HandOver held o none all = inr (refl, none)
 ended-fresh Lost held o none all = inl (disarmed-all KeepsLeases tt o.machine.watchdog.deadline o.outputs all)
 
-before-fresh : (now : Ticks) (o : Outcome) → EndsAlone o.role o.knows.waited → All KeepsLeases o.outputs → Fresh (reconciled now o)
+before-fresh : (now : Ticks) (o : Outcome) → EndsAlone o.role o.knows.waited → All KeepsLeases o.outputs → Fresh (before now o)
 before-fresh now o alone all =
     let rest : All KeepsLeases (disarmed o.machine.watchdog.deadline o.outputs) = disarmed-all KeepsLeases tt o.machine.watchdog.deadline o.outputs all in
     before-by Fresh now o (record {
@@ -477,7 +473,7 @@ module _ (now : Ticks) (points : List HistoryPoint) (role : RoleFacts) (knows : 
   Start = outcome_from role knows machine []
 
   abbrev First : Outcome
-  First = reconciled now Start
+  First = before now Start
 
   fresh : Fresh First
   fresh = before-fresh now Start sound.ends (All-nil KeepsLeases)
@@ -529,11 +525,11 @@ module _ (now : Ticks) (points : List HistoryPoint) (role : RoleFacts) (knows : 
       grounds-of now heard First after s
       (λ wipes lives. operated-wipes now action.request action.asked First (All-contains (HasGround now heard First) after.outputs outputs.Wipe s.grounds wipes) lives)
 
-pub input-has-grounds : (now : Ticks) (points : List HistoryPoint) (heard : Heard) (role : RoleFacts) (knows : Knowledge) (machine : Machine) → IsSoundAgent role knows → HasGrounds now heard (reconciled now (outcome_from role knows machine [])) (step now points heard (outcome_from role knows machine []))
+pub input-has-grounds : (now : Ticks) (points : List HistoryPoint) (heard : Heard) (role : RoleFacts) (knows : Knowledge) (machine : Machine) → IsSoundAgent role knows → HasGrounds now heard (before now (outcome_from role knows machine [])) (step now points heard (outcome_from role knows machine []))
 input-has-grounds now points heard role knows machine sound = input-has-grounds-of now points role knows machine sound heard
 
 -- the same of what is made of an input, where no output stood before
 pub input-has-grounds-as : (now : Ticks) (points : List HistoryPoint) (heard : Heard) (role : RoleFacts) (knows : Knowledge) (machine : Machine) (outs : List Output) (after : Outcome) → after ≡ step now points heard (outcome_from role knows machine outs) → IsSoundAgent role knows
-    → outs ≡ [] → HasGrounds now heard (reconciled now (outcome_from role knows machine [])) after
+    → outs ≡ [] → HasGrounds now heard (before now (outcome_from role knows machine [])) after
 input-has-grounds-as now points heard role knows machine outs after is sound none =
-    subst (λ (x : Outcome). HasGrounds now heard (reconciled now (outcome_from role knows machine [])) x) (sym (is ∙ ap (λ (l : List Output). step now points heard (outcome_from role knows machine l)) none)) (input-has-grounds now points heard role knows machine sound)
+    subst (λ (x : Outcome). HasGrounds now heard (before now (outcome_from role knows machine [])) x) (sym (is ∙ ap (λ (l : List Output). step now points heard (outcome_from role knows machine l)) none)) (input-has-grounds now points heard role knows machine sound)

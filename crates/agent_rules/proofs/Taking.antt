@@ -1,5 +1,5 @@
 -- What the tests of the table say in the words of the rules.
-use Rattle.std.proofs.Common.{ℕ, ◌≡◌, ◌⊎◌, ◌<◌, ◌*◌, ◌&&◌, ◌||◌, ◌==◌, not, nat_lt, Bool, true, false, if◌then◌else◌, Option, Some, None, refl, sym, subst, ap, ◌∙◌, arith, inl, inr}
+use Rattle.std.proofs.Common.{ℕ, ◌≡◌, ◌⊎◌, ◌<◌, ◌*◌, ◌&&◌, ◌||◌, not, nat_lt, Bool, true, false, if◌then◌else◌, Option, Some, None, refl, sym, ap, ◌∙◌, arith, inl, inr}
 use Rattle.std.proofs.lemmas.Bool.Decides.{nat_tests}
 use Rattle.pat_base.specs.declared.member_id.MemberId.{MemberId}
 use Rattle.pat_base.specs.declared.server_state.State.{State}
@@ -9,7 +9,6 @@ use Rattle.pat_base.specs.declared.ticks.Ticks.{Ticks}
 use Rattle.pat_base.specs.ServerState.{live}
 use Rattle.lease_store.specs.declared.config.Config.{Config}
 use Rattle.lease_store.specs.declared.granted.Granted.{Granted}
-use Rattle.lease_store.specs.declared.value.FailoverKey.{FailoverKey}
 use Rattle.pg_model.specs.declared.status.ServerStatus.{ServerStatus}
 use Rattle.pg_model.specs.Facts.{is_down}
 use Rattle.cluster_config.specs.Naming.{is_candidate, is_failover_to, is_named}
@@ -30,7 +29,7 @@ use Rattle.agent_model.specs.Repairs.{is_upstream, repair_in, repair_of, repaire
 use Rattle.agent_model.specs.Snapshots.{informed}
 use Rattle.agent_model.specs.Synchronous.{is_named_if, may_lead_in_sync}
 use Rattle.agent_roles.proofs.Living.{no-way}
-use Rattle.agent_rules.specs.Grounds.{CanBegin, WatchdogServes, IsNamed, TakeGround, NeedsRepair}
+use Rattle.agent_rules.specs.Grounds.{CanBegin, IsNamed, TakeGround, NeedsRepair}
 use Rattle.agent_rules.specs.Grounds.CanBegin.{Runs, StartsAgain}
 
 pub first-true : (a b : Bool) → a && b ≡ true → a ≡ true

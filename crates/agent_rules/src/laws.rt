@@ -1,18 +1,27 @@
 //! Laws of what inputs need.
-ghost use Rattle.std.specs.Prelude.{List, []};
+ghost use Rattle.std.specs.Prelude.{ℕ, List, []};
 ghost use Rattle.pat_base.specs.declared.ticks.Ticks.{Ticks};
 ghost use Rattle.wal_model.specs.declared.entry.HistoryPoint.{HistoryPoint};
 ghost use Rattle.agent_model.specs.declared.heard.Heard.{Heard};
 ghost use Rattle.agent_model.specs.declared.knowledge.Knowledge.{Knowledge};
 ghost use Rattle.agent_model.specs.declared.machine.Machine.{Machine};
-ghost use Rattle.agent_model.specs.Agents.{RoleFacts, IsSoundAgent, outcome_from};
-ghost use Rattle.agent_model.specs.Reconciling.{reconciled};
+ghost use Rattle.agent_model.specs.declared.heard.Heard.TheVariants as heards;
+ghost use Rattle.agent_model.specs.Agents.{RoleFacts, IsSoundAgent, Outcome, outcome_from};
+ghost use Rattle.agent_model.specs.Reconciling.{before};
 ghost use Rattle.agent_model.specs.Table.{step};
 ghost use Rattle.agent_rules.specs.Grounds.{HasGrounds};
+ghost use Rattle.agent_rules.specs.OutOfReach.{EndsOutOfReach, IsOutOfReach, WaitsForTurn};
 
 /// Each input has its grounds. The leader key is asked for by who read that nobody leads; taken, and the sync key claimed, only under the whole
 /// rule of taking the leader key; a watchdog that is off or broken gets no deadline; a log is rewound, and a server copied or wiped, only
 /// where that isn't live; and who gave a lease back doesn't have it.
 pub fn inputs_have_grounds()
     ensures { (now : Ticks) (points : List HistoryPoint) (heard : Heard) (role : RoleFacts) (knows : Knowledge) (machine : Machine) → IsSoundAgent role knows → HasGrounds now heard (reconciled now (outcome_from role knows machine [])) (step now points heard (outcome_from role knows machine [])) }
+{}
+
+/// A leader that can't reach the key store ends its server: outside a pause, once its read or its renewal is unanswered when the time for that is over.
+/// That is `retry_timeout` seconds after the turn began that asks it. Behind that its lease is given up with the server's end.
+pub fn a_leader_out_of_reach_ends_its_server()
+    ensures ends { (now : Ticks) (points : List HistoryPoint) (revision : ℕ) (o : Outcome) → IsOutOfReach now revision o → EndsOutOfReach now revision o (step now points heards.Wake o) }
+    ensures waits { (now : Ticks) (points : List HistoryPoint) (heard : Heard) (o : Outcome) → WaitsForTurn now o (step now points heard o) }
 {}

@@ -3,4 +3,4 @@
 
 mod laws;
 
-pub use laws::inputs_have_grounds;
+pub use laws::{a_leader_out_of_reach_ends_its_server, inputs_have_grounds};
