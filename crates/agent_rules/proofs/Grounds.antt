@@ -37,7 +37,7 @@ use Rattle.agent_model.specs.declared.why.Why.TheVariants.{HandOver, Lost}
 use Rattle.agent_model.specs.Acting.{arming, armed, fed_until, deadline_after, disarmed, ending_server, starting_replica, is_refusing, touching, waiting_no_more}
 use Rattle.agent_model.specs.Agents.{RoleFacts, Follower, Holder, Ready, Leader, Ending, Unleased, Outcome, EndsAlone, IsSoundAgent, outcome_from}
 use Rattle.agent_model.specs.Answers.{is_other, asking_one, asking_first}
-use Rattle.agent_model.specs.Reconciling.{has_ended, before}
+use Rattle.agent_model.specs.Reconciling.{has_ended, reconciled}
 use Rattle.agent_model.specs.Claiming.{begins, begins_or_claims, claims, passing, postpones}
 use Rattle.agent_model.specs.Decisions.{arms, gives_back, granted, has_primary, may_create, may_take, refused, unleased_renewed, takes_key, takes_key_in_pause, takes_over, leader_renewed}
 use Rattle.agent_model.specs.HandingOver.{asking_whom}
@@ -431,7 +431,7 @@ ended-grounds : (now : Ticks) (heard : Heard) (b : Outcome) (why : Why) (held : 
 ended-grounds now heard b HandOver held o all = All-push (HasGround now heard b) _ _ (disarmed-all (HasGround now heard b) tt o.machine.watchdog.deadline o.outputs all) tt
 ended-grounds now heard b Lost held o all = disarmed-all (HasGround now heard b) tt o.machine.watchdog.deadline o.outputs all
 
-before-grounds : (now : Ticks) (heard : Heard) (b o : Outcome) → All (HasGround now heard b) o.outputs → All (HasGround now heard b) (before now o).outputs
+before-grounds : (now : Ticks) (heard : Heard) (b o : Outcome) → All (HasGround now heard b) o.outputs → All (HasGround now heard b) (reconciled now o).outputs
 before-grounds now heard b o all =
     let rest : All (HasGround now heard b) (disarmed o.machine.watchdog.deadline o.outputs) = disarmed-all (HasGround now heard b) tt o.machine.watchdog.deadline o.outputs all in
     before-by (λ (x : Outcome). All (HasGround now heard b) x.outputs) now o (record {
@@ -448,7 +448,7 @@ ended-fresh : (why : Why) (held : ℕ) (o : Outcome) → o.knows.waited ≡ None
 ended-fresh HandOver held o none all = inr (refl, none)
 ended-fresh Lost held o none all = inl (disarmed-all KeepsLeases tt o.machine.watchdog.deadline o.outputs all)
 
-before-fresh : (now : Ticks) (o : Outcome) → EndsAlone o.role o.knows.waited → All KeepsLeases o.outputs → Fresh (before now o)
+before-fresh : (now : Ticks) (o : Outcome) → EndsAlone o.role o.knows.waited → All KeepsLeases o.outputs → Fresh (reconciled now o)
 before-fresh now o alone all =
     let rest : All KeepsLeases (disarmed o.machine.watchdog.deadline o.outputs) = disarmed-all KeepsLeases tt o.machine.watchdog.deadline o.outputs all in
     before-by Fresh now o (record {
@@ -473,7 +473,7 @@ module _ (now : Ticks) (points : List HistoryPoint) (role : RoleFacts) (knows : 
   Start = outcome_from role knows machine []
 
   abbrev First : Outcome
-  First = before now Start
+  First = reconciled now Start
 
   fresh : Fresh First
   fresh = before-fresh now Start sound.ends (All-nil KeepsLeases)
@@ -525,11 +525,11 @@ module _ (now : Ticks) (points : List HistoryPoint) (role : RoleFacts) (knows : 
       grounds-of now heard First after s
       (λ wipes lives. operated-wipes now action.request action.asked First (All-contains (HasGround now heard First) after.outputs outputs.Wipe s.grounds wipes) lives)
 
-pub input-has-grounds : (now : Ticks) (points : List HistoryPoint) (heard : Heard) (role : RoleFacts) (knows : Knowledge) (machine : Machine) → IsSoundAgent role knows → HasGrounds now heard (before now (outcome_from role knows machine [])) (step now points heard (outcome_from role knows machine []))
+pub input-has-grounds : (now : Ticks) (points : List HistoryPoint) (heard : Heard) (role : RoleFacts) (knows : Knowledge) (machine : Machine) → IsSoundAgent role knows → HasGrounds now heard (reconciled now (outcome_from role knows machine [])) (step now points heard (outcome_from role knows machine []))
 input-has-grounds now points heard role knows machine sound = input-has-grounds-of now points role knows machine sound heard
 
 -- the same of what is made of an input, where no output stood before
 pub input-has-grounds-as : (now : Ticks) (points : List HistoryPoint) (heard : Heard) (role : RoleFacts) (knows : Knowledge) (machine : Machine) (outs : List Output) (after : Outcome) → after ≡ step now points heard (outcome_from role knows machine outs) → IsSoundAgent role knows
-    → outs ≡ [] → HasGrounds now heard (before now (outcome_from role knows machine [])) after
+    → outs ≡ [] → HasGrounds now heard (reconciled now (outcome_from role knows machine [])) after
 input-has-grounds-as now points heard role knows machine outs after is sound none =
-    subst (λ (x : Outcome). HasGrounds now heard (before now (outcome_from role knows machine [])) x) (sym (is ∙ ap (λ (l : List Output). step now points heard (outcome_from role knows machine l)) none)) (input-has-grounds now points heard role knows machine sound)
+    subst (λ (x : Outcome). HasGrounds now heard (reconciled now (outcome_from role knows machine [])) x) (sym (is ∙ ap (λ (l : List Output). step now points heard (outcome_from role knows machine l)) none)) (input-has-grounds now points heard role knows machine sound)

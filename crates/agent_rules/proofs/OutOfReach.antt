@@ -20,7 +20,7 @@ use Rattle.agent_model.specs.declared.why.Why.{Why}
 use Rattle.agent_model.specs.declared.why.Why.TheVariants.{HandOver, Lost}
 use Rattle.agent_model.specs.Acting.{arming, ending_server, is_refusing, seconds_after, waiting_no_more}
 use Rattle.agent_model.specs.Agents.{RoleFacts, Follower, Outcome}
-use Rattle.agent_model.specs.Reconciling.{has_ended, before, before_as, leader_finds_ended}
+use Rattle.agent_model.specs.Reconciling.{has_ended, reconciled, before_as, leader_finds_ended}
 use Rattle.agent_model.specs.Claiming.{begins_or_claims}
 use Rattle.agent_model.specs.Decisions.{arms, gives_back, granted, may_take, refused, takes_key, takes_over}
 use Rattle.agent_model.specs.Operators.{answering, given_up, learned, looked}
@@ -80,7 +80,7 @@ module _ (now : Ticks) (revision : ℕ) where
         record { ends = ends.ends; server = ends.server; role = ends.role };
   })
 
-  stays-leader : (o : Outcome) → IsOutOfReach now revision o → before now o ≡ o
+  stays-leader : (o : Outcome) → IsOutOfReach now revision o → reconciled now o ≡ o
   stays-leader o is =
       ap (λ (r : RoleFacts). before_as now r o) is.role
       ∙ ap (λ (b : Bool). cond b o (leader_finds_ended now revision o)) is.lives
@@ -100,7 +100,7 @@ module _ (now : Ticks) (revision : ℕ) where
 
   pub leader-ends : (points : List HistoryPoint) (o : Outcome) → IsOutOfReach now revision o → EndsOutOfReach now revision o (step now points heards.Wake o)
   leader-ends points o is =
-      subst (EndsOutOfReach now revision o) (sym (ap (λ (b : Bool). cond b (roused now o) (before now o)) (due o is)))
+      subst (EndsOutOfReach now revision o) (sym (ap (λ (b : Bool). cond b (roused now o) (reconciled now o)) (due o is)))
       (subst (λ (x : Outcome). EndsOutOfReach now revision o (turned now (overdue now (given_up now x)))) (sym (stays-leader o is)) (answered-out o is))
 
 -- ---- how long it waits
@@ -223,7 +223,7 @@ ended-keeps : (why : Why) (held : ℕ) (o : Outcome) → ((has_ended why held o)
 ended-keeps HandOver held o = (refl, refl)
 ended-keeps Lost held o = (refl, refl)
 
-before-keeps : (now : Ticks) (o : Outcome) → Kept now o (before now o)
+before-keeps : (now : Ticks) (o : Outcome) → Kept now o (reconciled now o)
 before-keeps now o = before-by (Kept now o) now o (record {
   kept = λ _. (refl, refl);
   leader = λ held _ _. (refl, refl);
@@ -237,23 +237,23 @@ before-keeps now o = before-by (Kept now o) now o (record {
 pub step-waits : (now : Ticks) (points : List HistoryPoint) (heard : Heard) (o : Outcome) → WaitsForTurn now o (step now points heard o)
 step-waits now points heards.Wake o =
     let first = before-keeps now o in
-    wake-by (W now o) now o (kept-waits now o (before now o) first)
-    (turn-waits now o (overdue now (given_up now (before now o))) (overdue-waits now o (given_up now (before now o))
-    (given-up-by (W now o) now (before now o) (record { kept = kept-waits now o (before now o) first; answers = λ request told. kept-waits now o (before now o) first }))))
+    wake-by (W now o) now o (kept-waits now o (reconciled now o) first)
+    (turn-waits now o (overdue now (given_up now (reconciled now o))) (overdue-waits now o (given_up now (reconciled now o))
+    (given-up-by (W now o) now (reconciled now o) (record { kept = kept-waits now o (reconciled now o) first; answers = λ request told. kept-waits now o (reconciled now o) first }))))
 step-waits now points (heards.ReadAnswered sequence snapshot) o =
     let first = before-keeps now o in
-    let looks : Kept now o (looked sequence snapshot (before now o)) = looked-by (Kept now o) sequence snapshot (before now o) (record { kept = first; answers = λ request told. first }) in
-    got-waits now o points sequence snapshot (looked sequence snapshot (before now o)) looks.0 (kept-waits now o (looked sequence snapshot (before now o)) looks)
+    let looks : Kept now o (looked sequence snapshot (reconciled now o)) = looked-by (Kept now o) sequence snapshot (reconciled now o) (record { kept = first; answers = λ request told. first }) in
+    got-waits now o points sequence snapshot (looked sequence snapshot (reconciled now o)) looks.0 (kept-waits now o (looked sequence snapshot (reconciled now o)) looks)
 step-waits now points (heards.Granted sequence grant snapshot) o =
     let first = before-keeps now o in
-    let learns : W now o (learned snapshot (before now o)) = λ asked is asks. inl (sym first.1 ∙ is) in
-    granted-any-by (W now o) now sequence grant snapshot (before now o) (kept-waits now o (before now o) first) (record { kept = learns; answers = λ request told. learns })
-    (granted-waits now o sequence grant snapshot (before now o) (kept-waits now o (before now o) first))
+    let learns : W now o (learned snapshot (reconciled now o)) = λ asked is asks. inl (sym first.1 ∙ is) in
+    granted-any-by (W now o) now sequence grant snapshot (reconciled now o) (kept-waits now o (reconciled now o) first) (record { kept = learns; answers = λ request told. learns })
+    (granted-waits now o sequence grant snapshot (reconciled now o) (kept-waits now o (reconciled now o) first))
 step-waits now points (heards.Mismatch sequence key found) o =
-    let first = kept-waits now o (before now o) (before-keeps now o) in
-    refused-any-by (W now o) now sequence (before now o) (record { kept = first; answers = λ request told. first }) (refused-waits now o sequence (before now o) first)
-step-waits now points (heards.Asked from incarnation sequence) o = kept-waits now o (before now o) (before-keeps now o)
-step-waits now points (heards.Answered sequence answer) o = answered-waits now o sequence answer (before now o) (kept-waits now o (before now o) (before-keeps now o))
+    let first = kept-waits now o (reconciled now o) (before-keeps now o) in
+    refused-any-by (W now o) now sequence (reconciled now o) (record { kept = first; answers = λ request told. first }) (refused-waits now o sequence (reconciled now o) first)
+step-waits now points (heards.Asked from incarnation sequence) o = kept-waits now o (reconciled now o) (before-keeps now o)
+step-waits now points (heards.Answered sequence answer) o = answered-waits now o sequence answer (reconciled now o) (kept-waits now o (reconciled now o) (before-keeps now o))
 step-waits now points (heards.Operated action) o =
-    let first = kept-waits now o (before now o) (before-keeps now o) in
-    operated-by (W now o) now action.request action.asked (before now o) (record { asks = λ operation txn _. first; restarts = λ told. first; wipes = λ told. first })
+    let first = kept-waits now o (reconciled now o) (before-keeps now o) in
+    operated-by (W now o) now action.request action.asked (reconciled now o) (record { asks = λ operation txn _. first; restarts = λ told. first; wipes = λ told. first })

@@ -7,7 +7,7 @@ ghost use Rattle.agent_model.specs.declared.knowledge.Knowledge.{Knowledge};
 ghost use Rattle.agent_model.specs.declared.machine.Machine.{Machine};
 ghost use Rattle.agent_model.specs.declared.heard.Heard.TheVariants as heards;
 ghost use Rattle.agent_model.specs.Agents.{RoleFacts, IsSoundAgent, Outcome, outcome_from};
-ghost use Rattle.agent_model.specs.Reconciling.{before};
+ghost use Rattle.agent_model.specs.Reconciling.{reconciled};
 ghost use Rattle.agent_model.specs.Table.{step};
 ghost use Rattle.agent_rules.specs.Grounds.{HasGrounds};
 ghost use Rattle.agent_rules.specs.OutOfReach.{EndsOutOfReach, IsOutOfReach, WaitsForTurn};
