@@ -257,16 +257,32 @@ StandsAlone outputs.Begin = ⊥
 StandsAlone outputs.Passes = ⊥
 StandsAlone _ = Unit {0}
 
--- the form of an input's outputs, in their order: each may be an action of its own; or the law's input covers all up to a question, or up to
--- the note that the sync key doesn't name the member and its claim of that key, or up to whom commits wait for from now on, and that is the
--- last one, or the server begins behind it
+-- the last output that the law's input covers, behind those that it covers in any case: none, a question to the key store, or whom commits wait
+-- for from now on
+pub data Closing : Type 0 where
+  NoMore : Closing
+  Asks : (sequence : ℕ) → (body : Body) → Closing
+  Requires : (required : Required) → Closing
+
+-- it as a list
+abbrev pub closing_outputs : Closing → List Output
+closing_outputs NoMore = []
+closing_outputs (Asks sequence body) = outputs.Send targets.Store sequence body ∷ []
+closing_outputs (Requires required) = outputs.Require required ∷ []
+
+-- the table of orders: what may stand behind each. Outputs that may be actions of their own; nothing; nothing, or that the server begins
+abbrev pub MayStandBehind : Closing → List Output → Type 0
+MayStandBehind NoMore behind = All StandsAlone behind
+MayStandBehind (Asks sequence body) behind = behind ≡ []
+MayStandBehind (Requires required) behind = (behind ≡ []) ⊎ (behind ≡ outputs.Begin ∷ [])
+
+-- the form of an input's outputs: they stand in one of these orders; or the law's input covers all up to the note that the sync key doesn't name
+-- the member, and its claim of that key
 pub data HasForm (outs : List Output) : Type 0 where
-  Apart : (alone : All StandsAlone outs) → HasForm outs
-  Asks : (front : List Output) → (sequence : ℕ) → (body : Body) → (covered : All IsCovered front) → (whole : front ++ outputs.Send targets.Store sequence body ∷ [] ≡ outs) → HasForm outs
+  Ordered : (front : List Output) → (closing : Closing) → (behind : List Output) → (covered : All IsCovered front) → (order : MayStandBehind closing behind)
+      → (whole : front ++ (closing_outputs closing ++ behind) ≡ outs) → HasForm outs
   Passes : (front : List Output) → (sequence revision : ℕ) → (sync : Expected) → (covered : All IsCovered front)
       → (whole : front ++ outputs.Passes ∷ outputs.Send targets.Store sequence (bodies.Request (txns.Claim revision sync)) ∷ [] ≡ outs) → HasForm outs
-  Requires : (front : List Output) → (required : Required) → (covered : All IsCovered front) → (whole : front ++ outputs.Require required ∷ [] ≡ outs) → HasForm outs
-  Begins : (front : List Output) → (required : Required) → (covered : All IsCovered front) → (whole : front ++ outputs.Require required ∷ outputs.Begin ∷ [] ≡ outs) → HasForm outs
 
 -- the member takes the leader key though the sync key doesn't name it
 abbrev pub is_passing : Output → Bool
