@@ -1,5 +1,5 @@
 -- Each input of the table is lawful for kept commits, and leaves the synchronous mode on.
-use Rattle.std.proofs.Common.{◌≡◌, ℕ, ◌+◌, ◌<◌, Bool, true, ◌∷◌, slice_get, List, [], Option, Some, None, All, refl, sym, subst, ap, ◌∙◌, false, arith}
+use Rattle.std.proofs.Common.{◌≡◌, ℕ, ◌+◌, ◌<◌, Bool, true, ◌∷◌, slice_get, List, [], Option, Some, None, All, refl, sym, subst, ap, ◌∙◌, false, arith, inl, inr}
 use Rattle.std.proofs.lemmas.List.Elements.{All-nil, All-push}
 use Rattle.std.proofs.lemmas.List.{append_assoc}
 use Rattle.pat_base.specs.declared.member_set.MemberSet.{MemberSet}
@@ -30,7 +30,7 @@ use Rattle.agent_model.specs.declared.knowledge.Question.{Question}
 use Rattle.agent_model.specs.declared.knowledge.Question.TheVariants.{Syncing}
 use Rattle.agent_model.specs.declared.knowledge.Settling.{Settling}
 use Rattle.agent_model.specs.declared.knowledge.Settling.TheVariants as settlings
-use Rattle.agent_model.specs.declared.knowledge.Settling.TheVariants.{NamesStandbys}
+use Rattle.agent_model.specs.declared.knowledge.Settling.TheVariants.{Lists}
 use Rattle.agent_model.specs.declared.knowledge.PendingQuestion.{PendingQuestion}
 use Rattle.agent_model.specs.declared.machine.Machine.{Machine}
 use Rattle.agent_model.specs.declared.machine.Replication.{Replication}
@@ -44,7 +44,7 @@ use Rattle.agent_model.specs.Acting.{deadline_after, disarmed, ending_server, ar
 use Rattle.agent_model.specs.Agents.{RoleFacts, Follower, Ending, Outcome, is_leader, outcome_from, fresh_knowledge}
 use Rattle.agent_model.specs.Reconciling.{reconciled, has_ended}
 use Rattle.agent_model.specs.Claiming.{begins, can_begin_on_claim, claims, passing, postpones}
-use Rattle.agent_commit_law.specs.Committing.{sync_seen, committer_seen, ArmsOn, DoesAs, IsSynchronousSnapshot, HearsSynchronousMode, HearsToCommit, KnowsBelow, AsksInSynchronousMode, FollowsSynchronousMode, requests_of, is_begin, IsOneAtMost, IsCovered, IsSynchronousBody, IsSynchronousOutput, HasForm, Apart, Asks, ClaimsOutsideSync, Requires, Begins, StaysInSynchronousMode, CommitsFrom}
+use Rattle.agent_commit_law.specs.Committing.{sync_seen, committer_seen, ArmsOn, DoesAs, IsSynchronousSnapshot, HearsSynchronousMode, HearsToCommit, KnowsBelow, AsksInSynchronousMode, FollowsSynchronousMode, requests_of, is_begin, IsOneAtMost, IsCovered, IsSynchronousBody, IsSynchronousOutput, HasForm, Ordered, NoMore, Asks, ClaimsOutsideSync, Requires, StaysInSynchronousMode, CommitsFrom}
 use Rattle.agent_model.specs.Decisions.{takes_over, gives_back, granted}
 use Rattle.agent_model.specs.HandingOver.{checking, hands_over}
 use Rattle.agent_model.specs.Operators.{grants_operator, looked, operated, operator_granted}
@@ -95,7 +95,7 @@ quiet-stays heard o x asks quiet = record {
   asks = asks;
   one = quiet-one o.knows.who.me.number o.knows.incarnation x.outputs quiet;
   sends = λ count below. keeps-mode count x.outputs (unasking x.outputs quiet);
-  form = Apart (alone x.outputs quiet);
+  form = Ordered [] NoMore x.outputs (All-nil IsCovered) (alone x.outputs quiet) refl;
   begins = λ e. absurd (not-false (has_one is_begin x.outputs) (quiet-unbegun x.outputs quiet) e);
 }
 
@@ -112,12 +112,12 @@ last-stays heard o x outs output asks is unbegun still form sends =
 
 -- a question to the key store is the last output
 asks-stays : (heard : Heard) (o x : Outcome) (outs : List Output) (sequence : ℕ) (body : Body) → AsksInSynchronousMode x.knows → x.outputs ≡ with_output (outputs.Send targets.Store sequence body) outs → All IsCovered outs → ((count : ℕ) → KnowsBelow count heard o → IsSynchronousBody count body) → StaysInSynchronousMode heard o x
-asks-stays heard o x outs sequence body asks is all sends = last-stays heard o x outs (outputs.Send targets.Store sequence body) asks is refl (unasking outs (covered outs all)) (Asks outs sequence body all (sym is)) sends
+asks-stays heard o x outs sequence body asks is all sends = last-stays heard o x outs (outputs.Send targets.Store sequence body) asks is refl (unasking outs (covered outs all)) (Ordered outs (Asks sequence body) [] all refl (sym is)) sends
 
 -- so is a claim, behind the note that the sync key doesn't name the member, if that is so
 claims-form : (o : Outcome) (sequence revision : ℕ) (sync : Expected) → All IsCovered o.outputs → HasForm (with_output (outputs.Send targets.Store sequence (bodies.Request (txns.Claim revision sync))) (passing o).outputs)
 claims-form o sequence revision sync all = let claim : Output = outputs.Send targets.Store sequence (bodies.Request (txns.Claim revision sync)) in
-    passing-by (λ (outs : List Output). HasForm (with_output claim outs)) o (Asks o.outputs sequence (bodies.Request (txns.Claim revision sync)) all refl)
+    passing-by (λ (outs : List Output). HasForm (with_output claim outs)) o (Ordered o.outputs (Asks sequence (bodies.Request (txns.Claim revision sync))) [] all refl refl)
     (ClaimsOutsideSync o.outputs sequence revision sync all (sym (append_assoc o.outputs (outputs.ClaimsOutsideSync ∷ []) (claim ∷ []))))
 
 -- nothing is waited for, or this question
@@ -129,7 +129,7 @@ asks-this knows asked is follows waited waits = subst (λ (w : PendingQuestion).
 
 requires-stays : (heard : Heard) (o y : Outcome) (required : Required) → y.knows.waited ≡ None → All IsCovered y.outputs → StaysInSynchronousMode heard o (requiring required y)
 requires-stays heard o y required none all =
-    last-stays heard o (requiring required y) y.outputs (outputs.Require required) (rest y.knows none) refl refl (unasking y.outputs (covered y.outputs all)) (Requires y.outputs required all refl) (λ count below. tt)
+    last-stays heard o (requiring required y) y.outputs (outputs.Require required) (rest y.knows none) refl refl (unasking y.outputs (covered y.outputs all)) (Ordered y.outputs (Requires required) [] all (inl refl) refl) (λ count below. tt)
 
 -- the rows of a grant, on what comes before it
 module _ (now : Ticks) (sequence : ℕ) (grant : Granted) (snapshot : SnapshotFacts) (o b : Outcome) (behind : IsBehind o b) (all : All IsCovered b.outputs) where
@@ -160,10 +160,10 @@ module _ (now : Ticks) (sequence : ℕ) (grant : Granted) (snapshot : SnapshotFa
       let still : All IsCovered fed.outputs = all-fed IsCovered b.outputs all (deadline_after now ttl b.machine.watchdog) (λ until. tt) in
       let published : MemberSet = published_in snapshot in let wanted : MemberSet = wanted_at now snapshot fed in record {
         kept = quiet-stays Hears o fed (rest fed.knows refl) (covered fed.outputs still);
-        mark = λ _. names-stays ttl (NamesStandbys nobody) nobody (λ on. tt) (λ count _. nobody-below count);
-        withdraws = names-stays ttl (NamesStandbys (both published wanted)) (both published wanted) (λ on. tt) (λ count below n is. below.published n (both-first published wanted n is));
+        mark = λ _. names-stays ttl (Lists nobody) nobody (λ on. tt) (λ count _. nobody-below count);
+        withdraws = names-stays ttl (Lists (both published wanted)) (both published wanted) (λ on. tt) (λ count below n is. below.published n (both-first published wanted n is));
         adds = requires-stays Hears o (noting fed) (requireds.All (either (required_at fed) wanted)) refl still;
-        publishes = λ _ confirmed. names-stays ttl settlings.KeepsList wanted (λ on. tt) (λ count below n is.
+        publishes = λ _ confirmed. names-stays ttl settlings.Stays wanted (λ on. tt) (λ count below n is.
             let reached = confirmed-reached (leader_view now fed.knows fed.machine) n (within-set wanted (confirmed_at now fed) confirmed n is) in
             below.connected n reached.end (subst (λ (r : Replication). slice_get r.connected n ≡ Some (Some reached.end)) behind.replication reached.is));
         drops = λ _. requires-stays Hears o fed (waiting_for fed.knows.settings (either published wanted)) refl still;
@@ -224,7 +224,7 @@ module _ (now : Ticks) (sequence : ℕ) (grant : Granted) (snapshot : SnapshotFa
         asks = rest x.knows refl;
         one = last-one o.knows.who.me.number o.knows.incarnation (with_output required b.outputs) outputs.Begin asking-none;
         sends = λ count below. All-push (IsSynchronousOutput count) (with_output required b.outputs) outputs.Begin (keeps-mode count (with_output required b.outputs) asking-none) tt;
-        form = Begins b.outputs list all (sym (append_assoc b.outputs (required ∷ []) (outputs.Begin ∷ [])));
+        form = Ordered b.outputs (Requires list) (outputs.Begin ∷ []) all (inr refl) (sym (append_assoc b.outputs (required ∷ []) (outputs.Begin ∷ [])));
         begins = λ _. subst (λ (server : ServerStatus). can_begin_on_claim server.was_primary server.state ≡ true) behind.server can;
       }
 

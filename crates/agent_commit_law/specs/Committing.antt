@@ -31,7 +31,7 @@ use Rattle.agent_model.specs.declared.heard.Heard.TheVariants as heards
 use Rattle.agent_model.specs.declared.knowledge.Knowledge.{Knowledge}
 use Rattle.agent_model.specs.declared.knowledge.Question.{Question}
 use Rattle.agent_model.specs.declared.knowledge.Question.TheVariants.{ComparingPositions, Creating, Renewing, Claiming, Syncing}
-use Rattle.agent_model.specs.declared.knowledge.Settling.TheVariants.{NamesStandbys, ClearsList}
+use Rattle.agent_model.specs.declared.knowledge.Settling.TheVariants.{Lists, Empties}
 use Rattle.agent_model.specs.declared.knowledge.SyncRead.{SyncRead}
 use Rattle.agent_model.specs.declared.knowledge.PendingQuestion.{PendingQuestion}
 use Rattle.agent_model.specs.declared.output.Output.{Output}
@@ -109,7 +109,7 @@ pub record HearsLease (s : State) (m : ℕ) (heard : Option ℕ) (sequence revis
 -- is asked for with
 abbrev pub IsAskedBy : Question → SyncKey → Type 0
 IsAskedBy Claiming key = (n : ℕ) → key.standbys n ≡ false
-IsAskedBy (Syncing (NamesStandbys standbys)) key = (n : ℕ) → key.standbys n ≡ set_members standbys n
+IsAskedBy (Syncing (Lists standbys)) key = (n : ℕ) → key.standbys n ≡ set_members standbys n
 IsAskedBy _ key = Unit {0}
 
 -- the message that it hears grants a write of the sync key of this number, which this question asked
@@ -147,7 +147,7 @@ abbrev pub FollowsSynchronousMode : Bool → Question → Type 0
 FollowsSynchronousMode on ComparingPositions = on ≡ true
 FollowsSynchronousMode on Creating = on ≡ true
 FollowsSynchronousMode on Renewing = on ≡ true
-FollowsSynchronousMode on (Syncing ClearsList) = ⊥
+FollowsSynchronousMode on (Syncing Empties) = ⊥
 FollowsSynchronousMode on _ = Unit {0}
 
 -- what an agent waits for it asked with the synchronous mode on
@@ -257,16 +257,32 @@ StandsAlone outputs.Begin = ⊥
 StandsAlone outputs.ClaimsOutsideSync = ⊥
 StandsAlone _ = Unit {0}
 
--- the form of an input's outputs, in their order: each may be an action of its own; or the law's input covers all up to a question, or up to
--- the note that the sync key doesn't name the member and its claim of that key, or up to whom commits wait for from now on, and that is the
--- last one, or the server begins behind it
+-- the last output that the law's input covers, behind those that it covers in any case: none, a question to the key store, or whom commits wait
+-- for from now on
+pub data Closing : Type 0 where
+  NoMore : Closing
+  Asks : (sequence : ℕ) → (body : Body) → Closing
+  Requires : (required : Required) → Closing
+
+-- it as a list
+abbrev pub closing_outputs : Closing → List Output
+closing_outputs NoMore = []
+closing_outputs (Asks sequence body) = outputs.Send targets.Store sequence body ∷ []
+closing_outputs (Requires required) = outputs.Require required ∷ []
+
+-- the table of orders: what may stand behind each. Outputs that may be actions of their own; nothing; nothing, or that the server begins
+abbrev pub MayStandBehind : Closing → List Output → Type 0
+MayStandBehind NoMore behind = All StandsAlone behind
+MayStandBehind (Asks sequence body) behind = behind ≡ []
+MayStandBehind (Requires required) behind = (behind ≡ []) ⊎ (behind ≡ outputs.Begin ∷ [])
+
+-- the form of an input's outputs: they stand in one of these orders; or the law's input covers all up to the note that the sync key doesn't name
+-- the member, and its claim of that key
 pub data HasForm (outs : List Output) : Type 0 where
-  Apart : (alone : All StandsAlone outs) → HasForm outs
-  Asks : (front : List Output) → (sequence : ℕ) → (body : Body) → (covered : All IsCovered front) → (whole : front ++ outputs.Send targets.Store sequence body ∷ [] ≡ outs) → HasForm outs
+  Ordered : (front : List Output) → (closing : Closing) → (behind : List Output) → (covered : All IsCovered front) → (order : MayStandBehind closing behind)
+      → (whole : front ++ (closing_outputs closing ++ behind) ≡ outs) → HasForm outs
   ClaimsOutsideSync : (front : List Output) → (sequence revision : ℕ) → (sync : Expected) → (covered : All IsCovered front)
       → (whole : front ++ outputs.ClaimsOutsideSync ∷ outputs.Send targets.Store sequence (bodies.Request (txns.Claim revision sync)) ∷ [] ≡ outs) → HasForm outs
-  Requires : (front : List Output) → (required : Required) → (covered : All IsCovered front) → (whole : front ++ outputs.Require required ∷ [] ≡ outs) → HasForm outs
-  Begins : (front : List Output) → (required : Required) → (covered : All IsCovered front) → (whole : front ++ outputs.Require required ∷ outputs.Begin ∷ [] ≡ outs) → HasForm outs
 
 -- the member takes the leader key though the sync key doesn't name it
 abbrev pub is_claim_outside_sync : Output → Bool

@@ -1,6 +1,6 @@
 -- All that an input of an agent brings is allowed actions: the law's input with what it covers, and what comes behind.
 use Rattle.std.proofs.Common.{ℕ, ◌≡◌, ◌≤◌, List, [], ◌∷◌, ◌++◌, append_assoc, append-nil, Option, Some, None, option_and_then, slice_get, All, refl, sym, ap, ◌∙◌, subst}
-use Rattle.std.proofs.lemmas.List.Elements.{All-cons, All-head, All-nil, All-push, All-tail, All-weaker}
+use Rattle.std.proofs.lemmas.List.Elements.{All-append, All-cons, All-head, All-nil, All-push, All-tail, All-weaker}
 use Rattle.pat_base.specs.declared.server_state.Required.{Required}
 use Rattle.pg_model.specs.Facts.{ServerFacts}
 use Rattle.event_book.specs.declared.event.Event.{Event}
@@ -38,7 +38,7 @@ use Rattle.commit_outputs.proofs.Covering.{IsCarried, carried, leave-both, own-b
 use Rattle.commit_inputs.proofs.Inputs.{front-aside, Acting, After, Before, Events, First, Open, Page, PageOf, Part, SendsInside, Theirs, carried-out, front-acted, front-fits, front-flight, front-leaves, front-live, front-lives, front-needs, front-own, front-servers, given-unless, grows-by, lawful-as, page-moves, table}
 use Rattle.commit_parts.proofs.Moving.{moves-then}
 use Rattle.commit_parts.specs.Moving.{Moves}
-use Rattle.commit_outputs.proofs.Page.{BeginsNone, PassesNone, RequiresNone, Sets, alone-begins, alone-passes, alone-requires, carried-begins, covered-passes, none-begins, none-passes, required-set, sets}
+use Rattle.commit_outputs.proofs.Page.{BeginsNone, PassesNone, RequiresNone, Sets, alone-begins, alone-passes, alone-requires, carried-begins, carried-requires, covered-passes, none-begins, none-passes, required-set, sets}
 use Rattle.pat_base.specs.declared.member_id.TheConstants.{MOST_MEMBERS}
 
 -- what comes of some, and then of others
@@ -58,6 +58,13 @@ all-front P xs ys outs is all = by xs (subst (λ (l : List Output). All P l) (sy
     by : (xs : List Output) → All P (xs ++ ys) → All P xs
     by [] all = All-nil P
     by (x ∷ xs) all = All-cons P x xs (All-head P x (xs ++ ys) all) (by xs (All-tail P x (xs ++ ys) all))
+
+pub all-back : (P : Output → Type 0) (xs ys outs : List Output) → xs ++ ys ≡ outs → All P outs → All P ys
+all-back P xs ys outs is all = by xs (subst (λ (l : List Output). All P l) (sym is) all)
+  where
+    by : (xs : List Output) → All P (xs ++ ys) → All P ys
+    by [] all = all
+    by (x ∷ xs) all = by xs (All-tail P x (xs ++ ys) all)
 
 -- ---- no request that the law knows
 pub alone-unasking : (output : Output) → StandsAlone output → IsUnasking output
@@ -119,18 +126,29 @@ module _ (head : HeadText) (book : List Event) (cluster : Cluster) (good : Commi
       sent = record { sent = sent-none M a.agent.knows.incarnation Outs unasking; inside = none-passes Outs inside };
     }
 
-  -- ---- each output is an action of its own
-  alone-page : All StandsAlone Outs → Of (Open head book cluster good a ∷ []) None
-  alone-page alone = front-page [] (All-nil IsCovered) (All-nil IsOfTable) (All-weaker StandsAlone IsUnasking alone-unasking Outs alone) (All-weaker StandsAlone RequiresNone alone-requires Outs alone) (All-weaker StandsAlone PassesNone alone-passes Outs alone)
+  -- ---- outputs that are actions of their own, behind what the law's input covers
+  pub page-then : (events : List Event) (behind : List Output) → PageOf head book cluster good a events None → All BeginsNone Outs → All IsOfTable behind → All StandsAlone behind → All AnswersNone behind
+      → events ++ each (Part head book cluster good a) (cluster_over cluster events) behind ≡ All_ → Moves Law P cluster All_
+  page-then events behind page begins of_table alone none whole =
+      subst (λ (l : List Event). Moves Law P cluster l) whole
+      (moves-then Law P cluster events (each (Part head book cluster good a) (cluster_over cluster events) behind)
+      (page-moves head book cluster good a events None page (none-begins Outs begins) (given-none page.sent))
+      (λ fits. alone-moves Law a.member a.message (past_over P events) (cluster_over cluster events) behind fits of_table alone none))
 
-  pub apart-moves : All StandsAlone Outs → All AnswersNone Outs → Moves Law P cluster All_
-  apart-moves alone none =
-      let page = alone-page alone in
-      let open_ : List Event = Open head book cluster good a ∷ [] in
-      let begins : All BeginsNone Outs = All-weaker StandsAlone BeginsNone alone-begins Outs alone in
-      moves-then Law P cluster open_ (each (Part head book cluster good a) (First head book cluster good a) Outs)
-      (page-moves head book cluster good a open_ None page (none-begins Outs begins) (given-none page.sent))
-      (λ fits. alone-moves Law a.member a.message (past_over P open_) (First head book cluster good a) Outs fits (table head book cluster good a) alone none)
+  -- behind none but those that it covers in any case
+  pub covered-moves : (front behind : List Output) → All IsCovered front → All StandsAlone behind → front ++ behind ≡ Outs → All AnswersNone Outs → Moves Law P cluster All_
+  covered-moves front behind covered alone whole none =
+      let of_table = all-front IsOfTable front behind Outs whole (table head book cluster good a) in
+      let kept : All IsCarried front = carried front covered in
+      let up : List Event = Page head book cluster good a front kept of_table in
+      let on : (X : Output → Type 0) → All X front → ((output : Output) → StandsAlone output → X output) → All X Outs =
+      λ X first rest. subst (λ (l : List Output). All X l) whole (All-append X front behind first (All-weaker StandsAlone X rest behind alone)) in
+      page-then up behind
+      (front-page front covered of_table (on IsUnasking (unasking front (covered-quiet front covered)) alone-unasking) (on RequiresNone (All-weaker IsCarried RequiresNone carried-requires front kept) alone-requires)
+      (on PassesNone (All-weaker IsCovered PassesNone covered-passes front covered) alone-passes))
+      (on BeginsNone (All-weaker IsCarried BeginsNone carried-begins front kept) alone-begins) (all-back IsOfTable front behind Outs whole (table head book cluster good a)) alone (all-back AnswersNone front behind Outs whole none)
+      (sym (ap (λ (l : List Output). Open head book cluster good a ∷ each (Part head book cluster good a) (First head book cluster good a) l) (sym whole)
+      ∙ ap (λ (l : List Event). Open head book cluster good a ∷ l) (each-both (Part head book cluster good a) (First head book cluster good a) front behind)))
 
   -- ---- whom commits wait for, last of all or before the server begins
   module _ (front : List Output) (required : Required) (behind : List Output) (covered : All IsCovered front) (whole : front ++ outputs.Require required ∷ behind ≡ Outs) (none : All RequiresNone behind) where
@@ -212,16 +230,22 @@ module _ (head : HeadText) (book : List Event) (cluster : Cluster) (good : Commi
   pub server-found : (s : ServerFacts) × (slice_get cluster.facts.servers M ≡ Some s) × (s.state ≡ a.machine.server.state)
   server-found = let found = found-of cluster a.member a.machine a.machine_is in (found.mirrors.server.server, found.mirrors.server.is, ap (λ (x : MachineSeen). x.state) found.mirrors.server.seen_is)
 
-  -- the required list is the last
-  pub requires-moves : (front : List Output) (required : Required) → All IsCovered front → front ++ outputs.Require required ∷ [] ≡ Outs → Moves Law P cluster All_
-  requires-moves front required covered whole =
-      let of_table = all-front IsOfTable front (outputs.Require required ∷ []) Outs whole (table head book cluster good a) in
-      let unasked_all : All IsUnasking Outs = subst (λ (l : List Output). All IsUnasking l) whole (All-push IsUnasking front (outputs.Require required) (unasking front (covered-quiet front covered)) tt) in
-      let begins : All BeginsNone Outs = subst (λ (l : List Output). All BeginsNone l) whole (All-push BeginsNone front (outputs.Require required) (All-weaker IsCarried BeginsNone carried-begins front (carried front covered)) tt) in
-      let inside : All PassesNone Outs = subst (λ (l : List Output). All PassesNone l) whole (All-push PassesNone front (outputs.Require required) (All-weaker IsCovered PassesNone covered-passes front covered) tt) in
-      let sent : SendsInside head book cluster good a None = record { sent = sent-none M a.agent.knows.incarnation Outs unasked_all; inside = none-passes Outs inside } in
-      let up : List Event = Page head book cluster good a front (carried front covered) of_table in
+  -- behind whom commits wait for
+  pub requires-moves : (front : List Output) (required : Required) (behind : List Output) → All IsCovered front → All StandsAlone behind → front ++ outputs.Require required ∷ behind ≡ Outs → All AnswersNone Outs → Moves Law P cluster All_
+  requires-moves front required behind covered alone whole none =
+      let last : List Output = outputs.Require required ∷ behind in
+      let of_table = all-front IsOfTable front last Outs whole (table head book cluster good a) in
+      let kept : All IsCarried front = carried front covered in
+      let on : (X : Output → Type 0) → All X front → X (outputs.Require required) → ((output : Output) → StandsAlone output → X output) → All X Outs =
+      λ X first here rest. subst (λ (l : List Output). All X l) whole (All-append X front last first (All-cons X (outputs.Require required) behind here (All-weaker StandsAlone X rest behind alone))) in
+      let sent : SendsInside head book cluster good a None = record {
+        sent = sent-none M a.agent.knows.incarnation Outs (on IsUnasking (unasking front (covered-quiet front covered)) tt alone-unasking);
+        inside = none-passes Outs (on PassesNone (All-weaker IsCovered PassesNone covered-passes front covered) tt alone-passes);
+      } in
+      let up : List Event = Page head book cluster good a front kept of_table in
       let set : List Event = Part head book cluster good a (cluster_over cluster up) (outputs.Require required) in
-      let page : Of (up ++ set) None = required-page front required [] covered whole (All-nil RequiresNone) sent server-found.0 server-found.1 in
-      subst (λ (l : List Event). Moves Law P cluster l) (sym (append-nil (up ++ set)) ∙ sym (requires-whole front [] required covered of_table whole))
-      (page-moves head book cluster good a (up ++ set) None page (none-begins Outs begins) (given-none page.sent))
+      page-then (up ++ set) behind (required-page front required behind covered whole (All-weaker StandsAlone RequiresNone alone-requires behind alone) sent server-found.0 server-found.1)
+      (on BeginsNone (All-weaker IsCarried BeginsNone carried-begins front kept) tt alone-begins)
+      (All-tail IsOfTable (outputs.Require required) behind (all-back IsOfTable front last Outs whole (table head book cluster good a))) alone
+      (All-tail AnswersNone (outputs.Require required) behind (all-back AnswersNone front last Outs whole none))
+      (ap (λ (c : Cluster). (up ++ set) ++ each (Part head book cluster good a) c behind) (over-append cluster up set) ∙ sym (requires-whole front behind required covered of_table whole))

@@ -1,5 +1,5 @@
 -- What an agent that acts brings upholds commits.
-use Rattle.std.proofs.Common.{ℕ, ◌≡◌, ◌≤◌, ◌++◌, List, [], ◌∷◌, Option, Some, All, Contains, option_map, slice_get, refl, sym, ap, ◌∙◌, subst, arith, false, append_assoc, true}
+use Rattle.std.proofs.Common.{ℕ, ◌≡◌, ◌≤◌, ◌++◌, List, [], ◌∷◌, Option, Some, All, Contains, option_map, slice_get, refl, sym, ap, ◌∙◌, subst, arith, false, append_assoc, true, inl, inr}
 use Rattle.std.proofs.lemmas.List.Elements.{All-append, All-cons, All-contains, All-nil, All-weaker, All-push}
 use Rattle.event_book.specs.declared.event.AgentEvent.TheVariants as agents
 use Rattle.event_book.specs.declared.event.Event.{Event}
@@ -11,6 +11,7 @@ use Rattle.event_book.specs.declared.member.Member.{Member}
 use Rattle.event_book.specs.declared.message.Body.{Body}
 use Rattle.event_book.specs.declared.message.Body.TheVariants as bodies
 use Rattle.event_book.specs.declared.message.Message.{Message}
+use Rattle.pat_base.specs.declared.server_state.Required.{Required}
 use Rattle.pat_base.specs.Changes.{with_changed}
 use Rattle.pat_base.specs.declared.member_id.MemberId.{MemberId}
 use Rattle.pat_base.specs.declared.peer_answer.PeerAnswer.{PeerAnswer}
@@ -27,7 +28,7 @@ use Rattle.agent_model.specs.declared.output.Output.{Output}
 use Rattle.agent_model.specs.declared.output.Output.TheVariants as outputs
 use Rattle.agent_model.specs.declared.output.Target.TheVariants as targets
 use Rattle.agent_model.specs.Agents.{AgentFacts}
-use Rattle.agent_commit_law.specs.Committing.{Apart, Asks as AsksLast, Begins, HasForm, IsCovered, ClaimsOutsideSync, StandsAlone, IsSynchronousBody, IsSynchronousOutput, KnowsBelow, Requires, committer_seen, is_claim_outside_sync}
+use Rattle.agent_commit_law.specs.Committing.{Asks as AsksLast, HasForm, IsCovered, NoMore, Ordered, ClaimsOutsideSync, StandsAlone, IsSynchronousBody, IsSynchronousOutput, KnowsBelow, Requires, committer_seen, is_claim_outside_sync}
 use Rattle.agent_answers.specs.Replies.{RepliesTo}
 use Rattle.agent_commit_law.proofs.CommitInputs.{given-by-lease}
 use Rattle.agent_commit_law.proofs.CommitQuiet.{IsUnasking}
@@ -70,7 +71,7 @@ use Rattle.commit_parts.specs.Reading.{agent_now, past_of, setup_of, state_of_ru
 use Rattle.commit_outputs.specs.Answering.{AnswersNone}
 use Rattle.commit_inputs.proofs.Arming.{arms-alone}
 use Rattle.commit_inputs.proofs.Asking.{agents-behind}
-use Rattle.commit_inputs.proofs.Bringing.{Lawful, alone-unasking, apart-moves, requires-moves}
+use Rattle.commit_inputs.proofs.Bringing.{Lawful, alone-unasking, covered-moves, requires-moves}
 use Rattle.commit_inputs.proofs.BringingAnswers.{answers-moves, unasking-all}
 use Rattle.commit_inputs.proofs.BringingAsks.{Sends, asks-aside, asks-leave, asks-moves, asks-ordered, page, inside-ordered}
 use Rattle.commit_inputs.proofs.BringingBegins.{begins-moves}
@@ -278,26 +279,23 @@ module _ (head : HeadText) (book : List Event) (cluster : Cluster) (good : Commi
   upheld-by-moves kept ordered moves = upheld-moves head book cluster All_ good moves kept causal asks ordered
       (agents-behind head book cluster good a.member a.agent a.machine (found-of cluster a.member a.machine a.machine_is) a.here a.heard a.number a.message a.opening a.opening_is a.numbered a.low a.acts (stays-on head book cluster good a).asks)
 
-  form-upheld : IsKept head book cluster All_ → All AnswersNone Outs → HasForm Outs → Upholds (kept_commits head) book cluster All_
-  form-upheld kept none (Apart alone) =
-      upheld-by-moves kept (ordered-by (All-weaker IsUnasking AsksQuietly unasking-quietly Outs (All-weaker StandsAlone IsUnasking alone-unasking Outs alone))) (apart-moves head book cluster good few a alone none)
-  form-upheld kept none (Requires front required covered whole) =
-      upheld-by-moves kept (ordered-by (quietly-up-to front (outputs.Require required ∷ []) covered (All-cons AsksQuietly (outputs.Require required) [] tt (All-nil AsksQuietly)) whole))
-      (requires-moves head book cluster good few a front required covered whole)
-  form-upheld kept none (Begins front required covered whole) =
+  alone-quietly : (outs : List Output) → All StandsAlone outs → All AsksQuietly outs
+  alone-quietly outs alone = All-weaker IsUnasking AsksQuietly unasking-quietly outs (All-weaker StandsAlone IsUnasking alone-unasking outs alone)
+
+  requires-upheld : IsKept head book cluster All_ → All AnswersNone Outs → (front : List Output) (required : Required) (behind : List Output) → All IsCovered front → All StandsAlone behind → front ++ outputs.Require required ∷ behind ≡ Outs
+      → Upholds (kept_commits head) book cluster All_
+  requires-upheld kept none front required behind covered alone whole =
+      upheld-by-moves kept (ordered-by (quietly-up-to front (outputs.Require required ∷ behind) covered (All-cons AsksQuietly (outputs.Require required) behind tt (alone-quietly behind alone)) whole))
+      (requires-moves head book cluster good few a front required behind covered alone whole none)
+
+  begins-upheld : IsKept head book cluster All_ → (front : List Output) (required : Required) → All IsCovered front → front ++ outputs.Require required ∷ outputs.Begin ∷ [] ≡ Outs → Upholds (kept_commits head) book cluster All_
+  begins-upheld kept front required covered whole =
       upheld-by-moves kept
       (ordered-by (quietly-up-to front (outputs.Require required ∷ outputs.Begin ∷ []) covered (All-cons AsksQuietly (outputs.Require required) (outputs.Begin ∷ []) tt (All-cons AsksQuietly outputs.Begin [] tt (All-nil AsksQuietly))) whole))
       (begins-moves head book cluster good few a front required covered whole)
-  form-upheld kept none (ClaimsOutsideSync front sequence revision sync covered whole) =
-      let claim : Body = bodies.Request (txns.Claim revision sync) in
-      let noted : List Output = front ++ outputs.ClaimsOutsideSync ∷ [] in
-      let all : All IsCarried noted = All-push IsCarried front outputs.ClaimsOutsideSync (carried front covered) tt in
-      let upto : noted ++ outputs.Send targets.Store sequence claim ∷ [] ≡ Outs = append_assoc front (outputs.ClaimsOutsideSync ∷ []) (outputs.Send targets.Store sequence claim ∷ []) ∙ whole in
-      upheld-aside head book cluster All_ good (asks-leave head book cluster good few a noted sequence claim all upto) (asks-aside head book cluster good few a noted sequence claim all upto)
-      (asks-ordered head book cluster good few a noted sequence claim all upto tt)
-      (λ meets. absurd (passing-breaks a.member a.message (First head book cluster good a) front (outputs.Send targets.Store sequence claim ∷ [])
-      (subst (λ (l : List Output). KeepMode true (each (Part head book cluster good a) (First head book cluster good a) l)) (sym whole) (mode-back book All_ meets.mode).1)))
-  form-upheld kept none (AsksLast front sequence body covered whole) =
+
+  asks-upheld : IsKept head book cluster All_ → (front : List Output) (sequence : ℕ) (body : Body) → All IsCovered front → front ++ outputs.Send targets.Store sequence body ∷ [] ≡ Outs → Upholds (kept_commits head) book cluster All_
+  asks-upheld kept front sequence body covered whole =
       let all : All IsCarried front = carried front covered in
       let passes-none : All PassesNone (front ++ outputs.Send targets.Store sequence body ∷ []) = All-push PassesNone front (outputs.Send targets.Store sequence body) (All-weaker IsCovered PassesNone covered-passes front covered) tt in
       let inside : has_one is_claim_outside_sync Outs ≡ false = none-passes Outs (subst (λ (l : List Output). All PassesNone l) whole passes-none) in
@@ -308,6 +306,26 @@ module _ (head : HeadText) (book : List Event) (cluster : Cluster) (good : Commi
       (λ meets. upheld-by-moves kept ordered (asks-moves head book cluster good few a front sequence body all whole inside
       (given-by-lease (moment_of cluster) a.heard (Before head book cluster good a) (state_of_run head book cluster) M (Theirs head book cluster good a sends) lawful.lawful.was lawful.lawful.does lawful.does
       (λ revision arms down ready. arms-alone head book cluster good a meets.timely revision arms down ready))))
+
+  -- the table of orders, row by row
+  form-upheld : IsKept head book cluster All_ → All AnswersNone Outs → HasForm Outs → Upholds (kept_commits head) book cluster All_
+  form-upheld kept none (Ordered front NoMore behind covered alone whole) =
+      upheld-by-moves kept (ordered-by (quietly-up-to front behind covered (alone-quietly behind alone) whole)) (covered-moves head book cluster good few a front behind covered alone whole none)
+  form-upheld kept none (Ordered front (Requires required) behind covered (inl last) whole) =
+      requires-upheld kept none front required [] covered (All-nil StandsAlone) (subst (λ (l : List Output). front ++ outputs.Require required ∷ l ≡ Outs) last whole)
+  form-upheld kept none (Ordered front (Requires required) behind covered (inr begins) whole) =
+      begins-upheld kept front required covered (subst (λ (l : List Output). front ++ outputs.Require required ∷ l ≡ Outs) begins whole)
+  form-upheld kept none (Ordered front (AsksLast sequence body) behind covered last whole) =
+      asks-upheld kept front sequence body covered (subst (λ (l : List Output). front ++ outputs.Send targets.Store sequence body ∷ l ≡ Outs) last whole)
+  form-upheld kept none (ClaimsOutsideSync front sequence revision sync covered whole) =
+      let claim : Body = bodies.Request (txns.Claim revision sync) in
+      let noted : List Output = front ++ outputs.ClaimsOutsideSync ∷ [] in
+      let all : All IsCarried noted = All-push IsCarried front outputs.ClaimsOutsideSync (carried front covered) tt in
+      let upto : noted ++ outputs.Send targets.Store sequence claim ∷ [] ≡ Outs = append_assoc front (outputs.ClaimsOutsideSync ∷ []) (outputs.Send targets.Store sequence claim ∷ []) ∙ whole in
+      upheld-aside head book cluster All_ good (asks-leave head book cluster good few a noted sequence claim all upto) (asks-aside head book cluster good few a noted sequence claim all upto)
+      (asks-ordered head book cluster good few a noted sequence claim all upto tt)
+      (λ meets. absurd (passing-breaks a.member a.message (First head book cluster good a) front (outputs.Send targets.Store sequence claim ∷ [])
+      (subst (λ (l : List Output). KeepMode true (each (Part head book cluster good a) (First head book cluster good a) l)) (sym whole) (mode-back book All_ meets.mode).1)))
 
   other-upheld : ((from : MemberId) (incarnation sequence : ℕ) → a.heard ≡ heards.Asked from incarnation sequence → ⊥) → IsKept head book cluster All_ → Upholds (kept_commits head) book cluster All_
   other-upheld other kept = form-upheld kept
