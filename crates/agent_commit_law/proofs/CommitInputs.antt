@@ -30,7 +30,7 @@ use Rattle.agent_model.specs.declared.knowledge.Question.{Question}
 use Rattle.agent_model.specs.declared.knowledge.Question.TheVariants.{Syncing}
 use Rattle.agent_model.specs.declared.knowledge.Settling.{Settling}
 use Rattle.agent_model.specs.declared.knowledge.Settling.TheVariants as settlings
-use Rattle.agent_model.specs.declared.knowledge.Settling.TheVariants.{Lists}
+use Rattle.agent_model.specs.declared.knowledge.Settling.TheVariants.{NamesStandbys}
 use Rattle.agent_model.specs.declared.knowledge.PendingQuestion.{PendingQuestion}
 use Rattle.agent_model.specs.declared.machine.Machine.{Machine}
 use Rattle.agent_model.specs.declared.machine.Replication.{Replication}
@@ -160,10 +160,10 @@ module _ (now : Ticks) (sequence : ℕ) (grant : Granted) (snapshot : SnapshotFa
       let still : All IsCovered fed.outputs = all-fed IsCovered b.outputs all (deadline_after now ttl b.machine.watchdog) (λ until. tt) in
       let published : MemberSet = published_in snapshot in let wanted : MemberSet = wanted_at now snapshot fed in record {
         kept = quiet-stays Hears o fed (rest fed.knows refl) (covered fed.outputs still);
-        mark = λ _. names-stays ttl (Lists nobody) nobody (λ on. tt) (λ count _. nobody-below count);
-        withdraws = names-stays ttl (Lists (both published wanted)) (both published wanted) (λ on. tt) (λ count below n is. below.published n (both-first published wanted n is));
+        mark = λ _. names-stays ttl (NamesStandbys nobody) nobody (λ on. tt) (λ count _. nobody-below count);
+        withdraws = names-stays ttl (NamesStandbys (both published wanted)) (both published wanted) (λ on. tt) (λ count below n is. below.published n (both-first published wanted n is));
         adds = requires-stays Hears o (noting fed) (requireds.All (either (required_at fed) wanted)) refl still;
-        publishes = λ _ confirmed. names-stays ttl settlings.Stays wanted (λ on. tt) (λ count below n is.
+        publishes = λ _ confirmed. names-stays ttl settlings.KeepsList wanted (λ on. tt) (λ count below n is.
             let reached = confirmed-reached (leader_view now fed.knows fed.machine) n (within-set wanted (confirmed_at now fed) confirmed n is) in
             below.connected n reached.end (subst (λ (r : Replication). slice_get r.connected n ≡ Some (Some reached.end)) behind.replication reached.is));
         drops = λ _. requires-stays Hears o fed (waiting_for fed.knows.settings (either published wanted)) refl still;

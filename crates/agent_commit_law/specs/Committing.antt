@@ -31,7 +31,7 @@ use Rattle.agent_model.specs.declared.heard.Heard.TheVariants as heards
 use Rattle.agent_model.specs.declared.knowledge.Knowledge.{Knowledge}
 use Rattle.agent_model.specs.declared.knowledge.Question.{Question}
 use Rattle.agent_model.specs.declared.knowledge.Question.TheVariants.{ComparingPositions, Creating, Renewing, Claiming, Syncing}
-use Rattle.agent_model.specs.declared.knowledge.Settling.TheVariants.{Lists, Empties}
+use Rattle.agent_model.specs.declared.knowledge.Settling.TheVariants.{NamesStandbys, ClearsList}
 use Rattle.agent_model.specs.declared.knowledge.SyncRead.{SyncRead}
 use Rattle.agent_model.specs.declared.knowledge.PendingQuestion.{PendingQuestion}
 use Rattle.agent_model.specs.declared.output.Output.{Output}
@@ -109,7 +109,7 @@ pub record HearsLease (s : State) (m : ℕ) (heard : Option ℕ) (sequence revis
 -- is asked for with
 abbrev pub IsAskedBy : Question → SyncKey → Type 0
 IsAskedBy Claiming key = (n : ℕ) → key.standbys n ≡ false
-IsAskedBy (Syncing (Lists standbys)) key = (n : ℕ) → key.standbys n ≡ set_members standbys n
+IsAskedBy (Syncing (NamesStandbys standbys)) key = (n : ℕ) → key.standbys n ≡ set_members standbys n
 IsAskedBy _ key = Unit {0}
 
 -- the message that it hears grants a write of the sync key of this number, which this question asked
@@ -147,7 +147,7 @@ abbrev pub FollowsSynchronousMode : Bool → Question → Type 0
 FollowsSynchronousMode on ComparingPositions = on ≡ true
 FollowsSynchronousMode on Creating = on ≡ true
 FollowsSynchronousMode on Renewing = on ≡ true
-FollowsSynchronousMode on (Syncing Empties) = ⊥
+FollowsSynchronousMode on (Syncing ClearsList) = ⊥
 FollowsSynchronousMode on _ = Unit {0}
 
 -- what an agent waits for it asked with the synchronous mode on
