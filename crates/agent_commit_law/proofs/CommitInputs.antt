@@ -165,7 +165,7 @@ module _ (now : Ticks) (sequence : ℕ) (grant : Granted) (snapshot : SnapshotFa
         adds = requires-stays Hears o (noting fed) (requireds.All (either (required_at fed) wanted)) refl still;
         publishes = λ _ confirmed. names-stays ttl settlings.KeepsList wanted (λ on. tt) (λ count below n is.
             let reached = confirmed-reached (leader_view now fed.knows fed.machine) n (within-set wanted (confirmed_at now fed) confirmed n is) in
-            below.connected n reached.end (subst (λ (r : Replication). slice_get r.connected n ≡ Some (Some reached.end)) behind.replication reached.is));
+            below.connected n reached.end (subst (λ (r : Replication). slice_get r.confirmed_positions n ≡ Some (Some reached.end)) behind.replication reached.is));
         drops = λ _. requires-stays Hears o fed (waiting_for fed.knows.settings (either published wanted)) refl still;
       }
 

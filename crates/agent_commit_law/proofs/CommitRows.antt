@@ -189,7 +189,7 @@ required-before : (o b : Outcome) → IsBehind o b → set_members (required_at 
 required-before o b behind = ap (λ (r : Replication). set_members (required_members r.required)) behind.replication
 
 reached-before : (o b : Outcome) (n : ℕ) → IsBehind o b → HasReached b.machine.replication.confirmed_positions (noted_position b.knows.noted) n → HasReached o.machine.replication.confirmed_positions (noted_position o.knows.noted) n
-reached-before o b n behind reached = subst (λ (r : Replication). HasReached r.connected (noted_position o.knows.noted) n) behind.replication
+reached-before o b n behind reached = subst (λ (r : Replication). HasReached r.confirmed_positions (noted_position o.knows.noted) n) behind.replication
     (subst (λ (l : Option Lsn). HasReached b.machine.replication.confirmed_positions (noted_position l) n) behind.idle.noted reached)
 
 -- a leader's step with its standbys
@@ -219,7 +219,7 @@ plan-lawful now ttl sequence grant snapshot s m input o b ground leased leads =
           }) (λ n e. either-first (required_at b) wanted n (subst (λ (f : ℕ → Bool). f n ≡ true) (sym (required-before o b behind)) (led.covers n e)))
           (λ n e. elim (either-one (required_at b) wanted n e) [
             | inl before-it ↦ inl (subst (λ (confirmers : Confirmers). ListsMember confirmers n) (sym ground.stands.required) (required-needs o.machine.replication.required n (subst (λ (f : ℕ → Bool). f n ≡ true) (required-before o b behind) before-it)))
-            | inr new ↦ let there = wanted-connected (leader_view now fed.knows fed.machine) snapshot n new in inr (there.0, subst (λ (r : Replication). slice_get r.connected n ≡ Some (Some there.0)) behind.replication there.1)
+            | inr new ↦ let there = wanted-connected (leader_view now fed.knows fed.machine) snapshot n new in inr (there.0, subst (λ (r : Replication). slice_get r.confirmed_positions n ≡ Some (Some there.0)) behind.replication there.1)
           ]);
       publishes = λ covered confirmed. publishes-lawful now ttl sequence grant snapshot s m input o b ground leased led leads KeepsList wanted (within covered)
           (λ n e. inr (reached-before o b n behind (confirmed-reached (leader_view now fed.knows fed.machine) n (within-set wanted (confirmed_at now fed) confirmed n e))));

@@ -12,7 +12,7 @@ use crate::operators::{
 };
 use crate::peers::{answered, asked};
 use crate::reconciling::reconcile;
-use crate::snapshots::got;
+use crate::snapshots::read_answered;
 use crate::wake::wake;
 use agent_model::Heard;
 use agent_turn::{Role, Turn};
@@ -31,7 +31,7 @@ pub fn take_input(role: Role, turn: &mut Turn, heard: Heard, history: &History) 
         Heard::ReadAnswered { sequence, snapshot } => {
             let role = reconcile(role, turn);
             look(&role, turn, sequence, &snapshot);
-            got(role, turn, history, sequence, snapshot)
+            read_answered(role, turn, history, sequence, snapshot)
         }
         Heard::Granted {
             sequence,

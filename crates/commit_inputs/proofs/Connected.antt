@@ -52,7 +52,7 @@ module _ (head : HeadText) (book : List Event) (cluster : Cluster) (good : Commi
   connected-by receives None is n end e = absurd (none-some machine is)
   connected-by receives (Some s) is n end e =
       let made_is = made-of receives (replication_of cluster.facts.members cluster.facts.servers cluster.facts.cuts member s) (slice_get cluster.options member.id.number) (slice_get cluster.facts.deadlines member.id.number) (slice_get cluster.facts.holds member.id.number) s machine is in
-      within-if cluster.facts.members cluster.facts.servers cluster.facts.cuts member s (writes s.state) n end (ap (λ (r : Replication). slice_get r.connected n) (sym made_is.replication_is) ∙ e)
+      within-if cluster.facts.members cluster.facts.servers cluster.facts.cuts member s (writes s.state) n end (ap (λ (r : Replication). slice_get r.confirmed_positions n) (sym made_is.replication_is) ∙ e)
 
   pub connected-member : (n : ℕ) (end : Lsn) → slice_get machine.replication.confirmed_positions n ≡ Some (Some end) → n < member_count head
   connected-member n end e = subst (λ (k : ℕ). n < k) count-is (connected-by _ (slice_get cluster.facts.servers member.id.number) machine_is n end e)

@@ -108,7 +108,7 @@ module _ (head : HeadText) (book : List Event) (cluster : Cluster) (good : Commi
         end = subst (λ (e : Option Lsn). IsEndOf e (log_found (slice_get past.logs k))) (sym made_is.end) (subst (λ (l : Option (List Entry)). IsEndOf (end_in s.log) l) (sym log) (end-is s.log sound.end));
         has_log = λ with_data. subst HasLog (sym log) (sound.log (ap has_data (sym made_is.state) ∙ with_data));
         connected = λ n end is.
-            let at = connected-end cluster.facts.members cluster.facts.servers cluster.facts.cuts member s (writes s.state) n end (ap (λ (r : Replication). slice_get r.connected n) (sym made_is.replication_is) ∙ is) in
+            let at = connected-end cluster.facts.members cluster.facts.servers cluster.facts.cuts member s (writes s.state) n end (ap (λ (r : Replication). slice_get r.confirmed_positions n) (sym made_is.replication_is) ∙ is) in
             record {
               writes = writes-at past cluster.facts same k s found ∙ at.0;
               confirmed = ap (λ (o : Option (List (Option Lsn))). position_of o n) (confirmed-at past cluster.facts same k s found) ∙ known-position s.confirmed n end at.1;
