@@ -23,7 +23,7 @@ use Rattle.commit_actions.specs.Past.{Past, Setup, VolatileState, confirmers_in,
 use Rattle.commit_actions.proofs.Counting.{none-of}
 use Rattle.commit_book.proofs.Fronts.{kept-after}
 use Rattle.commit_book.specs.Changes.{AllLeaveOrder, ChangeOrderOnce, LeavesOrder}
-use Rattle.commit_book.specs.Order.{AreInOrder, Awaits, IsInOrder, NamesMembers}
+use Rattle.commit_book.specs.Order.{AreOverlapping, Awaits, IsInOrder, IsOverlapping, NamesMembers}
 
 -- ---- between two actions
 -- whom commits wait for has a list that covers standbys: they wait for each
@@ -45,14 +45,23 @@ pub awaits : (member_count quorum : ℕ) (standbys : ℕ → Bool) (standby : �
 awaits member_count quorum standbys standby None none small is overlaps = absurd (none-counted member_count quorum standbys standby none small is overlaps)
 awaits member_count quorum standbys standby (Some required) none small is overlaps = confirmers-awaits member_count quorum standbys standby required none small is overlaps
 
-pub order-now : (setup : Setup) (past : Past) (volatile_states : ℕ → VolatileState) → IsSound (state_of setup past volatile_states) → NamesMembers setup.member_count past.sync → IsInOrder past
-order-now setup past volatile_states sound members = record {
+pub overlaps-now : (setup : Setup) (past : Past) (volatile_states : ℕ → VolatileState) → IsSound (state_of setup past volatile_states) → IsOverlapping setup.member_count past
+overlaps-now setup past volatile_states sound = record {
   led = λ server writes. sound.servers.led server (sound.servers.lives server writes);
+  overlaps = λ server key writes is. sound.servers.overlaps server key (sound.servers.lives server writes) is;
+}
+
+-- where no standby may lack a commit
+pub strict-order : (member_count : ℕ) (past : Past) → IsOverlapping member_count past → NamesMembers member_count past.sync → IsInOrder past
+strict-order member_count past overlapping members = record {
+  led = overlapping.led;
   awaited = λ server key writes is standby named.
       let strict = members key is in
-      awaits setup.member_count key.quorum key.standbys standby (slice_get past.required server) strict.quorum (strict.members standby named) named
-      (sound.servers.overlaps server key (sound.servers.lives server writes) is);
+      awaits member_count key.quorum key.standbys standby (slice_get past.required server) strict.quorum (strict.members standby named) named (overlapping.overlaps server key writes is);
 }
+
+pub order-now : (setup : Setup) (past : Past) (volatile_states : ℕ → VolatileState) → IsSound (state_of setup past volatile_states) → NamesMembers setup.member_count past.sync → IsInOrder past
+order-now setup past volatile_states sound members = strict-order setup.member_count past (overlaps-now setup past volatile_states sound) members
 
 -- ---- inside one
 -- what the order reads of a past
@@ -124,21 +133,25 @@ either past (x ∷ front) back (y ∷ events) e (inr aside) =
     inr (all-aside (past_after past x.kind) front (aside-front front back events (tail-is x y (front ++ back) events e) aside)
     ∙ ap (λ (z : Event). seen_of (past_after past z.kind)) head ∙ sym (all-aside (past_after past y.kind) events aside))
 
-abbrev Ordered : Seen → Type 0
-Ordered seen = AreInOrder seen.writes seen.required seen.sync
-
-sync-same : (a b : Past) → seen_of a ≡ seen_of b → a.sync ≡ b.sync
-sync-same a b e = ap (λ (s : Seen). s.sync) e
+abbrev Overlapping : ℕ → Seen → Type 0
+Overlapping member_count seen = AreOverlapping member_count seen.writes seen.required seen.sync
 
 -- as at one end of it
+overlaps-as : (setup : Setup) (past end : Past) (volatile_states : ℕ → VolatileState) → seen_of past ≡ seen_of end → IsSound (state_of setup end volatile_states) → IsOverlapping setup.member_count past
+overlaps-as setup past end volatile_states same sound = subst (Overlapping setup.member_count) (sym same) (overlaps-now setup end volatile_states sound)
+
 pub order-as : (setup : Setup) (past end : Past) (volatile_states : ℕ → VolatileState) → seen_of past ≡ seen_of end → IsSound (state_of setup end volatile_states) → NamesMembers setup.member_count past.sync → IsInOrder past
-order-as setup past end volatile_states same sound members =
-    subst Ordered (sym same) (order-now setup end volatile_states sound (subst (λ (o : Option SyncKey). NamesMembers setup.member_count o) (sync-same past end same) members))
+order-as setup past end volatile_states same sound members = strict-order setup.member_count past (overlaps-as setup past end volatile_states same sound) members
+
+pub overlaps-inside : (setup : Setup) (past : Past) (volatile_states : ℕ → VolatileState) (transition : Transition) (front back : List Event) → IsSound (state_of setup past volatile_states) → IsAllowed (state_of setup past volatile_states) transition.action
+    → IsShown setup past volatile_states transition → ChangeOrderOnce transition.events → front ++ back ≡ transition.events → IsOverlapping setup.member_count (past_over past front)
+overlaps-inside setup past volatile_states transition front back sound allowed shown once e =
+    elim (either past front back transition.events e once) [
+      | inl same ↦ overlaps-as setup (past_over past front) past volatile_states same sound
+      | inr same ↦ overlaps-as setup (past_over past front) (past_over past transition.events) transition.volatile_states same (kept-after setup past volatile_states transition sound allowed shown)
+    ]
 
 pub order-inside : (setup : Setup) (past : Past) (volatile_states : ℕ → VolatileState) (transition : Transition) (front back : List Event) → IsSound (state_of setup past volatile_states) → IsAllowed (state_of setup past volatile_states) transition.action
     → IsShown setup past volatile_states transition → ChangeOrderOnce transition.events → front ++ back ≡ transition.events → NamesMembers setup.member_count (past_over past front).sync → IsInOrder (past_over past front)
 order-inside setup past volatile_states transition front back sound allowed shown once e members =
-    elim (either past front back transition.events e once) [
-      | inl same ↦ order-as setup (past_over past front) past volatile_states same sound members
-      | inr same ↦ order-as setup (past_over past front) (past_over past transition.events) transition.volatile_states same (kept-after setup past volatile_states transition sound allowed shown) members
-    ]
+    strict-order setup.member_count (past_over past front) (overlaps-inside setup past volatile_states transition front back sound allowed shown once e) members

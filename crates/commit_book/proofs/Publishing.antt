@@ -9,10 +9,10 @@ use Rattle.commit_actions.specs.Inputs.{AgentInput, Does, HasConfirmed, IsLawful
 use Rattle.commit_actions.specs.Keys.{Confirmers, MayPublish, Added, Counted, Confirmed, Meets, Overlaps, SyncKey, count}
 use Rattle.commit_actions.specs.Past.{Past, Setup, VolatileState, confirmers_in, confirmers_of, position_of, state_of}
 use Rattle.commit_actions.specs.States.{Reaches, State}
-use Rattle.commit_actions.proofs.Counting.{none-of}
+use Rattle.commit_actions.proofs.Counting.{meets-sub, none-of}
 use Rattle.commit_law.specs.Noted.{AreNoted}
-use Rattle.commit_book.specs.Order.{Awaits, NamesMembers}
-use Rattle.commit_book.specs.Requests.{PublishesInOrder}
+use Rattle.commit_book.specs.Order.{Awaits}
+use Rattle.commit_book.specs.Requests.{MayBePublished, PublishesInOrder}
 use Rattle.commit_book.proofs.Inside.{awaits}
 
 -- ---- each standby that it adds has confirmed
@@ -46,14 +46,20 @@ added-has member_count quorum old new required X standby (Added each fewer) smal
 added-has member_count quorum old new required X standby (Counted sum) small is added awaited = absurd (none-added member_count quorum new old standby small is added sum)
 added-has member_count quorum old new required X standby (Confirmed met) small is added awaited = meets-one member_count required X standby awaited met
 
+publish-sub : (member_count old_quorum quorum : ℕ) (old new : ℕ → Bool) (confirmers : Confirmers) (X Y : ℕ → Type 0) → ((n : ℕ) → X n → Y n)
+    → MayPublish member_count old old_quorum new quorum confirmers X → MayPublish member_count old old_quorum new quorum confirmers Y
+publish-sub member_count old_quorum quorum old new confirmers X Y sub (Added each fewer) = Added (λ m is. elim (each m is) [ inl there ↦ inl there | inr has ↦ inr (sub m has) ]) fewer
+publish-sub member_count old_quorum quorum old new confirmers X Y sub (Counted sum) = Counted sum
+publish-sub member_count old_quorum quorum old new confirmers X Y sub (Confirmed met) = Confirmed (meets-sub member_count confirmers X Y sub met)
+
 reaches-less : (less more : ℕ) (position : Option ℕ) → less ≤ more → Reaches more position → Reaches less position
 reaches-less less more None below reaches = reaches
 reaches-less less more (Some end) below reaches = omega (arith, below, reaches)
 
 -- ---- which input it is
-module _ (setup : Setup) (past : Past) (volatile_states : ℕ → VolatileState) (leader : ℕ) (input : AgentInput) (sending : Sending) (standbys : ℕ → Bool)
+module _ (setup : Setup) (past : Past) (volatile_states : ℕ → VolatileState) (leader : ℕ) (input : AgentInput) (sending : Sending) (standbys : ℕ → Bool) (quorum : ℕ)
     (sound : IsSound (state_of setup past volatile_states)) (law : IsLawful (state_of setup past volatile_states) leader input) (sends : input.sends ≡ Some sending)
-    (aim : sending.request.aim ≡ PublishStandbys standbys 0) (small : (standby : ℕ) → standbys standby ≡ true → standby < setup.member_count)
+    (aim : sending.request.aim ≡ PublishStandbys standbys quorum)
     (noted : AreNoted (state_of setup past volatile_states).members past.grown) where
   abbrev S : State
   S = state_of setup past volatile_states
@@ -65,13 +71,13 @@ module _ (setup : Setup) (past : Past) (volatile_states : ℕ → VolatileState)
   other-claims : (request : SyncRequest) (number : ℕ) → input.sends ≡ Some (record { number = number; request = request }) → request.aim ≡ ClaimSync → ⊥
   other-claims request number is claims = no (sym claims ∙ ap (λ (s : Sending). s.request.aim) (some-is _ _ (sym is ∙ sends)) ∙ aim)
     where
-      no : ClaimSync ≡ PublishStandbys standbys 0 → ⊥
+      no : ClaimSync ≡ PublishStandbys standbys quorum → ⊥
       no e = cc
 
   other-creates : (request : SyncRequest) (number : ℕ) → input.sends ≡ Some (record { number = number; request = request }) → request.aim ≡ CreateLeader → ⊥
   other-creates request number is creates = no (sym creates ∙ ap (λ (s : Sending). s.request.aim) (some-is _ _ (sym is ∙ sends)) ∙ aim)
     where
-      no : CreateLeader ≡ PublishStandbys standbys 0 → ⊥
+      no : CreateLeader ≡ PublishStandbys standbys quorum → ⊥
       no e = cc
 
   publishes : Does S leader input law.was → Publishes S leader input law.was
@@ -87,11 +93,11 @@ module _ (setup : Setup) (past : Past) (volatile_states : ℕ → VolatileState)
   publishes (Promoting promotes) = absurd (none-sent promotes.sends)
   publishes (SettlingRequired settles) = absurd (none-sent settles.sends)
 
-  in-order : NamesMembers setup.member_count past.sync → Publishes S leader input law.was → PublishesInOrder past leader input.agent.noted sending.request standbys
-  in-order members p =
+  allowed : Publishes S leader input law.was → MayBePublished setup.member_count past leader input.agent.noted sending.request standbys quorum
+  allowed p =
       let sent : sending ≡ record { number = p.sends.number; request = p.request } = some-is _ _ (sym sends ∙ p.sends.is) in
       let request : sending.request ≡ p.request = ap (λ (s : Sending). s.request) sent in
-      let same : PublishStandbys p.standbys p.quorum ≡ PublishStandbys standbys 0 = sym p.aim ∙ ap (λ (r : SyncRequest). r.aim) (sym request) ∙ aim in
+      let same : PublishStandbys p.standbys p.quorum ≡ PublishStandbys standbys quorum = sym p.aim ∙ ap (λ (r : SyncRequest). r.aim) (sym request) ∙ aim in
       let present : past.sync ≡ Some p.key =
       (sound.leased p.hears.number p.grant p.hears.is).current
       (record {
@@ -101,23 +107,18 @@ module _ (setup : Setup) (past : Past) (volatile_states : ℕ → VolatileState)
         waits = p.hears.waits;
       })
       (inl (ap (λ (m : ℕ). (S.members m).live) p.hears.member ∙ p.live)) ∙ p.key_is in
-      let strict = members p.key present in
-      let covers : Overlaps setup.member_count standbys 0 (confirmers_of (slice_get past.required leader)) =
-      subst (λ (a : Aim). OverlapsAim (confirmers_of (slice_get past.required leader)) a) same p.overlaps in
-      let may : MayPublish setup.member_count p.key.standbys p.key.quorum standbys 0 (confirmers_of (slice_get past.required leader)) (HasConfirmed (S.members leader) law.was.noted) =
-      subst (λ (a : Aim). MayAim p.key (confirmers_of (slice_get past.required leader)) (HasConfirmed (S.members leader) law.was.noted) a) same p.may in
-      let awaited = λ (standby : ℕ) (is : standbys standby ≡ true). awaits setup.member_count 0 standbys standby (slice_get past.required leader) refl (small standby is) is covers in
-      let has-noted = λ (standby : ℕ) (is : standbys standby ≡ true) (added : p.key.standbys standby ≡ false).
-      (added-has setup.member_count p.key.quorum p.key.standbys standbys (slice_get past.required leader) (HasConfirmed (S.members leader) law.was.noted) standby may (small standby is) is added (awaited standby is)).1 in
+      let list : Confirmers = confirmers_of (slice_get past.required leader) in
+      let has = HasConfirmed (S.members leader) law.was.noted in
+      let may : MayPublish setup.member_count p.key.standbys p.key.quorum standbys quorum list has = subst (λ (a : Aim). MayAim p.key list has a) same p.may in
       record {
         key = p.key;
         is = present;
         compares = ap (λ (r : SyncRequest). r.sync) request ∙ p.sync;
-        awaited = awaited;
-        confirmed = λ standby is added.
-            subst (λ (noted : ℕ). Reaches noted (position_of (slice_get past.confirmed leader) standby)) (sym p.noted) (has-noted standby is added);
-        since = λ standby is added.
-            reaches-less (past.grown leader) law.was.noted (position_of (slice_get past.confirmed leader) standby) ((noted leader).noted law.was p.live law.was_is p.led) (has-noted standby is added);
+        overlaps = subst (λ (a : Aim). OverlapsAim list a) same p.overlaps;
+        confirmed = publish-sub setup.member_count p.key.quorum quorum p.key.standbys standbys list has (λ n. Reaches input.agent.noted (position_of (slice_get past.confirmed leader) n))
+            (λ n has. subst (λ (noted : ℕ). Reaches noted (position_of (slice_get past.confirmed leader) n)) (sym p.noted) has.1) may;
+        since = publish-sub setup.member_count p.key.quorum quorum p.key.standbys standbys list has (λ n. Reaches (past.grown leader) (position_of (slice_get past.confirmed leader) n))
+            (λ n has. reaches-less (past.grown leader) law.was.noted (position_of (slice_get past.confirmed leader) n) ((noted leader).noted law.was p.live law.was_is p.led) has.1) may;
       }
     where
       OverlapsAim : Confirmers → Aim → Type 0
@@ -128,9 +129,25 @@ module _ (setup : Setup) (past : Past) (volatile_states : ℕ → VolatileState)
       MayAim key confirmers X (PublishStandbys new quorum) = MayPublish setup.member_count key.standbys key.quorum new quorum confirmers X
       MayAim key confirmers X _ = ⊥
 
-pub published : (setup : Setup) (past : Past) (volatile_states : ℕ → VolatileState) (leader : ℕ) (input : AgentInput) (sending : Sending) (standbys : ℕ → Bool) → IsSound (state_of setup past volatile_states) → NamesMembers setup.member_count past.sync
+-- however many of them may lack a commit
+pub publication : (setup : Setup) (past : Past) (volatile_states : ℕ → VolatileState) (leader : ℕ) (input : AgentInput) (sending : Sending) (standbys : ℕ → Bool) (quorum : ℕ) → IsSound (state_of setup past volatile_states)
     → AreNoted (state_of setup past volatile_states).members past.grown
-    → IsLawful (state_of setup past volatile_states) leader input → input.sends ≡ Some sending → sending.request.aim ≡ PublishStandbys standbys 0 → ((standby : ℕ) → standbys standby ≡ true → standby < setup.member_count)
-    → PublishesInOrder past leader input.agent.noted sending.request standbys
-published setup past volatile_states leader input sending standbys sound members noted law sends aim small =
-    in-order setup past volatile_states leader input sending standbys sound law sends aim small noted members (publishes setup past volatile_states leader input sending standbys sound law sends aim small noted law.does)
+    → IsLawful (state_of setup past volatile_states) leader input → input.sends ≡ Some sending → sending.request.aim ≡ PublishStandbys standbys quorum
+    → MayBePublished setup.member_count past leader input.agent.noted sending.request standbys quorum
+publication setup past volatile_states leader input sending standbys quorum sound noted law sends aim =
+    allowed setup past volatile_states leader input sending standbys quorum sound law sends aim noted (publishes setup past volatile_states leader input sending standbys quorum sound law sends aim noted law.does)
+
+-- where none may
+pub strict-publication : (member_count : ℕ) (past : Past) (leader noted : ℕ) (request : SyncRequest) (standbys : ℕ → Bool) → MayBePublished member_count past leader noted request standbys 0
+    → ((standby : ℕ) → standbys standby ≡ true → standby < member_count) → PublishesInOrder past leader noted request standbys
+strict-publication member_count past leader noted request standbys may small =
+    let list : Option Required = slice_get past.required leader in
+    let awaited = λ (standby : ℕ) (is : standbys standby ≡ true). awaits member_count 0 standbys standby list refl (small standby is) is may.overlaps in
+    record {
+      key = may.key;
+      is = may.is;
+      compares = may.compares;
+      awaited = awaited;
+      confirmed = λ standby is added. added-has member_count may.key.quorum may.key.standbys standbys list (λ n. Reaches noted (position_of (slice_get past.confirmed leader) n)) standby may.confirmed (small standby is) is added (awaited standby is);
+      since = λ standby is added. added-has member_count may.key.quorum may.key.standbys standbys list (λ n. Reaches (past.grown leader) (position_of (slice_get past.confirmed leader) n)) standby may.since (small standby is) is added (awaited standby is);
+    }

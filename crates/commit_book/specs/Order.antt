@@ -3,16 +3,28 @@
 use Rattle.std.specs.Prelude.{ℕ, ◌≡◌, Bool, true, List, Option, Some, slice_get}
 use Rattle.pat_base.specs.declared.server_state.Required.{Required}
 use Rattle.commit_actions.specs.Carried.{IsLed}
-use Rattle.commit_actions.specs.Keys.{Confirmers, All, SyncKey}
+use Rattle.commit_actions.specs.Keys.{Confirmers, All, Overlaps, SyncKey}
 use Rattle.commit_actions.specs.Past.{Past, confirmers_of}
 use Rattle.commit_actions.specs.Keys.{IsStrict}
 
+-- what who accepts writes, with these required lists, has to do with the sync key, however many standbys of that may lack a commit
+pub record AreOverlapping (member_count : ℕ) (writes : ℕ → Bool) (required : List Required) (sync : Option SyncKey) : Type 0 where
+  -- the sync key names it as the leader
+  pub led : (server : ℕ) → writes server ≡ true → IsLed sync server
+  -- what whom its commits wait for has, the standbys in the sync key have but for so many as the key's number
+  pub overlaps : (server : ℕ) (key : SyncKey) → writes server ≡ true → sync ≡ Some key → Overlaps member_count key.standbys key.quorum (confirmers_of (slice_get required server))
+
+-- the same of what a book determines
+abbrev pub IsOverlapping : ℕ → Past → Type 0
+IsOverlapping member_count past = AreOverlapping member_count past.writes past.required past.sync
+
+-- ---- in synchronous mode
 -- commits wait for this member
 abbrev pub Awaits : Confirmers → ℕ → Type 0
 Awaits (All members) n = members n ≡ true
 Awaits _ n = ⊥
 
--- what who accepts writes, with these required lists, has to do with the sync key
+-- what who accepts writes, with these required lists, has to do with a sync key of which no standby may lack a commit
 pub record AreInOrder (writes : ℕ → Bool) (required : List Required) (sync : Option SyncKey) : Type 0 where
   -- the sync key names it as the leader
   pub led : (server : ℕ) → writes server ≡ true → IsLed sync server

@@ -58,7 +58,7 @@ use Rattle.commit_book.specs.Order.{Awaits}
 use Rattle.commit_book.specs.Requests.{PublishesInOrder}
 use Rattle.commit_book.proofs.Asides.{leave-then, once-none}
 use Rattle.commit_book.proofs.Inside.{Seen, all-aside, seen_of}
-use Rattle.commit_book.proofs.Publishing.{published}
+use Rattle.commit_book.proofs.Publishing.{publication, strict-publication}
 use Rattle.sync_state.specs.Standbys.{noted_position}
 use Rattle.commit_parts.specs.Ordered.{AllInOrder, AsksInOrder, noted_by}
 use Rattle.commit_parts.proofs.Ordering.{order-then}
@@ -271,9 +271,10 @@ module _ (head : HeadText) (book : List Event) (cluster : Cluster) (good : Commi
   publishes-as : has_one is_claim_outside_sync Outs ≡ false → (revision : ℕ) (sync : Expected) (standbys : MemberSet) → bodies.Request (txns.SetSync revision sync standbys) ≡ body
       → PublishesInOrder P M (noted_position (After head book cluster good a).knows.noted) (publish_request M a.agent.knows.incarnation sequence revision sync standbys) (set_members standbys)
   publishes-as inside revision sync standbys is =
-      published (setup_of head) P (volatile_of cluster) M (Theirs head book cluster good a Sends) (record { number = Number; request = publish_request M a.agent.knows.incarnation sequence revision sync standbys }) (set_members standbys)
-      good.sound good.fits.strict good.noted (Lawful head book cluster good few a Sends (page inside).sent).lawful
-      (ap (λ (b : Body). sending_under Number (request_of_body M a.agent.knows.incarnation sequence b)) (sym is)) refl
+      strict-publication (member_count head) P M (noted_position (After head book cluster good a).knows.noted) (publish_request M a.agent.knows.incarnation sequence revision sync standbys) (set_members standbys)
+      (publication (setup_of head) P (volatile_of cluster) M (Theirs head book cluster good a Sends) (record { number = Number; request = publish_request M a.agent.knows.incarnation sequence revision sync standbys }) (set_members standbys) 0
+      good.sound good.noted (Lawful head book cluster good few a Sends (page inside).sent).lawful
+      (ap (λ (b : Body). sending_under Number (request_of_body M a.agent.knows.incarnation sequence b)) (sym is)) refl)
       (subst (λ (b : Body). IsSynchronousBody (member_count head) b) (sym is) synchronous)
 
   asked-ordered : has_one is_claim_outside_sync Outs ≡ false → (b : Body) → b ≡ body → AsksInOrder (past_over P Upto) Reached (ends.Member a.member) a.agent.knows.incarnation sequence b

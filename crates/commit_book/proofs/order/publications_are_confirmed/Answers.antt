@@ -1,5 +1,5 @@
-use Rattle.commit_book.proofs.Publishing.{published}
+use Rattle.commit_book.proofs.Publishing.{publication, strict-publication}
 use Rattle.commit_book.proofs.order.publications_are_confirmed.Goals as goal
 
 pub returns : goal.returns
-returns c = published
+returns c = record { any = publication; strict = strict-publication }
