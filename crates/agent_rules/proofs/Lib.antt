@@ -1,3 +1,4 @@
 pub mod Taking
 pub mod Grounds
 pub mod OutOfReach
+pub mod Pauses

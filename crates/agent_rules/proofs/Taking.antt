@@ -40,11 +40,11 @@ pub second-true : (a b : Bool) → a && b ≡ true → b ≡ true
 second-true true b e = e
 second-true false b e = absurd (no-way e)
 
-not-true : (a : Bool) → not a ≡ true → a ≡ false
+pub not-true : (a : Bool) → not a ≡ true → a ≡ false
 not-true true e = absurd (no-way e)
 not-true false e = refl
 
-one-true : (a b : Bool) → a || b ≡ true → (a ≡ true) ⊎ (b ≡ true)
+pub one-true : (a b : Bool) → a || b ≡ true → (a ≡ true) ⊎ (b ≡ true)
 one-true true b e = inl refl
 one-true false b e = inr e
 
@@ -75,7 +75,7 @@ guarded : (mode : Mode) (works : Bool) → is_refusing mode works ≡ false → 
 guarded mode true e is = refl
 guarded mode false e is = absurd (no-way (sym e ∙ ap (λ (m : Mode). is_refusing m false) is))
 
-replica : (state : State) → is_replica state ≡ true → state ≡ states.Replica
+pub replica : (state : State) → is_replica state ≡ true → state ≡ states.Replica
 replica states.Replica e = refl
 replica states.Creating e = absurd (no-way e)
 replica states.Stopped e = absurd (no-way e)

@@ -11,6 +11,7 @@ ghost use Rattle.agent_model.specs.Reconciling.{reconciled};
 ghost use Rattle.agent_model.specs.Table.{step};
 ghost use Rattle.agent_rules.specs.Grounds.{HasGrounds};
 ghost use Rattle.agent_rules.specs.OutOfReach.{EndsOutOfReach, IsOutOfReach, WaitsForTurn};
+ghost use Rattle.agent_rules.specs.Pauses.{RestrainsInPause};
 
 /// Each input has its grounds. The leader key is asked for by who read that nobody leads; taken, and the sync key claimed, only under the whole
 /// rule of taking the leader key; a watchdog that is off or broken gets no deadline; a log is rewound, and a server copied or wiped, only
@@ -24,4 +25,11 @@ pub fn inputs_have_grounds()
 pub fn a_leader_out_of_reach_ends_its_server()
     ensures ends { (now : Ticks) (points : List HistoryPoint) (revision : ℕ) (o : Outcome) → IsOutOfReach now revision o → EndsOutOfReach now revision o (step now points heards.Wake o) }
     ensures waits { (now : Ticks) (points : List HistoryPoint) (heard : Heard) (o : Outcome) → WaitsForTurn now o (step now points heard o) }
+{}
+
+/// In a pause no agent ends, starts or rewinds a server by itself, but for a handover: an input behind which the cluster is paused ends the server only to
+/// hand over, starts it as a replica only after a handover of its own, has only a replica begin that an operator wants to lead, and rewinds
+/// nothing. What else it does to the server an operator asks for.
+pub fn in_a_pause_servers_are_left_alone()
+    ensures { (now : Ticks) (points : List HistoryPoint) (heard : Heard) (role : RoleFacts) (knows : Knowledge) (machine : Machine) → RestrainsInPause heard (before now (made role knows machine [])) (step now points heard (made role knows machine [])) }
 {}
