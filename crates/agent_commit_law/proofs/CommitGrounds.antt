@@ -21,7 +21,7 @@ use Rattle.event_book.specs.Functions.{set_members}
 use Rattle.sync_state.specs.Published.{standbys_of, published_in}
 use Rattle.sync_state.specs.Standbys.{required_members, noted_position}
 use Rattle.commit_actions.proofs.Tools.{or-cases}
-use Rattle.commit_actions.specs.Keys.{SyncKey, Confirmers, Overlaps, IsStrict}
+use Rattle.commit_actions.specs.Keys.{SyncKey, Confirmers, Overlaps, IsOfQuorum}
 use Rattle.commit_actions.specs.Flights.{LeaseGrant, SyncGrant}
 use Rattle.commit_actions.specs.States.{State, Reaches, Waits}
 use Rattle.commit_actions.specs.Inputs.{AgentInput, HearsLeaseGrant, HearsSyncGrant, WinsByName, HasConfirmed, sync_revision_of}
@@ -36,6 +36,7 @@ use Rattle.agent_model.specs.declared.who.Who.{Who}
 use Rattle.agent_model.specs.Agents.{RoleFacts, Leader, Outcome, Ready, is_leader, is_ready}
 use Rattle.agent_model.specs.Reconciling.{reconciled, before_as, finds_live, has_ended}
 use Rattle.agent_commit_law.specs.Committing.{sync_seen, number_waited, IsConnected, IsEndOf, StandsToCommit, IsAwaitedWrite, HearsLease, HearsWrite}
+use Rattle.commit_actions.proofs.Counting.{none-less}
 use Rattle.agent_model.specs.Decisions.{asks_lease, asks_sync, is_lease_of, is_write_of, may_create}
 use Rattle.agent_model.specs.Fits.{Fits}
 use Rattle.agent_roles.specs.Powers.{IsAwaitedLease}
@@ -194,9 +195,9 @@ same-true a b e = grind (arith, nat_tests)
 
 -- the required list covers the standbys of the present key
 pub key-covers : (s : State) (m : ℕ) (o : Outcome) (key : SyncKey) → IsSound s → StandsToCommit s m o → (s.members m).live ≡ true → s.sync ≡ Some key → IsWithin key.standbys (set_members (required_members o.machine.replication.required))
-key-covers s m o key sound stands lives sync = let strict : IsStrict s.member_count key = stands.strict key sync in
+key-covers s m o key sound stands lives sync = let strict : IsOfQuorum s.member_count 0 key = stands.strict key sync in
     required-covers s.member_count key.standbys o.machine.replication.required strict.members
-    (subst (λ (q : ℕ). Overlaps s.member_count key.standbys q (confirmers_in o.machine.replication.required)) strict.quorum
+    (subst (λ (q : ℕ). Overlaps s.member_count key.standbys q (confirmers_in o.machine.replication.required)) (none-less key.quorum strict.few)
     (subst (λ (n : Confirmers). Overlaps s.member_count key.standbys key.quorum n) stands.required (sound.servers.overlaps m key lives sync)))
 
 pub led-by : (s : State) (m sequence : ℕ) (grant : Granted) (snapshot : SnapshotFacts) (input : AgentInput) (o : Outcome) → IsSound s → StandsToCommit s m o → HearsLease s m input.heard sequence grant.revision snapshot o.knows → IsAwaitedLease sequence grant o.knows

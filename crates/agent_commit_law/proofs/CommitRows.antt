@@ -24,6 +24,7 @@ use Rattle.sync_state.specs.Standbys.{required_members, noted_position}
 use Rattle.commit_actions.specs.Keys.{Confirmers, Narrows}
 use Rattle.commit_actions.specs.Flights.{SyncRequest}
 use Rattle.commit_actions.specs.States.{Agent, State}
+use Rattle.commit_actions.proofs.Counting.{none-less}
 use Rattle.commit_actions.specs.Inputs.{AgentInput, WinsByName, Arming, TakingOver, Promoting, sync_revision_of}
 use Rattle.commit_actions.specs.Carried.{IsSound}
 use Rattle.commit_actions.specs.Past.{confirmers_in, claim_request}
@@ -167,7 +168,7 @@ withdrawn-lawful now sequence grant snapshot s m input o b ground awaited hears 
       waited = refl;
       unasking = unasked b.outputs required (behind.idle.quiet ground.quiet);
       notes = inr (narrows, behind.idle.noted);
-    }) (ground.stands.strict hears.key sync).quorum (waiting-covers s.member_count hears.key.standbys (Told snapshot b).knows.settings set (λ n e. sym (asked n) ∙ e)) (narrows-grows o (s.members m).required (confirmers_in required) narrows)
+    }) (none-less hears.key.quorum (ground.stands.strict hears.key sync).few) (waiting-covers s.member_count hears.key.standbys (Told snapshot b).knows.settings set (λ n e. sym (asked n) ∙ e)) (narrows-grows o (s.members m).required (confirmers_in required) narrows)
 
 -- a renewed leader without a step
 pub led-idle : (now ttl : Ticks) (revision : ℕ) (snapshot : SnapshotFacts) (b : Outcome) → is_leader b.role ≡ true → Idle None b (led_on now ttl revision (Told snapshot b))

@@ -20,7 +20,7 @@ use Rattle.event_book.specs.declared.message.Body.TheVariants as bodies
 use Rattle.event_book.specs.Functions.{set_members}
 use Rattle.sync_state.specs.Published.{published_in}
 use Rattle.sync_state.specs.Standbys.{noted_position}
-use Rattle.commit_actions.specs.Keys.{IsStrict, SyncKey, Confirmers, Nobody, All as AllOf, AtLeast}
+use Rattle.commit_actions.specs.Keys.{IsOfQuorum, SyncKey, Confirmers, Nobody, All as AllOf, AtLeast}
 use Rattle.commit_actions.specs.Flights.{SyncRequest, LeaseGranted, SyncGranted}
 use Rattle.commit_actions.specs.States.{Agent, State, HasLog}
 use Rattle.commit_actions.specs.Inputs.{Sending, AgentInput, HearsSnapshot, IsLawful, Does, Racing, HearingAnswer, WinningRace, CreatingLeader, Arming, ChangingRequired, SettlingRequired}
@@ -90,7 +90,7 @@ pub record StandsToCommit (s : State) (m : ℕ) (o : Outcome) : Type 0 where
   pub connected : (n : ℕ) (end : Lsn) → slice_get o.machine.replication.confirmed_positions n ≡ Some (Some end) → IsConnected s m n end
   pub me : o.knows.who.me.number ≡ m
   pub counts : m < s.member_count
-  pub strict : (key : SyncKey) → s.sync ≡ Some key → IsStrict s.member_count key
+  pub strict : (key : SyncKey) → s.sync ≡ Some key → IsOfQuorum s.member_count 0 key
 
 -- the answer of this number grants this member the write of the sync key that it waits for
 pub record IsAwaitedWrite (sequence : ℕ) (grant : Granted) (knows : Knowledge) : Type 0 where

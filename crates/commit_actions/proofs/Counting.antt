@@ -149,3 +149,6 @@ count-with (suc n) m a less e = elim (below-at (nat_le n m) m n refl less) [
 pub count-empty : (n : ℕ) (a : ℕ → Bool) → ((m : ℕ) → a m ≡ false) → count n a ≡ 0
 count-empty zero a h = refl
 count-empty (suc n) a h = omega (arith, count-empty n a h, ap one_if (h n))
+
+pub none-less : (n : ℕ) → n ≤ 0 → n ≡ 0
+none-less n less = omega (arith, less)

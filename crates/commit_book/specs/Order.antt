@@ -5,7 +5,7 @@ use Rattle.pat_base.specs.declared.server_state.Required.{Required}
 use Rattle.commit_actions.specs.Carried.{IsLed}
 use Rattle.commit_actions.specs.Keys.{Confirmers, All, Overlaps, SyncKey}
 use Rattle.commit_actions.specs.Past.{Past, confirmers_of}
-use Rattle.commit_actions.specs.Keys.{IsStrict}
+use Rattle.commit_actions.specs.Keys.{IsOfQuorum}
 
 -- what who accepts writes, with these required lists, has to do with the sync key, however many standbys of that may lack a commit
 pub record AreOverlapping (member_count : ℕ) (writes : ℕ → Bool) (required : List Required) (sync : Option SyncKey) : Type 0 where
@@ -35,6 +35,6 @@ pub record AreInOrder (writes : ℕ → Bool) (required : List Required) (sync :
 abbrev pub IsInOrder : Past → Type 0
 IsInOrder past = AreInOrder past.writes past.required past.sync
 
--- the sync key, where there is one, names members alone, of which none may lack a commit: synchronous mode, not quorum mode
-abbrev pub NamesMembers : ℕ → Option SyncKey → Type 0
-NamesMembers member_count sync = (key : SyncKey) → sync ≡ Some key → IsStrict member_count key
+-- the sync key, where there is one, names members alone, of which at most so many may lack a commit: none in synchronous mode
+abbrev pub NamesMembers : ℕ → ℕ → Option SyncKey → Type 0
+NamesMembers member_count quorum sync = (key : SyncKey) → sync ≡ Some key → IsOfQuorum member_count quorum key

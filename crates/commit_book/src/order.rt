@@ -25,7 +25,7 @@ pub fn order_is_kept()
         → ChangeOrderOnce transition.events
         → front ++ back ≡ transition.events
         → IsOverlapping setup.member_count (past_over past front) }
-    ensures strict { (member_count : ℕ) (past : Past) → IsOverlapping member_count past → NamesMembers member_count past.sync → IsInOrder past }
+    ensures strict { (member_count : ℕ) (past : Past) → IsOverlapping member_count past → NamesMembers member_count 0 past.sync → IsInOrder past }
 {}
 
 /// A lawful input that asks to publish standbys, however many of them may lack a commit, compares the present sync key. They overlap its leader's

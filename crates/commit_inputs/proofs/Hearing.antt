@@ -80,13 +80,13 @@ on-is (Some found) on = on-by found.value on
 nobody-below : (count n : ℕ) → set_members nobody n ≡ true → n < count
 nobody-below count n is = absurd (not-false (set_members nobody n) (no-members nobody refl n) is)
 
-below-by : (count revision : ℕ) (value : Value) → NamesMembers count (sync_value value revision) → (n : ℕ) → set_members (standbys_of (sync_by value)) n ≡ true → n < count
-below-by count revision (values.Sync key) names n is = (names _ refl).members n is
-below-by count revision _ names n is = nobody-below count n is
+below-by : (count quorum revision : ℕ) (value : Value) → NamesMembers count quorum (sync_value value revision) → (n : ℕ) → set_members (standbys_of (sync_by value)) n ≡ true → n < count
+below-by count quorum revision (values.Sync key) names n is = (names _ refl).members n is
+below-by count quorum revision _ names n is = nobody-below count n is
 
-below-is : (count : ℕ) (found : Option KeyEntry) → NamesMembers count (sync_key_of found) → (n : ℕ) → set_members (standbys_of (sync_of_entry found)) n ≡ true → n < count
-below-is count None names n is = nobody-below count n is
-below-is count (Some found) names n is = below-by count found.revision found.value names n is
+below-is : (count quorum : ℕ) (found : Option KeyEntry) → NamesMembers count quorum (sync_key_of found) → (n : ℕ) → set_members (standbys_of (sync_of_entry found)) n ≡ true → n < count
+below-is count quorum None names n is = nobody-below count n is
+below-is count quorum (Some found) names n is = below-by count quorum found.revision found.value names n is
 
 -- ---- what a message says
 -- whatever holds of what the key store answers, and of what other members ask and answer, holds of what is heard
@@ -239,5 +239,5 @@ module _ (head : HeadText) (book : List Event) (cluster : Cluster) (good : Commi
   -- and its sync key names members
   pub hears-below : (heard : Heard) → heard_from cluster carried ≡ Some heard → HearsBelow (member_count head) heard
   hears-below heard is =
-      let below = below-is (member_count head) (find key_cmp keys.Sync carried.snapshot) (good.fits.told number carried there) in
+      let below = below-is (member_count head) 0 (find key_cmp keys.Sync carried.snapshot) (good.fits.told number carried there) in
       heard-all cluster carried (HearsBelow (member_count head)) (λ body. below) (λ request leased grant body given. below) (λ key expected. tt) (λ from. tt) (λ answer. tt) carried.message.body refl heard is

@@ -113,7 +113,7 @@ upheld-aside head book cluster events good leave leave_order ordered upheld = re
     order-aside head book cluster front good leave =
         let same : seen_of (past_over (past_of head book) front) ≡ seen_of (past_of head book) = all-aside (past_of head book) front leave in
         order-as (setup_of head) (past_over (past_of head book) front) (past_of head book) (volatile_of cluster) same good.sound
-        (subst (λ (seen : Seen). NamesMembers (member_count head) seen.sync) (sym same) good.fits.strict)
+        (subst (λ (seen : Seen). NamesMembers (member_count head) 0 seen.sync) (sym same) good.fits.strict)
 
 -- ---- who is asked answers, and nobody else does
 answer-none : (heard : Heard) → ((from : MemberId) (incarnation sequence : ℕ) → heard ≡ heards.Asked from incarnation sequence → ⊥) → (output : Output) → RepliesTo heard output → AnswersNone output

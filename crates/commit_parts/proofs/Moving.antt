@@ -147,7 +147,7 @@ upheld-moves head book cluster events good moves kept causal asks ordered agents
     subst (λ (l : List Event). Upholds (kept_commits head) book cluster l) moves.whole
     (upheld-by head book cluster moves.transitions good moves.allowed moves.once (moves.last ∙ ap (λ (l : List Event). volatile_of (cluster_over cluster l)) (sym moves.whole))
     (subst (λ (l : List Event). IsKept head book cluster l) (sym moves.whole) kept)
-    (λ front back e. strict-front (state_behind head book cluster events) (member_count head) (past_of head book) front back events (e ∙ moves.whole) asks good.fits.strict)
+    (λ front back e. strict-front (state_behind head book cluster events) (member_count head) 0 (past_of head book) front back events (e ∙ moves.whole) asks good.fits.strict)
     (subst (λ (l : List Event). AllInOrder (past_of head book) cluster l) (sym moves.whole) ordered)
     (subst (λ (l : List Event). FitsBehind head book cluster l) (sym moves.whole) fits))
   where
@@ -161,7 +161,7 @@ upheld-moves head book cluster events good moves kept causal asks ordered agents
         (subst (λ (l : List Event). StayNumbered (state_of_run head book cluster).members (state_of (setup_of head) (past_over (past_of head book) l) (volatile_last (volatile_of cluster) moves.transitions)).members) moves.whole
         (numbered-last (setup_of head) (past_of head book) (volatile_of cluster) moves.transitions moves.allowed))
 
-    begins : StoreFits (state_behind head book cluster events) (member_count head) (past_of head book) cluster
+    begins : StoreFits (state_behind head book cluster events) (member_count head) 0 (past_of head book) cluster
     begins = record {
       store = good.fits.store;
       mode = good.fits.mode;
@@ -173,8 +173,8 @@ upheld-moves head book cluster events good moves kept causal asks ordered agents
 
     fits : FitsBehind head book cluster events
     fits mode lease =
-        let store = store-over later (member_count head) (past_of head book) cluster events causal mode asks begins in
-        let all : FitsBy (member_count head) (past_over (past_of head book) events) (lease_past.past_over (lease_past.past_of book) events) (cluster_over cluster events) = record {
+        let store = store-over later (member_count head) 0 (past_of head book) cluster events causal mode asks begins in
+        let all : FitsBy (member_count head) 0 (past_over (past_of head book) events) (lease_past.past_over (lease_past.past_of book) events) (cluster_over cluster events) = record {
           store = store.store;
           servers = moves.fits;
           mode = store.mode;
@@ -183,6 +183,6 @@ upheld-moves head book cluster events good moves kept causal asks ordered agents
           requests = store.requests;
           agents = agents;
         } in
-        let named : FitsBy (member_count head) (past_over (past_of head book) events) (lease_past.past_of (book ++ events)) (cluster_over cluster events) =
-        subst (λ (n : lease_past.Past). FitsBy (member_count head) (past_over (past_of head book) events) n (cluster_over cluster events)) (sym (lease-append lease_past.first_past book events)) all in
-        (subst (λ (p : Past). FitsBy (member_count head) p (lease_past.past_of (book ++ events)) (cluster_over cluster events)) (sym (past-more head book events)) named, store.asks)
+        let named : FitsBy (member_count head) 0 (past_over (past_of head book) events) (lease_past.past_of (book ++ events)) (cluster_over cluster events) =
+        subst (λ (n : lease_past.Past). FitsBy (member_count head) 0 (past_over (past_of head book) events) n (cluster_over cluster events)) (sym (lease-append lease_past.first_past book events)) all in
+        (subst (λ (p : Past). FitsBy (member_count head) 0 p (lease_past.past_of (book ++ events)) (cluster_over cluster events)) (sym (past-more head book events)) named, store.asks)

@@ -1,5 +1,5 @@
 -- Store, mode and requests of a cluster behind events.
-use Rattle.std.proofs.Common.{ℕ, ◌≡◌, ◌+◌, ◌++◌, List, [], ◌∷◌, true, Option, refl, ◌∙◌, ap, sym, subst}
+use Rattle.std.proofs.Common.{arith, ℕ, ◌≡◌, ◌≤◌, ◌+◌, ◌++◌, List, [], ◌∷◌, true, Option, refl, ◌∙◌, ap, sym, subst}
 use Rattle.std.specs.FinMap.{find}
 use Rattle.event_book.specs.declared.event.Event.{Event}
 use Rattle.event_book.specs.declared.event.EventKind.{EventKind}
@@ -17,7 +17,7 @@ use Rattle.lease_store.specs.declared.value.KeyEntry.{KeyEntry}
 use Rattle.lease_store.specs.KeyOrder.{key_cmp}
 use Rattle.lease_law.proofs.Runs.{head-is, no-cons, tail-is}
 use Rattle.lease_law.proofs.Tools.{both, none-some, some-is}
-use Rattle.commit_actions.specs.Keys.{SyncKey, IsStrict}
+use Rattle.commit_actions.specs.Keys.{SyncKey, IsOfQuorum}
 use Rattle.agent_commit_law.specs.Committing.{IsSynchronousBody, IsSynchronousTxn}
 use Rattle.event_book.specs.Facts.{Facts}
 use Rattle.event_book.specs.Flight.{InFlightFacts, snapshot_for}
@@ -50,11 +50,11 @@ AskSynchronously s count [] = Unit {0}
 AskSynchronously s count (event ∷ events) = AsksSynchronously s count event.kind × AskSynchronously s count events
 
 -- what the store keeps of synchronous mode, and the messages in flight, of which questions to members are numbered in this state
-pub record StoreFits (s : State) (count : ℕ) (past : Past) (cluster : Cluster) : Type 0 where
+pub record StoreFits (s : State) (count quorum : ℕ) (past : Past) (cluster : Cluster) : Type 0 where
   pub store : IsSameBook past cluster.facts
   pub mode : IsSynchronous cluster.facts
-  pub strict : NamesMembers count past.sync
-  pub told : TellsMembers count cluster.facts.flight
+  pub strict : NamesMembers count quorum past.sync
+  pub told : TellsMembers count quorum cluster.facts.flight
   pub requests : AreSynchronous count cluster.facts.flight
   pub asks : AsksAreNumbered s cluster.facts.flight
 
@@ -74,53 +74,56 @@ asks-sent s count facts (kinds.Message (Delivered number)) asks = tt
 asks-sent s count facts (kinds.Message (Lost number)) asks = tt
 asks-sent s count facts _ asks = tt
 
--- a write of the sync key names members
-strict-granted : (count by revision : ℕ) (sync : Option SyncKey) (txn : Txn) → IsSynchronousTxn count txn → NamesMembers count sync → NamesMembers count (sync_after_grant by revision sync txn)
-strict-granted count by revision sync (txns.Claim leader expected) on old =
-    λ key is. subst (IsStrict count) (some-is _ key is) (record { quorum = refl; members = λ n named. absurd (both named) })
-strict-granted count by revision sync (txns.SetSync leader expected standbys) on old = λ key is. subst (IsStrict count) (some-is _ key is) (record { quorum = refl; members = on })
-strict-granted count by revision sync (txns.DropSync leader expected) on old = absurd on
-strict-granted count by revision sync _ on old = old
+-- a write of the sync key names members, of which none may lack a commit
+none-below : (n : ℕ) → 0 ≤ n
+none-below n = omega arith
 
-strict-by : (s : State) (count : ℕ) (past : Past) (kind : EventKind) → AsksSynchronously s count kind → NamesMembers count past.sync → NamesMembers count (past_after past kind).sync
-strict-by s count past (kinds.Store (stores.Granted number by txn standbys)) on old = strict-granted count by.id.number (past.revision + 1) past.sync txn on old
-strict-by s count past _ on old = old
+strict-granted : (count quorum by revision : ℕ) (sync : Option SyncKey) (txn : Txn) → IsSynchronousTxn count txn → NamesMembers count quorum sync → NamesMembers count quorum (sync_after_grant by revision sync txn)
+strict-granted count quorum by revision sync (txns.Claim leader expected) on old =
+    λ key is. subst (IsOfQuorum count quorum) (some-is _ key is) (record { few = none-below quorum; members = λ n named. absurd (both named) })
+strict-granted count quorum by revision sync (txns.SetSync leader expected standbys) on old = λ key is. subst (IsOfQuorum count quorum) (some-is _ key is) (record { few = none-below quorum; members = on })
+strict-granted count quorum by revision sync (txns.DropSync leader expected) on old = absurd on
+strict-granted count quorum by revision sync _ on old = old
+
+strict-by : (s : State) (count quorum : ℕ) (past : Past) (kind : EventKind) → AsksSynchronously s count kind → NamesMembers count quorum past.sync → NamesMembers count quorum (past_after past kind).sync
+strict-by s count quorum past (kinds.Store (stores.Granted number by txn standbys)) on old = strict-granted count quorum by.id.number (past.revision + 1) past.sync txn on old
+strict-by s count quorum past _ on old = old
 
 -- so each front of what is asked so leaves it
-pub strict-front : (s : State) (count : ℕ) (past : Past) (front back events : List Event) → front ++ back ≡ events → AskSynchronously s count events → NamesMembers count past.sync → NamesMembers count (past_over past front).sync
-strict-front s count past [] back events e asks old = old
-strict-front s count past (x ∷ front) back [] e asks old = absurd (no-cons x (front ++ back) e)
-strict-front s count past (x ∷ front) back (y ∷ events) e asks old =
-    strict-front s count (past_after past x.kind) front back events (tail-is x y (front ++ back) events e) asks.1
-    (strict-by s count past x.kind (subst (λ (z : Event). AsksSynchronously s count z.kind) (sym (head-is x y (front ++ back) events e)) asks.0) old)
+pub strict-front : (s : State) (count quorum : ℕ) (past : Past) (front back events : List Event) → front ++ back ≡ events → AskSynchronously s count events → NamesMembers count quorum past.sync → NamesMembers count quorum (past_over past front).sync
+strict-front s count quorum past [] back events e asks old = old
+strict-front s count quorum past (x ∷ front) back [] e asks old = absurd (no-cons x (front ++ back) e)
+strict-front s count quorum past (x ∷ front) back (y ∷ events) e asks old =
+    strict-front s count quorum (past_after past x.kind) front back events (tail-is x y (front ++ back) events e) asks.1
+    (strict-by s count quorum past x.kind (subst (λ (z : Event). AsksSynchronously s count z.kind) (sym (head-is x y (front ++ back) events e)) asks.0) old)
 
 -- a message in flight tells a sync key that names members, or none
-abbrev TellsNames : ℕ → InFlightFacts → Type 0
-TellsNames count carried = NamesMembers count (sync_key_of (find key_cmp keys.Sync carried.snapshot))
+abbrev TellsNames : ℕ → ℕ → InFlightFacts → Type 0
+TellsNames count quorum carried = NamesMembers count quorum (sync_key_of (find key_cmp keys.Sync carried.snapshot))
 
 -- what is sent tells the sync key of the store, or none
-snapshot-names : (count : ℕ) (body : Body) (pairs : List (Key × KeyEntry)) → NamesMembers count (sync_key_of (find key_cmp keys.Sync pairs)) → NamesMembers count (sync_key_of (find key_cmp keys.Sync (snapshot_for body pairs)))
-snapshot-names count bodies.Snapshot pairs old = old
-snapshot-names count (bodies.Granted request leased) pairs old = old
-snapshot-names count _ pairs old = λ key is. absurd (none-some key is)
+snapshot-names : (count quorum : ℕ) (body : Body) (pairs : List (Key × KeyEntry)) → NamesMembers count quorum (sync_key_of (find key_cmp keys.Sync pairs)) → NamesMembers count quorum (sync_key_of (find key_cmp keys.Sync (snapshot_for body pairs)))
+snapshot-names count quorum bodies.Snapshot pairs old = old
+snapshot-names count quorum (bodies.Granted request leased) pairs old = old
+snapshot-names count quorum _ pairs old = λ key is. absurd (none-some key is)
 
-told-sent : (count : ℕ) (past : Past) (facts : Facts) (kind : EventKind) → IsSameKeys past facts → NamesMembers count past.sync → HoldsAsSent (TellsNames count) facts kind
-told-sent count past facts (kinds.Message (Sent number message)) same strict =
+told-sent : (count quorum : ℕ) (past : Past) (facts : Facts) (kind : EventKind) → IsSameKeys past facts → NamesMembers count quorum past.sync → HoldsAsSent (TellsNames count quorum) facts kind
+told-sent count quorum past facts (kinds.Message (Sent number message)) same strict =
     let present : List (Key × KeyEntry) = present_pairs facts.clock facts.keys.pairs in
     let told : past.sync ≡ sync_key_of (find key_cmp keys.Sync present) = same.sync ∙ ap sync_key_of (sym (sync-present facts.clock past facts same)) in
-    snapshot-names count message.body present (subst (λ (o : Option SyncKey). NamesMembers count o) told strict)
-told-sent count past facts _ same strict = tt
+    snapshot-names count quorum message.body present (subst (λ (o : Option SyncKey). NamesMembers count quorum o) told strict)
+told-sent count quorum past facts _ same strict = tt
 
-pub store-over : (s : State) (count : ℕ) (past : Past) (cluster : Cluster) (events : List Event) → AreCausal past cluster.facts events → KeepMode true events → AskSynchronously s count events → StoreFits s count past cluster
-    → StoreFits s count (past_over past events) (cluster_over cluster events)
-store-over s count past cluster [] causal mode asks fits = fits
-store-over s count past cluster (event ∷ events) causal mode asks fits =
-    store-over s count (past_after past event.kind) (cluster_after cluster event.kind) events causal.1.1 mode.1 asks.1
+pub store-over : (s : State) (count quorum : ℕ) (past : Past) (cluster : Cluster) (events : List Event) → AreCausal past cluster.facts events → KeepMode true events → AskSynchronously s count events → StoreFits s count quorum past cluster
+    → StoreFits s count quorum (past_over past events) (cluster_over cluster events)
+store-over s count quorum past cluster [] causal mode asks fits = fits
+store-over s count quorum past cluster (event ∷ events) causal mode asks fits =
+    store-over s count quorum (past_after past event.kind) (cluster_after cluster event.kind) events causal.1.1 mode.1 asks.1
     (record {
       store = book-by past cluster.facts event.kind causal.0 causal.1.0 fits.store;
       mode = synchronous-by cluster.facts event.kind fits.store.flight.order mode.0 fits.mode;
-      strict = strict-by s count past event.kind asks.0 fits.strict;
-      told = all-after (TellsNames count) cluster.facts fits.store.flight.order fits.told event.kind (told-sent count past cluster.facts event.kind fits.store.store fits.strict);
+      strict = strict-by s count quorum past event.kind asks.0 fits.strict;
+      told = all-after (TellsNames count quorum) cluster.facts fits.store.flight.order fits.told event.kind (told-sent count quorum past cluster.facts event.kind fits.store.store fits.strict);
       requests = all-after (λ (carried : InFlightFacts). IsSynchronousBody count carried.message.body) cluster.facts fits.store.flight.order fits.requests event.kind (requests-sent s count cluster.facts event.kind asks.0);
       asks = all-after (AsksNumbered s) cluster.facts fits.store.flight.order fits.asks event.kind (asks-sent s count cluster.facts event.kind asks.0);
     })

@@ -47,9 +47,9 @@ pub record AreAgentsSynchronous (count : ℕ) (named : ℕ → Option Asked) (as
   pub each : (m : ℕ) (agent : AgentFacts) → slice_get agents m ≡ Some (Some agent) → IsAgentSynchronous named asked m agent
   pub members : (i : ℕ) (question : Asked) → named i ≡ Some question → question.member < count
 
--- each snapshot in flight has a sync key of members alone, or none
-abbrev pub TellsMembers : ℕ → Flight → Type 0
-TellsMembers count flight = (i : ℕ) (carried : InFlightFacts) → in_flight flight i ≡ Some carried → NamesMembers count (sync_key_of (find key_cmp keys.Sync carried.snapshot))
+-- each snapshot in flight has a sync key of members alone, of which at most so many may lack a commit, or none
+abbrev pub TellsMembers : ℕ → ℕ → Flight → Type 0
+TellsMembers count quorum flight = (i : ℕ) (carried : InFlightFacts) → in_flight flight i ≡ Some carried → NamesMembers count quorum (sync_key_of (find key_cmp keys.Sync carried.snapshot))
 
 -- what one member asks another has an incarnation and a number that its agents gave
 abbrev pub IsAskNumbered : State → LinkEnd → ℕ → ℕ → Body → Type 0

@@ -23,19 +23,20 @@ use Rattle.commit_parts.specs.Modes.{IsSynchronous}
 use Rattle.commit_parts.specs.Ordered.{AllInOrder, KeepsOrder}
 use Rattle.commit_parts.specs.Reading.{past_of, state_of_run, volatile_of}
 
--- what commits and the law of one writer read of a book fits a cluster of so many members
-pub record FitsBy (count : ℕ) (past : Past) (named : lease_past.Past) (cluster : Cluster) : Type 0 where
+-- what commits and the law of one writer read of a book fits a cluster of so many members, in whose sync key at most so many standbys may lack
+-- a commit
+pub record FitsBy (count quorum : ℕ) (past : Past) (named : lease_past.Past) (cluster : Cluster) : Type 0 where
   pub store : IsSameBook past cluster.facts
   pub servers : Fits past cluster.facts (volatile_of cluster)
   pub mode : IsSynchronous cluster.facts
-  pub strict : NamesMembers count past.sync
-  pub told : TellsMembers count cluster.facts.flight
+  pub strict : NamesMembers count quorum past.sync
+  pub told : TellsMembers count quorum cluster.facts.flight
   pub requests : AreSynchronous count cluster.facts.flight
   pub agents : AreAgentsSynchronous count named.asked past.asked cluster.agents
 
 -- a book fits a cluster of this head
 abbrev pub FitsCommits : HeadText → List Event → Cluster → Type 0
-FitsCommits head book cluster = FitsBy (member_count head) (past_of head book) (lease_past.past_of book) cluster
+FitsCommits head book cluster = FitsBy (member_count head) 0 (past_of head book) (lease_past.past_of book) cluster
 
 -- a book and a cluster that it leaves, between two actions: what both laws carry holds of them
 pub record CommitsBridged (head : HeadText) (book : List Event) (cluster : Cluster) : Type 0 where
