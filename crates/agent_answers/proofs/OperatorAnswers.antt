@@ -41,7 +41,7 @@ use Rattle.agent_model.specs.declared.why.Why.TheVariants.{HandOver, Lost}
 use Rattle.agent_model.specs.Agents.{RoleFacts, Outcome, outcome_from}
 use Rattle.agent_model.specs.Reconciling.{reconciled, has_ended}
 use Rattle.agent_model.specs.Decisions.{granted, is_write_of, refused}
-use Rattle.agent_answers.specs.OperatorAnswers.{told_in, HasNewLeader, HasOldLeader, IsResultBy, IsReason, AnswersWaiting, IsDoneIn, AnswersAtOnce, AnswersOneAtMost, IsWish, IsAskedFor, WaitsAsAsked, AwaitsResult, IsOverdue, IsRefused, IsRefusedWrite, IsRefusedFailover, IsUnheard, HasCause, HaveCauses, AwaitsDecision, TellsDecision}
+use Rattle.agent_answers.specs.OperatorAnswers.{told_in, HasNewLeader, HasOldLeader, IsResultBy, IsReason, AnswersWaiting, IsDoneIn, AnswersAtOnce, AnswersOneAtMost, IsWish, IsAskedFor, WaitsAsAsked, IsRefused, HasCause, HaveCauses, AwaitsDecision, TellsDecision}
 use Rattle.agent_model.specs.Operators.{awaits_number, answering, answering_if, operating, config_revision, operated, done_by, failed_by, done_text, failed_text, holder_in, holder_if, name_in, is_same_member, result_as, looked_by, uses_read, looked, operator_until, late_answer, given_up_by, given_up, learned, granted_as, is_asked_for, operates, grants_operator, operator_granted, refusal_of, operator_refused}
 use Rattle.agent_model.specs.Acting.{lease_span}
 use Rattle.agent_model.specs.Outputs.{with_output}

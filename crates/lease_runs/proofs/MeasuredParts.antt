@@ -33,8 +33,8 @@ use Rattle.cluster_model.specs.Acknowledging.{acknowledge_kinds}
 use Rattle.cluster_model.specs.Cluster.{cluster_after}
 use Rattle.cluster_model.specs.Commands.{disarm_at_start, disarm_if, disarm_of, kinds_of, agent_started}
 use Rattle.cluster_model.specs.Losing.{beginning_kinds, loss_if}
-use Rattle.cluster_model.specs.Messages.{answer_events_by, answer_message, decision_body, decision_kind, send_events, arrival_events_at, decision_events, lose_events}
-use Rattle.cluster_model.specs.Next.{acknowledge_events, all_entries, command_kind, confirm_events, promote_events, receive_events, receive_events_at_most, receive_events_of, agent_start_events}
+use Rattle.cluster_model.specs.Messages.{answer_events_by, answer_message, decision_body, decision_kind, send_events, arrival_events_at, decision_events}
+use Rattle.cluster_model.specs.Next.{acknowledge_events, command_kind, confirm_events, promote_events, receive_events, receive_events_at_most, agent_start_events}
 use Rattle.cluster_model.specs.Parts.{event_of, events_of, for_some}
 use Rattle.cluster_model.specs.ServerCommands.{promote_kinds}
 use Rattle.cluster_model.specs.State.{Cluster}

@@ -1,8 +1,7 @@
 -- Each run tells before each feed from when it is measured, and is fenced.
-use Rattle.std.proofs.Common.{ℕ, ◌≡◌, ◌++◌, List, [], ◌∷◌, slice_get, Option, Some, refl, ◌∙◌, ap, sym, subst}
+use Rattle.std.proofs.Common.{◌≡◌, ◌++◌, List, [], ◌∷◌, refl, ◌∙◌, ap, sym, subst}
 use Rattle.event_book.specs.declared.event.Event.{Event}
 use Rattle.event_book.specs.declared.member.Member.{Member}
-use Rattle.event_book.specs.Flight.{InFlightFacts, in_flight}
 use Rattle.script_model.specs.Script.{HeadText}
 use Rattle.cluster_model.specs.declared.step.Step.{Step}
 use Rattle.cluster_model.specs.Cluster.{cluster_over}
