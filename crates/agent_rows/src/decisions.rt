@@ -2,21 +2,16 @@
 ghost use Rattle.std.specs.Prelude.{true, ◌≡◌};
 ghost use Rattle.agent_turn.specs.Turns.{HasLeft, Spent, reached};
 ghost use Rattle.leader_key.specs.Watchdog.{IsLeaseSpan};
-ghost use Rattle.agent_model.specs.Agents.{Follower, IsSound, IsWithin, Leader, Unleased, outcome_from};
-ghost use Rattle.agent_model.specs.Decisions.{accepted_grant, accepted_sync, arms, asks_in_pause, asks_lease, asks_renewal, asks_sync, awaits_decision, belongs, create_refused, follower_for, gives_back, granted, granted_for, granted_in_pause, has_lasted, is_decision, is_lease_of, is_start_too_long, is_sync_decision, is_write_of, judges_start, leader_renewed, lease_granted, lease_used, may_create, may_take, refused, refused_as, refused_for, renewal_refused, unleased_renewed, takes_key, takes_key_in_pause, takes_over, uses_lease};
+ghost use Rattle.agent_model.specs.Agents.{IsWithin};
+ghost use Rattle.agent_model.specs.Decisions.{accepted_grant, accepted_sync, asks_in_pause, asks_lease, asks_renewal, asks_sync, follower_for, granted, granted_in_pause, is_decision, is_sync_decision, lease_granted, refused, refused_as, renewal_refused, uses_lease};
 ghost use Rattle.agent_model.specs.Answers.{most_grant_outputs};
 ghost use Rattle.agent_turn.specs.Roles.{role_of};
-ghost use Rattle.agent_model.specs.Acting.{is_hold_active, is_refusing, waiting_no_more};
-ghost use Rattle.leader_key.specs.Lease.{lease_revision, writer_revision};
-ghost use Rattle.agent_model.specs.declared.knowledge.Knowledge.{Knowledge};
-ghost use Rattle.pat_base.specs.Moments.{latest};
+ghost use Rattle.agent_model.specs.Acting.{waiting_no_more};
 
-use crate::claiming::{claim_fails, claim_granted};
-use crate::keyless::{leader_without_key, unleased_without_key};
-use crate::leading::{
-    leader_renewed, leader_rested, take_key, take_key_in_pause, unleased_renewed, unleased_rested,
+use agent_leadership::{
+    claim_fails, claim_granted, leader_renewed, leader_rested, leader_without_key, settle,
+    take_key, take_key_in_pause, unleased_renewed, unleased_rested, unleased_without_key,
 };
-use crate::planning::settle;
 use agent_model::{PendingQuestion, Question};
 use agent_turn::{Role, Turn, belongs, inform, is_lease_of, is_paused, is_write_of};
 use cluster_config::Snapshot;

@@ -1,20 +1,14 @@
 //! What an agent does for operators, and what it answers them (Patroni's documentation of the REST API).
 ghost use Rattle.std.specs.Prelude.{option_copied, ◌≡◌, ◌≤◌};
 ghost use Rattle.agent_turn.specs.Turns.{ComesTo, HasLeft, Spent, reached};
-ghost use Rattle.agent_model.specs.Agents.{IsSound, IsWithin, RoleFacts, outcome_from};
-ghost use Rattle.agent_model.specs.Operators.{answering, answering_if, awaits_number, config_revision, done_by, done_text, failed_by, failed_text, failover_result, given_up, given_up_by, granted_as, grants_operator, holder_if, holder_in, is_asked_for, is_same_member, late_answer, learned, looked, looked_by, name_in, operated, operates, operating, operator_granted, operator_refused, operator_until, owing, refusal_of, restarting, result_as, revision_of_entry, telling, uses_read, wiping};
+ghost use Rattle.agent_model.specs.Agents.{IsWithin, RoleFacts};
+ghost use Rattle.agent_model.specs.Operators.{answering, awaits_number, config_revision, done_by, done_text, failed_by, failed_text, failover_result, given_up, grants_operator, holder_if, holder_in, is_asked_for, is_same_member, late_answer, looked, name_in, operated, operates, operating, operator_granted, operator_refused, operator_until, refusal_of, restarting, result_as, revision_of_entry, telling, wiping};
 ghost use Rattle.agent_model.specs.Peers.{asked};
 ghost use Rattle.event_book.specs.declared.message.Body.TheVariants as bodies;
 ghost use Rattle.pat_base.specs.Moments.{latest};
 ghost use Rattle.agent_turn.specs.Roles.{role_of};
 ghost use Rattle.agent_model.specs.declared.operating.Told.TheVariants as tolds;
-ghost use Rattle.agent_model.specs.Acting.{counted, waiting};
-ghost use Rattle.pg_model.specs.Running.{is_primary};
-ghost use Rattle.pg_model.specs.Status.{status_restarted, status_wiped};
-ghost use Rattle.lease_store.specs.declared.txn.Txn.TheVariants as txns;
-ghost use Rattle.agent_model.specs.declared.output.Output.TheVariants as outputs;
-ghost use Rattle.agent_model.specs.declared.output.Target.TheVariants as targets;
-ghost use Rattle.agent_model.specs.Outputs.{with_output};
+ghost use Rattle.agent_model.specs.Acting.{waiting};
 
 use crate::snapshots::awaits_read;
 use agent_model::{Knowledge, Operating, Operation, Output, PendingQuestion, Told};

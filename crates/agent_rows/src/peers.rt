@@ -1,28 +1,12 @@
 //! What members ask one another, and the race for a free leader key that is judged by what they answer.
 ghost use Rattle.std.specs.Prelude.{◌≡◌};
 ghost use Rattle.agent_turn.specs.Turns.{ComesTo, HasLeft, Spent, reached};
-ghost use Rattle.agent_model.specs.Agents.{IsSound, IsWithin, RoleFacts, outcome_from, word_of};
-ghost use Rattle.agent_model.specs.Peers.{asked, accepted_answer, answered, answered_for, awaits_answer, awaits_check, is_asking, is_checking, judged_if_all, judged_if_racing, keeping};
-ghost use Rattle.agent_model.specs.Outputs.{with_output};
-ghost use Rattle.agent_model.specs.declared.output.Output.TheVariants as outputs;
-ghost use Rattle.agent_model.specs.Answers.{all_answered, asking_all, asking_first, asking_one, first_answered, has_answered, is_other, is_settled, peer_answer_of, with_answer};
+ghost use Rattle.agent_model.specs.Agents.{IsWithin};
+ghost use Rattle.agent_model.specs.Peers.{accepted_answer, answered, asked, awaits_answer, awaits_check, is_asking, is_checking};
+ghost use Rattle.agent_model.specs.Answers.{peer_answer_of};
 ghost use Rattle.agent_turn.specs.Roles.{role_of};
-ghost use Rattle.lease_store.specs.declared.txn.Txn.TheVariants as txns;
-ghost use Rattle.event_book.specs.declared.message.Body.TheVariants as bodies;
-ghost use Rattle.pat_base.specs.MemberId.{member_of};
-ghost use Rattle.agent_model.specs.declared.knowledge.Question.TheVariants as questions;
-ghost use Rattle.agent_model.specs.declared.output.Target.TheVariants as targets;
-ghost use Rattle.agent_model.specs.Acting.{counted, lease_span, seconds_after, waiting, waiting_no_more};
-ghost use Rattle.pat_base.specs.Moments.{latest};
-ghost use Rattle.pat_base.specs.declared.member_id.TheConstants.{MOST_MEMBERS};
-ghost use Rattle.agent_model.specs.Decisions.{may_create};
-ghost use Rattle.agent_model.specs.Info.{info_of, runs};
-ghost use Rattle.agent_model.specs.Racing.{answers_until, asking_others, barred, creating, judged, judged_as, outcome_at, outcome_by};
-ghost use Rattle.agent_model.specs.Views.{shown, view_of};
 
-use crate::asking::all_answered;
-use crate::handing_over::hear_successor;
-use crate::racing::judge;
+use agent_leadership::{all_answered, hear_successor, judge};
 use agent_model::{Output, PendingQuestion, Question, Who};
 use agent_turn::{Role, Turn, may_create, runs, word_of};
 use pat_base::{MemberId, PeerAnswer};

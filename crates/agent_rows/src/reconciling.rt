@@ -1,12 +1,12 @@
 //! What comes before every input: the agent's role is brought to what it finds of its server.
 ghost use Rattle.std.specs.Prelude.{false, ◌≡◌};
 ghost use Rattle.agent_turn.specs.Turns.{ComesTo, HasLeft, Spent, reached};
-ghost use Rattle.agent_model.specs.Agents.{Ending, Follower, Holder, IsSound, Leader, Ready, Unleased, outcome_from};
-ghost use Rattle.agent_model.specs.Reconciling.{reconciled, before_as, finds_live, has_ended, leader_finds_ended, noted_or, unleased_finds_ended};
-ghost use Rattle.agent_model.specs.Acting.{disarmed, disarming, without_deadline};
+ghost use Rattle.agent_model.specs.Agents.{Ending, Follower, Leader, Unleased};
+ghost use Rattle.agent_model.specs.Reconciling.{reconciled, has_ended, leader_finds_ended, noted_or};
+ghost use Rattle.agent_model.specs.Acting.{disarming};
 ghost use Rattle.pat_base.specs.ServerState.{live};
 ghost use Rattle.agent_turn.specs.Roles.{role_of};
-ghost use Rattle.leader_key.specs.Lease.{armed_revision, writer_revision};
+ghost use Rattle.leader_key.specs.Lease.{writer_revision};
 
 use agent_model::Why;
 use agent_turn::{Role, Turn};

@@ -4,12 +4,6 @@ ghost use Rattle.agent_turn.specs.Turns.{ComesTo, HasLeft, Spent};
 ghost use Rattle.agent_model.specs.Agents.{IsSound};
 ghost use Rattle.pat_base.specs.Moments.{latest};
 ghost use Rattle.agent_model.specs.Snapshots.{missing_point, missing_row, renewal, renewing, row_at, row_told, status_told, turn_start};
-ghost use Rattle.event_book.specs.declared.message.Body.TheVariants as bodies;
-ghost use Rattle.agent_model.specs.declared.knowledge.Question.TheVariants as questions;
-ghost use Rattle.agent_model.specs.declared.output.Output.TheVariants as outputs;
-ghost use Rattle.agent_model.specs.declared.output.Target.TheVariants as targets;
-ghost use Rattle.agent_model.specs.Acting.{counted, seconds_after, waiting};
-ghost use Rattle.agent_model.specs.Outputs.{with_output};
 
 use agent_model::{Knowledge, Question};
 use agent_turn::{Turn, info_of};

@@ -1,31 +1,16 @@
 //! What an agent does once it has read what the key store holds.
 ghost use Rattle.std.specs.Prelude.{◌≡◌};
-ghost use Rattle.agent_model.specs.Agents.{Follower, IsSound, IsWithin, Leader, Unleased, outcome_from};
+ghost use Rattle.agent_model.specs.Agents.{Follower, IsWithin};
 ghost use Rattle.agent_turn.specs.Turns.{HasLeft, Spent, reached};
 ghost use Rattle.pat_base.specs.declared.member_id.TheConstants.{MOST_MEMBERS};
-ghost use Rattle.agent_model.specs.Snapshots.{accepted, asks_as_unleased, awaits_read, ends_fork, finds_own_key, follow_row, follows, follows_anew, read_answered, informed, is_active, is_read, known_with, leader_finds_free, leader_without_key, led, led_by, led_by_another, missing_point, missing_row, no_key, others_key, own_key, read_noted, renewal, renewing, row_at, row_told, starts_behind, status_told, unleased_finds_free, unleased_without_key, turn_start};
+ghost use Rattle.agent_model.specs.Snapshots.{awaits_read, finds_own_key, follows, read_answered, is_read, led, no_key, others_key, own_key};
 ghost use Rattle.agent_turn.specs.Roles.{role_of};
-ghost use Rattle.lease_store.specs.declared.txn.Txn.TheVariants as txns;
-ghost use Rattle.leader_key.specs.Lease.{writer_revision};
-ghost use Rattle.event_book.specs.declared.message.Body.TheVariants as bodies;
-ghost use Rattle.pg_model.specs.Status.{status_following, status_replica_started};
-ghost use Rattle.agent_model.specs.declared.knowledge.Question.TheVariants as questions;
-ghost use Rattle.agent_model.specs.declared.output.Output.TheVariants as outputs;
-ghost use Rattle.agent_model.specs.declared.output.Target.TheVariants as targets;
-ghost use Rattle.agent_model.specs.Acting.{counted, is_hold_active, lease_span, seconds_after, upstream_of, waiting};
-ghost use Rattle.pat_base.specs.Moments.{latest};
-ghost use Rattle.agent_model.specs.Info.{info_of};
-ghost use Rattle.agent_model.specs.Outputs.{with_output};
-ghost use Rattle.agent_model.specs.Pausing.{is_paused, may_start_behind, running_without_key};
-ghost use Rattle.agent_model.specs.Racing.{finds_free};
 
-use crate::following::follow_row;
-use crate::keyless::{
-    leader_finds_free, leader_without_key, unleased_finds_free, unleased_without_key,
-};
-use crate::racing::finds_free;
 use crate::renewing::renew;
-use crate::repairing::{put_repair, repair_of};
+use agent_leadership::{
+    finds_free, follow_row, leader_finds_free, leader_without_key, put_repair, repair_of,
+    unleased_finds_free, unleased_without_key,
+};
 use agent_model::{PendingQuestion, Question};
 use agent_turn::{
     Role, Turn, inform, is_active, is_hold_active, is_paused, may_start_behind, sync_read_in,

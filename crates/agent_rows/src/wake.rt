@@ -2,25 +2,13 @@
 //! due.
 ghost use Rattle.std.specs.Prelude.{◌≡◌};
 ghost use Rattle.agent_turn.specs.Turns.{ComesTo, HasLeft, Spent, reached};
-ghost use Rattle.agent_model.specs.Agents.{Ending, IsSound, IsWithin, outcome_from};
-ghost use Rattle.agent_model.specs.Wake.{due_from, finds_ended, has_turn, is_due, is_overdue, is_stopping, leader_out_of_reach, out_of_reach, out_of_reach_as, overdue, overdue_for, reading, roused, unleased_out_of_reach, turn_as, turn_begins, turn_noted, turned, unanswered, waits_until, woken};
+ghost use Rattle.agent_model.specs.Agents.{IsWithin};
+ghost use Rattle.agent_model.specs.Wake.{due_from, finds_ended, has_turn, is_due, is_overdue, is_stopping, out_of_reach, overdue, reading, turn_begins, turned, unanswered, waits_until, woken};
 ghost use Rattle.agent_turn.specs.Roles.{role_of};
-ghost use Rattle.event_book.specs.declared.message.Body.TheVariants as bodies;
-ghost use Rattle.event_book.specs.declared.reason.Reason.TheVariants as reasons;
-ghost use Rattle.leader_key.specs.Lease.{writer_revision};
-ghost use Rattle.pg_model.specs.Status.{status_stopping};
-ghost use Rattle.agent_model.specs.declared.output.Output.TheVariants as outputs;
-ghost use Rattle.agent_model.specs.declared.output.Target.TheVariants as targets;
-ghost use Rattle.agent_model.specs.declared.why.Why.TheVariants as whys;
-ghost use Rattle.agent_model.specs.Acting.{counted, seconds_after, waiting};
-ghost use Rattle.pat_base.specs.Moments.{latest};
-ghost use Rattle.agent_model.specs.Outputs.{with_output};
 
-use crate::claiming::claim_fails;
-use crate::handing_over::judge_if_leading;
 use crate::operators::give_up;
-use crate::racing::judge_if_racing;
 use crate::reconciling::reconcile;
+use agent_leadership::{claim_fails, judge_if_leading, judge_if_racing};
 use agent_model::{Knowledge, Machine, PendingQuestion, Question};
 use agent_turn::{Role, Turn, is_paused};
 use event_book::{Body, Reason};

@@ -1,19 +1,15 @@
 //! What an agent does, of which the rows are made: messages, orders to its server, and its watchdog.
-ghost use Rattle.std.specs.Prelude.{◌≡◌, ◌≤◌, ◌<◌, ◌+◌, ◌*◌, ◌^◌, if◌then◌else◌, IfOk, IfErr, Some, None, false, true, is_err};
+ghost use Rattle.std.specs.Prelude.{IfErr, IfOk, None, false, if◌then◌else◌, is_err, true, ◌+◌, ◌≡◌, ◌≤◌};
 ghost use Rattle.pat_base.specs.ServerState.{live};
-ghost use Rattle.pg_model.specs.Status.{status_stopping};
-ghost use Rattle.lease_store.specs.declared.txn.Txn.TheVariants as txns;
-ghost use Rattle.event_book.specs.declared.message.Body.TheVariants as bodies;
-ghost use Rattle.leader_key.specs.Lease.{lease_revision, armed_revision, writer_revision};
+ghost use Rattle.leader_key.specs.Lease.{armed_revision, lease_revision, writer_revision};
 ghost use Rattle.leader_key.specs.Watchdog.{IsLeaseSpan, is_armable};
 ghost use Rattle.agent_model.specs.declared.output.Output.TheVariants as outputs;
 ghost use Rattle.agent_model.specs.declared.why.Why.TheVariants as whys;
-ghost use Rattle.agent_model.specs.Acting.{sending, asking, touching, releasing, ending_server, requiring, disarming, arming, feeding, armed, disarmed, fed_until, is_refusing, is_hold_active, waiting_no_more};
-ghost use Rattle.agent_model.specs.Agents.{IsSound, IsWithin, Ending, Unleased, Outcome};
-ghost use Rattle.agent_model.specs.Outputs.{with_output};
+ghost use Rattle.agent_model.specs.Acting.{armed, arming, asking, disarmed, disarming, ending_server, fed_until, feeding, is_hold_active, is_refusing, releasing, requiring, sending, touching, waiting_no_more};
+ghost use Rattle.agent_model.specs.Agents.{Ending, IsWithin, Unleased};
 ghost use Rattle.agent_model.specs.Pausing.{disabling_told, disabling_watchdog, running_without_key};
 ghost use Rattle.agent_turn.specs.Roles.{role_of};
-ghost use Rattle.agent_turn.specs.Turns.{HasLeft, Spent, ComesTo};
+ghost use Rattle.agent_turn.specs.Turns.{ComesTo, HasLeft, Spent};
 
 use crate::info::info_of;
 use crate::outputs::Outputs;

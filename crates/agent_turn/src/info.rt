@@ -1,6 +1,6 @@
 //! What members tell of themselves.
 ghost use Rattle.std.specs.Prelude.{◌≡◌};
-ghost use Rattle.agent_model.specs.Info.{state_word, runs, info_of};
+ghost use Rattle.agent_model.specs.Info.{info_of, runs, state_word};
 
 use agent_model::Who;
 use lease_store::MemberInfo;

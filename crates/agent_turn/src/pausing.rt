@@ -1,13 +1,7 @@
 //! What an agent does otherwise while the cluster is paused: by itself it neither starts nor ends nor rewinds a server, but for a
 //! handover (Patroni's documentation, "Pause/Resume mode for the cluster").
-ghost use Rattle.std.specs.Prelude.{◌≡◌, ◌≤◌, ◌+◌, Some, None, true, option_copied};
-ghost use Rattle.leader_key.specs.Lease.{armed_revision, lease_revision, writer_revision};
-ghost use Rattle.agent_model.specs.declared.output.Output.TheVariants as outputs;
-ghost use Rattle.agent_model.specs.Acting.{without_deadline};
-ghost use Rattle.agent_model.specs.Agents.{Unleased};
-ghost use Rattle.agent_turn.specs.Roles.{role_of};
-ghost use Rattle.agent_model.specs.Outputs.{with_output};
-ghost use Rattle.agent_model.specs.Pausing.{ends_forks, is_paused, is_replica, is_wanted, is_wanted_by, lets_rewind, may_start_behind, disabling_told};
+ghost use Rattle.std.specs.Prelude.{option_copied, ◌≡◌};
+ghost use Rattle.agent_model.specs.Pausing.{ends_forks, is_paused, is_replica, is_wanted, is_wanted_by, lets_rewind, may_start_behind};
 
 use crate::Outputs;
 use crate::role::Role;

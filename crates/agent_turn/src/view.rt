@@ -1,5 +1,5 @@
 //! What an agent shows of itself and of its server.
-ghost use Rattle.std.specs.Prelude.{◌≡◌, None, option_copied};
+ghost use Rattle.std.specs.Prelude.{None, option_copied, ◌≡◌};
 ghost use Rattle.agent_model.specs.Agents.{word_of};
 ghost use Rattle.agent_turn.specs.Roles.{role_of};
 ghost use Rattle.agent_model.specs.Views.{view_of};
