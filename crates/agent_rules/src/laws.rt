@@ -31,5 +31,5 @@ pub fn a_leader_out_of_reach_ends_its_server()
 /// hand over, starts it as a replica only after a handover of its own, has only a replica begin that an operator wants to lead, and rewinds
 /// nothing. What else it does to the server an operator asks for.
 pub fn in_a_pause_servers_are_left_alone()
-    ensures { (now : Ticks) (points : List HistoryPoint) (heard : Heard) (role : RoleFacts) (knows : Knowledge) (machine : Machine) → RestrainsInPause heard (before now (made role knows machine [])) (step now points heard (made role knows machine [])) }
+    ensures { (now : Ticks) (points : List HistoryPoint) (heard : Heard) (role : RoleFacts) (knows : Knowledge) (machine : Machine) → RestrainsInPause heard (reconciled now (outcome_from role knows machine [])) (step now points heard (outcome_from role knows machine [])) }
 {}
