@@ -40,7 +40,7 @@ use Rattle.commit_actions.specs.Past.{VolatileState}
 use Rattle.commit_book.specs.Showing.{IsIdle}
 use Rattle.commit_book.proofs.Showing.{idle-shown}
 use Rattle.lease_parts.specs.Declaring.{declared_of, works_of}
-use Rattle.run_promise.specs.Members.{member_count}
+use Rattle.run_promise.specs.Members.{member_count, IsDeclared}
 use Rattle.lease_parts.specs.Kept.{IsKept}
 use Rattle.run_promise.specs.Parts.{InputsUphold}
 use Rattle.run_promise.specs.Promise.{Upholds}
