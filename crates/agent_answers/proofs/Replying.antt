@@ -40,7 +40,7 @@ use Rattle.agent_answers.specs.Replies.{RepliesTo}
 use Rattle.agent_model.specs.Snapshots.{follow_row, follows, read_noted, read_answered, informed, led_by_another}
 use Rattle.agent_model.specs.Table.{step}
 use Rattle.agent_model.specs.Wake.{overdue, turned, woken}
-use Rattle.agent_model.proofs.Rows.{HandoverRows, ReplyRows, ActRows, looked-by, given-up-by, granted-any-by, refused-any-by, operated-by, led_on, if-cases, renewed-by, passing-by, begins-or-claims-by, before-by, overdue-by, turn-by, wake-by, got-by, refused-by, follow-by, repaired-by, free-by, granted-by, judged-by, answered-by, DutyRows, duties-of, rested_on, takes-in-pause-by}
+use Rattle.agent_model.proofs.Rows.{HandoverRows, ReplyRows, ActRows, looked-by, given-up-by, granted-any-by, refused-any-by, operated-by, led_on, if-cases, renewed-by, passing-by, begins-or-claims-by, before-by, overdue-by, turn-by, wake-by, got-by, refused-by, follow-by, repaired-by, free-by, granted-by, judged-by, answered-by, DutyRows, duties-of, leading_in_pause, takes-in-pause-by}
 use Rattle.agent_model.specs.Pausing.{may_start_behind, disabling_told, disabling_watchdog}
 
 -- an output that answers neither a member nor an operator
@@ -195,10 +195,10 @@ renewed-quiet : (f : Outcome) (now ttl : Ticks) (revision : ℕ) (o : Outcome) �
 renewed-quiet f now ttl revision o all = let led : Outcome = led_on now ttl revision o in let told : Quiet f led = fed-quiet f (deadline_after now ttl o.machine.watchdog) o.outputs all in
     renewed-by (Quiet f) now ttl revision o (said led.outputs _ tt told) (duty-quiet f now revision led told)
 
-rest-quiet : (f : Outcome) (renews : Bool) (deadline : Option Ticks) {w : Option Operating} (outs : List Output) → Says f outs w → Says f (disabling_told renews deadline outs) w
-rest-quiet f renews None outs all = all
-rest-quiet f true (Some deadline) outs all = said _ outputs.DisablesWatchdog tt (said outs outputs.Disarmed tt all)
-rest-quiet f false (Some deadline) outs all = said outs outputs.Disarmed tt all
+disabled-quiet : (f : Outcome) (renews : Bool) (deadline : Option Ticks) {w : Option Operating} (outs : List Output) → Says f outs w → Says f (disabling_told renews deadline outs) w
+disabled-quiet f renews None outs all = all
+disabled-quiet f true (Some deadline) outs all = said _ outputs.DisablesWatchdog tt (said outs outputs.Disarmed tt all)
+disabled-quiet f false (Some deadline) outs all = said outs outputs.Disarmed tt all
 
 unleased-quiet : (f : Outcome) (now ttl : Ticks) (revision : ℕ) (o : Outcome) → Quiet f o → Quiet f (unleased_renewed now ttl revision o)
 unleased-quiet f now ttl revision o all = if-cases (Quiet f) (is_refusing o.machine.watchdog.mode o.machine.watchdog.works) _ (takes_over now revision (arming now ttl o))
@@ -225,9 +225,9 @@ granted-quiet f now sequence grant snapshot o all = let told : Outcome = record 
       leader = λ _ _. renewed-quiet f now waited.ttl grant.revision told all;
       unleased = λ _. unleased-quiet f now waited.ttl grant.revision told all;
       takes = λ _. takes-quiet f now waited.ttl grant.revision told all;
-      rests = λ renews _ _ _. let led : Outcome = rested_on renews grant.revision told in duties-of (Quiet f) now grant.revision led (duty-quiet f now grant.revision led (rest-quiet f renews o.machine.watchdog.deadline o.outputs all));
-      unleased_rests = λ renews _ _. rest-quiet f renews o.machine.watchdog.deadline o.outputs all;
-      takes_resting = λ renews _ _. let rest : Outcome = disabling_watchdog renews told in let rested : Quiet f rest = rest-quiet f renews o.machine.watchdog.deadline o.outputs all in
+      leads_in_pause = λ renews _ _ _. let led : Outcome = leading_in_pause renews grant.revision told in duties-of (Quiet f) now grant.revision led (duty-quiet f now grant.revision led (disabled-quiet f renews o.machine.watchdog.deadline o.outputs all));
+      unleased_in_pause = λ renews _ _. disabled-quiet f renews o.machine.watchdog.deadline o.outputs all;
+      takes_in_pause = λ renews _ _. let rest : Outcome = disabling_watchdog renews told in let rested : Quiet f rest = disabled-quiet f renews o.machine.watchdog.deadline o.outputs all in
           takes-in-pause-by (Quiet f) now renews grant.revision told (said o.outputs _ tt all) (begins-quiet f now grant.revision rest rested) (said _ _ tt (passing-quiet f rest rested));
     })
     (record { other = all; begins = λ revision _. begins-quiet f now revision told all; postpones = λ revision _. postpones-quiet f revision told all; settles = λ required _. said o.outputs (outputs.Require required) tt all })

@@ -116,7 +116,12 @@ pub fn take_key(lease: Lease, turn: &mut Turn, ttl: Ticks) -> Role
 }
 
 /// The lease of a leader is renewed in a pause: its watchdog rests, and its start may last as long as it does.
-pub fn leader_rested(writer: Writer, turn: &mut Turn, renews: bool, grant: Granted) -> Role
+pub fn leader_renewed_in_pause(
+    writer: Writer,
+    turn: &mut Turn,
+    renews: bool,
+    grant: Granted,
+) -> Role
     requires turn { HasLeft most_grant_outputs 1 turn.old }
     requires leased { grant.leased ≡ true }
     requires server { IsWithin turn.old.machine.now.server }
@@ -128,7 +133,7 @@ pub fn leader_rested(writer: Writer, turn: &mut Turn, renews: bool, grant: Grant
 }
 
 /// An agent whose server is live without a lease gets one in a pause: it leads without a watchdog.
-pub fn unleased_rested(lease: Lease, turn: &mut Turn, renews: bool) -> Role
+pub fn unleased_renewed_in_pause(lease: Lease, turn: &mut Turn, renews: bool) -> Role
     requires { HasLeft 2 0 turn.old }
     ensures outcome { reached (role_of result) turn.new ≡ granted_in_pause turn.old.moment renews (lease_revision lease) Unleased (reached Unleased turn.old) }
     ensures left { Spent 2 0 turn.old turn.new }

@@ -20,7 +20,8 @@ pub use keyless::{
     leader_finds_free, leader_without_key, unleased_finds_free, unleased_without_key,
 };
 pub use leading::{
-    leader_renewed, leader_rested, take_key, take_key_in_pause, unleased_renewed, unleased_rested,
+    leader_renewed, leader_renewed_in_pause, take_key, take_key_in_pause, unleased_renewed,
+    unleased_renewed_in_pause,
 };
 pub use planning::settle;
 pub use racing::{finds_free, judge, judge_if_racing};

@@ -15,8 +15,8 @@ use agent_turn::{Role, Turn, info_of, is_paused, may_create, view_of, word_of};
 use cluster_config::RoleWord;
 use event_book::Body;
 use leader_race::{may_race, wins};
-use lease_store::{Bar, Txn};
-use pat_base::{State, Ticks};
+use lease_store::Txn;
+use pat_base::{Ineligibility, State, Ticks};
 use pg_model::ServerStatus;
 
 /// Nobody leads: a server that can start does so as a replica of none, and its agent tells of itself; else the member races,
@@ -56,7 +56,7 @@ fn can_start(server: &ServerStatus) -> bool
 }
 
 /// What bars a member without a lease from racing for the leader key, by what it shows at this moment.
-fn bar_of(now: Ticks, knows: &Knowledge, machine: &Machine) -> Option<Bar>
+fn bar_of(now: Ticks, knows: &Knowledge, machine: &Machine) -> Option<Ineligibility>
     ensures { result ≡ bar_of now knows.now machine.now }
 {
     let seen = knows.seen.as_ref()?;
@@ -65,7 +65,7 @@ fn bar_of(now: Ticks, knows: &Knowledge, machine: &Machine) -> Option<Bar>
 }
 
 /// What a member does about the free leader key, by what bars it.
-fn race_unless(bar: Option<Bar>, turn: &mut Turn)
+fn race_unless(bar: Option<Ineligibility>, turn: &mut Turn)
     requires { HasLeft MOST_MEMBERS 1 turn.old }
     ensures outcome { reached Follower turn.new ≡ races_unless turn.old.moment bar (reached Follower turn.old) }
     ensures left { Spent MOST_MEMBERS 1 turn.old turn.new }
@@ -119,7 +119,12 @@ pub fn judge(word: RoleWord, turn: &mut Turn)
 }
 
 /// What bars a member from winning the race, by the answers that it heard and by what it shows at this moment.
-fn outcome_at(now: Ticks, word: RoleWord, knows: &Knowledge, machine: &Machine) -> Option<Bar>
+fn outcome_at(
+    now: Ticks,
+    word: RoleWord,
+    knows: &Knowledge,
+    machine: &Machine,
+) -> Option<Ineligibility>
     ensures { result ≡ outcome_by (view_of now word knows.now machine.now) knows.now.seen knows.now.answers }
 {
     let seen = knows.seen.as_ref()?;
@@ -128,7 +133,7 @@ fn outcome_at(now: Ticks, word: RoleWord, knows: &Knowledge, machine: &Machine) 
 }
 
 /// A member that is barred tells by what, and tells of itself.
-pub(crate) fn stay_out(bar: Bar, turn: &mut Turn)
+pub(crate) fn stay_out(bar: Ineligibility, turn: &mut Turn)
     requires { HasLeft 2 1 turn.old }
     ensures outcome { ComesTo (barred bar) turn.old turn.new }
     ensures left { Spent 2 1 turn.old turn.new }

@@ -41,7 +41,7 @@ use Rattle.agent_roles.proofs.Granting.{Told}
 use Rattle.agent_roles.proofs.Knowing.{IsAlone, alone-of, before-onward, given-up-onward}
 use Rattle.agent_roles.proofs.Staying.{before-waits}
 use Rattle.agent_roles.proofs.Living.{no-way}
-use Rattle.agent_model.proofs.Rows.{led_on, if-cases, renewed-by, begins-or-claims-by, overdue-by, turn-by, wake-by, got-by, refused-by, follow-by, repaired-by, free-by, granted-by, judged-by, answered-by, HandoverRows, ReplyRows, dropping, granted-any-by, refused-any-by, given-up-by, looked-by, operated-by, DutyRows, duties-of, rested_on, takes-in-pause-by}
+use Rattle.agent_model.proofs.Rows.{led_on, if-cases, renewed-by, begins-or-claims-by, overdue-by, turn-by, wake-by, got-by, refused-by, follow-by, repaired-by, free-by, granted-by, judged-by, answered-by, HandoverRows, ReplyRows, dropping, granted-any-by, refused-any-by, given-up-by, looked-by, operated-by, DutyRows, duties-of, leading_in_pause, takes-in-pause-by}
 use Rattle.agent_lease_law.proofs.Sending.{IsSilent, silently, MayPut, AllMay, Fronts, before-fronts, got-none, wake-may, got-may, refused-may, granted-may, overdue-none, answered-none, answered-may, asked-may, operated-may, given-up-fronts, looked-fronts, looked-later}
 use Rattle.agent_lease_law.proofs.Sending.Fronts.{Silent, Released}
 use Rattle.agent_roles.proofs.Fitting.{before-fits}
@@ -240,9 +240,9 @@ granted-holds now sequence grant snapshot o b same = granted-by (Holds now o) no
       leader = λ held _. renewed-holds now waited.ttl grant.revision o (Told snapshot b) refl;
       unleased = λ _. unleased-holds now waited.ttl grant.revision o (Told snapshot b) refl;
       takes = λ _. takes-holds now waited.ttl grant.revision o (Told snapshot b) refl;
-      rests = λ renews _ held _. let led : Outcome = rested_on renews grant.revision (Told snapshot b) in duties-of (Holds now o) now grant.revision led (duty-holds now grant.revision o led refl);
-      unleased_rests = λ renews _ _. nothing now o (takes_over now grant.revision (disabling_watchdog renews (Told snapshot b))) refl;
-      takes_resting = λ renews _ _. let rest : Outcome = disabling_watchdog renews (Told snapshot b) in
+      leads_in_pause = λ renews _ held _. let led : Outcome = leading_in_pause renews grant.revision (Told snapshot b) in duties-of (Holds now o) now grant.revision led (duty-holds now grant.revision o led refl);
+      unleased_in_pause = λ renews _ _. nothing now o (takes_over now grant.revision (disabling_watchdog renews (Told snapshot b))) refl;
+      takes_in_pause = λ renews _ _. let rest : Outcome = disabling_watchdog renews (Told snapshot b) in
           takes-in-pause-by (Holds now o) now renews grant.revision (Told snapshot b) (nothing now o (gives_back grant.revision (Told snapshot b)) refl) (nothing now o (begins now grant.revision rest) refl) (only-reads now o (claims now grant.revision (passing rest)) _ refl refl);
     })
     (record {

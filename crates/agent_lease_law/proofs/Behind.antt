@@ -147,9 +147,9 @@ granted-begins now sequence grant snapshot b unpaused armable silent =
           (λ _. silent-begins Mine (with_output (outputs.Stop WatchdogNotArmed) b.outputs) (silently b.outputs (outputs.Stop WatchdogNotArmed) silent tt))
           (λ _. silent-begins Mine over.outputs (silent-armed (deadline_after now waited.ttl b.machine.watchdog) b.outputs silent));
       takes = λ _. takes-begins now waited.ttl sequence grant grant.revision b told (waited, is, decision) refl (armable (waited, is, decision)) silent;
-      rests = λ _ paused _ _. absurd (no-way (sym unpaused ∙ paused));
-      unleased_rests = λ _ paused _. absurd (no-way (sym unpaused ∙ paused));
-      takes_resting = λ _ paused _. absurd (no-way (sym unpaused ∙ paused));
+      leads_in_pause = λ _ paused _ _. absurd (no-way (sym unpaused ∙ paused));
+      unleased_in_pause = λ _ paused _. absurd (no-way (sym unpaused ∙ paused));
+      takes_in_pause = λ _ paused _. absurd (no-way (sym unpaused ∙ paused));
     })
     (record {
       other = silent-begins Mine b.outputs silent;

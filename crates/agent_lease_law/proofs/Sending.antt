@@ -57,7 +57,7 @@ use Rattle.agent_roles.proofs.Knowing.{IsAlone, before-onward, given-up-onward, 
 use Rattle.agent_roles.proofs.Fitting.{ended-for}
 use Rattle.agent_roles.proofs.Leaving.{rests-by}
 use Rattle.agent_roles.proofs.Living.{no-way, primary-live, restart-live, wipe-live}
-use Rattle.agent_model.proofs.Rows.{HandoverRows, ReplyRows, ActRows, IsOperatorTxn, dropping, looked-by, given-up-by, granted-any-by, refused-any-by, operated-by, WritesSync, led_on, if-cases, renewed-by, passing-by, begins-or-claims-by, before-by, overdue-by, turn-by, wake-by, got-by, refused-by, follow-by, repaired-by, free-by, granted-by, judged-by, answered-by, DutyRows, duties-of, rested_on, takes-in-pause-by}
+use Rattle.agent_model.proofs.Rows.{HandoverRows, ReplyRows, ActRows, IsOperatorTxn, dropping, looked-by, given-up-by, granted-any-by, refused-any-by, operated-by, WritesSync, led_on, if-cases, renewed-by, passing-by, begins-or-claims-by, before-by, overdue-by, turn-by, wake-by, got-by, refused-by, follow-by, repaired-by, free-by, granted-by, judged-by, answered-by, DutyRows, duties-of, leading_in_pause, takes-in-pause-by}
 use Rattle.agent_model.specs.Pausing.{may_start_behind, disabling_told, disabling_watchdog, running_without_key}
 
 -- an output that sends nothing, takes no hold, and by which no server comes to accept writes
@@ -128,10 +128,10 @@ pub silent-fed : (deadline : Option Ticks) (outs : List Output) → All IsSilent
 silent-fed None outs all = all
 silent-fed (Some deadline) outs all = silently outs (outputs.Fed deadline) all tt
 
-silent-rest : (renews : Bool) (deadline : Option Ticks) (outs : List Output) → All IsSilent outs → All IsSilent (disabling_told renews deadline outs)
-silent-rest renews None outs all = all
-silent-rest true (Some deadline) outs all = silently (with_output outputs.Disarmed outs) outputs.DisablesWatchdog (silently outs outputs.Disarmed all tt) tt
-silent-rest false (Some deadline) outs all = silently outs outputs.Disarmed all tt
+silent-disabled : (renews : Bool) (deadline : Option Ticks) (outs : List Output) → All IsSilent outs → All IsSilent (disabling_told renews deadline outs)
+silent-disabled renews None outs all = all
+silent-disabled true (Some deadline) outs all = silently (with_output outputs.Disarmed outs) outputs.DisablesWatchdog (silently outs outputs.Disarmed all tt) tt
+silent-disabled false (Some deadline) outs all = silently outs outputs.Disarmed all tt
 
 -- the release of this revision under this number, or a silent output
 abbrev pub IsReleaseOr : ℕ → ℕ → Output → Type 0
@@ -580,9 +580,9 @@ granted-silent G now sequence grant snapshot o b later fits gives readies silent
       leader = λ held _. renewed-may G now waited.ttl grant.revision o (Told snapshot b) later silent;
       unleased = λ _. unleased-may G now waited.ttl grant.revision o (Told snapshot b) silent;
       takes = λ may. takes-may G now waited.ttl grant.revision o (Told snapshot b) later (ended-for b.role (live b.machine.server.state) may fits) (gives (waited, is, decision)) silent;
-      rests = λ renews _ held _. let led : Outcome = rested_on renews grant.revision (Told snapshot b) in duties-of (AllMay G o) now grant.revision led (duty-may G now grant.revision o led later (silent-rest renews b.machine.watchdog.deadline b.outputs silent));
-      unleased_rests = λ renews _ _. let over : Outcome = takes_over now grant.revision (disabling_watchdog renews (Told snapshot b)) in front G o over over.outputs (silent-rest renews b.machine.watchdog.deadline b.outputs silent);
-      takes_resting = λ renews _ may. let told : Outcome = Told snapshot b in let rest : Outcome = disabling_watchdog renews told in let quiet : All IsSilent rest.outputs = silent-rest renews b.machine.watchdog.deadline b.outputs silent in
+      leads_in_pause = λ renews _ held _. let led : Outcome = leading_in_pause renews grant.revision (Told snapshot b) in duties-of (AllMay G o) now grant.revision led (duty-may G now grant.revision o led later (silent-disabled renews b.machine.watchdog.deadline b.outputs silent));
+      unleased_in_pause = λ renews _ _. let over : Outcome = takes_over now grant.revision (disabling_watchdog renews (Told snapshot b)) in front G o over over.outputs (silent-disabled renews b.machine.watchdog.deadline b.outputs silent);
+      takes_in_pause = λ renews _ may. let told : Outcome = Told snapshot b in let rest : Outcome = disabling_watchdog renews told in let quiet : All IsSilent rest.outputs = silent-disabled renews b.machine.watchdog.deadline b.outputs silent in
           takes-in-pause-by (AllMay G o) now renews grant.revision told (gives-back-may G grant.revision o told later (ended-for b.role (live b.machine.server.state) may fits) (gives (waited, is, decision)) silent)
           (begins-may G now grant.revision o rest (gives (waited, is, decision)) quiet) (claims-may G now grant.revision o (passing rest) later (silent-passing rest quiet));
     })

@@ -36,7 +36,7 @@ use Rattle.agent_model.specs.Snapshots.{follow_row, follows, read_answered, info
 use Rattle.agent_model.specs.Table.{granted_any, refused_any, step}
 use Rattle.agent_model.specs.Wake.{overdue, turned, woken}
 use Rattle.agent_model.specs.Bounds.{IsSmall}
-use Rattle.agent_model.proofs.Rows.{HandoverRows, ReplyRows, WritesSync, led_on, if-cases, begins-or-claims-by, passing-by, renewed-by, before-by, overdue-by, turn-by, wake-by, got-by, refused-by, granted-by, follow-by, repaired-by, free-by, judged-by, answered-by, given-up-by, looked-by, granted-any-by, refused-any-by, DutyRows, duties-of, rested_on, takes-in-pause-by}
+use Rattle.agent_model.proofs.Rows.{HandoverRows, ReplyRows, WritesSync, led_on, if-cases, begins-or-claims-by, passing-by, renewed-by, before-by, overdue-by, turn-by, wake-by, got-by, refused-by, granted-by, follow-by, repaired-by, free-by, judged-by, answered-by, given-up-by, looked-by, granted-any-by, refused-any-by, DutyRows, duties-of, leading_in_pause, takes-in-pause-by}
 use Rattle.agent_model.specs.Answers.{is_other, asking_one, asking_first}
 use Rattle.pat_base.specs.declared.member_id.TheConstants.{MOST_MEMBERS}
 use Rattle.agent_model.specs.Peers.{keeping, answered}
@@ -344,20 +344,20 @@ duties-row most whole now held start led h before =
     }
 
 -- a watchdog that rests
-rested-one : (sequence : ℕ) (renews : Bool) (deadline : Option Ticks) (before : List Output) → Grows 2 sequence sequence before (disabling_told renews deadline before)
-rested-one sequence renews None before = weaker 1 2 _ _ _ _ (omega arith) (none sequence before)
-rested-one sequence true (Some deadline) before =
+disabled-one : (sequence : ℕ) (renews : Bool) (deadline : Option Ticks) (before : List Output) → Grows 2 sequence sequence before (disabling_told renews deadline before)
+disabled-one sequence renews None before = weaker 1 2 _ _ _ _ (omega arith) (none sequence before)
+disabled-one sequence true (Some deadline) before =
     grows-then 1 1 2 sequence sequence sequence before (with_output outputs.Disarmed before) _ (omega arith) (one sequence sequence before outputs.Disarmed (omega arith) tt) (one sequence sequence (with_output outputs.Disarmed before) outputs.DisablesWatchdog (omega arith) tt)
-rested-one sequence false (Some deadline) before = weaker 1 2 _ _ _ _ (omega arith) (one sequence sequence before outputs.Disarmed (omega arith) tt)
+disabled-one sequence false (Some deadline) before = weaker 1 2 _ _ _ _ (omega arith) (one sequence sequence before outputs.Disarmed (omega arith) tt)
 
-resting-row : (renews : Bool) (o : Outcome) → Brings 2 o (disabling_watchdog renews o)
-resting-row renews o = rested-one o.knows.sequence renews o.machine.watchdog.deadline o.outputs
+disabling-row : (renews : Bool) (o : Outcome) → Brings 2 o (disabling_watchdog renews o)
+disabling-row renews o = disabled-one o.knows.sequence renews o.machine.watchdog.deadline o.outputs
 
-takes-resting-row : (now : Ticks) (renews : Bool) (held : ℕ) (o : Outcome) → Row o (takes_key_in_pause now renews held o)
-takes-resting-row now renews held o =
+takes-in-pause-row : (now : Ticks) (renews : Bool) (held : ℕ) (o : Outcome) → Row o (takes_key_in_pause now renews held o)
+takes-in-pause-row now renews held o =
     let rest : Outcome = disabling_watchdog renews o in
     takes-in-pause-by (Row o) now renews held o (weaker 1 9 _ _ _ _ (omega arith) (back-row held o))
-    (grows-then 2 2 9 _ _ _ _ _ _ (omega arith) (resting-row renews o) (begins-row now held rest)) (grows-then 2 2 9 _ _ _ _ _ _ (omega arith) (resting-row renews o) (claims-row now held rest))
+    (grows-then 2 2 9 _ _ _ _ _ _ (omega arith) (disabling-row renews o) (begins-row now held rest)) (grows-then 2 2 9 _ _ _ _ _ _ (omega arith) (disabling-row renews o) (claims-row now held rest))
 
 renewed-row : (now ttl : Ticks) (held : ℕ) (o : Outcome) → Brings 17 o (leader_renewed now ttl held o)
 renewed-row now ttl held o =
@@ -379,9 +379,9 @@ granted-row now sequence grant snapshot o =
       leader = λ held _. weaker 17 18 _ _ _ _ (omega arith) (renewed-row now asked.ttl grant.revision told);
       unleased = λ _. as-much _ _ _ _ (unleased-row now asked.ttl grant.revision told);
       takes = λ _. as-much _ _ _ _ (takes-row now asked.ttl grant.revision told);
-      rests = λ renews _ held _. let led : Outcome = rested_on renews grant.revision told in duties-of (Brings 18 o) now grant.revision led (duties-row 2 18 now grant.revision o led (omega arith) (resting-row renews told));
-      unleased_rests = λ renews _ _. weaker 2 18 _ _ _ _ (omega arith) (resting-row renews told);
-      takes_resting = λ renews _ _. as-much _ _ _ _ (takes-resting-row now renews grant.revision told);
+      leads_in_pause = λ renews _ held _. let led : Outcome = leading_in_pause renews grant.revision told in duties-of (Brings 18 o) now grant.revision led (duties-row 2 18 now grant.revision o led (omega arith) (disabling-row renews told));
+      unleased_in_pause = λ renews _ _. weaker 2 18 _ _ _ _ (omega arith) (disabling-row renews told);
+      takes_in_pause = λ renews _ _. as-much _ _ _ _ (takes-in-pause-row now renews grant.revision told);
     })
     (record {
       other = still;

@@ -1,6 +1,6 @@
 -- The rows of the decision table, one by one: what holds of each row that applies holds of the whole.
 use Rattle.std.proofs.Common.{◌≡◌, ℕ, ◌==◌, ◌&&◌, nat_le, Bool, true, false, is_none, if◌then◌else◌, Option, Some, None, List, refl, subst, ap, ◌∙◌, not, []}
-use Rattle.lease_store.specs.declared.action.Bar.{Bar}
+use Rattle.pat_base.specs.declared.ineligibility.Ineligibility.{Ineligibility}
 use Rattle.lease_store.specs.declared.granted.Granted.{Granted}
 use Rattle.wal_model.specs.declared.entry.HistoryPoint.{HistoryPoint}
 use Rattle.cluster_config.specs.declared.snapshot.LeaderEntry.{LeaderEntry}
@@ -96,11 +96,11 @@ pub before-by : (P : Outcome → Type 0) (now : Ticks) (o : Outcome) → BeforeR
 before-by P now o rows = before-as P now o.role o refl rows
 
 -- the race is judged
-judged-as : (P : Outcome → Type 0) (now : Ticks) (bar : Option Bar) (o : Outcome) → P (creating now o) → ((by : Bar) → P (barred by o)) → P (judged_as now bar o)
+judged-as : (P : Outcome → Type 0) (now : Ticks) (bar : Option Ineligibility) (o : Outcome) → P (creating now o) → ((by : Ineligibility) → P (barred by o)) → P (judged_as now bar o)
 judged-as P now None o wins loses = wins
 judged-as P now (Some by) o wins loses = loses by
 
-pub judged-by : (P : Outcome → Type 0) (now : Ticks) (o : Outcome) → P (creating now (waiting_no_more o)) → ((by : Bar) → P (barred by (waiting_no_more o))) → P (judged now o)
+pub judged-by : (P : Outcome → Type 0) (now : Ticks) (o : Outcome) → P (creating now (waiting_no_more o)) → ((by : Ineligibility) → P (barred by (waiting_no_more o))) → P (judged now o)
 judged-by P now o wins loses = judged-as P now (outcome_at now o) (waiting_no_more o) wins loses
 
 -- a claim of the sync key fails
@@ -468,11 +468,11 @@ repaired-by P leader (Some r) o kept repaired = repaired r
 pub record FreeRows (P : Outcome → Type 0) (now : Ticks) (o : Outcome) : Type 0 where
   pub starts : P (touching (starting_replica now None o))
   pub touches : P (touching o)
-  pub bars : (by : Bar) → P (barred by o)
+  pub bars : (by : Ineligibility) → P (barred by o)
   pub judges : P (judged now (unheard o))
   pub asks : P (asking_others now (unheard o))
 
-races-by : (P : Outcome → Type 0) (now : Ticks) (bar : Option Bar) (o : Outcome) → FreeRows P now o → P (races_unless now bar o)
+races-by : (P : Outcome → Type 0) (now : Ticks) (bar : Option Ineligibility) (o : Outcome) → FreeRows P now o → P (races_unless now bar o)
 races-by P now None o rows = if-cases P (all_answered o.knows.who []) (judged now (unheard o)) (asking_others now (unheard o)) (λ _. rows.judges) (λ _. rows.asks)
 races-by P now (Some by) o rows = rows.bars by
 
@@ -524,8 +524,8 @@ pub answered-by : (P : Outcome → Type 0) (now : Ticks) (sequence : ℕ) (answe
 answered-by P now sequence answer o rows = answered-when P now sequence answer o (record { kept = rows.kept; quiet = rows.quiet; keeps = rows.keeps; judges = λ _ may. rows.judges may; checks = rows.checks })
 
 -- a leader whose watchdog rests on the grant of this revision
-abbrev pub rested_on : Bool → ℕ → Outcome → Outcome
-rested_on renews revision o = record (disabling_watchdog renews o) { role = Leader revision }
+abbrev pub leading_in_pause : Bool → ℕ → Outcome → Outcome
+leading_in_pause renews revision o = record (disabling_watchdog renews o) { role = Leader revision }
 
 -- the lease of a request that was granted, by when each row applies
 pub record GrantWhen (P : Outcome → Type 0) (now ttl : Ticks) (revision : ℕ) (o : Outcome) : Type 0 where
@@ -534,15 +534,15 @@ pub record GrantWhen (P : Outcome → Type 0) (now ttl : Ticks) (revision : ℕ)
   pub unleased : is_paused o.knows ≡ false → o.role ≡ Unleased → P (unleased_renewed now ttl revision o)
   pub takes : is_paused o.knows ≡ false → may_create o.role ≡ true → P (takes_key now ttl revision o)
   -- in a pause
-  pub rests : (renews : Bool) → is_paused o.knows ≡ true → (held : ℕ) → o.role ≡ Leader held → P (duties now revision (rested_on renews revision o))
-  pub unleased_rests : (renews : Bool) → is_paused o.knows ≡ true → o.role ≡ Unleased → P (takes_over now revision (disabling_watchdog renews o))
-  pub takes_resting : (renews : Bool) → is_paused o.knows ≡ true → may_create o.role ≡ true → P (takes_key_in_pause now renews revision o)
+  pub leads_in_pause : (renews : Bool) → is_paused o.knows ≡ true → (held : ℕ) → o.role ≡ Leader held → P (duties now revision (leading_in_pause renews revision o))
+  pub unleased_in_pause : (renews : Bool) → is_paused o.knows ≡ true → o.role ≡ Unleased → P (takes_over now revision (disabling_watchdog renews o))
+  pub takes_in_pause : (renews : Bool) → is_paused o.knows ≡ true → may_create o.role ≡ true → P (takes_key_in_pause now renews revision o)
 
 granted-in-pause : (P : Outcome → Type 0) (now ttl : Ticks) (renews : Bool) (revision : ℕ) (role : RoleFacts) (o : Outcome) → o.role ≡ role → is_paused o.knows ≡ true → GrantWhen P now ttl revision o → P (granted_in_pause now renews revision role o)
-granted-in-pause P now ttl renews revision (Leader held) o is paused rows = rows.rests renews paused held is
-granted-in-pause P now ttl renews revision Unleased o is paused rows = rows.unleased_rests renews paused is
-granted-in-pause P now ttl renews revision Follower o is paused rows = rows.takes_resting renews paused (rw is refl)
-granted-in-pause P now ttl renews revision (Holder held) o is paused rows = rows.takes_resting renews paused (rw is refl)
+granted-in-pause P now ttl renews revision (Leader held) o is paused rows = rows.leads_in_pause renews paused held is
+granted-in-pause P now ttl renews revision Unleased o is paused rows = rows.unleased_in_pause renews paused is
+granted-in-pause P now ttl renews revision Follower o is paused rows = rows.takes_in_pause renews paused (rw is refl)
+granted-in-pause P now ttl renews revision (Holder held) o is paused rows = rows.takes_in_pause renews paused (rw is refl)
 granted-in-pause P now ttl renews revision (Ready held) o is paused rows = rows.other
 granted-in-pause P now ttl renews revision (Ending held why) o is paused rows = rows.other
 
@@ -561,9 +561,9 @@ pub record GrantRows (P : Outcome → Type 0) (now ttl : Ticks) (revision : ℕ)
   pub unleased : o.role ≡ Unleased → P (unleased_renewed now ttl revision o)
   pub takes : may_create o.role ≡ true → P (takes_key now ttl revision o)
   -- in a pause
-  pub rests : (renews : Bool) → is_paused o.knows ≡ true → (held : ℕ) → o.role ≡ Leader held → P (duties now revision (rested_on renews revision o))
-  pub unleased_rests : (renews : Bool) → is_paused o.knows ≡ true → o.role ≡ Unleased → P (takes_over now revision (disabling_watchdog renews o))
-  pub takes_resting : (renews : Bool) → is_paused o.knows ≡ true → may_create o.role ≡ true → P (takes_key_in_pause now renews revision o)
+  pub leads_in_pause : (renews : Bool) → is_paused o.knows ≡ true → (held : ℕ) → o.role ≡ Leader held → P (duties now revision (leading_in_pause renews revision o))
+  pub unleased_in_pause : (renews : Bool) → is_paused o.knows ≡ true → o.role ≡ Unleased → P (takes_over now revision (disabling_watchdog renews o))
+  pub takes_in_pause : (renews : Bool) → is_paused o.knows ≡ true → may_create o.role ≡ true → P (takes_key_in_pause now renews revision o)
 
 grant-rows : (P : Outcome → Type 0) (now ttl : Ticks) (revision : ℕ) (o : Outcome) → GrantRows P now ttl revision o → GrantWhen P now ttl revision o
 grant-rows P now ttl revision o rows = record {
@@ -571,9 +571,9 @@ grant-rows P now ttl revision o rows = record {
   leader = λ held _ is. rows.leader held is;
   unleased = λ _ is. rows.unleased is;
   takes = λ _ may. rows.takes may;
-  rests = rows.rests;
-  unleased_rests = rows.unleased_rests;
-  takes_resting = rows.takes_resting;
+  leads_in_pause = rows.leads_in_pause;
+  unleased_in_pause = rows.unleased_in_pause;
+  takes_in_pause = rows.takes_in_pause;
 }
 
 -- a request for a write of the sync key that a leader's plan makes

@@ -3,7 +3,7 @@
 use Rattle.std.specs.Prelude.{ℕ, ◌+◌, ◌&&◌, if◌then◌else◌, not, Bool, List, [], Option, Some, None}
 use Rattle.pat_base.specs.declared.peer_answer.PeerAnswer.{PeerAnswer}
 use Rattle.pat_base.specs.declared.ticks.Ticks.{Ticks}
-use Rattle.lease_store.specs.declared.action.Bar.{Bar}
+use Rattle.pat_base.specs.declared.ineligibility.Ineligibility.{Ineligibility}
 use Rattle.lease_store.specs.declared.txn.Txn.TheVariants as txns
 use Rattle.pg_model.specs.declared.status.ServerStatus.{ServerStatus}
 use Rattle.pg_model.specs.Facts.{is_down}
@@ -30,12 +30,12 @@ abbrev pub can_start : ServerStatus → Bool
 can_start server = is_down server.state && not server.diverged
 
 -- what bars a member from racing that shows this, by the newest snapshot; nothing where there is none
-abbrev pub bar_by : AgentView → Option SnapshotFacts → Option Bar
+abbrev pub bar_by : AgentView → Option SnapshotFacts → Option Ineligibility
 bar_by view None = None
 bar_by view (Some seen) = eligibility_of view seen
 
 -- what bars a member without a lease from racing for the leader key, by what it shows at this moment
-abbrev pub bar_of : Ticks → Knowledge → Machine → Option Bar
+abbrev pub bar_of : Ticks → Knowledge → Machine → Option Ineligibility
 bar_of now knows machine = bar_by (view_of now words.Follower knows machine) knows.seen
 
 -- the agent asks for the leader key
@@ -43,20 +43,20 @@ abbrev pub creating : Ticks → Outcome → Outcome
 creating now o = asking now Creating (seconds_after now o.knows.settings.retry_timeout) (bodies.Request (txns.Create (info_of o.knows.who o.machine.server) (lease_span o.knows.settings) None None)) o
 
 -- a member that is barred tells by what, and tells of itself
-abbrev pub barred : Bar → Outcome → Outcome
+abbrev pub barred : Ineligibility → Outcome → Outcome
 barred bar o = touching (record o { outputs = with_output (outputs.DoesNotRace bar) o.outputs })
 
 -- what bars a member that shows this from winning, by the newest snapshot and these answers; nothing where there is no snapshot
-abbrev pub outcome_by : AgentView → Option SnapshotFacts → List PeerAnswer → Option Bar
+abbrev pub outcome_by : AgentView → Option SnapshotFacts → List PeerAnswer → Option Ineligibility
 outcome_by view None answers = None
 outcome_by view (Some seen) answers = outcome_of view seen answers
 
 -- what bars a member from winning the race, by the answers that it heard and by what it shows at this moment
-abbrev pub outcome_at : Ticks → Outcome → Option Bar
+abbrev pub outcome_at : Ticks → Outcome → Option Ineligibility
 outcome_at now o = outcome_by (shown now o) o.knows.seen o.knows.answers
 
 -- who wins asks for the leader key
-abbrev pub judged_as : Ticks → Option Bar → Outcome → Outcome
+abbrev pub judged_as : Ticks → Option Ineligibility → Outcome → Outcome
 judged_as now None o = creating now o
 judged_as now (Some bar) o = barred bar o
 
@@ -89,7 +89,7 @@ abbrev pub races : Ticks → Outcome → Outcome
 races now o = asks_or_judged now (unheard o)
 
 -- what a member does about the free leader key, by what bars it
-abbrev pub races_unless : Ticks → Option Bar → Outcome → Outcome
+abbrev pub races_unless : Ticks → Option Ineligibility → Outcome → Outcome
 races_unless now None o = races now o
 races_unless now (Some bar) o = barred bar o
 

@@ -2,8 +2,7 @@
 
 use crate::Told;
 use event_book::{Body, Reason};
-use lease_store::Bar;
-use pat_base::{MemberId, PeerAnswer, Required, Ticks};
+use pat_base::{Ineligibility, MemberId, PeerAnswer, Required, Ticks};
 
 /// Whom an agent writes to.
 #[derive(Clone, Copy, Debug, PartialEq, Eq)]
@@ -90,7 +89,7 @@ pub enum Output {
     RunsWithoutKey,
     /// The member doesn't race for the free leader key, since this bars it.
     DoesNotRace {
-        bar: Bar,
+        bar: Ineligibility,
     },
     /// The member hands over to this one.
     HandsOver {

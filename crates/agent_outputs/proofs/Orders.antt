@@ -43,7 +43,7 @@ use Rattle.agent_model.specs.Operators.{looked, given_up, learned, operated, res
 use Rattle.agent_model.specs.Table.{step, granted_any, refused_any}
 use Rattle.pg_model.specs.Running.{is_primary}
 use Rattle.agent_model.specs.Wake.{overdue, turned, woken}
-use Rattle.agent_model.proofs.Rows.{HandoverRows, ReplyRows, ActRows, looked-by, given-up-by, granted-any-by, refused-any-by, operated-by, led_on, if-cases, renewed-by, passing-by, begins-or-claims-by, before-by, overdue-by, turn-by, wake-by, got-by, refused-by, follow-by, free-by, granted-by, repaired-by, judged-by, answered-by, DutyRows, duties-of, rested_on, takes-in-pause-by}
+use Rattle.agent_model.proofs.Rows.{HandoverRows, ReplyRows, ActRows, looked-by, given-up-by, granted-any-by, refused-any-by, operated-by, led_on, if-cases, renewed-by, passing-by, begins-or-claims-by, before-by, overdue-by, turn-by, wake-by, got-by, refused-by, follow-by, free-by, granted-by, repaired-by, judged-by, answered-by, DutyRows, duties-of, leading_in_pause, takes-in-pause-by}
 use Rattle.agent_model.specs.Answers.{is_other, asking_one, asking_first}
 use Rattle.pat_base.specs.declared.member_id.TheConstants.{MOST_MEMBERS}
 use Rattle.agent_model.specs.Peers.{keeping, answered}
@@ -299,8 +299,8 @@ rests now start machine outs true (Some deadline) is r = one-more now start (wit
 rests now start machine outs false (Some deadline) is r = disarms now start machine outs (Some deadline) is r
 rests now start machine outs renews None is r = disarms now start machine outs None is r
 
-rest-reaches : (now : Ticks) (start : Machine) (renews : Bool) (o : Outcome) → Reaches now start o → Reaches now start (disabling_watchdog renews o)
-rest-reaches now start renews o r = rests now start o.machine o.outputs renews o.machine.watchdog.deadline refl r
+disabled-reaches : (now : Ticks) (start : Machine) (renews : Bool) (o : Outcome) → Reaches now start o → Reaches now start (disabling_watchdog renews o)
+disabled-reaches now start renews o r = rests now start o.machine o.outputs renews o.machine.watchdog.deadline refl r
 
 unleased-reaches : (now ttl : Ticks) (start : Machine) (revision : ℕ) (o : Outcome) → Reaches now start o → Reaches now start (unleased_renewed now ttl revision o)
 unleased-reaches now ttl start revision o r =
@@ -326,8 +326,8 @@ takes-reaches now ttl start revision o r =
     (λ _. arms-reaches now ttl start revision o r) (λ _. one-more now start o.machine o.outputs _ tt r)
 
 -- in a pause who is wanted takes the key with a watchdog that rests
-rested-reaches : (now : Ticks) (start : Machine) (renews : Bool) (revision : ℕ) (o : Outcome) → Reaches now start o → Reaches now start (takes_key_in_pause now renews revision o)
-rested-reaches now start renews revision o r = let rest : Outcome = disabling_watchdog renews o in let rested : Reaches now start rest = rest-reaches now start renews o r in
+leading-in-pause-reaches : (now : Ticks) (start : Machine) (renews : Bool) (revision : ℕ) (o : Outcome) → Reaches now start o → Reaches now start (takes_key_in_pause now renews revision o)
+leading-in-pause-reaches now start renews revision o r = let rest : Outcome = disabling_watchdog renews o in let rested : Reaches now start rest = disabled-reaches now start renews o r in
     takes-in-pause-by (Reaches now start) now renews revision o (one-more now start o.machine o.outputs _ tt r) (begin-reaches now start revision rest rested) (send-reaches now start _ (passing rest) (passing-reaches now start rest rested))
 
 granted-reaches : (now : Ticks) (start : Machine) (sequence : ℕ) (grant : Granted) (snapshot : SnapshotFacts) (o : Outcome) → Reaches now start o → Reaches now start (granted now sequence grant snapshot o)
@@ -338,9 +338,9 @@ granted-reaches now start sequence grant snapshot o r = let told : Outcome = rec
       leader = λ held _. renewed-reaches now waited.ttl start grant.revision told r;
       unleased = λ _. unleased-reaches now waited.ttl start grant.revision told r;
       takes = λ _. takes-reaches now waited.ttl start grant.revision told r;
-      rests = λ renews _ held _. duties-of (Reaches now start) now grant.revision (rested_on renews grant.revision told) (duty-reaches now start grant.revision (rested_on renews grant.revision told) (rest-reaches now start renews told r));
-      unleased_rests = λ renews _ _. rest-reaches now start renews told r;
-      takes_resting = λ renews _ _. rested-reaches now start renews grant.revision told r;
+      leads_in_pause = λ renews _ held _. duties-of (Reaches now start) now grant.revision (leading_in_pause renews grant.revision told) (duty-reaches now start grant.revision (leading_in_pause renews grant.revision told) (disabled-reaches now start renews told r));
+      unleased_in_pause = λ renews _ _. disabled-reaches now start renews told r;
+      takes_in_pause = λ renews _ _. leading-in-pause-reaches now start renews grant.revision told r;
     })
     (record {
       other = r;

@@ -53,7 +53,7 @@ use Rattle.agent_model.specs.Repairs.{repair_of}
 use Rattle.agent_model.specs.Snapshots.{informed, follows, read_noted, read_answered, follow_row, led_by_another}
 use Rattle.agent_model.specs.Table.{granted_any, refused_any, step}
 use Rattle.agent_model.specs.Wake.{turn_noted, overdue, turned, woken}
-use Rattle.agent_model.proofs.Rows.{HandoverRows, IsOperatorTxn, ReplyRows, dropping, led_on, if-cases, begins-or-claims-by, passing-by, before-by, duties-by, given-up-by, granted-any-by, looked-by, operated-by, overdue-by, refused-any-by, turn-by, wake-by, got-by, refused-by, follow-by, repaired-by, free-by, granted-by, judged-by, answered-by, rested_on, takes-in-pause-by}
+use Rattle.agent_model.proofs.Rows.{HandoverRows, IsOperatorTxn, ReplyRows, dropping, led_on, if-cases, begins-or-claims-by, passing-by, before-by, duties-by, given-up-by, granted-any-by, looked-by, operated-by, overdue-by, refused-any-by, turn-by, wake-by, got-by, refused-by, follow-by, repaired-by, free-by, granted-by, judged-by, answered-by, leading_in_pause, takes-in-pause-by}
 use Rattle.agent_model.specs.declared.who.Who.{Who}
 use Rattle.agent_model.specs.Answers.{is_other, asking_all, asking_one, asking_first}
 use Rattle.pat_base.specs.declared.member_id.TheConstants.{MOST_MEMBERS}
@@ -467,8 +467,8 @@ rests-told now known after renews None outs r = r
 rests-told now known after true (Some deadline) outs r = one-more now known after (with_output outputs.Disarmed outs) outputs.DisablesWatchdog tt (one-more now known after outs outputs.Disarmed tt r)
 rests-told now known after false (Some deadline) outs r = one-more now known after outs outputs.Disarmed tt r
 
-rest-reaches : (now : Ticks) (known : Knowledge) (renews : Bool) (o : Outcome) → Reaches now known o → Reaches now known (disabling_watchdog renews o)
-rest-reaches now known renews o r = rests-told now known o.knows renews o.machine.watchdog.deadline o.outputs r
+disabled-reaches : (now : Ticks) (known : Knowledge) (renews : Bool) (o : Outcome) → Reaches now known o → Reaches now known (disabling_watchdog renews o)
+disabled-reaches now known renews o r = rests-told now known o.knows renews o.machine.watchdog.deadline o.outputs r
 
 granted-reaches : (now : Ticks) (known : Knowledge) (sequence : ℕ) (grant : Granted) (snapshot : SnapshotFacts) (o : Outcome) → Reaches now known o → Reaches now known (granted now sequence grant snapshot o)
 granted-reaches now known sequence grant snapshot o r =
@@ -480,9 +480,9 @@ granted-reaches now known sequence grant snapshot o r =
       leader = λ held _. renewed-reaches now waited.ttl known grant.revision told next;
       unleased = λ _. unleased-reaches now waited.ttl known grant.revision told next;
       takes = λ _. takes-reaches now waited.ttl known grant.revision told next;
-      rests = λ renews _ held _. duties-reach now known grant.revision (rested_on renews grant.revision told) (rest-reaches now known renews told next);
-      unleased_rests = λ renews _ _. goes-on now known told.knows _ (disabling_watchdog renews told).outputs refl refl refl refl (rest-reaches now known renews told next);
-      takes_resting = λ renews _ _. let rest : Outcome = disabling_watchdog renews told in let rested : Reaches now known rest = rest-reaches now known renews told next in
+      leads_in_pause = λ renews _ held _. duties-reach now known grant.revision (leading_in_pause renews grant.revision told) (disabled-reaches now known renews told next);
+      unleased_in_pause = λ renews _ _. goes-on now known told.knows _ (disabling_watchdog renews told).outputs refl refl refl refl (disabled-reaches now known renews told next);
+      takes_in_pause = λ renews _ _. let rest : Outcome = disabling_watchdog renews told in let rested : Reaches now known rest = disabled-reaches now known renews told next in
           takes-in-pause-by (Reaches now known) now renews grant.revision told (send-reaches now known (bodies.Request (txns.Release grant.revision)) told tt next) (begin-reaches now known grant.revision rest rested) (claim-reaches now known grant.revision rest rested);
     })
     (record {

@@ -37,7 +37,7 @@ use Rattle.pat_base.specs.MemberId.{member_of}
 use Rattle.pat_base.specs.declared.member_id.MemberId.{MemberId}
 use Rattle.event_book.specs.declared.message.Body.TheVariants as bodies
 use Rattle.agent_model.specs.declared.output.Target.TheVariants as targets
-use Rattle.agent_model.proofs.Rows.{dropping, granted-any-by, SyncRows, led_on, if-cases, granted-by, renewed-by, passing-by, begins-or-claims-by, DutyRows, duties-of, rested_on}
+use Rattle.agent_model.proofs.Rows.{dropping, granted-any-by, SyncRows, led_on, if-cases, granted-by, renewed-by, passing-by, begins-or-claims-by, DutyRows, duties-of, leading_in_pause}
 use Rattle.agent_model.specs.Pausing.{is_paused, is_wanted, disabling_watchdog}
 
 pub take-free : (held can : Bool) → not held && can ≡ true → held ≡ false
@@ -156,14 +156,14 @@ both-true true b e = (refl, e)
 both-true false b e = absurd (no-way e)
 
 -- the lease of the grant in a pause, with no deadline, over a server that was live before if it is after
-rests-live : (now : Ticks) (sequence : ℕ) (grant : Granted) (snapshot : SnapshotFacts) (o after : Outcome) → is_paused (informed snapshot o.knows) ≡ true → IsAwaitedLease sequence grant o.knows → after.machine.watchdog ≡ record o.machine.watchdog { deadline = None }
+paused-live : (now : Ticks) (sequence : ℕ) (grant : Granted) (snapshot : SnapshotFacts) (o after : Outcome) → is_paused (informed snapshot o.knows) ≡ true → IsAwaitedLease sequence grant o.knows → after.machine.watchdog ≡ record o.machine.watchdog { deadline = None }
     → lease_of after.role ≡ Some grant.revision → is_ready after.role ≡ false → (live after.machine.server.state ≡ true → live o.machine.server.state ≡ true) → GrantMay now sequence grant snapshot o after
-rests-live now sequence grant snapshot o after paused awaited rested lease unready lives = Rests paused awaited rested lease (acts-live after _ _ unready lives)
+paused-live now sequence grant snapshot o after paused awaited rested lease unready lives = Rests paused awaited rested lease (acts-live after _ _ unready lives)
 
-rested-may : (now : Ticks) (sequence : ℕ) (grant : Granted) (snapshot : SnapshotFacts) (renews : Bool) (o : Outcome) → is_paused (informed snapshot o.knows) ≡ true → IsAwaitedLease sequence grant o.knows → DutyRows (GrantMay now sequence grant snapshot o) now grant.revision (rested_on renews grant.revision (Told snapshot o))
-rested-may now sequence grant snapshot renews o paused awaited = let led : Outcome = rested_on renews grant.revision (Told snapshot o) in
+leading-in-pause-may : (now : Ticks) (sequence : ℕ) (grant : Granted) (snapshot : SnapshotFacts) (renews : Bool) (o : Outcome) → is_paused (informed snapshot o.knows) ≡ true → IsAwaitedLease sequence grant o.knows → DutyRows (GrantMay now sequence grant snapshot o) now grant.revision (leading_in_pause renews grant.revision (Told snapshot o))
+leading-in-pause-may now sequence grant snapshot renews o paused awaited = let led : Outcome = leading_in_pause renews grant.revision (Told snapshot o) in
     let leads : (after : Outcome) → after.machine.watchdog ≡ record o.machine.watchdog { deadline = None } → lease_of after.role ≡ Some grant.revision → is_ready after.role ≡ false → (live after.machine.server.state ≡ true → live o.machine.server.state ≡ true) → GrantMay now sequence grant snapshot o after
-    = λ after rested lease unready lives. rests-live now sequence grant snapshot o after paused awaited rested lease unready lives in record {
+    = λ after rested lease unready lives. paused-live now sequence grant snapshot o after paused awaited rested lease unready lives in record {
       plan = record {
         kept = leads led refl refl refl (λ e. e);
         writes = λ settling txn _. leads (writing_sync now settling txn led) refl refl refl (λ e. e);
@@ -180,8 +180,8 @@ rested-may now sequence grant snapshot renews o paused awaited = let led : Outco
     }
 
 -- in a pause who is wanted takes the key, with no deadline
-takes-resting-may : (now : Ticks) (sequence : ℕ) (grant : Granted) (snapshot : SnapshotFacts) (renews : Bool) (o : Outcome) → is_paused (informed snapshot o.knows) ≡ true → IsAwaitedLease sequence grant o.knows → GrantMay now sequence grant snapshot o (takes_key_in_pause now renews grant.revision (Told snapshot o))
-takes-resting-may now sequence grant snapshot renews o paused awaited = let rest : Outcome = disabling_watchdog renews (Told snapshot o) in
+takes-in-pause-may : (now : Ticks) (sequence : ℕ) (grant : Granted) (snapshot : SnapshotFacts) (renews : Bool) (o : Outcome) → is_paused (informed snapshot o.knows) ≡ true → IsAwaitedLease sequence grant o.knows → GrantMay now sequence grant snapshot o (takes_key_in_pause now renews grant.revision (Told snapshot o))
+takes-in-pause-may now sequence grant snapshot renews o paused awaited = let rest : Outcome = disabling_watchdog renews (Told snapshot o) in
     let taken : Bool = may_take now o.knows o.machine in
     if-cases (GrantMay now sequence grant snapshot o) (is_wanted o.knows.who.me o.knows.turn_failover o.machine.server.state && taken) (begins_or_claims now grant.revision rest) (gives_back grant.revision (Told snapshot o))
     (λ may. let free : is_hold_active now o.machine.hold ≡ false = take-free (is_hold_active now o.machine.hold) (can_begin now o.knows o.machine.server o.machine.server.state && may_lead_in_sync o.knows) (both-true (is_wanted o.knows.who.me o.knows.turn_failover o.machine.server.state) taken may).1 in
@@ -211,9 +211,9 @@ granted-may now sequence grant snapshot o fits = granted-by (GrantMay now sequen
       leader = λ held _. renewed-may now sequence grant snapshot o awaited;
       unleased = λ _. unleased-may now sequence grant snapshot o awaited;
       takes = λ may. takes-may now sequence grant snapshot o awaited (ended-for o.role (live o.machine.server.state) may fits);
-      rests = λ renews paused held _. duties-of (GrantMay now sequence grant snapshot o) now grant.revision (rested_on renews grant.revision (Told snapshot o)) (rested-may now sequence grant snapshot renews o paused awaited);
-      unleased_rests = λ renews paused _. rests-live now sequence grant snapshot o (takes_over now grant.revision (disabling_watchdog renews (Told snapshot o))) paused awaited refl refl refl (λ e. e);
-      takes_resting = λ renews paused _. takes-resting-may now sequence grant snapshot renews o paused awaited;
+      leads_in_pause = λ renews paused held _. duties-of (GrantMay now sequence grant snapshot o) now grant.revision (leading_in_pause renews grant.revision (Told snapshot o)) (leading-in-pause-may now sequence grant snapshot renews o paused awaited);
+      unleased_in_pause = λ renews paused _. paused-live now sequence grant snapshot o (takes_over now grant.revision (disabling_watchdog renews (Told snapshot o))) paused awaited refl refl refl (λ e. e);
+      takes_in_pause = λ renews paused _. takes-in-pause-may now sequence grant snapshot renews o paused awaited;
     })
     (sync-may now sequence grant snapshot o fits)
 

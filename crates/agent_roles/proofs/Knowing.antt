@@ -44,7 +44,7 @@ use Rattle.event_book.specs.declared.message.Body.TheVariants as bodies
 use Rattle.agent_model.specs.Wake.{reading, turn_noted, leader_out_of_reach, unleased_out_of_reach, overdue, turned, woken}
 use Rattle.agent_roles.proofs.Granting.{Told}
 use Rattle.agent_roles.proofs.Living.{no-way}
-use Rattle.agent_model.proofs.Rows.{HandoverRows, ReplyRows, ActRows, dropping, looked-by, given-up-by, granted-any-by, refused-any-by, operated-by, led_on, if-cases, renewed-by, begins-or-claims-by, before-by, overdue-by, turn-by, wake-by, got-by, refused-by, follow-by, repaired-by, free-by, granted-by, judged-by, answered-by, DutyRows, duties-of, rested_on, takes-in-pause-by}
+use Rattle.agent_model.proofs.Rows.{HandoverRows, ReplyRows, ActRows, dropping, looked-by, given-up-by, granted-any-by, refused-any-by, operated-by, led_on, if-cases, renewed-by, begins-or-claims-by, before-by, overdue-by, turn-by, wake-by, got-by, refused-by, follow-by, repaired-by, free-by, granted-by, judged-by, answered-by, DutyRows, duties-of, leading_in_pause, takes-in-pause-by}
 use Rattle.agent_model.specs.Pausing.{is_paused, may_start_behind, disabling_watchdog, running_without_key}
 use Rattle.lease_store.specs.Defaults.{default_config}
 use Rattle.lease_store.specs.declared.value.Value.{Value}
@@ -442,8 +442,8 @@ takes-onward now ttl revision snapshot o = let back : Outcome = gives_back revis
     if-cases (Onward (Some snapshot) o) (may_take now (Told snapshot o).knows o.machine) (arms now ttl revision (Told snapshot o)) back
     (λ _. arms-onward now ttl revision snapshot o) (λ _. quiet-told snapshot o back refl refl refl refl refl refl (omega arith) refl refl)
 
-rested-onward : (now : Ticks) (renews : Bool) (revision : ℕ) (snapshot : SnapshotFacts) (o : Outcome) → Onward (Some snapshot) o (takes_key_in_pause now renews revision (Told snapshot o))
-rested-onward now renews revision snapshot o = let rest : Outcome = disabling_watchdog renews (Told snapshot o) in
+leading-in-pause-onward : (now : Ticks) (renews : Bool) (revision : ℕ) (snapshot : SnapshotFacts) (o : Outcome) → Onward (Some snapshot) o (takes_key_in_pause now renews revision (Told snapshot o))
+leading-in-pause-onward now renews revision snapshot o = let rest : Outcome = disabling_watchdog renews (Told snapshot o) in
     takes-in-pause-by (Onward (Some snapshot) o) now renews revision (Told snapshot o)
     (quiet-told snapshot o (gives_back revision (Told snapshot o)) refl refl refl refl refl refl (omega arith) refl refl)
     (quiet-told snapshot o (begins now revision rest) refl refl refl refl refl refl (omega arith) refl refl)
@@ -458,9 +458,9 @@ granted-onward now sequence grant snapshot o = granted-by (Onward (Some snapshot
       leader = λ held _. renewed-onward now waited.ttl grant.revision snapshot o;
       unleased = λ _. unleased-onward now waited.ttl grant.revision snapshot o;
       takes = λ _. takes-onward now waited.ttl grant.revision snapshot o;
-      rests = λ renews _ held _. let led : Outcome = rested_on renews grant.revision (Told snapshot o) in duties-of (Onward (Some snapshot) o) now grant.revision led (duty-onward now grant.revision snapshot o led.machine led.outputs refl);
-      unleased_rests = λ renews _ _. quiet-told snapshot o (takes_over now grant.revision (disabling_watchdog renews (Told snapshot o))) refl refl refl refl refl refl (omega arith) refl refl;
-      takes_resting = λ renews _ _. rested-onward now renews grant.revision snapshot o;
+      leads_in_pause = λ renews _ held _. let led : Outcome = leading_in_pause renews grant.revision (Told snapshot o) in duties-of (Onward (Some snapshot) o) now grant.revision led (duty-onward now grant.revision snapshot o led.machine led.outputs refl);
+      unleased_in_pause = λ renews _ _. quiet-told snapshot o (takes_over now grant.revision (disabling_watchdog renews (Told snapshot o))) refl refl refl refl refl refl (omega arith) refl refl;
+      takes_in_pause = λ renews _ _. leading-in-pause-onward now renews grant.revision snapshot o;
     })
     (record {
       other = tells snapshot o;

@@ -9,8 +9,9 @@ ghost use Rattle.agent_turn.specs.Roles.{role_of};
 ghost use Rattle.agent_model.specs.Acting.{waiting_no_more};
 
 use agent_leadership::{
-    claim_fails, claim_granted, leader_renewed, leader_rested, leader_without_key, settle,
-    take_key, take_key_in_pause, unleased_renewed, unleased_rested, unleased_without_key,
+    claim_fails, claim_granted, leader_renewed, leader_renewed_in_pause, leader_without_key,
+    settle, take_key, take_key_in_pause, unleased_renewed, unleased_renewed_in_pause,
+    unleased_without_key,
 };
 use agent_model::{PendingQuestion, Question};
 use agent_turn::{Role, Turn, belongs, inform, is_lease_of, is_paused, is_write_of};
@@ -102,8 +103,8 @@ fn granted_in_pause(role: Role, turn: &mut Turn, question: Question, grant: Gran
 {
     let renews = asks_renewal(question);
     match role {
-        Role::Leader(writer) => leader_rested(writer, turn, renews, grant),
-        Role::Unleased => unleased_rested(Lease::of(grant), turn, renews),
+        Role::Leader(writer) => leader_renewed_in_pause(writer, turn, renews, grant),
+        Role::Unleased => unleased_renewed_in_pause(Lease::of(grant), turn, renews),
         Role::Follower => take_key_in_pause(Lease::of(grant), turn, renews),
         Role::Holder(lease) => {
             lease.lost();

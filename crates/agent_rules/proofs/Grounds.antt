@@ -50,7 +50,7 @@ use Rattle.agent_model.specs.Snapshots.{follow_row, follows, read_answered, info
 use Rattle.agent_model.specs.Synchronous.{expected_of, unnamed}
 use Rattle.agent_model.specs.Table.{step, granted_any}
 use Rattle.agent_model.specs.Wake.{overdue, turned, woken}
-use Rattle.agent_model.proofs.Rows.{HandoverRows, ReplyRows, DutyRows, WritesSync, led_on, rested_on, if-cases, before-by, looked-by, given-up-by, granted-any-by, refused-any-by, renewed-by, duties-of, passing-by, overdue-when, turn-by, wake-by, got-when, refused-when, answered-when, granted-when, follow-by, free-by, judged-by}
+use Rattle.agent_model.proofs.Rows.{HandoverRows, ReplyRows, DutyRows, WritesSync, led_on, leading_in_pause, if-cases, before-by, looked-by, given-up-by, granted-any-by, refused-any-by, renewed-by, duties-of, passing-by, overdue-when, turn-by, wake-by, got-when, refused-when, answered-when, granted-when, follow-by, free-by, judged-by}
 use Rattle.agent_roles.specs.Powers.{lease_of}
 use Rattle.agent_roles.proofs.Living.{no-way}
 use Rattle.agent_rules.specs.Grounds.{HasGround, HasGrounds, HearsNoLeader, IsReinit, CreateGround, RequestGround, TakeGround}
@@ -122,10 +122,10 @@ module _ (now : Ticks) (heard : Heard) (b : Outcome) where
   feed-so outs role waited until true is s = more outs role waited (outputs.Fed until) (is refl) tt s
   feed-so outs role waited until false is s = s
 
-  rest-so : (outs : List Output) (role : RoleFacts) (waited : Option PendingQuestion) (renews : Bool) (deadline : Option Ticks) → Sofar outs role waited → Sofar (disabling_told renews deadline outs) role waited
-  rest-so outs role waited renews None s = s
-  rest-so outs role waited true (Some deadline) s = more (with_output outputs.Disarmed outs) role waited outputs.DisablesWatchdog tt tt (more outs role waited outputs.Disarmed tt tt s)
-  rest-so outs role waited false (Some deadline) s = more outs role waited outputs.Disarmed tt tt s
+  disabled-so : (outs : List Output) (role : RoleFacts) (waited : Option PendingQuestion) (renews : Bool) (deadline : Option Ticks) → Sofar outs role waited → Sofar (disabling_told renews deadline outs) role waited
+  disabled-so outs role waited renews None s = s
+  disabled-so outs role waited true (Some deadline) s = more (with_output outputs.Disarmed outs) role waited outputs.DisablesWatchdog tt tt (more outs role waited outputs.Disarmed tt tt s)
+  disabled-so outs role waited false (Some deadline) s = more outs role waited outputs.Disarmed tt tt s
 
   touch-so : (x : Outcome) → So x → So (touching x)
   touch-so x s = more x.outputs x.role x.knows.waited _ tt tt s
@@ -303,10 +303,10 @@ module _ (now : Ticks) (heard : Heard) (b : Outcome) where
   armed-keeps outs None all = all
   armed-keeps outs (Some until) all = All-push KeepsLeases outs (outputs.Armed until) all tt
 
-  rest-keeps : (outs : List Output) (renews : Bool) (deadline : Option Ticks) → All KeepsLeases outs → All KeepsLeases (disabling_told renews deadline outs)
-  rest-keeps outs renews None all = all
-  rest-keeps outs true (Some deadline) all = All-push KeepsLeases (with_output outputs.Disarmed outs) outputs.DisablesWatchdog (All-push KeepsLeases outs outputs.Disarmed all tt) tt
-  rest-keeps outs false (Some deadline) all = All-push KeepsLeases outs outputs.Disarmed all tt
+  disabled-keeps : (outs : List Output) (renews : Bool) (deadline : Option Ticks) → All KeepsLeases outs → All KeepsLeases (disabling_told renews deadline outs)
+  disabled-keeps outs renews None all = all
+  disabled-keeps outs true (Some deadline) all = All-push KeepsLeases (with_output outputs.Disarmed outs) outputs.DisablesWatchdog (All-push KeepsLeases outs outputs.Disarmed all tt) tt
+  disabled-keeps outs false (Some deadline) all = All-push KeepsLeases outs outputs.Disarmed all tt
 
   -- where one is waited for, nothing was given back before
   renewed-so : (ttl : Ticks) (revision held : ℕ) (x : Outcome) → x.machine ≡ b.machine → lease_of x.role ≡ Some held → So x → So (leader_renewed now ttl revision x)
@@ -355,15 +355,15 @@ module _ (now : Ticks) (heard : Heard) (b : Outcome) where
         (arm-so b.outputs b.role None (record { 0 = now.0 + timeout_of b.machine.watchdog.margin ttl.0 }) (is_armable b.machine.watchdog.mode b.machine.watchdog.works) (λ e. e) r)))
         (λ _. gives-so grant.revision Heard_so r)
 
-    takes-resting-so : (renews : Bool) → Decides sequence grant b → is_paused (informed snapshot b.knows) ≡ true → All KeepsLeases b.outputs → So b → So (takes_key_in_pause now renews grant.revision Heard_so)
-    takes-resting-so renews decides paused all s =
+    takes-in-pause-so : (renews : Bool) → Decides sequence grant b → is_paused (informed snapshot b.knows) ≡ true → All KeepsLeases b.outputs → So b → So (takes_key_in_pause now renews grant.revision Heard_so)
+    takes-in-pause-so renews decides paused all s =
         let r : So Heard_so = quiet b s in
         if-cases So (is_wanted b.knows.who.me b.knows.turn_failover b.machine.server.state && may_take now (informed snapshot b.knows) b.machine) (begins_or_claims now grant.revision (disabling_watchdog renews Heard_so)) (gives_back grant.revision Heard_so)
         (λ both. begins-or-claims-so grant.revision (disabling_watchdog renews Heard_so)
         (subst (λ (h : Heard). TakeGround now h b grant.revision) (sym is)
         (may-take now sequence grant snapshot b decides (second-true (is_wanted b.knows.who.me b.knows.turn_failover b.machine.server.state) _ both) (λ unpaused. absurd (no-way (sym unpaused ∙ paused)))
         (λ _. first-true (is_wanted b.knows.who.me b.knows.turn_failover b.machine.server.state) _ both))) refl refl
-        (rest-keeps b.outputs renews b.machine.watchdog.deadline all) (rest-so b.outputs b.role None renews b.machine.watchdog.deadline r))
+        (disabled-keeps b.outputs renews b.machine.watchdog.deadline all) (disabled-so b.outputs b.role None renews b.machine.watchdog.deadline r))
         (λ _. gives-so grant.revision Heard_so r)
 
     -- a grant is used by who waits for it, and then gave nothing back before
@@ -377,12 +377,12 @@ module _ (now : Ticks) (heard : Heard) (b : Outcome) where
           leader = λ held _ role. renewed-so asked.ttl grant.revision held Heard_so refl (rw role refl) r;
           unleased = λ _ _. unleased-so asked.ttl grant.revision Heard_so refl all r;
           takes = λ unpaused may. takes-so asked.ttl (record { asked = asked; is = waited; decision = decision; role = may }) unpaused all s;
-          rests = λ renews _ held _.
-              let led : Outcome = rested_on renews grant.revision Heard_so in
-              let rested : All KeepsLeases led.outputs = rest-keeps b.outputs renews b.machine.watchdog.deadline all in
-              duties-of So now grant.revision led (duty-so grant.revision led rested (with-role led.outputs b.role (Leader grant.revision) None rested (rest-so b.outputs b.role None renews b.machine.watchdog.deadline r)));
-          unleased_rests = λ renews _ _. with-role _ b.role (Leader grant.revision) None (rest-keeps b.outputs renews b.machine.watchdog.deadline all) (rest-so b.outputs b.role None renews b.machine.watchdog.deadline r);
-          takes_resting = λ renews paused may. takes-resting-so renews (record { asked = asked; is = waited; decision = decision; role = may }) paused all s;
+          leads_in_pause = λ renews _ held _.
+              let led : Outcome = leading_in_pause renews grant.revision Heard_so in
+              let rested : All KeepsLeases led.outputs = disabled-keeps b.outputs renews b.machine.watchdog.deadline all in
+              duties-of So now grant.revision led (duty-so grant.revision led rested (with-role led.outputs b.role (Leader grant.revision) None rested (disabled-so b.outputs b.role None renews b.machine.watchdog.deadline r)));
+          unleased_in_pause = λ renews _ _. with-role _ b.role (Leader grant.revision) None (disabled-keeps b.outputs renews b.machine.watchdog.deadline all) (disabled-so b.outputs b.role None renews b.machine.watchdog.deadline r);
+          takes_in_pause = λ renews paused may. takes-in-pause-so renews (record { asked = asked; is = waited; decision = decision; role = may }) paused all s;
         })
         (record {
           other = r;

@@ -32,7 +32,7 @@ use Rattle.agent_model.specs.Snapshots.{follow_row, follows, read_answered, info
 use Rattle.agent_model.specs.Acting.{touching}
 use Rattle.agent_model.specs.Table.{step}
 use Rattle.agent_model.specs.Wake.{has_turn, is_due, is_overdue, finds_ended, leader_out_of_reach, overdue, overdue_for, out_of_reach, out_of_reach_as, roused, turned, unanswered}
-use Rattle.agent_model.proofs.Rows.{HandoverRows, DutyRows, led_on, rested_on, if-cases, before-by, looked-by, given-up-by, granted-any-by, refused-any-by, operated-by, renewed-by, duties-of, begins-or-claims-by, takes-in-pause-by, overdue-by, turn-by, wake-by, got-by, refused-by, answered-by, granted-by, follow-by, repaired-by, free-by, judged-by}
+use Rattle.agent_model.proofs.Rows.{HandoverRows, DutyRows, led_on, leading_in_pause, if-cases, before-by, looked-by, given-up-by, granted-any-by, refused-any-by, operated-by, renewed-by, duties-of, begins-or-claims-by, takes-in-pause-by, overdue-by, turn-by, wake-by, got-by, refused-by, answered-by, granted-by, follow-by, repaired-by, free-by, judged-by}
 use Rattle.agent_roles.proofs.Living.{no-way}
 use Rattle.agent_rules.specs.OutOfReach.{asks_to_lead, EndsOutOfReach, IsOutOfReach, WaitsForTurn, turn_of}
 
@@ -206,9 +206,9 @@ module _ (now : Ticks) (b : Outcome) where
         leader = λ held _. renewed-by W now asked.ttl grant.revision told none (duty-waits grant.revision (led_on now asked.ttl grant.revision told) none);
         unleased = λ _. if-cases W (is_refusing told.machine.watchdog.mode told.machine.watchdog.works) (ending_server now WatchdogNotArmed told) (takes_over now grant.revision (arming now asked.ttl told)) (λ _. none) (λ _. none);
         takes = λ _. takes-waits asked.ttl grant.revision told none;
-        rests = λ renews _ held _. duties-of W now grant.revision (rested_on renews grant.revision told) (duty-waits grant.revision (rested_on renews grant.revision told) none);
-        unleased_rests = λ renews _ _. none;
-        takes_resting = λ renews _ _. takes-in-pause-by W now renews grant.revision told none none (aside told.knows.settings _ refl);
+        leads_in_pause = λ renews _ held _. duties-of W now grant.revision (leading_in_pause renews grant.revision told) (duty-waits grant.revision (leading_in_pause renews grant.revision told) none);
+        unleased_in_pause = λ renews _ _. none;
+        takes_in_pause = λ renews _ _. takes-in-pause-by W now renews grant.revision told none none (aside told.knows.settings _ refl);
       })
       (record { other = none; begins = λ revision _. none; postpones = λ revision _. none; settles = λ required _. none })
 

@@ -8,7 +8,7 @@ use Rattle.pat_base.specs.declared.peer_answer.PeerAnswer.{PeerAnswer}
 use Rattle.pat_base.specs.declared.server_state.State.{State}
 use Rattle.pat_base.specs.declared.server_state.State.TheVariants as states
 use Rattle.pat_base.specs.declared.ticks.Ticks.{Ticks}
-use Rattle.lease_store.specs.declared.action.Bar.{Bar}
+use Rattle.pat_base.specs.declared.ineligibility.Ineligibility.{Ineligibility}
 use Rattle.lease_store.specs.declared.action.OperatorRequest.{OperatorRequest}
 use Rattle.lease_store.specs.declared.action.OperatorRequest.TheVariants as requests
 use Rattle.lease_store.specs.declared.config.Config.{Config}
@@ -49,7 +49,7 @@ use Rattle.agent_model.specs.Snapshots.{ends_fork, follow_row, follows, follows_
 use Rattle.agent_model.specs.Synchronous.{unnamed}
 use Rattle.agent_model.specs.Table.{step}
 use Rattle.agent_model.specs.Wake.{overdue, turned}
-use Rattle.agent_model.proofs.Rows.{HandoverRows, ReplyRows, DutyRows, led_on, rested_on, if-cases, before-by, looked-by, given-up-by, granted-any-by, refused-any-by, renewed-by, duties-of, passing-by, begins-or-claims-by, overdue-when, turn-by, wake-by, follow-by, got-when, refused-when, answered-when, granted-when, judged-by}
+use Rattle.agent_model.proofs.Rows.{HandoverRows, ReplyRows, DutyRows, led_on, leading_in_pause, if-cases, before-by, looked-by, given-up-by, granted-any-by, refused-any-by, renewed-by, duties-of, passing-by, begins-or-claims-by, overdue-when, turn-by, wake-by, follow-by, got-when, refused-when, answered-when, granted-when, judged-by}
 use Rattle.agent_roles.proofs.Living.{no-way}
 use Rattle.agent_rules.specs.Grounds.{IsReinit}
 use Rattle.agent_rules.specs.Pauses.{IsRestart, IsRestrained, RestrainsInPause}
@@ -94,10 +94,10 @@ calm-fed : (deadline : Option Ticks) (outs : List Output) → Calm outs → Calm
 calm-fed None outs all = all
 calm-fed (Some until) outs all = calmly outs (outputs.Fed until) tt all
 
-calm-rest : (renews : Bool) (deadline : Option Ticks) (outs : List Output) → Calm outs → Calm (disabling_told renews deadline outs)
-calm-rest renews None outs all = all
-calm-rest true (Some deadline) outs all = calmly (with_output outputs.Disarmed outs) outputs.DisablesWatchdog tt (calmly outs outputs.Disarmed tt all)
-calm-rest false (Some deadline) outs all = calmly outs outputs.Disarmed tt all
+calm-disabled : (renews : Bool) (deadline : Option Ticks) (outs : List Output) → Calm outs → Calm (disabling_told renews deadline outs)
+calm-disabled renews None outs all = all
+calm-disabled true (Some deadline) outs all = calmly (with_output outputs.Disarmed outs) outputs.DisablesWatchdog tt (calmly outs outputs.Disarmed tt all)
+calm-disabled false (Some deadline) outs all = calmly outs outputs.Disarmed tt all
 
 calm-ask : (who : Who) (sequence : ℕ) (member : Option MemberId) (outs : List Output) → Calm outs → Calm (asking_one who sequence member outs)
 calm-ask who sequence None outs all = all
@@ -238,7 +238,7 @@ module _ (now : Ticks) (heard : Heard) (b : Outcome) where
       ]) all))
 
   -- ---- nobody leads
-  raced-calm : (bar : Option Bar) (x : Outcome) → Calm x.outputs → R (races_unless now bar x)
+  raced-calm : (bar : Option Ineligibility) (x : Outcome) → Calm x.outputs → R (races_unless now bar x)
   raced-calm None x all =
       if-cases R (all_answered x.knows.who []) (judged now (unheard x)) (asking_others now (unheard x)) (λ _. judged-calm (unheard x) all)
       (λ _. calm _ _ _ (calm-asks x.knows.who (x.knows.sequence + 1) MOST_MEMBERS x.outputs all))
@@ -317,10 +317,10 @@ module _ (now : Ticks) (heard : Heard) (b : Outcome) where
       (λ _. claim-calm revision (arming now ttl x) (λ paused. absurd (no-way (sym unpaused ∙ paused))) (calm-armed (deadline_after now ttl x.machine.watchdog) x.outputs all)))
       (λ _. free-of _ _ _ unpaused)
 
-  resting-calm : (renews : Bool) (revision : ℕ) (x : Outcome) → (is_wanted x.knows.who.me x.knows.turn_failover x.machine.server.state ≡ true → IsRestrained heard b (Leader revision) outputs.Begin) → Calm x.outputs → R (takes_key_in_pause now renews revision x)
-  resting-calm renews revision x may all =
+  disabling-calm : (renews : Bool) (revision : ℕ) (x : Outcome) → (is_wanted x.knows.who.me x.knows.turn_failover x.machine.server.state ≡ true → IsRestrained heard b (Leader revision) outputs.Begin) → Calm x.outputs → R (takes_key_in_pause now renews revision x)
+  disabling-calm renews revision x may all =
       if-cases R (is_wanted x.knows.who.me x.knows.turn_failover x.machine.server.state && may_take now x.knows x.machine) (begins_or_claims now revision (disabling_watchdog renews x)) (gives_back revision x)
-      (λ both. claim-calm revision (disabling_watchdog renews x) (λ _. may (first-true (is_wanted x.knows.who.me x.knows.turn_failover x.machine.server.state) _ both)) (calm-rest renews x.machine.watchdog.deadline x.outputs all))
+      (λ both. claim-calm revision (disabling_watchdog renews x) (λ _. may (first-true (is_wanted x.knows.who.me x.knows.turn_failover x.machine.server.state) _ both)) (calm-disabled renews x.machine.watchdog.deadline x.outputs all))
       (λ _. calm _ _ _ (calmly x.outputs _ tt all))
 
   module _ (sequence : ℕ) (grant : Granted) (snapshot : SnapshotFacts) (is : heard ≡ heards.Granted sequence grant snapshot) where
@@ -348,9 +348,9 @@ module _ (now : Ticks) (heard : Heard) (b : Outcome) where
               (duty-calm grant.revision (led_on now asked.ttl grant.revision Told) (calm-fed (deadline_after now asked.ttl b.machine.watchdog) b.outputs all));
           unleased = λ unpaused _. if-cases R (is_refusing b.machine.watchdog.mode b.machine.watchdog.works) (ending_server now WatchdogNotArmed Told) (takes_over now grant.revision (arming now asked.ttl Told)) (λ _. free-of _ _ _ unpaused) (λ _. free-of _ _ _ unpaused);
           takes = λ unpaused _. takes-calm asked.ttl grant.revision Told unpaused all;
-          rests = λ renews _ held _. duties-of R now grant.revision (rested_on renews grant.revision Told) (duty-calm grant.revision (rested_on renews grant.revision Told) (calm-rest renews b.machine.watchdog.deadline b.outputs all));
-          unleased_rests = λ renews _ _. calm _ _ _ (calm-rest renews b.machine.watchdog.deadline b.outputs all);
-          takes_resting = λ renews _ _. resting-calm renews grant.revision Told (by-turn grant.revision) all;
+          leads_in_pause = λ renews _ held _. duties-of R now grant.revision (leading_in_pause renews grant.revision Told) (duty-calm grant.revision (leading_in_pause renews grant.revision Told) (calm-disabled renews b.machine.watchdog.deadline b.outputs all));
+          unleased_in_pause = λ renews _ _. calm _ _ _ (calm-disabled renews b.machine.watchdog.deadline b.outputs all);
+          takes_in_pause = λ renews _ _. disabling-calm renews grant.revision Told (by-turn grant.revision) all;
         })
         (record {
           other = calm Told.outputs Told.role Told.knows.settings all;

@@ -8,7 +8,7 @@ use Rattle.pat_base.specs.declared.peer_answer.PeerAnswer.{PeerAnswer}
 use Rattle.pat_base.specs.declared.server_state.State.{State}
 use Rattle.pat_base.specs.declared.server_state.State.TheVariants as states
 use Rattle.pat_base.specs.declared.ticks.Ticks.{Ticks}
-use Rattle.lease_store.specs.declared.action.Bar.{Bar}
+use Rattle.pat_base.specs.declared.ineligibility.Ineligibility.{Ineligibility}
 use Rattle.wal_model.specs.declared.entry.HistoryPoint.{HistoryPoint}
 use Rattle.pg_model.specs.Facts.{is_down}
 use Rattle.event_book.specs.declared.message.Body.TheVariants as bodies
@@ -68,17 +68,17 @@ got-free now points sequence snapshot o hears = let read : Outcome = record o { 
     ∙ no-key-free now o.role read hears.role
 
 -- a server that can't start is left to the race
-free-raced : (now : Ticks) (snapshot : SnapshotFacts) (o : Outcome) (bar : Option Bar) → can_start o.machine.server ≡ false → eligibility_of (shown now o) snapshot ≡ bar
+free-raced : (now : Ticks) (snapshot : SnapshotFacts) (o : Outcome) (bar : Option Ineligibility) → can_start o.machine.server ≡ false → eligibility_of (shown now o) snapshot ≡ bar
     → finds_free now (record o { knows = read_noted now snapshot o.knows }) ≡ races_unless now bar (record o { role = Follower; knows = read_noted now snapshot o.knows })
 free-raced now snapshot o bar down is = let x : Outcome = record o { role = Follower; knows = read_noted now snapshot o.knows } in
     if-false (can_start o.machine.server) (touching (starts_alone now x)) (races_unless now (bar_of now x.knows x.machine) x) down
-    ∙ ap (λ (by : Option Bar). races_unless now by x) is
+    ∙ ap (λ (by : Option Ineligibility). races_unless now by x) is
 
 -- a running replica can't start
 replica-runs : (state : State) (diverged : Bool) → state ≡ states.Replica → is_down state && not diverged ≡ false
 replica-runs state diverged is = rw is refl
 
-pub barred-out : (now : Ticks) (points : List HistoryPoint) (sequence : ℕ) (snapshot : SnapshotFacts) (bar : Bar) (o : Outcome) → HearsFree sequence snapshot o → can_start o.machine.server ≡ false → eligibility_of (shown now o) snapshot ≡ Some bar
+pub barred-out : (now : Ticks) (points : List HistoryPoint) (sequence : ℕ) (snapshot : SnapshotFacts) (bar : Ineligibility) (o : Outcome) → HearsFree sequence snapshot o → can_start o.machine.server ≡ false → eligibility_of (shown now o) snapshot ≡ Some bar
     → StaysOut snapshot bar o (read_answered now points sequence snapshot o)
 barred-out now points sequence snapshot bar o hears down is = let x : Outcome = record o { role = Follower; knows = read_noted now snapshot o.knows } in
     subst (λ (after : Outcome). StaysOut snapshot bar o after) (sym (got-free now points sequence snapshot o hears ∙ free-raced now snapshot o (Some bar) down is))
@@ -93,9 +93,9 @@ alone-wins : (view : AgentView) (snapshot : SnapshotFacts) → outcome_of view s
 alone-wins view snapshot = nobody-bars (is_candidate view.me (failover_in snapshot))
 
 -- what the answers bring
-judged-is : (now : Ticks) (snapshot : SnapshotFacts) (bar : Option Bar) (o : Outcome) → o.knows.seen ≡ Some snapshot → outcome_of (shown now o) snapshot o.knows.answers ≡ bar → judged now o ≡ judged_as now bar (waiting_no_more o)
+judged-is : (now : Ticks) (snapshot : SnapshotFacts) (bar : Option Ineligibility) (o : Outcome) → o.knows.seen ≡ Some snapshot → outcome_of (shown now o) snapshot o.knows.answers ≡ bar → judged now o ≡ judged_as now bar (waiting_no_more o)
 judged-is now snapshot bar o seen is =
-    ap (λ (b : Option Bar). judged_as now b (waiting_no_more o)) (ap (λ (s : Option SnapshotFacts). outcome_by (shown now o) s o.knows.answers) seen ∙ is)
+    ap (λ (b : Option Ineligibility). judged_as now b (waiting_no_more o)) (ap (λ (s : Option SnapshotFacts). outcome_by (shown now o) s o.knows.answers) seen ∙ is)
 
 -- an agent that nothing bars races
 free-races : (now : Ticks) (points : List HistoryPoint) (sequence : ℕ) (snapshot : SnapshotFacts) (o : Outcome) → HearsFree sequence snapshot o → eligibility_of (shown now o) snapshot ≡ None
@@ -149,7 +149,7 @@ free-asks now points sequence snapshot o hears is others = let x : Outcome = unh
     })
 
 -- the last answer
-last-judged : (now : Ticks) (waited : PendingQuestion) (sequence : ℕ) (answer : PeerAnswer) (snapshot : SnapshotFacts) (bar : Option Bar) (o : Outcome) → HearsLast waited sequence answer snapshot o → outcome_of (shown now o) snapshot (with_answer answer o.knows.answers) ≡ bar
+last-judged : (now : Ticks) (waited : PendingQuestion) (sequence : ℕ) (answer : PeerAnswer) (snapshot : SnapshotFacts) (bar : Option Ineligibility) (o : Outcome) → HearsLast waited sequence answer snapshot o → outcome_of (shown now o) snapshot (with_answer answer o.knows.answers) ≡ bar
     → answered now sequence answer o ≡ judged_as now bar (waiting_no_more (keeping answer o))
 last-judged now waited sequence answer snapshot bar o hears is = let x : Outcome = keeping answer o in
     ap (λ (w : Option PendingQuestion). answered_for now sequence answer w o) hears.awaits.waits
@@ -162,7 +162,7 @@ pub last-won : (now : Ticks) (waited : PendingQuestion) (sequence : ℕ) (answer
     → AsksForKey o (answered now sequence answer o)
 last-won now waited sequence answer snapshot o hears is = subst (λ (after : Outcome). AsksForKey o after) (sym (last-judged now waited sequence answer snapshot None o hears is)) (record { waited = _; waits = refl; asks = refl; outputs_are = refl })
 
-pub last-lost : (now : Ticks) (waited : PendingQuestion) (sequence : ℕ) (answer : PeerAnswer) (snapshot : SnapshotFacts) (bar : Bar) (o : Outcome) → HearsLast waited sequence answer snapshot o → outcome_of (shown now o) snapshot (with_answer answer o.knows.answers) ≡ Some bar
+pub last-lost : (now : Ticks) (waited : PendingQuestion) (sequence : ℕ) (answer : PeerAnswer) (snapshot : SnapshotFacts) (bar : Ineligibility) (o : Outcome) → HearsLast waited sequence answer snapshot o → outcome_of (shown now o) snapshot (with_answer answer o.knows.answers) ≡ Some bar
     → LosesRace bar o (answered now sequence answer o)
 last-lost now waited sequence answer snapshot bar o hears is = subst (λ (after : Outcome). LosesRace bar o after) (sym (last-judged now waited sequence answer snapshot (Some bar) o hears is)) (record { role = refl; machine = refl; waits = refl; outputs_are = refl })
 
@@ -196,7 +196,7 @@ roused-waits now o = if-cases (λ (x : Outcome). x.knows.waited ≡ o.knows.wait
 late-prepared : (now : Ticks) (waited : PendingQuestion) (snapshot : SnapshotFacts) (o : Outcome) → RunsLate now waited snapshot (prepared now Wake o) → is_due now o.role o.knows o.machine ≡ true
 late-prepared now waited snapshot o runs = late-due now waited o (sym (roused-waits now o) ∙ runs.awaits.waits) runs.late
 
-late-judged : (now : Ticks) (waited : PendingQuestion) (snapshot : SnapshotFacts) (bar : Option Bar) (o : Outcome) → RunsLate now waited snapshot (prepared now Wake o) → outcome_of (shown now (prepared now Wake o)) snapshot (prepared now Wake o).knows.answers ≡ bar
+late-judged : (now : Ticks) (waited : PendingQuestion) (snapshot : SnapshotFacts) (bar : Option Ineligibility) (o : Outcome) → RunsLate now waited snapshot (prepared now Wake o) → outcome_of (shown now (prepared now Wake o)) snapshot (prepared now Wake o).knows.answers ≡ bar
     → woken now o ≡ turned now (judged_as now bar (waiting_no_more (prepared now Wake o)))
 late-judged now waited snapshot bar o runs is =
     let due : is_due now o.role o.knows o.machine ≡ true = late-prepared now waited snapshot o runs in
@@ -213,7 +213,7 @@ pub late-won : (now : Ticks) (waited : PendingQuestion) (snapshot : SnapshotFact
     → AsksForKey (prepared now Wake o) (woken now o)
 late-won now waited snapshot o runs is = subst (λ (after : Outcome). AsksForKey (prepared now Wake o) after) (sym (late-judged now waited snapshot None o runs is)) (record { waited = _; waits = refl; asks = refl; outputs_are = refl })
 
-pub late-lost : (now : Ticks) (waited : PendingQuestion) (snapshot : SnapshotFacts) (bar : Bar) (o : Outcome) → RunsLate now waited snapshot (prepared now Wake o) → outcome_of (shown now (prepared now Wake o)) snapshot (prepared now Wake o).knows.answers ≡ Some bar
+pub late-lost : (now : Ticks) (waited : PendingQuestion) (snapshot : SnapshotFacts) (bar : Ineligibility) (o : Outcome) → RunsLate now waited snapshot (prepared now Wake o) → outcome_of (shown now (prepared now Wake o)) snapshot (prepared now Wake o).knows.answers ≡ Some bar
     → LosesAndTurns now bar (prepared now Wake o) (woken now o)
 late-lost now waited snapshot bar o runs is = record {
   lost = judged_as now (Some bar) (waiting_no_more (prepared now Wake o));

@@ -3,7 +3,7 @@ use Rattle.std.specs.Prelude.{ℕ, ◌≡◌, ◌+◌, ◌<◌, ◌==◌, nat_le
 use Rattle.pat_base.specs.declared.member_id.MemberId.{MemberId}
 use Rattle.pat_base.specs.declared.peer_answer.PeerAnswer.{PeerAnswer}
 use Rattle.pat_base.specs.declared.ticks.Ticks.{Ticks}
-use Rattle.lease_store.specs.declared.action.Bar.{Bar}
+use Rattle.pat_base.specs.declared.ineligibility.Ineligibility.{Ineligibility}
 use Rattle.lease_store.specs.declared.granted.Granted.{Granted}
 use Rattle.lease_store.specs.declared.txn.Txn.TheVariants as txns
 use Rattle.leader_race.specs.Eligibility.{eligibility_of}
@@ -40,7 +40,7 @@ pub record HearsFree (sequence : ℕ) (snapshot : SnapshotFacts) (o : Outcome) :
   pub role : may_create o.role ≡ true
 
 -- the agent tells what bars it, and tells of itself. That is all: it has no lease, leaves its machine alone, and waits for nothing
-pub record StaysOut (snapshot : SnapshotFacts) (bar : Bar) (o after : Outcome) : Type 0 where
+pub record StaysOut (snapshot : SnapshotFacts) (bar : Ineligibility) (o after : Outcome) : Type 0 where
   pub role : after.role ≡ Follower
   pub machine : after.machine ≡ o.machine
   pub waits : after.knows.waited ≡ None
@@ -84,14 +84,14 @@ pub record RunsLate (now : Ticks) (waited : PendingQuestion) (snapshot : Snapsho
   pub late : nat_le waited.until.0 now.0 ≡ true
 
 -- the agent tells what bars it, and tells of itself. That is all: its role stays, it leaves its machine alone, and waits for nothing
-pub record LosesRace (bar : Bar) (o after : Outcome) : Type 0 where
+pub record LosesRace (bar : Ineligibility) (o after : Outcome) : Type 0 where
   pub role : after.role ≡ o.role
   pub machine : after.machine ≡ o.machine
   pub waits : after.knows.waited ≡ None
   pub outputs_are : after.outputs ≡ with_output (outputs.Send targets.Store (o.knows.sequence + 1) (bodies.Request (txns.Touch (info_of o.knows.who o.machine.server) (lease_span o.knows.settings)))) (with_output (outputs.DoesNotRace bar) o.outputs)
 
 -- it loses the race, and then a turn begins that is due
-pub record LosesAndTurns (now : Ticks) (bar : Bar) (o after : Outcome) : Type 0 where
+pub record LosesAndTurns (now : Ticks) (bar : Ineligibility) (o after : Outcome) : Type 0 where
   pub lost : Outcome
   pub loses : LosesRace bar o lost
   pub turns : after ≡ turned now lost

@@ -4,7 +4,7 @@ ghost use Rattle.std.specs.List.{Contains};
 ghost use Rattle.pat_base.specs.declared.member_id.MemberId.{MemberId};
 ghost use Rattle.pat_base.specs.declared.peer_answer.PeerAnswer.{PeerAnswer};
 ghost use Rattle.pat_base.specs.declared.ticks.Ticks.{Ticks};
-ghost use Rattle.lease_store.specs.declared.action.Bar.{Bar};
+ghost use Rattle.pat_base.specs.declared.ineligibility.Ineligibility.{Ineligibility};
 ghost use Rattle.wal_model.specs.declared.entry.HistoryPoint.{HistoryPoint};
 ghost use Rattle.cluster_config.specs.Snapshots.{SnapshotFacts};
 ghost use Rattle.leader_race.specs.Eligibility.{eligibility_of};
@@ -33,7 +33,7 @@ pub fn a_leader_hands_over_to_who_may_lead()
 /// Who is barred doesn't ask for a free leader key: where the answer to its read tells that nobody leads, an agent without a
 /// server that can start tells what bars it, tells of itself, and does nothing else.
 pub fn who_is_barred_stays_out()
-    ensures { (now : Ticks) (points : List HistoryPoint) (sequence : ℕ) (snapshot : SnapshotFacts) (bar : Bar) (o : Outcome) → HearsFree sequence snapshot (prepared now (heard.ReadAnswered sequence snapshot) o) → can_start (prepared now (heard.ReadAnswered sequence snapshot) o).machine.server ≡ false → eligibility_of (shown now (prepared now (heard.ReadAnswered sequence snapshot) o)) snapshot ≡ Some bar → StaysOut snapshot bar (prepared now (heard.ReadAnswered sequence snapshot) o) (step now points (heard.ReadAnswered sequence snapshot) o) }
+    ensures { (now : Ticks) (points : List HistoryPoint) (sequence : ℕ) (snapshot : SnapshotFacts) (bar : Ineligibility) (o : Outcome) → HearsFree sequence snapshot (prepared now (heard.ReadAnswered sequence snapshot) o) → can_start (prepared now (heard.ReadAnswered sequence snapshot) o).machine.server ≡ false → eligibility_of (shown now (prepared now (heard.ReadAnswered sequence snapshot) o)) snapshot ≡ Some bar → StaysOut snapshot bar (prepared now (heard.ReadAnswered sequence snapshot) o) (step now points (heard.ReadAnswered sequence snapshot) o) }
 {}
 
 /// A free leader key is raced for: where the answer to its read tells that nobody leads, an agent that nothing bars asks every
@@ -48,13 +48,13 @@ pub fn a_free_key_is_asked_for()
 /// answer; who loses tells what bars it, tells of itself, and does nothing else.
 pub fn the_last_answer_decides()
     ensures won { (now : Ticks) (points : List HistoryPoint) (waited : PendingQuestion) (sequence : ℕ) (answer : PeerAnswer) (snapshot : SnapshotFacts) (o : Outcome) → HearsLast waited sequence answer snapshot (reconciled now o) → outcome_of (shown now (reconciled now o)) snapshot (with_answer answer (reconciled now o).knows.answers) ≡ None → AsksForKey (reconciled now o) (step now points (heard.Answered sequence answer) o) }
-    ensures lost { (now : Ticks) (points : List HistoryPoint) (waited : PendingQuestion) (sequence : ℕ) (answer : PeerAnswer) (snapshot : SnapshotFacts) (bar : Bar) (o : Outcome) → HearsLast waited sequence answer snapshot (reconciled now o) → outcome_of (shown now (reconciled now o)) snapshot (with_answer answer (reconciled now o).knows.answers) ≡ Some bar → LosesRace bar (reconciled now o) (step now points (heard.Answered sequence answer) o) }
+    ensures lost { (now : Ticks) (points : List HistoryPoint) (waited : PendingQuestion) (sequence : ℕ) (answer : PeerAnswer) (snapshot : SnapshotFacts) (bar : Ineligibility) (o : Outcome) → HearsLast waited sequence answer snapshot (reconciled now o) → outcome_of (shown now (reconciled now o)) snapshot (with_answer answer (reconciled now o).knows.answers) ≡ Some bar → LosesRace bar (reconciled now o) (step now points (heard.Answered sequence answer) o) }
 {}
 
 /// Once their time is over, a race is judged by the answers that there are, in the same way.
 pub fn late_answers_are_not_waited_for()
     ensures won { (now : Ticks) (points : List HistoryPoint) (waited : PendingQuestion) (snapshot : SnapshotFacts) (o : Outcome) → RunsLate now waited snapshot (prepared now heard.Wake o) → outcome_of (shown now (prepared now heard.Wake o)) snapshot (prepared now heard.Wake o).knows.answers ≡ None → AsksForKey (prepared now heard.Wake o) (step now points heard.Wake o) }
-    ensures lost { (now : Ticks) (points : List HistoryPoint) (waited : PendingQuestion) (snapshot : SnapshotFacts) (bar : Bar) (o : Outcome) → RunsLate now waited snapshot (prepared now heard.Wake o) → outcome_of (shown now (prepared now heard.Wake o)) snapshot (prepared now heard.Wake o).knows.answers ≡ Some bar → LosesAndTurns now bar (prepared now heard.Wake o) (step now points heard.Wake o) }
+    ensures lost { (now : Ticks) (points : List HistoryPoint) (waited : PendingQuestion) (snapshot : SnapshotFacts) (bar : Ineligibility) (o : Outcome) → RunsLate now waited snapshot (prepared now heard.Wake o) → outcome_of (shown now (prepared now heard.Wake o)) snapshot (prepared now heard.Wake o).knows.answers ≡ Some bar → LosesAndTurns now bar (prepared now heard.Wake o) (step now points heard.Wake o) }
 {}
 
 /// A free leader key is asked for, by whom nothing bars and who wins; and whom it is granted to begins.

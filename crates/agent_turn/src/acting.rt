@@ -197,7 +197,7 @@ impl Turn<'_> {
     {
         let deadline = self.machine.watchdog.deadline();
         tell_rest(self.out, renews, deadline);
-        writer.rested(grant, &mut self.machine.watchdog)
+        writer.renewed_without_watchdog(grant, &mut self.machine.watchdog)
     }
 
     /// A member leads without a watchdog, on a lease that it gets by a renewal or as the key was free.
@@ -209,7 +209,7 @@ impl Turn<'_> {
     {
         let deadline = self.machine.watchdog.deadline();
         tell_rest(self.out, renews, deadline);
-        lease.rest(&mut self.machine.watchdog)
+        lease.arm_without_watchdog(&mut self.machine.watchdog)
     }
 
     /// A primary runs on without the leader key.

@@ -7,8 +7,8 @@ use Rattle.pat_base.specs.declared.server_state.Required.TheVariants as required
 use Rattle.pat_base.specs.declared.server_state.State.{State}
 use Rattle.pat_base.specs.declared.ticks.Ticks.{Ticks}
 use Rattle.pat_base.specs.ServerState.{live}
-use Rattle.lease_store.specs.declared.action.Bar.{Bar}
-use Rattle.lease_store.specs.declared.action.Bar.TheVariants as bars
+use Rattle.pat_base.specs.declared.ineligibility.Ineligibility.{Ineligibility}
+use Rattle.pat_base.specs.declared.ineligibility.Ineligibility.TheVariants as bars
 use Rattle.pg_cluster.specs.declared.answers.Rewound.{Rewound}
 use Rattle.pg_cluster.specs.Rewinding.{may_clone_at, rewind_at}
 use Rattle.pg_model.specs.Facts.{ServerFacts, is_creating, is_down, is_replica, is_up}
@@ -123,7 +123,7 @@ abbrev pub repair_over : CutLinks → List ServerFacts → Member → Repair →
 repair_over cuts known member repair leader = if is_cut cuts (link_of_members member leader) then None else repair_by known member repair leader
 
 -- the member that bars another one from racing, if one does
-abbrev pub barring : Bar → Option MemberId
+abbrev pub barring : Ineligibility → Option MemberId
 barring (bars.Candidate member) = Some member
 barring (bars.OtherWrites member) = Some member
 barring (bars.Ahead member) = Some member
@@ -135,7 +135,7 @@ abbrev pub declared_name : List Member → Option MemberId → Option Name
 declared_name members id = option_map (λ member. member.name) (declared_member members id)
 
 -- a member doesn't race for the free leader key, with the name of the member that bars it, if one does
-abbrev pub not_racing : List Member → Member → Bar → EventKind
+abbrev pub not_racing : List Member → Member → Ineligibility → EventKind
 not_racing members member bar = kinds.Note (notes.DoesNotRace member bar (declared_name members (barring bar)))
 
 -- a member hands over to this one

@@ -8,7 +8,7 @@ use Rattle.pat_base.specs.declared.name.Name.{Name}
 use Rattle.pat_base.specs.Name.{name_bytes}
 use Rattle.ctl_command.specs.Commands.{CommandText}
 use Rattle.ctl_command.specs.Laws.{is_among, awaits_value}
-use Rattle.member_names.specs.Naming.{member_named}
+use Rattle.pat_base.specs.MemberNames.{member_named}
 use Rattle.ctl_command.specs.Reading.{is_option, is_said, with_leader, with_candidate, with_setting, with_value, with_new_option, with_force, with_known_option, with_option, with_member, awaits_member, with_name, at_place, with_next, with_words, nothing_said, said_in, built, lacks_cluster, ended, finished, if_said, command_by, command_of}
 use Rattle.ctl_command.specs.Settings.{setting_in}
 use Rattle.ctl_command.specs.Tables.{command_named, option_named, value_option_named, force_text}

@@ -5,7 +5,7 @@ use Rattle.pat_base.specs.declared.member_id.MemberId.{MemberId}
 use Rattle.pat_base.specs.declared.name.Name.{Name}
 use Rattle.ctl_command.specs.Commands.{CommandText}
 use Rattle.ctl_command.specs.Laws.{awaits_value, IsWholeOption}
-use Rattle.member_names.specs.Naming.{member_named}
+use Rattle.pat_base.specs.MemberNames.{member_named}
 use Rattle.ctl_command.specs.Reading.{is_option, with_leader, with_candidate, with_setting, with_value_option, with_known_option, with_option, with_name, at_place, with_word, with_next, with_words, nothing_said, said_in, if_said, command_by, command_of}
 use Rattle.ctl_command.specs.Settings.{setting_in}
 use Rattle.ctl_command.specs.Tables.{command_named, option_named, force_text}

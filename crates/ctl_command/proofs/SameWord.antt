@@ -7,7 +7,7 @@ use Rattle.pat_base.specs.declared.host.Host.{Host}
 use Rattle.pat_base.specs.declared.member_id.MemberId.{MemberId}
 use Rattle.pat_base.specs.declared.name.Name.{Name}
 use Rattle.ctl_command.specs.Laws.{awaits_value, joined}
-use Rattle.member_names.specs.Naming.{member_named}
+use Rattle.pat_base.specs.MemberNames.{member_named}
 use Rattle.ctl_command.specs.Reading.{is_option, is_said, with_leader, with_candidate, with_setting, with_value, with_value_option, awaiting, with_known_option, with_option, with_word, with_next, with_words, said_in, if_said, command_of}
 use Rattle.ctl_command.specs.Settings.{setting_in}
 use Rattle.ctl_command.specs.Tables.{command_named, option_named, value_option_named, option_text}

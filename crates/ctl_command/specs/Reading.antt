@@ -6,7 +6,7 @@ use Rattle.pat_base.specs.Name.{name_bytes}
 use Rattle.pat_base.specs.declared.host.Host.{Host}
 use Rattle.pat_base.specs.declared.member_id.MemberId.{MemberId}
 use Rattle.pat_base.specs.declared.name.Name.{Name}
-use Rattle.member_names.specs.Naming.{member_named}
+use Rattle.pat_base.specs.MemberNames.{member_named}
 use Rattle.ctl_command.specs.Commands.{CommandText}
 use Rattle.ctl_command.specs.Commands as commands
 use Rattle.ctl_command.specs.Settings.{setting_in}

@@ -13,8 +13,7 @@ use crate::said::{Place, Said};
 use crate::setting_parts::setting_in;
 use crate::tables::{command_named, option_named, takes_member};
 use crate::{Command, CtlFault, Needed, Setting, ValueOption};
-use member_names::member_named;
-use pat_base::{Host, MemberId, Name};
+use pat_base::{Host, MemberId, Name, member_named};
 
 /// The names that a line may say.
 #[derive(Clone, Copy)]

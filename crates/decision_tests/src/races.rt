@@ -2,8 +2,7 @@
 
 use crate::clusters::{C, END, TAGS, follower, has_answer, snapshot_of, store_of};
 use leader_race::{may_race, wins};
-use lease_store::Bar;
-use pat_base::{Lsn, PeerAnswer, State};
+use pat_base::{Ineligibility, Lsn, PeerAnswer, State};
 
 /// Nobody leads, and the store has nothing but its configuration.
 #[test]
@@ -11,7 +10,7 @@ fn who_may_race_and_who_wins(rt: HostRuntime) {
     let store = store_of(&rt, rt.alloc(), b"{}");
     let seen = snapshot_of(&rt, rt.alloc(), &store);
     let stopped = follower(&rt, &seen, State::Stopped);
-    has_answer(&rt, &may_race(&stopped, &seen), &Err(Bar::NotRunning));
+    has_answer(&rt, &may_race(&stopped, &seen), &Err(Ineligibility::NotRunning));
     let view = follower(&rt, &seen, State::Replica);
     has_answer(&rt, &may_race(&view, &seen), &Ok(()));
     has_answer(&rt, &wins(&view, &seen, &[]), &Ok(()));
@@ -21,5 +20,5 @@ fn who_may_race_and_who_wins(rt: HostRuntime) {
         end: Lsn::new(END.position + 1),
         tags: TAGS,
     };
-    has_answer(&rt, &wins(&view, &seen, &[ahead]), &Err(Bar::Ahead(C)));
+    has_answer(&rt, &wins(&view, &seen, &[ahead]), &Err(Ineligibility::Ahead(C)));
 }

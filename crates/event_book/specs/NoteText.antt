@@ -4,7 +4,7 @@ use Rattle.std.specs.Fmt.{decimal}
 use Rattle.pat_base.specs.Name.{name_bytes}
 use Rattle.event_book.specs.declared.event.Note.{Note}
 use Rattle.event_book.specs.declared.event.Note.TheVariants as notes
-use Rattle.event_book.specs.Reasons.{reason_text, bar_text}
+use Rattle.event_book.specs.Reasons.{reason_text, ineligibility_text}
 
 -- what the REST interface of the agent of this name answered; behind the status stands no blank where there is no body
 abbrev pub answered_line : ℕ → List ℕ → ℕ → List ℕ → Option (List ℕ)
@@ -42,7 +42,7 @@ abbrev pub note_line : ℕ → Note → Option (List ℕ)
 note_line tick (notes.EndsServer member reason) =
     Some (decimal tick ++ (codes " " ++ (name_bytes member.name ++ (codes " ends its server: " ++ (reason_text reason ++ codes "\n")))))
 note_line tick (notes.DoesNotRace member bar by) =
-    Some (decimal tick ++ (codes " " ++ (name_bytes member.name ++ (codes " does not race: " ++ (bar_text bar by ++ codes "\n")))))
+    Some (decimal tick ++ (codes " " ++ (name_bytes member.name ++ (codes " does not race: " ++ (ineligibility_text bar by ++ codes "\n")))))
 note_line tick (notes.HandsOver member candidate) =
     Some (decimal tick ++ (codes " " ++ (name_bytes member.name ++ (codes " hands over to " ++ (name_bytes candidate.name ++ codes "\n")))))
 note_line tick note = own_note_line tick note

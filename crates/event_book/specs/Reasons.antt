@@ -2,8 +2,8 @@
 use Rattle.std.specs.Prelude.{ℕ, List, ◌++◌, Option, Some, None, codes}
 use Rattle.pat_base.specs.declared.name.Name.{Name}
 use Rattle.pat_base.specs.Name.{name_bytes}
-use Rattle.lease_store.specs.declared.action.Bar.{Bar}
-use Rattle.lease_store.specs.declared.action.Bar.TheVariants as bars
+use Rattle.pat_base.specs.declared.ineligibility.Ineligibility.{Ineligibility}
+use Rattle.pat_base.specs.declared.ineligibility.Ineligibility.TheVariants as bars
 use Rattle.event_book.specs.declared.reason.Reason.{Reason}
 use Rattle.event_book.specs.declared.reason.Reason.TheVariants as reasons
 
@@ -21,15 +21,15 @@ barring_text None = codes "another member"
 barring_text (Some name) = name_bytes name
 
 -- why it does not ask for a free leader key
-abbrev pub bar_text : Bar → Option Name → List ℕ
-bar_text bars.NotRunning by = codes "its server is not a replica"
-bar_text bars.NoFailover by = codes "it may not fail over"
-bar_text bars.Paused by = codes "paused"
-bar_text (bars.Candidate member) by = barring_text by ++ codes " is the candidate"
-bar_text bars.NotSync by = codes "it is not in the sync key"
-bar_text bars.TooFarBehind by = codes "it is too far behind"
-bar_text bars.NotListed by = codes "it is not in the failsafe key"
-bar_text bars.Hold by = codes "a failsafe hold"
-bar_text (bars.OtherWrites member) by = barring_text by ++ codes " accepts writes"
-bar_text (bars.Ahead member) by = barring_text by ++ codes " is ahead"
-bar_text (bars.Priority member) by = barring_text by ++ codes " has a higher priority"
+abbrev pub ineligibility_text : Ineligibility → Option Name → List ℕ
+ineligibility_text bars.NotRunning by = codes "its server is not a replica"
+ineligibility_text bars.NoFailover by = codes "it may not fail over"
+ineligibility_text bars.Paused by = codes "paused"
+ineligibility_text (bars.Candidate member) by = barring_text by ++ codes " is the candidate"
+ineligibility_text bars.NotSync by = codes "it is not in the sync key"
+ineligibility_text bars.TooFarBehind by = codes "it is too far behind"
+ineligibility_text bars.NotListed by = codes "it is not in the failsafe key"
+ineligibility_text bars.Hold by = codes "a failsafe hold"
+ineligibility_text (bars.OtherWrites member) by = barring_text by ++ codes " accepts writes"
+ineligibility_text (bars.Ahead member) by = barring_text by ++ codes " is ahead"
+ineligibility_text (bars.Priority member) by = barring_text by ++ codes " has a higher priority"

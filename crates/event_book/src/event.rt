@@ -1,8 +1,8 @@
 //! What can happen. An event stands in the book only where something changed. It has the names that its line prints.
 
 use crate::{Basis, Bytes, Link, Member, Message, Names, Reason, ServerOf};
-use lease_store::{Bar, Expected, Key, OperatorAction, Txn, TxnKind};
-use pat_base::{Lsn, Name, Required, Shared, Ticks};
+use lease_store::{Expected, Key, OperatorAction, Txn, TxnKind};
+use pat_base::{Ineligibility, Lsn, Name, Required, Shared, Ticks};
 use wal_model::Entry;
 
 /// A happening, at a moment in ticks of 100 ms.
@@ -301,7 +301,7 @@ pub enum Note {
     /// Why the member doesn't ask for a free leader key, with the name of the member that bars it, if one does.
     DoesNotRace {
         member: Member,
-        bar: Bar,
+        bar: Ineligibility,
         by: Option<Name>,
     },
     HandsOver {

@@ -4,7 +4,7 @@ ghost use Rattle.pat_base.specs.Name.{name_bytes};
 ghost use Rattle.event_book.specs.NoteText.{note_line, own_note_line, reply_line, answered_line, ctl_line};
 ghost use Rattle.event_book.specs.Text.{bytes_or_none};
 
-use crate::reason::BarText;
+use crate::reason::IneligibilityText;
 use crate::{Bytes, Note};
 use pat_base::{Name, Ticks};
 use std::alloc::AllocError;
@@ -20,7 +20,7 @@ pub fn write_note_line(line: &mut String, tick: Ticks, note: &Note) -> Result<()
         }
         Note::DoesNotRace { member, bar, by } => {
             let name = member.name;
-            let why = BarText { bar: *bar, by: *by };
+            let why = IneligibilityText { bar: *bar, by: *by };
             write!(line, "{tick} {name} does not race: {why}\n")
         }
         Note::HandsOver { member, candidate } => {

@@ -1,7 +1,6 @@
 //! Why watchdogs are fed, and why servers are ended.
 
-use lease_store::Bar;
-use pat_base::{MemberSet, Name};
+use pat_base::{Ineligibility, MemberSet, Name};
 use std::fmt;
 
 /// What lets a leader feed its watchdog.
@@ -42,12 +41,12 @@ impl fmt::Display for Reason {
 
 /// Why a member doesn't ask for a free leader key, with the name of the member that bars it.
 #[derive(Clone, Copy)]
-pub struct BarText {
-    pub bar: Bar,
+pub struct IneligibilityText {
+    pub bar: Ineligibility,
     pub by: Option<Name>,
 }
 
-impl BarText {
+impl IneligibilityText {
     ghost use Rattle.std.specs.Prelude.{◌≡◌};
     ghost use Rattle.event_book.specs.Reasons.{barring_text};
 
@@ -62,26 +61,26 @@ impl BarText {
     }
 }
 
-impl fmt::Display for BarText {
+impl fmt::Display for IneligibilityText {
     ghost use Rattle.std.specs.Prelude.{Some};
-    ghost use Rattle.event_book.specs.Reasons.{bar_text};
+    ghost use Rattle.event_book.specs.Reasons.{ineligibility_text};
 
-    ghost output = { λ text. Some (bar_text text.bar text.by) };
+    ghost output = { λ text. Some (ineligibility_text text.bar text.by) };
 
     fn fmt<W: fmt::Write>(&self, f: &mut fmt::Formatter<W>) -> fmt::Result {
         let other = self.barring();
         match self.bar {
-            Bar::NotRunning => f.write_str("its server is not a replica"),
-            Bar::NoFailover => f.write_str("it may not fail over"),
-            Bar::Paused => f.write_str("paused"),
-            Bar::Candidate(_) => write!(f, "{other} is the candidate"),
-            Bar::NotSync => f.write_str("it is not in the sync key"),
-            Bar::TooFarBehind => f.write_str("it is too far behind"),
-            Bar::NotListed => f.write_str("it is not in the failsafe key"),
-            Bar::Hold => f.write_str("a failsafe hold"),
-            Bar::OtherWrites(_) => write!(f, "{other} accepts writes"),
-            Bar::Ahead(_) => write!(f, "{other} is ahead"),
-            Bar::Priority(_) => write!(f, "{other} has a higher priority"),
+            Ineligibility::NotRunning => f.write_str("its server is not a replica"),
+            Ineligibility::NoFailover => f.write_str("it may not fail over"),
+            Ineligibility::Paused => f.write_str("paused"),
+            Ineligibility::Candidate(_) => write!(f, "{other} is the candidate"),
+            Ineligibility::NotSync => f.write_str("it is not in the sync key"),
+            Ineligibility::TooFarBehind => f.write_str("it is too far behind"),
+            Ineligibility::NotListed => f.write_str("it is not in the failsafe key"),
+            Ineligibility::Hold => f.write_str("a failsafe hold"),
+            Ineligibility::OtherWrites(_) => write!(f, "{other} accepts writes"),
+            Ineligibility::Ahead(_) => write!(f, "{other} is ahead"),
+            Ineligibility::Priority(_) => write!(f, "{other} has a higher priority"),
         }
     }
 }

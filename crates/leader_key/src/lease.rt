@@ -63,7 +63,7 @@ impl Lease {
     }
 
     /// While the cluster is paused a member leads without a watchdog: the deadline is removed.
-    pub fn rest(self, watchdog: &mut Watchdog) -> Armed
+    pub fn arm_without_watchdog(self, watchdog: &mut Watchdog) -> Armed
         ensures revision { armed_revision result ≡ lease_revision self }
         ensures watchdog { watchdog.new ≡ record watchdog.old { deadline = None } }
     {
@@ -145,7 +145,7 @@ impl Writer {
     }
 
     /// The lease was renewed while the cluster is paused: the deadline is removed.
-    pub fn rested(self, granted: Granted, watchdog: &mut Watchdog) -> Writer
+    pub fn renewed_without_watchdog(self, granted: Granted, watchdog: &mut Watchdog) -> Writer
         requires { IsTrue granted.leased }
         ensures revision { writer_revision result ≡ granted.revision }
         ensures watchdog { watchdog.new ≡ record watchdog.old { deadline = None } }

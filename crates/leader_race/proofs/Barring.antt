@@ -5,7 +5,7 @@ use Rattle.std.specs.Option.{option_map}
 use Rattle.std.proofs.lemmas.Bool.Decides.{nat_tests}
 use Rattle.std.proofs.lemmas.List.{drop_more, drop_all}
 use Rattle.pat_base.specs.declared.member_id.MemberId.{MemberId}
-use Rattle.lease_store.specs.declared.action.Bar.{Bar}
+use Rattle.pat_base.specs.declared.ineligibility.Ineligibility.{Ineligibility}
 use Rattle.pat_base.specs.declared.peer_answer.PeerAnswer.{PeerAnswer}
 use Rattle.leader_race.specs.Bars.{bar_where, first_bar}
 use Rattle.leader_race.specs.Peers.{member_where, earlier, first_of}
@@ -17,11 +17,11 @@ pub no-bar : {X : Type 0} (x : X) → Some x ≡ None → ⊥
 no-bar x e = cc
 
 -- where nothing bars, no rule applies
-pub first_bar-none : (rule : Option Bar) (rules : List (Option Bar)) → first_bar (rule ∷ rules) ≡ None → (rule ≡ None) × (first_bar rules ≡ None)
+pub first_bar-none : (rule : Option Ineligibility) (rules : List (Option Ineligibility)) → first_bar (rule ∷ rules) ≡ None → (rule ≡ None) × (first_bar rules ≡ None)
 first_bar-none None rules e = (refl, e)
 first_bar-none (Some bar) rules e = absurd (no-bar bar e)
 
-pub bar_where-none : (applies : Bool) (bar : Bar) → bar_where applies bar ≡ None → applies ≡ false
+pub bar_where-none : (applies : Bool) (bar : Ineligibility) → bar_where applies bar ≡ None → applies ≡ false
 bar_where-none false bar e = refl
 bar_where-none true bar e = absurd (no-bar bar e)
 

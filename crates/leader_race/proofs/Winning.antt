@@ -7,8 +7,8 @@ use Rattle.pat_base.specs.declared.lsn.Lsn.{Lsn}
 use Rattle.pat_base.specs.declared.server_state.State.{State}
 use Rattle.pat_base.specs.declared.server_state.State.TheVariants as states
 use Rattle.pat_base.proofs.Positions.{lsn-injective}
-use Rattle.lease_store.specs.declared.action.Bar.{Bar}
-use Rattle.lease_store.specs.declared.action.Bar.TheVariants as bars
+use Rattle.pat_base.specs.declared.ineligibility.Ineligibility.{Ineligibility}
+use Rattle.pat_base.specs.declared.ineligibility.Ineligibility.TheVariants as bars
 use Rattle.lease_store.specs.declared.value.SyncKey.{SyncKey}
 use Rattle.pat_base.specs.declared.peer_answer.PeerAnswer.{PeerAnswer}
 use Rattle.cluster_config.specs.declared.view.AgentView.{AgentView}
@@ -90,7 +90,7 @@ and-rest : (a b : Bool) → a ≡ true → (a && b) ≡ false → b ≡ false
 and-rest true b e h = h
 and-rest false b e h = absurd (no (sym e))
 
-no-rule : (named : Bool) (bar : Option Bar) → named ≡ false → unless named bar ≡ None → bar ≡ None
+no-rule : (named : Bool) (bar : Option Ineligibility) → named ≡ false → unless named bar ≡ None → bar ≡ None
 no-rule false bar e h = h
 no-rule true bar e h = absurd (no e)
 
@@ -174,7 +174,7 @@ both-priority a b seen_by_a seen_by_b heard_by_a heard_by_b c d wins_a wins_b th
     level-priorities a.tags.failover_priority b.tags.failover_priority (not-lower a b seen_by_a heard_by_a c wins_a level) (not-lower b a seen_by_b heard_by_b d wins_b level')
 
 -- ---- what the rules give, one by one
-pub outcome-by : (view : AgentView) (seen : SnapshotFacts) (answers : List PeerAnswer) (racer : Racer) (named : Bool) (writing further furthest preferred most : Option Bar) → racer ≡ racer_of view seen → named ≡ is_candidate view.me (failover_in seen) → writing ≡ other_writes racer answers → further ≡ ahead racer answers → furthest ≡ unless named further → preferred ≡ priority racer answers → most ≡ unless named preferred → first_bar (writing ∷ furthest ∷ most ∷ []) ≡ outcome_of view seen answers
+pub outcome-by : (view : AgentView) (seen : SnapshotFacts) (answers : List PeerAnswer) (racer : Racer) (named : Bool) (writing further furthest preferred most : Option Ineligibility) → racer ≡ racer_of view seen → named ≡ is_candidate view.me (failover_in seen) → writing ≡ other_writes racer answers → further ≡ ahead racer answers → furthest ≡ unless named further → preferred ≡ priority racer answers → most ≡ unless named preferred → first_bar (writing ∷ furthest ∷ most ∷ []) ≡ outcome_of view seen answers
 outcome-by view seen answers racer named writing further furthest preferred most racing naming first second second' third third' =
     let theirs : Racer = racer_of view seen in
     ap (λ o. first_bar (o ∷ furthest ∷ most ∷ [])) (first ∙ ap (λ (r : Racer). other_writes r answers) racing)

@@ -7,8 +7,8 @@ use Rattle.pat_base.specs.declared.server_state.State.{State}
 use Rattle.pat_base.specs.declared.server_state.State.TheVariants as states
 use Rattle.pat_base.specs.declared.tags.Tags.{Tags}
 use Rattle.pat_base.specs.declared.ticks.Ticks.{Ticks}
-use Rattle.lease_store.specs.declared.action.Bar.{Bar}
-use Rattle.lease_store.specs.declared.action.Bar.TheVariants as bars
+use Rattle.pat_base.specs.declared.ineligibility.Ineligibility.{Ineligibility}
+use Rattle.pat_base.specs.declared.ineligibility.Ineligibility.TheVariants as bars
 use Rattle.lease_store.specs.declared.value.FailoverKey.{FailoverKey}
 use Rattle.lease_store.specs.declared.value.SyncKey.{SyncKey}
 use Rattle.cluster_config.specs.declared.view.AgentView.{AgentView}
@@ -18,7 +18,7 @@ use Rattle.cluster_config.specs.Snapshots.{SnapshotFacts, failsafe_in}
 use Rattle.leader_race.specs.Bars.{bar_where, first_bar}
 
 -- its server doesn't run as a replica
-abbrev pub not_running : State → Option Bar
+abbrev pub not_running : State → Option Ineligibility
 not_running states.Replica = None
 not_running _ = Some bars.NotRunning
 
@@ -27,21 +27,21 @@ abbrev pub may_fail_over : Tags → Bool
 may_fail_over tags = not tags.nofailover && int_lt (pos 0) tags.failover_priority
 
 -- its tags don't let it fail over
-abbrev pub no_failover : Tags → Option Bar
+abbrev pub no_failover : Tags → Option Ineligibility
 no_failover tags = bar_where (not (may_fail_over tags)) bars.NoFailover
 
 -- the cluster is paused, and no failover names it as candidate
-abbrev pub paused : Bool → Bool → Option Bar
+abbrev pub paused : Bool → Bool → Option Ineligibility
 paused pause names_me = bar_where (pause && not names_me) bars.Paused
 
 -- a failover names another candidate
-abbrev pub other_candidate : MemberId → Option MemberId → Option Bar
+abbrev pub other_candidate : MemberId → Option MemberId → Option Ineligibility
 other_candidate me None = None
 other_candidate me (Some candidate) = bar_where (not (is_member me (Some candidate))) (bars.Candidate candidate)
 
 -- the synchronous mode is active, and the sync key doesn't name it; a failover to it, which names no leader, lets it race
 -- all the same
-abbrev pub not_sync : MemberId → Option FailoverKey → Option SyncKey → Option Bar
+abbrev pub not_sync : MemberId → Option FailoverKey → Option SyncKey → Option Ineligibility
 not_sync me failover None = None
 not_sync me failover (Some sync) = bar_where (not (is_named me sync) && not (is_failover_to me failover)) bars.NotSync
 
@@ -53,21 +53,21 @@ is_behind_by bytes (Some status) None = true
 is_behind_by bytes (Some status) (Some end) = nat_lt bytes (status.position - end.position)
 
 -- its log is too far behind, and no failover names it as candidate
-abbrev pub too_far_behind : ℕ → Option Lsn → Option Lsn → Bool → Option Bar
+abbrev pub too_far_behind : ℕ → Option Lsn → Option Lsn → Bool → Option Ineligibility
 too_far_behind most status end names_me = bar_where (is_behind_by most status end && not names_me) bars.TooFarBehind
 
 -- the failsafe mode is on, and the failsafe key doesn't list it
-abbrev pub not_listed : MemberId → Bool → Option MemberSet → Option Bar
+abbrev pub not_listed : MemberId → Bool → Option MemberSet → Option Ineligibility
 not_listed me failsafe_mode None = None
 not_listed me failsafe_mode (Some members) = bar_where (failsafe_mode && not (is_one_of me members)) bars.NotListed
 
 -- it promised not to take the leader key, until a moment that hasn't come
-abbrev pub holding : Ticks → Option Ticks → Option Bar
+abbrev pub holding : Ticks → Option Ticks → Option Ineligibility
 holding now None = None
 holding now (Some until) = bar_where (nat_lt now.0 until.0) bars.Hold
 
 -- why a member may not race for a free leader key, by the first rule that applies; nothing where it may
-abbrev pub eligibility_of : AgentView → SnapshotFacts → Option Bar
+abbrev pub eligibility_of : AgentView → SnapshotFacts → Option Ineligibility
 eligibility_of view seen = first_bar (
     not_running view.state
     ∷ no_failover view.tags

@@ -1,8 +1,8 @@
 -- Who wins the race for a free leader key: what bars a member that may race, by the answers of the others.
 use Rattle.std.specs.Prelude.{◌≡◌, Bool, true, false, List, [], ◌∷◌, Option, None, Contains}
 use Rattle.std.specs.Option.{option_map}
-use Rattle.lease_store.specs.declared.action.Bar.{Bar}
-use Rattle.lease_store.specs.declared.action.Bar.TheVariants as bars
+use Rattle.pat_base.specs.declared.ineligibility.Ineligibility.{Ineligibility}
+use Rattle.pat_base.specs.declared.ineligibility.Ineligibility.TheVariants as bars
 use Rattle.pat_base.specs.declared.peer_answer.PeerAnswer.{PeerAnswer}
 use Rattle.cluster_config.specs.declared.view.AgentView.{AgentView}
 use Rattle.cluster_config.specs.KeyValues.{failover_in, active_sync_in}
@@ -18,25 +18,25 @@ abbrev pub racer_of : AgentView → SnapshotFacts → Racer
 racer_of view seen = record { me = view.me; end = view.end; priority = view.tags.failover_priority; sync = active_sync_in seen }
 
 -- the server of another member accepts writes
-abbrev pub other_writes : Racer → List PeerAnswer → Option Bar
+abbrev pub other_writes : Racer → List PeerAnswer → Option Ineligibility
 other_writes racer answers = option_map bars.OtherWrites (first_of (bars_by racer rules.OtherWrites) answers)
 
 -- the log of another member ends further on
-abbrev pub ahead : Racer → List PeerAnswer → Option Bar
+abbrev pub ahead : Racer → List PeerAnswer → Option Ineligibility
 ahead racer answers = option_map bars.Ahead (first_of (bars_by racer rules.Ahead) answers)
 
 -- the log of another member ends at the same position, and its priority is higher
-abbrev pub priority : Racer → List PeerAnswer → Option Bar
+abbrev pub priority : Racer → List PeerAnswer → Option Ineligibility
 priority racer answers = option_map bars.Priority (first_of (bars_by racer rules.Priority) answers)
 
 -- a rule that doesn't apply where this is so
-abbrev pub unless : Bool → Option Bar → Option Bar
+abbrev pub unless : Bool → Option Ineligibility → Option Ineligibility
 unless false bar = bar
 unless true bar = None
 
 -- why a member that may race doesn't win, by the first rule that applies; nothing where it wins. Nobody is compared with a
 -- member that a failover names as candidate
-abbrev pub outcome_of : AgentView → SnapshotFacts → List PeerAnswer → Option Bar
+abbrev pub outcome_of : AgentView → SnapshotFacts → List PeerAnswer → Option Ineligibility
 outcome_of view seen answers = first_bar (
     other_writes (racer_of view seen) answers
     ∷ unless (is_candidate view.me (failover_in seen)) (ahead (racer_of view seen) answers)

@@ -3,17 +3,17 @@ ghost use Rattle.std.specs.Prelude.{◌≡◌};
 ghost use Rattle.std.specs.Result.{result_err};
 ghost use Rattle.leader_race.specs.Bars.{bar_where, first_bar};
 
-use lease_store::Bar;
+use pat_base::Ineligibility;
 
 /// This bars, where it is so.
-pub(crate) fn bar_where(applies: bool, bar: Bar) -> Option<Bar>
+pub(crate) fn bar_where(applies: bool, bar: Ineligibility) -> Option<Ineligibility>
     ensures { result ≡ bar_where applies bar }
 {
     if applies { Some(bar) } else { None }
 }
 
 /// What bars by the first of these rules that applies. `None` exactly where none does.
-pub(crate) fn first_bar(rules: &[Option<Bar>]) -> Option<Bar>
+pub(crate) fn first_bar(rules: &[Option<Ineligibility>]) -> Option<Ineligibility>
     ensures { result ≡ first_bar rules.now }
 {
     for rule in rules {
@@ -25,7 +25,7 @@ pub(crate) fn first_bar(rules: &[Option<Bar>]) -> Option<Bar>
 }
 
 /// Whether nothing bars, or what does.
-pub(crate) fn judged(bar: Option<Bar>) -> Result<(), Bar>
+pub(crate) fn judged(bar: Option<Ineligibility>) -> Result<(), Ineligibility>
     ensures { result_err result ≡ bar }
 {
     match bar {

@@ -5,14 +5,14 @@ ghost use Rattle.leader_race.specs.Eligibility.{not_running, may_fail_over, no_f
 
 use crate::bars::{bar_where, first_bar, judged};
 use cluster_config::{AgentView, Snapshot, candidate_of, is_candidate, is_failover_to, is_named};
-use lease_store::{Bar, FailoverKey, SyncKey};
-use pat_base::{Lsn, MemberId, MemberSet, State, Tags, Ticks};
+use lease_store::{FailoverKey, SyncKey};
+use pat_base::{Ineligibility, Lsn, MemberId, MemberSet, State, Tags, Ticks};
 
 /// Whether a member may race for a free leader key, by its view and by a snapshot in which that key is free; or what bars
 /// it, by the first rule that applies. The rules are those of Patroni's documentation: "Replication modes" on a log that is
 /// too far behind and on the sync key, "YAML Configuration Settings" on tags, "Pause/Resume mode for the cluster", "DCS
 /// Failsafe Mode". It takes no memory.
-pub fn may_race(view: &AgentView<'_>, seen: &Snapshot) -> Result<(), Bar>
+pub fn may_race(view: &AgentView<'_>, seen: &Snapshot) -> Result<(), Ineligibility>
     ensures { result_err result ≡ eligibility_of view.now seen.now }
 {
     let config = seen.config();
@@ -35,12 +35,12 @@ pub fn may_race(view: &AgentView<'_>, seen: &Snapshot) -> Result<(), Bar>
     ]))
 }
 
-fn not_running(state: State) -> Option<Bar>
+fn not_running(state: State) -> Option<Ineligibility>
     ensures { result ≡ not_running state }
 {
     match state {
         State::Replica => None,
-        _ => Some(Bar::NotRunning),
+        _ => Some(Ineligibility::NotRunning),
     }
 }
 
@@ -51,32 +51,39 @@ pub fn may_fail_over(tags: &Tags) -> bool
     tags.may_fail_over()
 }
 
-fn no_failover(tags: &Tags) -> Option<Bar>
+fn no_failover(tags: &Tags) -> Option<Ineligibility>
     ensures { result ≡ no_failover tags.now }
 {
-    bar_where(!may_fail_over(tags), Bar::NoFailover)
+    bar_where(!may_fail_over(tags), Ineligibility::NoFailover)
 }
 
-fn paused(pause: bool, names_me: bool) -> Option<Bar>
+fn paused(pause: bool, names_me: bool) -> Option<Ineligibility>
     ensures { result ≡ paused pause names_me }
 {
-    bar_where(pause && !names_me, Bar::Paused)
+    bar_where(pause && !names_me, Ineligibility::Paused)
 }
 
-fn other_candidate(me: MemberId, candidate: Option<MemberId>) -> Option<Bar>
+fn other_candidate(me: MemberId, candidate: Option<MemberId>) -> Option<Ineligibility>
     ensures { result ≡ other_candidate me candidate }
 {
     let candidate = candidate?;
-    bar_where(candidate.number != me.number, Bar::Candidate(candidate))
+    bar_where(
+        candidate.number != me.number,
+        Ineligibility::Candidate(candidate),
+    )
 }
 
-fn not_sync(me: MemberId, failover: Option<FailoverKey>, sync: Option<SyncKey>) -> Option<Bar>
+fn not_sync(
+    me: MemberId,
+    failover: Option<FailoverKey>,
+    sync: Option<SyncKey>,
+) -> Option<Ineligibility>
     ensures { result ≡ not_sync me failover sync }
 {
     let sync = sync?;
     bar_where(
         !is_named(me, sync) && !is_failover_to(me, failover),
-        Bar::NotSync,
+        Ineligibility::NotSync,
     )
 }
 
@@ -91,25 +98,37 @@ fn is_behind_by(bytes: u64, status: Option<Lsn>, end: Option<Lsn>) -> bool
     }
 }
 
-fn too_far_behind(most: u64, status: Option<Lsn>, end: Option<Lsn>, names_me: bool) -> Option<Bar>
+fn too_far_behind(
+    most: u64,
+    status: Option<Lsn>,
+    end: Option<Lsn>,
+    names_me: bool,
+) -> Option<Ineligibility>
     ensures { result ≡ too_far_behind most status end names_me }
 {
     bar_where(
         is_behind_by(most, status, end) && !names_me,
-        Bar::TooFarBehind,
+        Ineligibility::TooFarBehind,
     )
 }
 
-fn not_listed(me: MemberId, failsafe_mode: bool, failsafe: Option<MemberSet>) -> Option<Bar>
+fn not_listed(
+    me: MemberId,
+    failsafe_mode: bool,
+    failsafe: Option<MemberSet>,
+) -> Option<Ineligibility>
     ensures { result ≡ not_listed me failsafe_mode failsafe }
 {
     let members = failsafe?;
-    bar_where(failsafe_mode && !members.contains(me), Bar::NotListed)
+    bar_where(
+        failsafe_mode && !members.contains(me),
+        Ineligibility::NotListed,
+    )
 }
 
-fn holding(now: Ticks, hold: Option<Ticks>) -> Option<Bar>
+fn holding(now: Ticks, hold: Option<Ticks>) -> Option<Ineligibility>
     ensures { result ≡ holding now hold }
 {
     let until = hold?;
-    bar_where(now < until, Bar::Hold)
+    bar_where(now < until, Ineligibility::Hold)
 }

@@ -8,14 +8,18 @@ use crate::bars::{first_bar, judged};
 use crate::eligibility::may_fail_over;
 use crate::racer::{Racer, Rule};
 use cluster_config::{AgentView, Snapshot, is_candidate, is_standby};
-use lease_store::{Bar, SyncKey};
-use pat_base::{Lsn, MemberId, PeerAnswer};
+use lease_store::SyncKey;
+use pat_base::{Ineligibility, Lsn, MemberId, PeerAnswer};
 
 /// Whether a member that may race wins, by the answers of the others, in whatever order they came; or what bars it, by the
 /// first rule that applies, and of the members that bar by that rule the one that the script declares first. An answer of
 /// its own, or of a member that may not fail over, doesn't count (Patroni's documentation, "YAML Configuration Settings",
 /// under "Tags"). Equal logs are decided by priority alone. It takes no memory.
-pub fn wins(view: &AgentView<'_>, seen: &Snapshot, answers: &[PeerAnswer]) -> Result<(), Bar>
+pub fn wins(
+    view: &AgentView<'_>,
+    seen: &Snapshot,
+    answers: &[PeerAnswer],
+) -> Result<(), Ineligibility>
     ensures { result_err result ≡ outcome_of view.now seen.now answers.now }
 {
     let racer = racer_of(view, seen);
@@ -39,29 +43,29 @@ fn racer_of(view: &AgentView<'_>, seen: &Snapshot) -> Racer
     }
 }
 
-fn other_writes(racer: &Racer, answers: &[PeerAnswer]) -> Option<Bar>
+fn other_writes(racer: &Racer, answers: &[PeerAnswer]) -> Option<Ineligibility>
     ensures { result ≡ other_writes racer.now answers.now }
 {
     let member = first_of(racer, Rule::OtherWrites, answers)?;
-    Some(Bar::OtherWrites(member))
+    Some(Ineligibility::OtherWrites(member))
 }
 
-fn ahead(racer: &Racer, answers: &[PeerAnswer]) -> Option<Bar>
+fn ahead(racer: &Racer, answers: &[PeerAnswer]) -> Option<Ineligibility>
     ensures { result ≡ ahead racer.now answers.now }
 {
     let member = first_of(racer, Rule::Ahead, answers)?;
-    Some(Bar::Ahead(member))
+    Some(Ineligibility::Ahead(member))
 }
 
-fn priority(racer: &Racer, answers: &[PeerAnswer]) -> Option<Bar>
+fn priority(racer: &Racer, answers: &[PeerAnswer]) -> Option<Ineligibility>
     ensures { result ≡ priority racer.now answers.now }
 {
     let member = first_of(racer, Rule::Priority, answers)?;
-    Some(Bar::Priority(member))
+    Some(Ineligibility::Priority(member))
 }
 
 /// A rule that doesn't apply where this is so.
-fn unless(excepted: bool, bar: Option<Bar>) -> Option<Bar>
+fn unless(excepted: bool, bar: Option<Ineligibility>) -> Option<Ineligibility>
     ensures { result ≡ unless excepted bar }
 {
     if excepted { None } else { bar }

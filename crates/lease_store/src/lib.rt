@@ -19,7 +19,7 @@ mod txn_kind;
 mod value;
 mod writes;
 
-pub use action::{Bar, FailoverKind, OperatorAction, OperatorRequest};
+pub use action::{FailoverKind, OperatorAction, OperatorRequest};
 pub use compares::key_entry_at;
 pub use config::Config;
 pub use config_value::ConfigValue;

@@ -28,7 +28,7 @@ use Rattle.operator_keys.specs.declared.answer_text.Text.TheVariants as texts
 use Rattle.operator_keys.specs.declared.asked.Asked.{Asked}
 use Rattle.operator_keys.specs.declared.asked.Named.{Named}
 use Rattle.operator_keys.specs.declared.asked.Named.TheVariants as named
-use Rattle.member_names.specs.Naming.{has_name, member_named}
+use Rattle.pat_base.specs.MemberNames.{has_name, member_named}
 use Rattle.operator_keys.specs.Asking.{member_or_unknown, named_by, is_same_text, asked_by, is_nobody, member_if}
 use Rattle.operator_keys.specs.Bodies.{text_at}
 use Rattle.operator_keys.specs.Candidates.{leads, names_leader, info_of, anyone_may_take_over}

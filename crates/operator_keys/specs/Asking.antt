@@ -3,7 +3,7 @@ use Rattle.std.specs.Prelude.{ℕ, Bool, true, false, is_some, bytes_eq, codes, 
 use Rattle.pat_base.specs.declared.host.Host.{Host}
 use Rattle.pat_base.specs.declared.member_id.MemberId.{MemberId}
 use Rattle.pat_base.specs.declared.name.Name.{Name}
-use Rattle.member_names.specs.Naming.{member_named}
+use Rattle.pat_base.specs.MemberNames.{member_named}
 use Rattle.serde_json.specs.Data.{Data}
 use Rattle.serde_json.specs.Find.{get}
 use Rattle.operator_keys.specs.declared.asked.Asked.{Asked}

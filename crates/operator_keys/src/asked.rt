@@ -4,8 +4,7 @@ ghost use Rattle.serde_json.specs.View.{view};
 ghost use Rattle.operator_keys.specs.Asking.{member_or_unknown, named_by, is_same_text, asked_by, is_nobody, member_if};
 
 use crate::body::{is_there, text_at};
-use member_names::member_named;
-use pat_base::{Host, MemberId, Name};
+use pat_base::{Host, MemberId, Name, member_named};
 use serde_json::Value;
 
 /// Whom a body names at one of its names.

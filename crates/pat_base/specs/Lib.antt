@@ -5,6 +5,7 @@ pub mod HostText
 pub mod Lsn
 pub mod LsnText
 pub mod MemberId
+pub mod MemberNames
 pub mod Memory
 pub mod Moments
 pub mod Name

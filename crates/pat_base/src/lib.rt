@@ -2,9 +2,12 @@
 #![tactic(auto)]
 
 mod adapters;
+mod discard;
 mod host;
+mod ineligibility;
 mod lsn;
 mod member_id;
+mod member_names;
 mod member_set;
 mod memory;
 mod name;
@@ -21,9 +24,12 @@ mod transfer;
 mod word;
 
 pub use adapters::{ReaderSource, WriterSink};
+pub use discard::Discard;
 pub use host::Host;
+pub use ineligibility::Ineligibility;
 pub use lsn::{Lsn, NotLsn};
 pub use member_id::{MOST_MEMBERS, MemberId};
+pub use member_names::member_named;
 pub use member_set::MemberSet;
 pub use memory::{MemorySink, MemorySource};
 pub use name::Name;

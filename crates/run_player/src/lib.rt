@@ -1,7 +1,6 @@
 //! Runs played: the steps of a script, and of connections behind it, taken by a world, noted for the closing summary, and printed.
 #![tactic(auto)]
 
-mod discard;
 mod drilling;
 mod player;
 mod playing;

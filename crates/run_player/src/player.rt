@@ -14,14 +14,13 @@ ghost use Rattle.run_player.specs.Playing.{Idles, Plays, PrintsWholeSteps};
 ghost use Rattle.run_player.specs.Run.{noted_from, printed_from, traced_after};
 ghost use Rattle.run_player.specs.Watches.{first_summary};
 
-use crate::discard::Discard;
 use crate::print_error::PrintError;
 use crate::printing::{print_closing, print_lines, set_text};
 use crate::showing::{note, note_ticks};
 use crate::watches::first_summary;
 use cluster_model::Step;
 use event_book::Event;
-use pat_base::Sink;
+use pat_base::{Discard, Sink};
 use pat_world::World;
 use script_model::{Command, Head, Line, Script};
 use std::alloc::{AllocError, Global};

@@ -13,8 +13,7 @@ use event_book::{
     Basis, EventKind, LinkEnd, LogEvent, Member, Note, ReplicationEvent, ServerEvent, ServerOf,
     WatchdogEvent,
 };
-use lease_store::Bar;
-use pat_base::{MemberId, Name, Required, State, Ticks};
+use pat_base::{Ineligibility, MemberId, Name, Required, State, Ticks};
 use pg_cluster::Servers;
 use std::alloc::{AllocError, Global};
 
@@ -203,7 +202,7 @@ pub fn feeding(member: Member, until: Ticks, heard: HeardMessage) -> EventKind
 }
 
 /// A member that doesn't race for the free leader key, with the name of the member that bars it, if one does.
-pub fn not_racing(members: &[Member], member: Member, bar: Bar) -> EventKind
+pub fn not_racing(members: &[Member], member: Member, bar: Ineligibility) -> EventKind
     ensures kind { result ≡ not_racing members.now member bar }
     ensures comes { (cluster : Cluster) → MayCome cluster result }
 {
@@ -223,14 +222,14 @@ fn declared_name(members: &[Member], id: Option<MemberId>) -> Option<Name>
 }
 
 /// The member that bars another one from racing, if one does.
-fn barring(bar: Bar) -> Option<MemberId>
+fn barring(bar: Ineligibility) -> Option<MemberId>
     ensures { result ≡ barring bar }
 {
     match bar {
-        Bar::Candidate(member)
-        | Bar::OtherWrites(member)
-        | Bar::Ahead(member)
-        | Bar::Priority(member) => Some(member),
+        Ineligibility::Candidate(member)
+        | Ineligibility::OtherWrites(member)
+        | Ineligibility::Ahead(member)
+        | Ineligibility::Priority(member) => Some(member),
         _ => None,
     }
 }

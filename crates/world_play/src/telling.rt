@@ -13,8 +13,7 @@ ghost use Rattle.world_model.specs.Room.{HasRoom, feeding_cost};
 use agent_model::Told;
 use cluster_model::HeardMessage;
 use event_book::{AgentEvent, Event, EventKind, Member, Note, WatchdogEvent};
-use lease_store::Bar;
-use pat_base::{MemberId, Ticks};
+use pat_base::{Ineligibility, MemberId, Ticks};
 use std::alloc::AllocError;
 use world_parts::order_kinds::{
     arming, feeding, handing_over, hold_of_request, member_at, not_racing,
@@ -107,7 +106,7 @@ pub fn tell_note(stage: &mut Stage, note: Note, events: &mut Vec<Event>) -> Resu
 pub fn tell_bar(
     stage: &mut Stage,
     member: Member,
-    bar: Bar,
+    bar: Ineligibility,
     events: &mut Vec<Event>,
 ) -> Result<(), AllocError>
     requires { HasRoom stage.old 1 }

@@ -1,9 +1,9 @@
 //! A sink that takes all and keeps nothing.
-use pat_base::{Failed, Sink};
+use crate::{Failed, Sink};
 
 /// A sink that takes all and keeps nothing. What is played into it is played in silence.
 #[derive(Clone, Copy, Debug)]
-pub(crate) struct Discard;
+pub struct Discard;
 
 impl Sink for Discard {
     ghost use Rattle.std.specs.Prelude.{None};

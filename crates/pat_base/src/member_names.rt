@@ -1,9 +1,9 @@
 //! Members by their names.
 ghost use Rattle.std.specs.Prelude.{◌≡◌, position};
 ghost use Rattle.pat_base.specs.MemberId.{member_of};
-ghost use Rattle.member_names.specs.Naming.{has_name, member_named};
+ghost use Rattle.pat_base.specs.MemberNames.{has_name, member_named};
 
-use pat_base::{Host, MemberId, Name};
+use crate::{Host, MemberId, Name};
 
 /// The member of this name, where these are all members in their order. `None` exactly where none has it.
 pub fn member_named(members: &[(Name, Host)], text: &str) -> Option<MemberId>

@@ -1,6 +1,0 @@
-//! Members by their names.
-#![tactic(auto)]
-
-mod names;
-
-pub use names::member_named;
