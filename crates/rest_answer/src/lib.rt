@@ -19,6 +19,3 @@ pub use laws::{
 pub use refusal::{Refusal, refusal_reply};
 pub use replies::{json_reply, text_reply};
 pub use status::{BAD_GATEWAY, METHOD_NOT_ALLOWED};
-
-#[cfg(test)]
-mod tests;

@@ -8,6 +8,3 @@ mod replying;
 pub use asking::{AskError, read_request_from};
 pub use laws::cuts_change_nothing;
 pub use replying::{ReplyError, write_reply_to};
-
-#[cfg(test)]
-mod tests;

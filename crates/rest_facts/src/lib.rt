@@ -13,6 +13,3 @@ pub use laws::{
     primaries_lead_with_the_key, refused_values_set_no_limit, replicas_serve_within_their_lag,
     standbys_serve_as_named,
 };
-
-#[cfg(test)]
-mod tests;

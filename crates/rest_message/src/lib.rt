@@ -10,6 +10,3 @@ pub use reply::Reply;
 pub use request::Request;
 pub use target::{lag_of, path_of};
 pub use verb::Verb;
-
-#[cfg(test)]
-mod tests;

@@ -18,6 +18,3 @@ pub use laws::{
     patroni_tells_the_role, roles_are_those_of_the_keys,
 };
 pub use patroni::patroni_text;
-
-#[cfg(test)]
-mod tests;

@@ -15,6 +15,3 @@ pub use laws::{
 };
 pub use resource::{Operation, Page, Resource};
 pub use routing::Routes;
-
-#[cfg(test)]
-mod tests;

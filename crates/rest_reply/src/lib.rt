@@ -6,6 +6,3 @@ mod printing;
 
 pub use laws::replies_tell_their_length;
 pub use printing::print_reply;
-
-#[cfg(test)]
-mod tests;

@@ -15,6 +15,3 @@ pub use laws::{
 };
 pub use limits::{BODY_LIMIT, HEAD_LIMIT};
 pub use reading::read_request;
-
-#[cfg(test)]
-mod tests;

@@ -1,5 +1,6 @@
-use super::*;
+//! Requests as the bytes of a connection bring them.
 use rest_message::Verb;
+use rest_request::read_request;
 use std::alloc::{AllocError, Global};
 use std::process::Abort;
 use std::test::Fail;

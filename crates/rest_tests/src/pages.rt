@@ -1,44 +1,25 @@
+//! What pages of the REST interface tell.
 ghost use Rattle.std.specs.Prelude.{◌≡◌};
 ghost use Rattle.lease_store.specs.declared.value.Value.TheVariants as values;
 
-use super::*;
-use cluster_config::{AgentView, RoleWord, Snapshot};
+use crate::views::{A, B, END, TAGS, name, replica};
+use cluster_config::{AgentView, Snapshot};
 use lease_store::{Config, ConfigValue, HistoryRow, Key, KeyEntry, MemberInfo, SyncKey, Value};
-use pat_base::{Host, Lsn, MemberId, MemberSet, Name, State, Tags, Ticks, Word};
+use pat_base::{Host, Lsn, MemberId, MemberSet, State, Tags, Ticks, Word};
+use rest_pages::{cluster_text, config_text, failsafe_text, history_text, patroni_text};
 use std::alloc::Global;
 use std::process::Abort;
 use std::test::Fail;
-
-const A: MemberId = MemberId { number: 0 };
-
-const B: MemberId = MemberId { number: 1 };
 
 const C: MemberId = MemberId { number: 2 };
 
 /// A configuration with failsafe mode, in a pause.
 const CONFIGURATION: &str = r#"{"failsafe_mode":true,"pause":true}"#;
 
-/// Where the leader's log ends: 0/5000000.
-const END: Lsn = Lsn {
-    position: 83_886_080,
-};
-
 /// A MiB and a half before that.
 const BEHIND: Lsn = Lsn {
     position: 82_313_216,
 };
-
-/// The tags of a member that sets none.
-const TAGS: Tags = Tags {
-    nofailover: false,
-    nosync: false,
-    noloadbalance: false,
-    failover_priority: 1,
-};
-
-fn name(rt: &impl Abort, text: &[u8]) -> Name {
-    Name::read(text).expect(rt, "a name")
-}
 
 fn host(rt: &impl Abort, text: &[u8]) -> Host {
     Host::read(text).expect(rt, "a host")
@@ -139,26 +120,11 @@ fn quiet(rt: &impl Abort, alloc: Global) -> Snapshot {
     Snapshot::read(alloc, name(rt, b"demo"), &members, entries).expect(rt, "memory")
 }
 
-/// What the agent of b shows, whose server is a replica that receives.
+/// What the agent of b shows, which has read the key store at tick 2.
 fn shown<'a>(rt: &impl Abort, seen: &'a Snapshot) -> AgentView<'a> {
     AgentView {
-        moment: Ticks(50),
-        scope: name(rt, b"demo"),
-        me: B,
-        name: name(rt, b"b"),
-        tags: TAGS,
-        state: State::Replica,
-        timeline: 2,
-        end: Some(END),
-        receives: true,
-        diverged: false,
-        was_primary: false,
-        role: RoleWord::Follower,
-        seen: Some(seen),
         last_read: Some(Ticks(2)),
-        last_turn: Some(Ticks(2)),
-        hold: None,
-        waits: false,
+        ..replica(rt, Some(seen))
     }
 }
 

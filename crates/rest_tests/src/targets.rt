@@ -1,4 +1,5 @@
-use super::*;
+//! Targets of requests: their path, and their first parameter `lag`.
+use rest_message::{lag_of, path_of};
 use std::test::Fail;
 
 #[test]

@@ -1,52 +1,17 @@
-use super::*;
-use cluster_config::{AgentView, RoleWord};
-use pat_base::{Lsn, MemberId, Name, State, Tags, Ticks};
+//! What the agent of a replica answers.
+use crate::views::replica;
+use rest_answer::{Answer, answer};
 use rest_message::Verb;
 use rest_paths::Routes;
-use std::process::Abort;
 use std::test::Fail;
 
 /// What `/patroni` tells of the member before its first snapshot.
 const PATRONI: &str =
     "{\"patroni\":{\"name\":\"b\",\"scope\":\"demo\"},\"replication_state\":\"streaming\",\"role\":\"replica\",\"state\":\"running\",\"timeline\":2,\"xlog\":{\"received_location\":83886080,\"replayed_location\":83886080}}";
 
-fn name(rt: &impl Abort, text: &[u8]) -> Name {
-    Name::read(text).expect(rt, "a name")
-}
-
-/// A replica that streams, and whose agent has read nothing of the key store yet.
-fn replica(rt: &impl Abort) -> AgentView<'static> {
-    AgentView {
-        moment: Ticks(7),
-        scope: name(rt, b"demo"),
-        me: MemberId { number: 1 },
-        name: name(rt, b"b"),
-        tags: Tags {
-            nofailover: false,
-            nosync: false,
-            noloadbalance: false,
-            failover_priority: 1,
-        },
-        state: State::Replica,
-        timeline: 2,
-        end: Some(Lsn {
-            position: 83_886_080,
-        }),
-        receives: true,
-        diverged: false,
-        was_primary: false,
-        role: RoleWord::Follower,
-        seen: None,
-        last_read: None,
-        last_turn: None,
-        hold: None,
-        waits: false,
-    }
-}
-
 #[test]
 fn a_replica_answers(rt: HostRuntime) -> Result<(), Fail> {
-    let view = replica(&rt);
+    let view = replica(&rt, None);
     let routes = Routes::new(rt.alloc())?;
     let cases: [(Verb, &str, u16, bool, &str); 8] = [
         (Verb::Get, "/nothing", 404, false, ""),
@@ -88,7 +53,7 @@ fn a_replica_restarts(rt: HostRuntime) -> Result<(), Fail> {
     let routes = Routes::new(rt.alloc())?;
     match answer(
         rt.alloc(),
-        &replica(&rt),
+        &replica(&rt, None),
         &routes,
         Verb::Post,
         "/restart",

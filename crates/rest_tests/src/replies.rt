@@ -1,5 +1,6 @@
-use super::*;
+//! Replies as the bytes of a connection.
 use rest_message::Reply;
+use rest_reply::print_reply;
 use std::test::Fail;
 
 #[test]

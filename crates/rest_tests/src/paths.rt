@@ -1,6 +1,7 @@
-use super::*;
+//! What is asked for by each method at each path.
 use rest_health::Endpoint;
 use rest_message::Verb;
+use rest_paths::{Ask, Change, Page, Routes};
 use std::process::Abort;
 use std::test::Fail;
 

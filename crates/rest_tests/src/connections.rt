@@ -1,7 +1,7 @@
-use super::*;
-use pat_base::Failed;
+//! Requests read from a connection, and replies written to it.
 use pat_door::{Door, MemoryDoor};
-use rest_message::{Reply, Request, Verb};
+use rest_connection::{AskError, ReplyError, read_request_from, write_reply_to};
+use rest_message::{Reply, Verb};
 use rest_request::RequestFault;
 use std::alloc::{AllocError, Global};
 use std::test::Fail;

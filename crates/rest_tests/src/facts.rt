@@ -1,27 +1,17 @@
-use super::*;
-use cluster_config::{AgentView, ConfigText, RoleWord, Snapshot};
+//! What a health check sees of lags, of balancing and of turns that are late.
+use crate::views::{A, END, NOW, TAGS, name, replica};
+use cluster_config::{AgentView, ConfigText, Snapshot};
 use lease_store::{ConfigValue, MemberInfo, Store, StoreRefusal, Txn};
-use pat_base::{Host, Lsn, MemberId, Name, State, Tags, Ticks, Word};
+use pat_base::{Host, Lsn, State, Tags, Ticks, Word};
+use rest_facts::health_of_view;
 use rest_health::{Endpoint, OK, UNAVAILABLE};
 use std::alloc::Global;
 use std::process::Abort;
 
-const A: MemberId = MemberId { number: 0 };
-
-const B: MemberId = MemberId { number: 1 };
-
-/// The moment of each case.
-const NOW: Ticks = Ticks(1000);
-
 /// How long the leases last.
 const TTL: Ticks = Ticks(300);
 
-/// Where the leader's log ends: 0/5000000.
-const STATUS: Lsn = Lsn {
-    position: 83_886_080,
-};
-
-/// 16 kB before that.
+/// 16 kB before the leader's end.
 const NEAR: Lsn = Lsn {
     position: 83_869_696,
 };
@@ -29,13 +19,6 @@ const NEAR: Lsn = Lsn {
 /// A byte before that.
 const FAR: Lsn = Lsn {
     position: 83_869_695,
-};
-
-const TAGS: Tags = Tags {
-    nofailover: false,
-    nosync: false,
-    noloadbalance: false,
-    failover_priority: 1,
 };
 
 /// The tags of a member that balancers are to spare.
@@ -46,10 +29,6 @@ const UNBALANCED: Tags = Tags {
     failover_priority: 1,
 };
 
-fn name(rt: &impl Abort, text: &[u8]) -> Name {
-    Name::read(text).expect(rt, "a name")
-}
-
 /// The key store where a leads and told where its log ends.
 fn lead(rt: &impl Abort, store: &mut Store) -> Result<(), StoreRefusal> {
     let info = MemberInfo {
@@ -58,7 +37,7 @@ fn lead(rt: &impl Abort, store: &mut Store) -> Result<(), StoreRefusal> {
         state: Word::Running,
         writes: true,
         timeline: Some(2),
-        end: Some(STATUS),
+        end: Some(END),
     };
     let create = Txn::Create {
         info,
@@ -72,7 +51,7 @@ fn lead(rt: &impl Abort, store: &mut Store) -> Result<(), StoreRefusal> {
         revision,
         info,
         ttl: TTL,
-        status: Some(STATUS),
+        status: Some(END),
         row: None,
         failsafe: None,
     };
@@ -94,26 +73,13 @@ fn snapshot(rt: &impl Abort, alloc: Global, config: &[u8]) -> Snapshot {
     Snapshot::read(alloc, name(rt, b"demo"), &members, entries).expect(rt, "memory")
 }
 
-/// What b shows, whose server runs as a replica.
-fn replica<'a>(rt: &impl Abort, seen: Option<&'a Snapshot>, end: Option<Lsn>) -> AgentView<'a> {
+/// What b shows, which has read and turned just now, and whose log ends there.
+fn replica_at<'a>(rt: &impl Abort, seen: Option<&'a Snapshot>, end: Option<Lsn>) -> AgentView<'a> {
     AgentView {
-        moment: NOW,
-        scope: name(rt, b"demo"),
-        me: B,
-        name: name(rt, b"b"),
-        tags: TAGS,
-        state: State::Replica,
-        timeline: 2,
         end,
-        receives: true,
-        diverged: false,
-        was_primary: false,
-        role: RoleWord::Follower,
-        seen,
         last_read: Some(NOW),
         last_turn: Some(NOW),
-        hold: None,
-        waits: false,
+        ..replica(rt, seen)
     }
 }
 
@@ -142,7 +108,7 @@ fn lives(
     let view = AgentView {
         state,
         last_turn,
-        ..replica(rt, seen, Some(STATUS))
+        ..replica_at(rt, seen, Some(END))
     };
     answers(rt, &view, Endpoint::Liveness, None, wanted);
 }
@@ -150,11 +116,11 @@ fn lives(
 #[test]
 fn replicas_within_a_lag(rt: HostRuntime) {
     let seen = snapshot(&rt, rt.alloc(), b"{}");
-    let near = replica(&rt, Some(&seen), Some(NEAR));
-    let far = replica(&rt, Some(&seen), Some(FAR));
-    let unknown = replica(&rt, Some(&seen), None);
-    let unread = replica(&rt, None, Some(FAR));
-    let ahead = replica(
+    let near = replica_at(&rt, Some(&seen), Some(NEAR));
+    let far = replica_at(&rt, Some(&seen), Some(FAR));
+    let unknown = replica_at(&rt, Some(&seen), None);
+    let unread = replica_at(&rt, None, Some(FAR));
+    let ahead = replica_at(
         &rt,
         Some(&seen),
         Some(Lsn {
