@@ -28,6 +28,7 @@ use Rattle.run_player.specs.Playing.{PrintsWholeSteps}
 use Rattle.run_player.specs.Run.{Played, played_of, summary_of_run, text_of_run}
 use Rattle.run_player.specs.Served.{Came, Serves as ServedSo, after_steps, serve_error, served_of}
 use Rattle.run_player.proofs.Closing.{memory-is, no-door}
+use Rattle.patroni_top.specs.Limits.{most_read}
 use Rattle.patroni_top.specs.declared.ended.Ended.{Ended}
 use Rattle.patroni_top.specs.declared.ending.Ending.{Ending}
 use Rattle.patroni_top.specs.declared.ending.Ending.TheVariants as endings
@@ -175,7 +176,7 @@ module _ {S K D : Type 0} (source : SourceGhosts S) (sink : SinkGhosts K) (door 
   untold {out = out} plan none same = subst (λ (k : K). (text : List ℕ) × EndsWhole plan text × Grew (sink.content out) (sink.content k) text) (sym same) ([], none, Grew-nothing (sink.content out))
 
   -- a command that goes by a script of the input
-  module _ (input left : S) (taken : Consumed (source.rest input) (source.rest left) 1048577) where
+  module _ (input left : S) (taken : Consumed (source.rest input) (source.rest left) most_read) where
     -- the script can't be read
     pub refused : (out : K) (was : D) (command : Command) (waited : ℕ) (makes : List Connection → ScriptText → Verdict) → reads (Some command) ≡ true → ((visitors : List Connection) (bytes : List ℕ) → verdict_in waited (makes visitors) bytes ≡ verdict_on command visitors bytes) → ((script : ScriptText) → IsQuiet (makes [] script))
         → (result : Result (Option WorldFacts) Ending) (ending : Ending) → result ≡ Err ending → IsRefusal ending → Known (source.rest input) (Refuses waited ending)

@@ -26,6 +26,7 @@ use Rattle.run_player.specs.Run.{EndsAtStep, Played}
 use Rattle.run_player.specs.Served.{Came, after_steps, serve_error, served_of}
 use Rattle.run_player.proofs.Closing.{write-is}
 use Rattle.run_player.proofs.Visiting.{Came-none}
+use Rattle.patroni_top.specs.Limits.{most_read}
 use Rattle.patroni_top.specs.declared.ending.Ending.{Ending}
 use Rattle.patroni_top.specs.declared.ending.Ending.TheVariants as endings
 use Rattle.patroni_top.specs.declared.status.Status.{Status}
@@ -115,7 +116,7 @@ module _ {S K D : Type 0} (source : SourceGhosts S) (sink : SinkGhosts K) (door 
     -- what isn't read is left as it was, and of what is read no more than a script may have was taken
     pub record Reads : Type 0 where
       pub unread : read ≡ false → left ≡ input
-      pub consumed : Consumed (source.rest input) (source.rest left) 1048577
+      pub consumed : Consumed (source.rest input) (source.rest left) most_read
 
     -- the input is no script, or declares no such member
     pub Ends-faulty : Reads → (found : Verdict) → IsFaulty found → IsQuiet found → Known told (λ bytes. verdict bytes ≡ found) → Ends source sink door input left out out was was read verdict statuses.NotScript
@@ -170,7 +171,7 @@ module _ {S K D : Type 0} (source : SourceGhosts S) (sink : SinkGhosts K) (door 
     }
 
   -- an input that gives no script
-  module _ (input left : S) (out : K) (was : D) (verdict : List ℕ → Verdict) (consumed : Consumed (source.rest input) (source.rest left) 1048577) where
+  module _ (input left : S) (out : K) (was : D) (verdict : List ℕ → Verdict) (consumed : Consumed (source.rest input) (source.rest left) most_read) where
     reads-so : Reads input left out was true verdict
     reads-so = record { unread = λ e. cc; consumed = consumed }
 

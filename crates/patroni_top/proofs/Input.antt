@@ -3,48 +3,48 @@ use Rattle.std.proofs.Common.{◌≡◌, ℕ, ◌<◌, ◌+◌, ◌-◌, ◌^◌
 use Rattle.std.proofs.lemmas.List.{length-take, drop_all}
 use Rattle.std.proofs.lemmas.Bool.Decides.{nat_tests}
 use Rattle.std.proofs.lemmas.Bool.{cases_lt}
-use Rattle.script_grammar.specs.Limits.{limit_of, most_ticks, ticks_in}
+use Rattle.script_grammar.specs.Limits.{limit_of, most_bytes, most_ticks, ticks_in}
 use Rattle.script_grammar.specs.Reading.{script_of}
 use Rattle.script_words.specs.Lines.{lines_in}
 use Rattle.script_model.specs.Script.{ScriptText}
-use Rattle.patroni_top.specs.Limits.{KeepsLimits}
+use Rattle.patroni_top.specs.Limits.{KeepsLimits, most_read}
 use Rattle.script_grammar.specs.declared.limit.Limit.TheVariants.{Bytes}
 use Rattle.patroni_top.specs.declared.ending.Ending.{Ending}
 use Rattle.patroni_top.specs.declared.ending.Ending.TheVariants as endings
 use Rattle.patroni_top.specs.Status.{Refuses}
 
-too-long : (waited : ℕ) (bytes : List ℕ) → 1048576 < length bytes → limit_of waited bytes ≡ Some Bytes
+too-long : (waited : ℕ) (bytes : List ℕ) → most_bytes < length bytes → limit_of waited bytes ≡ Some Bytes
 too-long waited bytes long =
-    let over : nat_lt 1048576 (length bytes) ≡ true = grind (arith, nat_tests) in
+    let over : nat_lt most_bytes (length bytes) ≡ true = grind (arith, nat_tests) in
     rw over refl
 
 -- one byte more than a script may have passes the limit that all bytes pass
-pub limit_of-take : (waited : ℕ) (all : List ℕ) → limit_of waited (take 1048577 all) ≡ limit_of waited all
-limit_of-take waited all = elim (cases_lt 1048576 (length all)) [
-  | inl long ↦ too-long waited (take 1048577 all) (omega (arith, length-take 1048577 all)) ∙ sym (too-long waited all long)
-  | inr short ↦ ap (limit_of waited) (take_all 1048577 all (omega (arith, short)))
+pub limit_of-take : (waited : ℕ) (all : List ℕ) → limit_of waited (take most_read all) ≡ limit_of waited all
+limit_of-take waited all = elim (cases_lt most_bytes (length all)) [
+  | inl long ↦ too-long waited (take most_read all) (omega (arith, length-take most_read all)) ∙ sym (too-long waited all long)
+  | inr short ↦ ap (limit_of waited) (take_all most_read all (omega (arith, short)))
 ]
 
-too-long-limits : (waited : ℕ) (bytes : List ℕ) → 1048576 < length bytes → limit_of waited bytes ≡ None → ⊥
+too-long-limits : (waited : ℕ) (bytes : List ℕ) → most_bytes < length bytes → limit_of waited bytes ≡ None → ⊥
 too-long-limits waited bytes long none = clash (sym (too-long waited bytes long) ∙ none)
   where
     clash : Some Bytes ≡ None → ⊥
     clash e = cc
 
 -- where no limit is passed, all bytes were read
-pub reads-all : (waited : ℕ) (all : List ℕ) → limit_of waited (take 1048577 all) ≡ None → (take 1048577 all ≡ all) × (drop 1048577 all ≡ [])
-reads-all waited all none = elim (cases_lt 1048576 (length all)) [
-  | inl long ↦ absurd (too-long-limits waited (take 1048577 all) (omega (arith, length-take 1048577 all)) none)
-  | inr short ↦ (take_all 1048577 all (omega (arith, short)), drop_all 1048577 all (omega (arith, short)))
+pub reads-all : (waited : ℕ) (all : List ℕ) → limit_of waited (take most_read all) ≡ None → (take most_read all ≡ all) × (drop most_read all ≡ [])
+reads-all waited all none = elim (cases_lt most_bytes (length all)) [
+  | inl long ↦ absurd (too-long-limits waited (take most_read all) (omega (arith, length-take most_read all)) none)
+  | inr short ↦ (take_all most_read all (omega (arith, short)), drop_all most_read all (omega (arith, short)))
 ]
 
-refuses-front : (waited : ℕ) (ending : Ending) (all : List ℕ) → Refuses waited ending (take 1048577 all) → Refuses waited ending all
+refuses-front : (waited : ℕ) (ending : Ending) (all : List ℕ) → Refuses waited ending (take most_read all) → Refuses waited ending all
 refuses-front waited (endings.NotScript line fault) all h = subst (λ (bytes : List ℕ). Refuses waited (endings.NotScript line fault) bytes) (reads-all waited all h.0).0 h
 refuses-front waited (endings.Limit limit) all h = sym (limit_of-take waited all) ∙ h
 refuses-front waited _ all h = tt
 
 -- an ending that refuses those read refuses all
-pub Refuses-all : (waited : ℕ) (ending : Ending) (read all : List ℕ) → read ≡ take 1048577 all → Refuses waited ending read → Refuses waited ending all
+pub Refuses-all : (waited : ℕ) (ending : Ending) (read all : List ℕ) → read ≡ take most_read all → Refuses waited ending read → Refuses waited ending all
 Refuses-all waited ending read all is h = refuses-front waited ending all (subst (λ (bytes : List ℕ). Refuses waited ending bytes) is h)
 
 saturates : (ticks n : ℕ) → nat_lt most_ticks (ticks + min n (2 ^ 64 - 1)) ≡ nat_lt most_ticks (ticks + n)

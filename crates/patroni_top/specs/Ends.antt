@@ -12,6 +12,7 @@ use Rattle.run_player.specs.Run.{lines_of_run}
 use Rattle.run_player.specs.Served.{Came, after_steps, served_of}
 use Rattle.patroni_top.specs.declared.status.Status.{Status}
 use Rattle.patroni_top.specs.declared.status.Status.TheVariants as statuses
+use Rattle.patroni_top.specs.Limits.{most_read}
 use Rattle.patroni_top.specs.Commands.{EndsWhole, Faulty, Makes, PastCount, PastLimit, Plan, Serves, UnknownMember, Verdict, heeded, plan_text}
 
 -- the input is no script, or declares no such member
@@ -98,4 +99,4 @@ module _ {S K D : Type 0} (source : SourceGhosts S) (sink : SinkGhosts K) (door 
     pub faulty : NoReadFails → Known told (λ bytes. IsFaulty (verdict bytes) → (status ≡ statuses.NotScript) ⊎ (status ≡ statuses.Memory))
     pub complete : NoReadFails → Known told (λ bytes.
         (plan : Plan) → verdict bytes ≡ Makes plan → (n : ℕ) → sink.can_take out n → length (plan_text plan) ≤ n → IsServedBy plan → (status ≡ statuses.Done) ⊎ (status ≡ statuses.Memory))
-    pub consumed : Consumed (source.rest input) (source.rest left) 1048577
+    pub consumed : Consumed (source.rest input) (source.rest left) most_read

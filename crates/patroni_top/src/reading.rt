@@ -3,7 +3,7 @@ ghost use Rattle.std.specs.Prelude.{◌≡◌, ◌≢◌, Some, None, Ok, Err, [
 ghost use Rattle.pat_base.specs.Outside.{Known, Rose, Consumed};
 ghost use Rattle.script_grammar.specs.Limits.{limit_of};
 ghost use Rattle.script_grammar.specs.Reading.{script_of};
-ghost use Rattle.patroni_top.specs.Limits.{KeepsLimits};
+ghost use Rattle.patroni_top.specs.Limits.{KeepsLimits, most_read};
 ghost use Rattle.patroni_top.specs.Status.{Refuses, IsRefusal};
 
 use crate::ending::Ending;
@@ -25,7 +25,7 @@ pub fn script_from<S: Source>(alloc: Global, waited: u64, input: &mut S) -> Resu
     ensures refuses { IfErr result (λ ending. Known (S.rest input.old) (Refuses waited ending)) }
     ensures fault { IsErrOf result Ending.ReadFault → Rose (S.faults input.old) (S.faults input.new) }
     ensures reliable { S.is_reliable input.old → result ≢ Err Ending.ReadFault }
-    ensures consumed { Consumed (S.rest input.old) (S.rest input.new) 1048577 }
+    ensures consumed { Consumed (S.rest input.old) (S.rest input.new) most_read }
 {
     let bytes = read_at_most(alloc, input, MOST_READ)?;
     script_in(alloc, waited, &bytes)
