@@ -9,6 +9,7 @@ use Rattle.lease_store.specs.declared.granted.Granted.{Granted}
 use Rattle.wal_model.specs.declared.entry.HistoryPoint.{HistoryPoint}
 use Rattle.cluster_config.specs.Snapshots.{SnapshotFacts}
 use Rattle.pg_model.specs.Running.{is_primary}
+use Rattle.event_book.specs.declared.agent_note.AgentNote.TheVariants as agent_notes
 use Rattle.event_book.specs.declared.message.Body.TheVariants as bodies
 use Rattle.agent_model.specs.declared.heard.Heard.{Heard}
 use Rattle.agent_model.specs.declared.heard.Heard.TheVariants.{Wake, ReadAnswered, Granted as HeardGranted, Mismatch, Asked, Answered, Operated as HearsOperator}
@@ -107,7 +108,7 @@ before-quiet f now o all = let gone : Says f (disarmed o.machine.watchdog.deadli
     before-by (Quiet f) now o (record { kept = λ _. all; leader = λ _ _ _. gone; ending = λ held why _ _. ended-quiet f why held o all; follower = λ _ _. all; holder = λ _ _ _. all; ready = λ _ _ _. gone; unleased = λ _ _. gone })
 
 judged-quiet : (f : Outcome) (now : Ticks) (o : Outcome) → Quiet f o → Quiet f (judged now o)
-judged-quiet f now o all = judged-by (Quiet f) now o (said o.outputs _ tt all) (λ bar. said _ _ tt (said o.outputs (outputs.DoesNotRace bar) tt all))
+judged-quiet f now o all = judged-by (Quiet f) now o (said o.outputs _ tt all) (λ bar. said _ _ tt (said o.outputs (outputs.Note (agent_notes.DoesNotRace bar)) tt all))
 
 ask-quiet : (f : Outcome) (w : Option Operating) (who : Who) (sequence : ℕ) (member : Option MemberId) (outs : List Output) → Says f outs w → Says f (asking_one who sequence member outs) w
 ask-quiet f w who sequence None outs all = all
@@ -126,11 +127,11 @@ handover-quiet : (f : Outcome) (now : Ticks) (revision : ℕ) (o : Outcome) → 
 handover-quiet f now revision o all = record {
   kept = all;
   clears = λ compared. said o.outputs _ tt all;
-  hands = λ candidate. said (with_output (outputs.HandsOver candidate) o.outputs) outputs.ShutDown tt (said o.outputs (outputs.HandsOver candidate) tt all);
+  hands = λ candidate. said (with_output (outputs.Note (agent_notes.HandsOver candidate)) o.outputs) outputs.ShutDown tt (said o.outputs (outputs.Note (agent_notes.HandsOver candidate)) tt all);
 }
 
 postpones-quiet : (f : Outcome) (held : ℕ) (o : Outcome) → Quiet f o → Quiet f (postpones held o)
-postpones-quiet f held o all = said (disarmed o.machine.watchdog.deadline o.outputs) outputs.PostponesPromotion tt (disarmed-quiet f o.machine.watchdog.deadline o.outputs all)
+postpones-quiet f held o all = said (disarmed o.machine.watchdog.deadline o.outputs) (outputs.Note agent_notes.PostponesPromotion) tt (disarmed-quiet f o.machine.watchdog.deadline o.outputs all)
 
 overdue-quiet : (f : Outcome) (now : Ticks) (o : Outcome) → Quiet f o → Quiet f (overdue now o)
 overdue-quiet f now o all = overdue-by (Quiet f) now o (record { kept = all; quiet = all; leader = λ _ _. said o.outputs _ tt all; unleased = λ _. said o.outputs _ tt all; judges = λ _. judged-quiet f now o all; ready = λ held _. postpones-quiet f held (waiting_no_more o) all; checks = λ held _. handover-quiet f now held o all })
@@ -154,7 +155,7 @@ free-quiet : (f : Outcome) (now : Ticks) (o : Outcome) → Quiet f o → Quiet f
 free-quiet f now o all = let x : Outcome = record o { role = Follower } in free-by (Quiet f) now x (record {
   starts = said _ _ tt (said o.outputs _ tt all);
   touches = said o.outputs _ tt all;
-  bars = λ bar. said _ _ tt (said o.outputs (outputs.DoesNotRace bar) tt all);
+  bars = λ bar. said _ _ tt (said o.outputs (outputs.Note (agent_notes.DoesNotRace bar)) tt all);
   judges = judged-quiet f now (unheard x) all;
   asks = asks-quiet f o.knows.operating o.knows.who (o.knows.sequence + 1) MOST_MEMBERS o.outputs all;
 })
@@ -171,12 +172,12 @@ got-quiet f now points sequence snapshot o all = let read : Outcome = record o {
       touches = said o.outputs _ tt all;
       follows = λ leader _ _. follow-quiet f now leader.holder read all;
       free = λ _ _. free-quiet f now read all;
-      runs_on = λ _. said o.outputs outputs.RunsWithoutKey tt all;
-      asks_on = λ _. said _ _ tt (said o.outputs outputs.RunsWithoutKey tt all);
+      runs_on = λ _. said o.outputs (outputs.Note agent_notes.RunsWithoutKey) tt all;
+      asks_on = λ _. said _ _ tt (said o.outputs (outputs.Note agent_notes.RunsWithoutKey) tt all);
     })
 
 pub refused-quiet : (f : Outcome) (now : Ticks) (sequence : ℕ) (o : Outcome) → Quiet f o → Quiet f (refused now sequence o)
-refused-quiet f now sequence o all = refused-by (Quiet f) now sequence o (record { kept = all; quiet = all; leader = λ _ _. said o.outputs _ tt all; unleased = λ _. said o.outputs _ tt all; follower = λ _ _. all; ready = λ held _. postpones-quiet f held (waiting_no_more o) all; runs_on = λ _. said o.outputs outputs.RunsWithoutKey tt all })
+refused-quiet f now sequence o all = refused-by (Quiet f) now sequence o (record { kept = all; quiet = all; leader = λ _ _. said o.outputs _ tt all; unleased = λ _. said o.outputs _ tt all; follower = λ _ _. all; ready = λ held _. postpones-quiet f held (waiting_no_more o) all; runs_on = λ _. said o.outputs (outputs.Note agent_notes.RunsWithoutKey) tt all })
 
 duty-quiet : (f : Outcome) (now : Ticks) (revision : ℕ) (led : Outcome) → Quiet f led → DutyRows (Quiet f) now revision led
 duty-quiet f now revision led told = record {
@@ -197,7 +198,7 @@ renewed-quiet f now ttl revision o all = let led : Outcome = led_on now ttl revi
 
 disabled-quiet : (f : Outcome) (renews : Bool) (deadline : Option Ticks) {w : Option Operating} (outs : List Output) → Says f outs w → Says f (disabling_told renews deadline outs) w
 disabled-quiet f renews None outs all = all
-disabled-quiet f true (Some deadline) outs all = said _ outputs.DisablesWatchdog tt (said outs outputs.Disarmed tt all)
+disabled-quiet f true (Some deadline) outs all = said _ (outputs.Note agent_notes.DisablesWatchdog) tt (said outs outputs.Disarmed tt all)
 disabled-quiet f false (Some deadline) outs all = said outs outputs.Disarmed tt all
 
 unleased-quiet : (f : Outcome) (now ttl : Ticks) (revision : ℕ) (o : Outcome) → Quiet f o → Quiet f (unleased_renewed now ttl revision o)
@@ -212,7 +213,7 @@ passing-quiet f o all = passing-by (λ (outs : List Output). Says f outs o.knows
 
 arms-quiet : (f : Outcome) (now ttl : Ticks) (revision : ℕ) (o : Outcome) → Quiet f o → Quiet f (arms now ttl revision o)
 arms-quiet f now ttl revision o all = if-cases (Quiet f) (is_refusing o.machine.watchdog.mode o.machine.watchdog.works) _ (begins_or_claims now revision (arming now ttl o))
-    (λ _. said _ _ tt (said o.outputs outputs.CannotArm tt all)) (λ _. begins-or-claims-by (Quiet f) now revision (arming now ttl o) (begins-quiet f now revision (arming now ttl o) (armed-quiet f (deadline_after now ttl o.machine.watchdog) o.outputs all))
+    (λ _. said _ _ tt (said o.outputs (outputs.Note agent_notes.CannotArm) tt all)) (λ _. begins-or-claims-by (Quiet f) now revision (arming now ttl o) (begins-quiet f now revision (arming now ttl o) (armed-quiet f (deadline_after now ttl o.machine.watchdog) o.outputs all))
     (said _ _ tt (passing-quiet f (arming now ttl o) (armed-quiet f (deadline_after now ttl o.machine.watchdog) o.outputs all))))
 
 takes-quiet : (f : Outcome) (now ttl : Ticks) (revision : ℕ) (o : Outcome) → Quiet f o → Quiet f (takes_key now ttl revision o)

@@ -25,14 +25,14 @@ use Rattle.agent_model.specs.declared.output.Output.TheVariants as outputs
 use Rattle.agent_model.specs.declared.output.Target.TheVariants as targets
 use Rattle.agent_model.specs.Acting.{deadline_after}
 use Rattle.agent_model.specs.Agents.{RoleFacts, Ready, Leader, Outcome, is_ready, is_leader}
-use Rattle.agent_commit_law.specs.Committing.{StandsToCommit, IsAwaitedWrite, HearsLease, HearsWrite, GrowsByConnected, IsCommitInputOf, IsLawfulAs}
+use Rattle.agent_commit_law.specs.Committing.{StandsToCommit, IsAwaitedWrite, HearsLease, HearsWrite, GrowsByConnected, IsCommitInputOf, IsLawfulAs, StandsAlone}
 use Rattle.agent_model.specs.Planning.{naming}
 use Rattle.agent_roles.specs.Powers.{IsAwaitedLease}
 use Rattle.agent_model.specs.Synchronous.{sync_read_in, expected_of}
 use Rattle.agent_commit_law.proofs.CommitGrounds.{IsBehind, lease_granted_as, write_granted_as, hears-lease, hears-write, leads-live, IsLedBy, compared-as, has-confirmed, confirmed-any}
 use Rattle.agent_commit_law.proofs.CommitIdling.{Idle, idle-then, waits-nothing, waits-new}
 use Rattle.agent_commit_law.proofs.CommitLawful.{was_of, lawful-as, keeps-turn, keeps-live, keeps-server, keeps-ready, keeps-noted, sends-nothing, sends-one, idle-lawful}
-use Rattle.agent_commit_law.proofs.CommitQuiet.{IsQuiet, IsUnasking, asks-none, asks-unbegun, quiet-fed, last-request, last-unbegun, unasking}
+use Rattle.agent_commit_law.proofs.CommitQuiet.{IsUnasking, asks-none, asks-unbegun, quiet-fed, last-request, last-unbegun, unasking}
 use Rattle.agent_commit_law.proofs.CommitTools.{IsWithin, HasReached, covers-required}
 use Rattle.agent_roles.proofs.Granting.{Told}
 use Rattle.agent_roles.proofs.Knowing.{Onward}
@@ -44,7 +44,7 @@ pub record Ground (s : State) (m : ℕ) (o b : Outcome) : Type 0 where
   pub sound : IsSound s
   pub stands : StandsToCommit s m o
   pub behind : IsBehind o b
-  pub quiet : All IsQuiet o.outputs
+  pub quiet : All StandsAlone o.outputs
 
 -- what is made of it is lawful, where the agent goes on
 abbrev pub Lawful : Ticks → ℕ → Granted → SnapshotFacts → State → ℕ → AgentInput → Outcome → Outcome → Type 0
@@ -134,7 +134,7 @@ pub publishes-lawful : (now ttl : Ticks) (sequence : ℕ) (grant : Granted) (sna
 publishes-lawful now ttl sequence grant snapshot s m input o b ground leased led leads settling set required each onward is =
     let fed : Outcome = led_on now ttl grant.revision (Told snapshot b) in
     let x : Outcome = naming now grant.revision settling set fed in
-    let fed-quiet : All IsQuiet fed.outputs = quiet-fed (deadline_after now ttl b.machine.watchdog) b.outputs (ground.behind.idle.quiet ground.quiet) in
+    let fed-quiet : All StandsAlone fed.outputs = quiet-fed (deadline_after now ttl b.machine.watchdog) b.outputs (ground.behind.idle.quiet ground.quiet) in
     let output : Output = outputs.Send targets.Store (b.knows.sequence + 1) (bodies.Request (txns.SetSync grant.revision (expected_of (sync_read_in snapshot)) set)) in
     let request : SyncRequest = publish_request m o.knows.incarnation (b.knows.sequence + 1) grant.revision (expected_of (sync_read_in snapshot)) set in
     let lives : (s.members m).live ≡ true = leads-live s m o b ground.stands ground.behind leads in

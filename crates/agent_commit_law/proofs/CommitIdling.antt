@@ -6,6 +6,7 @@ use Rattle.pat_base.specs.declared.ticks.Ticks.{Ticks}
 use Rattle.pg_model.specs.Running.{is_primary}
 use Rattle.wal_model.specs.declared.entry.HistoryPoint.{HistoryPoint}
 use Rattle.cluster_config.specs.Snapshots.{SnapshotFacts}
+use Rattle.event_book.specs.declared.agent_note.AgentNote.TheVariants as agent_notes
 use Rattle.event_book.specs.declared.message.Body.TheVariants as bodies
 use Rattle.event_book.specs.declared.reason.Reason.TheVariants.{StoreOutOfReach, LeaderKeyLost}
 use Rattle.lease_store.specs.declared.action.OperatorRequest.{OperatorRequest}
@@ -24,7 +25,7 @@ use Rattle.agent_model.specs.Agents.{RoleFacts, Follower, Outcome, is_ready, is_
 use Rattle.pat_base.specs.declared.member_id.TheConstants.{MOST_MEMBERS}
 use Rattle.agent_model.specs.Reconciling.{leader_finds_ended, has_ended, finds_live, unleased_finds_ended, reconciled}
 use Rattle.agent_model.specs.Claiming.{postpones}
-use Rattle.agent_commit_law.specs.Committing.{IsQuietTxn}
+use Rattle.agent_commit_law.specs.Committing.{IsQuietTxn, StandsAlone}
 use Rattle.agent_model.specs.Decisions.{refused}
 use Rattle.agent_model.specs.HandingOver.{checking, hands_over}
 use Rattle.agent_model.specs.Operators.{telling, answering, operating, restarting, wiping, operated, looked, given_up, learned, operator_granted}
@@ -36,7 +37,7 @@ use Rattle.agent_model.specs.Snapshots.{renewing, follow_row, follows, leader_lo
 use Rattle.agent_model.specs.Synchronous.{sync_read_in}
 use Rattle.agent_model.specs.Table.{refused_any}
 use Rattle.agent_model.specs.Wake.{reading, turn_noted, leader_out_of_reach, unleased_out_of_reach, overdue, turned, woken}
-use Rattle.agent_commit_law.proofs.CommitQuiet.{IsQuiet, quietly, quiet-disarmed, asks-quiet, whom-quiet}
+use Rattle.agent_commit_law.proofs.CommitQuiet.{quietly, quiet-disarmed, asks-quiet, whom-quiet}
 use Rattle.agent_roles.proofs.Knowing.{before-onward, given-up-onward, overdue-onward}
 use Rattle.agent_roles.proofs.Living.{no-way}
 use Rattle.agent_model.proofs.Rows.{HandoverRows, FailoverRows, ReplyRows, IsOperatorTxn, dropping, before-by, overdue-by, turn-by, wake-by, got-by, refused-by, follow-by, repaired-by, free-by, judged-by, answered-by, looked-by, given-up-by, operator-granted-by, refused-any-by, operated-by}
@@ -67,7 +68,7 @@ pub record Idle (told : Option SnapshotFacts) (o after : Outcome) : Type 0 where
   pub noted : after.knows.noted ≡ o.knows.noted
   pub turn : TurnsOn told o after
   pub waits : WaitsOn o after
-  pub quiet : All IsQuiet o.outputs → All IsQuiet after.outputs
+  pub quiet : All StandsAlone o.outputs → All StandsAlone after.outputs
 
 at-most-below : (a b c : ℕ) → a ≤ b → b < c → a < c
 at-most-below a b c first second = omega (arith, first, second)
@@ -95,7 +96,7 @@ idle-then told a b c first second last = record {
 
 -- the role stays
 pub stays : (told : Option SnapshotFacts) (o after : Outcome) → after.role ≡ o.role → after.machine.replication.required ≡ o.machine.replication.required → after.knows.noted ≡ o.knows.noted → after.knows.turn_sync ≡ o.knows.turn_sync
-    → WaitsOn o after → (All IsQuiet o.outputs → All IsQuiet after.outputs) → Idle told o after
+    → WaitsOn o after → (All StandsAlone o.outputs → All StandsAlone after.outputs) → Idle told o after
 stays told o after role required noted turn waits quiet = record {
   required = required;
   ready = λ e. subst (λ (r : RoleFacts). is_ready r ≡ true) role e;
@@ -108,7 +109,7 @@ stays told o after role required noted turn waits quiet = record {
 
 -- the agent neither leads after it nor is about to
 pub falls : (told : Option SnapshotFacts) (o after : Outcome) → is_ready after.role ≡ false → is_leader after.role ≡ false → after.machine.replication.required ≡ o.machine.replication.required → after.knows.noted ≡ o.knows.noted → after.knows.turn_sync ≡ o.knows.turn_sync
-    → WaitsOn o after → (All IsQuiet o.outputs → All IsQuiet after.outputs) → Idle told o after
+    → WaitsOn o after → (All StandsAlone o.outputs → All StandsAlone after.outputs) → Idle told o after
 falls told o after ready leads required noted turn waits quiet = record {
   required = required;
   ready = λ e. absurd (no-way (sym ready ∙ e));
@@ -143,13 +144,13 @@ before-idle told now o = before-by (Idle told o) now o (record {
 
 pub postpones-idle : (told : Option SnapshotFacts) (held : ℕ) (o : Outcome) → Idle told o (postpones held o)
 postpones-idle told held o = falls told o (postpones held o) refl refl refl refl refl (waits-same o (postpones held o) refl)
-    (λ q. quietly (disarmed o.machine.watchdog.deadline o.outputs) outputs.PostponesPromotion (quiet-disarmed o.machine.watchdog.deadline o.outputs q) tt)
+    (λ q. quietly (disarmed o.machine.watchdog.deadline o.outputs) (outputs.Note agent_notes.PostponesPromotion) (quiet-disarmed o.machine.watchdog.deadline o.outputs q) tt)
 
 touching-idle : (told : Option SnapshotFacts) (o : Outcome) → Idle told o (touching o)
 touching-idle told o = stays told o (touching o) refl refl refl refl (waits-same o (touching o) refl) (λ q. quietly o.outputs _ q tt)
 
 barred-idle : (told : Option SnapshotFacts) (o : Outcome) → (bar : _) → Idle told o (barred bar o)
-barred-idle told o bar = stays told o (barred bar o) refl refl refl refl (waits-same o (barred bar o) refl) (λ q. quietly (with_output (outputs.DoesNotRace bar) o.outputs) _ (quietly o.outputs (outputs.DoesNotRace bar) q tt) tt)
+barred-idle told o bar = stays told o (barred bar o) refl refl refl refl (waits-same o (barred bar o) refl) (λ q. quietly (with_output (outputs.Note (agent_notes.DoesNotRace bar)) o.outputs) _ (quietly o.outputs (outputs.Note (agent_notes.DoesNotRace bar)) q tt) tt)
 
 judged-idle : (told : Option SnapshotFacts) (now : Ticks) (o : Outcome) → Idle told o (judged now o)
 judged-idle told now o = judged-by (Idle told o) now o
@@ -164,7 +165,7 @@ dropping-idle told compared o = stays told o (dropping compared o) refl refl ref
 
 hands-over-idle : (told : Option SnapshotFacts) (now : Ticks) (held : ℕ) (candidate : MemberId) (o : Outcome) → Idle told o (hands_over now held candidate o)
 hands-over-idle told now held candidate o = falls told o (hands_over now held candidate o) refl refl refl refl refl (waits-same o (hands_over now held candidate o) refl)
-    (λ q. quietly (with_output (outputs.HandsOver candidate) o.outputs) outputs.ShutDown (quietly o.outputs (outputs.HandsOver candidate) q tt) tt)
+    (λ q. quietly (with_output (outputs.Note (agent_notes.HandsOver candidate)) o.outputs) outputs.ShutDown (quietly o.outputs (outputs.Note (agent_notes.HandsOver candidate)) q tt) tt)
 
 -- a handover is judged behind another step
 handover-idle : (told : Option SnapshotFacts) (now : Ticks) (held : ℕ) (o x : Outcome) → Idle told o x → o.knows.sequence ≤ x.knows.sequence → HandoverRows (Idle told o) now held x
@@ -297,7 +298,7 @@ renewing-idle told now points revision o = stays told o (renewing now points rev
 
 -- a primary runs on without the leader key
 runs-idle : (told : Option SnapshotFacts) (o : Outcome) → Idle told o (running_without_key o)
-runs-idle told o = falls told o (running_without_key o) refl refl refl refl refl (waits-same o (running_without_key o) refl) (λ q. quietly o.outputs outputs.RunsWithoutKey q tt)
+runs-idle told o = falls told o (running_without_key o) refl refl refl refl refl (waits-same o (running_without_key o) refl) (λ q. quietly o.outputs (outputs.Note agent_notes.RunsWithoutKey) q tt)
 
 pub got-idle : (now : Ticks) (points : List HistoryPoint) (sequence : ℕ) (snapshot : SnapshotFacts) (o : Outcome) → Idle (Some snapshot) o (read_answered now points sequence snapshot o)
 got-idle now points sequence snapshot o = let read : Outcome = record o { knows = read_noted now snapshot o.knows } in
@@ -316,7 +317,7 @@ got-idle now points sequence snapshot o = let read : Outcome = record o { knows 
       free = λ _ _. behind (finds_free now read) (free-idle told now read);
       runs_on = λ _. behind (running_without_key read) (runs-idle told read);
       asks_on = λ _. let asks : Outcome = asks_as_unleased now read in
-          behind asks (falls told read asks refl refl refl refl refl (waits-new read asks _ refl (omega arith)) (λ q. quietly (with_output outputs.RunsWithoutKey o.outputs) _ (quietly o.outputs outputs.RunsWithoutKey q tt) refl));
+          behind asks (falls told read asks refl refl refl refl refl (waits-new read asks _ refl (omega arith)) (λ q. quietly (with_output (outputs.Note agent_notes.RunsWithoutKey) o.outputs) _ (quietly o.outputs (outputs.Note agent_notes.RunsWithoutKey) q tt) refl));
     })
 
 refused-idle : (told : Option SnapshotFacts) (now : Ticks) (sequence : ℕ) (o : Outcome) → Idle told o (refused now sequence o)

@@ -13,6 +13,7 @@ use Rattle.lease_store.specs.Writes.{nobody}
 use Rattle.wal_model.specs.declared.entry.HistoryPoint.{HistoryPoint}
 use Rattle.pg_model.specs.declared.status.ServerStatus.{ServerStatus}
 use Rattle.cluster_config.specs.Snapshots.{SnapshotFacts}
+use Rattle.event_book.specs.declared.agent_note.AgentNote.TheVariants as agent_notes
 use Rattle.event_book.specs.declared.message.Body.{Body}
 use Rattle.event_book.specs.declared.message.Body.TheVariants as bodies
 use Rattle.event_book.specs.declared.reason.Reason.TheVariants.{StartTooLong, WatchdogNotArmed}
@@ -44,7 +45,7 @@ use Rattle.agent_model.specs.Acting.{deadline_after, disarmed, ending_server, ar
 use Rattle.agent_model.specs.Agents.{RoleFacts, Follower, Ending, Outcome, is_leader, outcome_from, fresh_knowledge}
 use Rattle.agent_model.specs.Reconciling.{reconciled, has_ended}
 use Rattle.agent_model.specs.Claiming.{begins, can_begin_on_claim, claims, passing, postpones}
-use Rattle.agent_commit_law.specs.Committing.{sync_seen, committer_seen, ArmsOn, DoesAs, IsSynchronousSnapshot, HearsSynchronousMode, HearsToCommit, KnowsBelow, AsksInSynchronousMode, FollowsSynchronousMode, requests_of, is_begin, IsOneAtMost, IsCovered, IsSynchronousBody, IsSynchronousOutput, HasForm, Ordered, NoMore, Asks, ClaimsOutsideSync, Requires, StaysInSynchronousMode, CommitsFrom}
+use Rattle.agent_commit_law.specs.Committing.{sync_seen, committer_seen, ArmsOn, DoesAs, IsSynchronousSnapshot, HearsSynchronousMode, HearsToCommit, KnowsBelow, AsksInSynchronousMode, FollowsSynchronousMode, requests_of, is_begin, IsOneAtMost, IsCovered, IsSynchronousBody, IsSynchronousOutput, HasForm, Ordered, NoMore, Asks, ClaimsOutsideSync, Requires, StaysInSynchronousMode, CommitsFrom, StandsAlone}
 use Rattle.agent_model.specs.Decisions.{takes_over, gives_back, granted}
 use Rattle.agent_model.specs.HandingOver.{checking, hands_over}
 use Rattle.agent_model.specs.Operators.{grants_operator, looked, operated, operator_granted}
@@ -59,7 +60,7 @@ use Rattle.agent_model.specs.Wake.{woken}
 use Rattle.agent_commit_law.proofs.CommitAsking.{before-asks, wake-asks, looked-asks, got-asks, any-refused-asks, operator-granted-asks, operated-asks, answered-asks, leases-on}
 use Rattle.agent_commit_law.proofs.CommitIdling.{Idle, idle-then, before-idle, wake-idle, looked-idle, got-idle, any-refused-idle, operator-granted-idle, operated-idle, answered-idle, asked-idle, postpones-idle, failover-idle}
 use Rattle.agent_commit_law.proofs.CommitLawful.{idle-lawful}
-use Rattle.agent_commit_law.proofs.CommitQuiet.{IsQuiet, IsUnasking, all-armed, all-disarmed, all-fed, alone, covered, keeps-mode, last-one, last-unbegun, passing-unasked, quiet-fed, quiet-one, quiet-unbegun, quietly, unasked, unasking}
+use Rattle.agent_commit_law.proofs.CommitQuiet.{IsUnasking, all-armed, all-disarmed, all-fed, covered, keeps-mode, last-one, last-unbegun, passing-unasked, quiet-fed, quiet-one, quiet-unbegun, quietly, unasked, unasking}
 use Rattle.agent_commit_law.proofs.CommitRows.{grant-commits, led-idle}
 use Rattle.agent_commit_law.proofs.CommitGrounds.{IsBehind, before-behind}
 use Rattle.agent_commit_law.proofs.CommitTools.{both-first, confirmed-reached, no-members, within-set}
@@ -90,12 +91,12 @@ before-covered now o all = before-by (λ (x : Outcome). All IsCovered x.outputs)
     ended-covered Lost held = disarms
 
 -- behind quiet outputs the mode stays on
-quiet-stays : (heard : Heard) (o x : Outcome) → AsksInSynchronousMode x.knows → All IsQuiet x.outputs → StaysInSynchronousMode heard o x
+quiet-stays : (heard : Heard) (o x : Outcome) → AsksInSynchronousMode x.knows → All StandsAlone x.outputs → StaysInSynchronousMode heard o x
 quiet-stays heard o x asks quiet = record {
   asks = asks;
   one = quiet-one o.knows.who.me.number o.knows.incarnation x.outputs quiet;
   sends = λ count below. keeps-mode count x.outputs (unasking x.outputs quiet);
-  form = Ordered [] NoMore x.outputs (All-nil IsCovered) (alone x.outputs quiet) refl;
+  form = Ordered [] NoMore x.outputs (All-nil IsCovered) quiet refl;
   begins = λ e. absurd (not-false (has_one is_begin x.outputs) (quiet-unbegun x.outputs quiet) e);
 }
 
@@ -139,7 +140,7 @@ module _ (now : Ticks) (sequence : ℕ) (grant : Granted) (snapshot : SnapshotFa
   abbrev Stays : Outcome → Type 0
   Stays x = StaysInSynchronousMode Hears o x
 
-  quiet : All IsQuiet b.outputs
+  quiet : All StandsAlone b.outputs
   quiet = covered b.outputs all
 
   -- a leader that asks for a write of the sync key
@@ -199,7 +200,7 @@ module _ (now : Ticks) (sequence : ℕ) (grant : Granted) (snapshot : SnapshotFa
       let stopped : Outcome = ending_server now WatchdogNotArmed told in
       let over : Outcome = takes_over now revision arm in
       let back : Outcome = gives_back revision told in
-      let refused-it : Outcome = gives_back revision (record told { outputs = with_output outputs.CannotArm b.outputs }) in
+      let refused-it : Outcome = gives_back revision (record told { outputs = with_output (outputs.Note agent_notes.CannotArm) b.outputs }) in
       let claimed : Outcome = claims now revision (passing arm) in
       let read : Expected = expected_of b.knows.turn_sync in record {
         other = quiet-stays Hears o told (rest told.knows refl) quiet;
@@ -209,7 +210,7 @@ module _ (now : Ticks) (sequence : ℕ) (grant : Granted) (snapshot : SnapshotFa
         stops = λ _. quiet-stays Hears o stopped (rest stopped.knows refl) (quietly b.outputs (outputs.Stop WatchdogNotArmed) quiet tt);
         takes_over = λ _. quiet-stays Hears o over (rest over.knows refl) (covered arm.outputs armed);
         returns = quiet-stays Hears o back (rest back.knows refl) (quietly b.outputs _ quiet tt);
-        refuses = quiet-stays Hears o refused-it (rest refused-it.knows refl) (quietly (with_output outputs.CannotArm b.outputs) _ (quietly b.outputs outputs.CannotArm quiet tt) tt);
+        refuses = quiet-stays Hears o refused-it (rest refused-it.knows refl) (quietly (with_output (outputs.Note agent_notes.CannotArm) b.outputs) _ (quietly b.outputs (outputs.Note agent_notes.CannotArm) quiet tt) tt);
         claims = λ _. last-stays Hears o claimed (passing arm).outputs (outputs.Send targets.Store (b.knows.sequence + 1) (bodies.Request (txns.Claim revision read))) (asks-this claimed.knows _ refl tt) refl refl
             (passing-unasked arm (covered arm.outputs armed)) (claims-form arm (b.knows.sequence + 1) revision read armed) (λ count below. tt);
       }
@@ -249,7 +250,7 @@ module _ (now : Ticks) (sequence : ℕ) (grant : Granted) (snapshot : SnapshotFa
   })
 
 -- an input that leaves what commits depend on
-rests : (now : Ticks) (heard : Heard) (told onto : Option SnapshotFacts) (o x : Outcome) → All IsQuiet o.outputs → Onward onto o x → Idle told o x → (AsksInSynchronousMode o.knows → HearsSynchronousMode heard → AsksInSynchronousMode x.knows)
+rests : (now : Ticks) (heard : Heard) (told onto : Option SnapshotFacts) (o x : Outcome) → All StandsAlone o.outputs → Onward onto o x → Idle told o x → (AsksInSynchronousMode o.knows → HearsSynchronousMode heard → AsksInSynchronousMode x.knows)
     → ((s : State) (m : ℕ) (input : AgentInput) → HearsToCommit s m input heard o → (snapshot : SnapshotFacts) → told ≡ Some snapshot → HearsSnapshot s input (sync_seen (sync_read_in snapshot))) → CommitsFrom now heard o x
 rests now heard told onto o x quiet onward idle asks hears = record {
   stays = λ _ on hears-on. quiet-stays heard o x (asks on hears-on) (idle.quiet quiet);
@@ -263,7 +264,7 @@ told-is : (told snapshot : SnapshotFacts) → ◌≡◌ {A = Option SnapshotFact
 told-is told snapshot e = cc
 
 -- so does one that hears no snapshot, behind what comes before an input
-behind-commits : (now : Ticks) (heard : Heard) (o x : Outcome) → All IsQuiet o.outputs → Onward None (reconciled now o) x → Idle None (reconciled now o) x → (AsksInSynchronousMode (reconciled now o).knows → AsksInSynchronousMode x.knows) → CommitsFrom now heard o x
+behind-commits : (now : Ticks) (heard : Heard) (o x : Outcome) → All StandsAlone o.outputs → Onward None (reconciled now o) x → Idle None (reconciled now o) x → (AsksInSynchronousMode (reconciled now o).knows → AsksInSynchronousMode x.knows) → CommitsFrom now heard o x
 behind-commits now heard o x quiet onward idle asks = let b : Outcome = reconciled now o in
     rests now heard None None o x quiet (onward-then None o b x (before-onward None now o) onward) (idle-then None o b x (before-idle None now o) idle (before-onward None now o).last)
     (λ on _. asks (before-asks now o on)) (λ s m input _ snapshot e. absurd (none-told snapshot e))

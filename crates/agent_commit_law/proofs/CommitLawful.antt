@@ -15,12 +15,12 @@ use Rattle.commit_actions.specs.Past.{confirmers_in}
 use Rattle.agent_model.specs.declared.heard.Heard.{Heard}
 use Rattle.agent_model.specs.declared.knowledge.PendingQuestion.{PendingQuestion}
 use Rattle.agent_model.specs.Agents.{Outcome}
-use Rattle.agent_commit_law.specs.Committing.{sync_seen, number_waited, committer_seen, StandsToCommit, requests_of, IsSent, is_begin, IsCommitInputOf, DoesAs, IsLawfulAs}
+use Rattle.agent_commit_law.specs.Committing.{sync_seen, number_waited, committer_seen, StandsToCommit, requests_of, IsSent, is_begin, IsCommitInputOf, DoesAs, IsLawfulAs, StandsAlone}
 use Rattle.agent_model.specs.Decisions.{asks_lease, asks_sync}
 use Rattle.agent_model.specs.Outputs.{has_one}
 use Rattle.agent_model.specs.Synchronous.{sync_read_in}
 use Rattle.agent_commit_law.proofs.CommitIdling.{WaitsOn, Idle}
-use Rattle.agent_commit_law.proofs.CommitQuiet.{IsQuiet, quiet-none, quiet-unbegun}
+use Rattle.agent_commit_law.proofs.CommitQuiet.{quiet-none, quiet-unbegun}
 use Rattle.agent_roles.proofs.Knowing.{Onward}
 use Rattle.agent_roles.proofs.Living.{no-way}
 
@@ -113,10 +113,10 @@ sends-one s m input o after request is one member incarnation later counted wait
     }
 
 -- an input that leaves what commits depend on is lawful
-pub idle-lawful : (now : Ticks) (heard : Heard) (told onto : Option SnapshotFacts) (s : State) (m : ℕ) (input : AgentInput) (o after : Outcome) → StandsToCommit s m o → IsCommitInputOf s m o after input → Onward onto o after → Idle told o after → All IsQuiet o.outputs
+pub idle-lawful : (now : Ticks) (heard : Heard) (told onto : Option SnapshotFacts) (s : State) (m : ℕ) (input : AgentInput) (o after : Outcome) → StandsToCommit s m o → IsCommitInputOf s m o after input → Onward onto o after → Idle told o after → All StandsAlone o.outputs
     → ((snapshot : SnapshotFacts) → told ≡ Some snapshot → HearsSnapshot s input (sync_seen (sync_read_in snapshot))) → IsLawfulAs now heard o s m input
 idle-lawful now heard told onto s m input o after stands is onward idle quiet hears =
-    let still : All IsQuiet after.outputs = idle.quiet quiet in
+    let still : All StandsAlone after.outputs = idle.quiet quiet in
     lawful-as now heard onto s m input o after stands is onward idle.waits
     (Idling (record {
       keeps = record {

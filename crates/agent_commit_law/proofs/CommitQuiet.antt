@@ -38,44 +38,25 @@ IsUnasking (outputs.Send to sequence body) = IsQuietBody body
 IsUnasking outputs.Begin = ⊥
 IsUnasking _ = Unit {0}
 
--- one after which commits wait for the same members, and that isn't the note that leads to a claim
-abbrev pub IsQuiet : Output → Type 0
-IsQuiet (outputs.Send to sequence body) = IsQuietBody body
-IsQuiet outputs.Begin = ⊥
-IsQuiet outputs.ClaimsOutsideSync = ⊥
-IsQuiet (outputs.Require required) = ⊥
-IsQuiet _ = Unit {0}
-
-quiet-unasking : (output : Output) → IsQuiet output → IsUnasking output
+-- one that stands alone asks for nothing
+quiet-unasking : (output : Output) → StandsAlone output → IsUnasking output
 quiet-unasking (outputs.Send to sequence body) quiet = quiet
 quiet-unasking outputs.Begin quiet = quiet
-quiet-unasking outputs.ClaimsOutsideSync quiet = absurd quiet
 quiet-unasking _ quiet = tt
 
-pub unasking : (outs : List Output) → All IsQuiet outs → All IsUnasking outs
-unasking outs quiet = All-weaker IsQuiet IsUnasking quiet-unasking outs quiet
+pub unasking : (outs : List Output) → All StandsAlone outs → All IsUnasking outs
+unasking outs quiet = All-weaker StandsAlone IsUnasking quiet-unasking outs quiet
 
 -- one that the law's input covers
-covered-quiet : (output : Output) → IsCovered output → IsQuiet output
+covered-quiet : (output : Output) → IsCovered output → StandsAlone output
 covered-quiet (outputs.Send to sequence body) covered = covered
 covered-quiet outputs.Begin covered = covered
 covered-quiet (outputs.Require required) covered = covered
 covered-quiet outputs.ClaimsOutsideSync covered = covered
 covered-quiet _ covered = tt
 
-pub covered : (outs : List Output) → All IsCovered outs → All IsQuiet outs
-covered outs all = All-weaker IsCovered IsQuiet covered-quiet outs all
-
--- each is an action of its own
-quiet-alone : (output : Output) → IsQuiet output → StandsAlone output
-quiet-alone (outputs.Send to sequence body) quiet = quiet
-quiet-alone (outputs.Require required) quiet = quiet
-quiet-alone outputs.Begin quiet = quiet
-quiet-alone outputs.ClaimsOutsideSync quiet = quiet
-quiet-alone _ quiet = tt
-
-pub alone : (outs : List Output) → All IsQuiet outs → All StandsAlone outs
-alone outs quiet = All-weaker IsQuiet StandsAlone quiet-alone outs quiet
+pub covered : (outs : List Output) → All IsCovered outs → All StandsAlone outs
+covered outs all = All-weaker IsCovered StandsAlone covered-quiet outs all
 
 create-none : (m incarnation sequence : ℕ) (sync : Option Expected) → sync ≡ None → request_in (create_query m incarnation sequence sync) ≡ None
 create-none m incarnation sequence sync is = ap (λ (e : Option Expected). request_in (create_query m incarnation sequence e)) is
@@ -106,7 +87,7 @@ asks-none m incarnation [] all = refl
 asks-none m incarnation (output ∷ outs) all =
     ap (λ (r : Option SyncRequest). cons_option r (requests_of m incarnation outs)) (output-none m incarnation output (All-head IsUnasking output outs all)) ∙ asks-none m incarnation outs (All-tail IsUnasking output outs all)
 
-pub quiet-none : (m incarnation : ℕ) (outs : List Output) → All IsQuiet outs → requests_of m incarnation outs ≡ []
+pub quiet-none : (m incarnation : ℕ) (outs : List Output) → All StandsAlone outs → requests_of m incarnation outs ≡ []
 quiet-none m incarnation outs quiet = asks-none m incarnation outs (unasking outs quiet)
 
 -- behind them there is only that of the last one
@@ -115,14 +96,14 @@ asks-last m incarnation [] output all = refl
 asks-last m incarnation (one ∷ outs) output all =
     ap (λ (r : Option SyncRequest). cons_option r (requests_of m incarnation (with_output output outs))) (output-none m incarnation one (All-head IsUnasking one outs all)) ∙ asks-last m incarnation outs output (All-tail IsUnasking one outs all)
 
-pub last-request : (m incarnation : ℕ) (outs : List Output) (output : Output) → All IsQuiet outs → requests_of m incarnation (with_output output outs) ≡ cons_option (request_of m incarnation output) []
+pub last-request : (m incarnation : ℕ) (outs : List Output) (output : Output) → All StandsAlone outs → requests_of m incarnation (with_output output outs) ≡ cons_option (request_of m incarnation output) []
 last-request m incarnation outs output quiet = asks-last m incarnation outs output (unasking outs quiet)
 
 one-of : (request : Option SyncRequest) → IsOneAtMost (cons_option request [])
 one-of None = tt
 one-of (Some request) = tt
 
-pub quiet-one : (m incarnation : ℕ) (outs : List Output) → All IsQuiet outs → IsOneAtMost (requests_of m incarnation outs)
+pub quiet-one : (m incarnation : ℕ) (outs : List Output) → All StandsAlone outs → IsOneAtMost (requests_of m incarnation outs)
 quiet-one m incarnation outs quiet = subst IsOneAtMost (sym (quiet-none m incarnation outs quiet)) tt
 
 pub last-one : (m incarnation : ℕ) (outs : List Output) (output : Output) → All IsUnasking outs → IsOneAtMost (requests_of m incarnation (with_output output outs))
@@ -137,7 +118,7 @@ pub asks-unbegun : (outs : List Output) → All IsUnasking outs → has_one is_b
 asks-unbegun [] all = refl
 asks-unbegun (output ∷ outs) all = ap (λ (b : Bool). b || has_one is_begin outs) (unbegun output (All-head IsUnasking output outs all)) ∙ asks-unbegun outs (All-tail IsUnasking output outs all)
 
-pub quiet-unbegun : (outs : List Output) → All IsQuiet outs → has_one is_begin outs ≡ false
+pub quiet-unbegun : (outs : List Output) → All StandsAlone outs → has_one is_begin outs ≡ false
 quiet-unbegun outs quiet = asks-unbegun outs (unasking outs quiet)
 
 pub last-unbegun : (outs : List Output) (output : Output) → All IsUnasking outs → is_begin output ≡ false → has_one is_begin (with_output output outs) ≡ false
@@ -172,15 +153,15 @@ kept-output count _ all = tt
 pub keeps-mode : (count : ℕ) (outs : List Output) → All IsUnasking outs → All (IsSynchronousOutput count) outs
 keeps-mode count outs all = All-weaker IsUnasking (IsSynchronousOutput count) (kept-output count) outs all
 
-pub quietly : (outs : List Output) (output : Output) → All IsQuiet outs → IsQuiet output → All IsQuiet (with_output output outs)
-quietly outs output quiet more = All-push IsQuiet outs output quiet more
+pub quietly : (outs : List Output) (output : Output) → All StandsAlone outs → StandsAlone output → All StandsAlone (with_output output outs)
+quietly outs output quiet more = All-push StandsAlone outs output quiet more
 
 -- so it is with a note of the sync key behind them
-pub passing-unasked : (o : Outcome) → All IsQuiet o.outputs → All IsUnasking (passing o).outputs
+pub passing-unasked : (o : Outcome) → All StandsAlone o.outputs → All IsUnasking (passing o).outputs
 passing-unasked o quiet = let all : All IsUnasking o.outputs = unasking o.outputs quiet in passing-by (All IsUnasking) o all (All-push IsUnasking o.outputs outputs.ClaimsOutsideSync all tt)
 
 -- whom commits wait for is told behind them
-pub unasked : (outs : List Output) (required : Required) → All IsQuiet outs → All IsUnasking (with_output (outputs.Require required) outs)
+pub unasked : (outs : List Output) (required : Required) → All StandsAlone outs → All IsUnasking (with_output (outputs.Require required) outs)
 unasked outs required quiet = All-push IsUnasking outs (outputs.Require required) (unasking outs quiet) tt
 
 -- what is told of the watchdog has a property with all before it
@@ -197,27 +178,27 @@ module _ (P : Output → Type 0) (outs : List Output) (all : All P outs) where
   all-fed None is = all
   all-fed (Some deadline) is = All-push P outs (outputs.Fed deadline) all (is deadline)
 
-pub quiet-disarmed : (deadline : Option Ticks) (outs : List Output) → All IsQuiet outs → All IsQuiet (disarmed deadline outs)
-quiet-disarmed deadline outs quiet = all-disarmed IsQuiet outs quiet deadline tt
+pub quiet-disarmed : (deadline : Option Ticks) (outs : List Output) → All StandsAlone outs → All StandsAlone (disarmed deadline outs)
+quiet-disarmed deadline outs quiet = all-disarmed StandsAlone outs quiet deadline tt
 
-pub quiet-armed : (deadline : Option Ticks) (outs : List Output) → All IsQuiet outs → All IsQuiet (armed deadline outs)
-quiet-armed deadline outs quiet = all-armed IsQuiet outs quiet deadline (λ until. tt)
+pub quiet-armed : (deadline : Option Ticks) (outs : List Output) → All StandsAlone outs → All StandsAlone (armed deadline outs)
+quiet-armed deadline outs quiet = all-armed StandsAlone outs quiet deadline (λ until. tt)
 
-pub quiet-fed : (deadline : Option Ticks) (outs : List Output) → All IsQuiet outs → All IsQuiet (fed_until deadline outs)
-quiet-fed deadline outs quiet = all-fed IsQuiet outs quiet deadline (λ until. tt)
+pub quiet-fed : (deadline : Option Ticks) (outs : List Output) → All StandsAlone outs → All StandsAlone (fed_until deadline outs)
+quiet-fed deadline outs quiet = all-fed StandsAlone outs quiet deadline (λ until. tt)
 
 -- the asks of other members
-ask-quiet : (who : Who) (sequence : ℕ) (member : Option MemberId) (outs : List Output) → All IsQuiet outs → All IsQuiet (asking_one who sequence member outs)
+ask-quiet : (who : Who) (sequence : ℕ) (member : Option MemberId) (outs : List Output) → All StandsAlone outs → All StandsAlone (asking_one who sequence member outs)
 ask-quiet who sequence None outs quiet = quiet
 ask-quiet who sequence (Some member) outs quiet =
-    if-cases (All IsQuiet) (is_other who member) (with_output (outputs.Send (targets.Member member) sequence bodies.Ask) outs) outs
+    if-cases (All StandsAlone) (is_other who member) (with_output (outputs.Send (targets.Member member) sequence bodies.Ask) outs) outs
     (λ _. quietly outs (outputs.Send (targets.Member member) sequence bodies.Ask) quiet tt) (λ _. quiet)
 
-pub asks-quiet : (who : Who) (sequence count : ℕ) (outs : List Output) → All IsQuiet outs → All IsQuiet (asking_first who sequence count outs)
+pub asks-quiet : (who : Who) (sequence count : ℕ) (outs : List Output) → All StandsAlone outs → All StandsAlone (asking_first who sequence count outs)
 asks-quiet who sequence zero outs quiet = quiet
 asks-quiet who sequence (suc count) outs quiet = ask-quiet who sequence (member_of count) (asking_first who sequence count outs) (asks-quiet who sequence count outs quiet)
 
 -- the asks of a leader, who may lead in its place
-pub whom-quiet : (who : Who) (candidate : Option MemberId) (sequence : ℕ) (outs : List Output) → All IsQuiet outs → All IsQuiet (asking_whom who candidate sequence outs)
+pub whom-quiet : (who : Who) (candidate : Option MemberId) (sequence : ℕ) (outs : List Output) → All StandsAlone outs → All StandsAlone (asking_whom who candidate sequence outs)
 whom-quiet who None sequence outs quiet = asks-quiet who sequence MOST_MEMBERS outs quiet
 whom-quiet who (Some candidate) sequence outs quiet = ask-quiet who sequence (Some candidate) outs quiet

@@ -15,6 +15,7 @@ use Rattle.pg_model.specs.declared.status.ServerStatus.{ServerStatus}
 use Rattle.pg_model.specs.Facts.{has_data}
 use Rattle.cluster_config.specs.KeyValues.{sync_in}
 use Rattle.cluster_config.specs.Snapshots.{SnapshotFacts}
+use Rattle.event_book.specs.declared.agent_note.AgentNote.TheVariants as agent_notes
 use Rattle.event_book.specs.declared.message.Body.TheVariants as bodies
 use Rattle.event_book.specs.declared.reason.Reason.TheVariants.{StartTooLong, WatchdogNotArmed}
 use Rattle.event_book.specs.Functions.{set_members}
@@ -43,7 +44,7 @@ use Rattle.agent_model.specs.Acting.{deadline_after, ending_server, arming, requ
 use Rattle.agent_model.specs.Agents.{Ready, Ending, Outcome, is_leader, is_ready}
 use Rattle.agent_model.specs.Reconciling.{reconciled}
 use Rattle.agent_model.specs.Claiming.{begins, claims, passing, postpones, can_begin_on_claim, told_passing}
-use Rattle.agent_commit_law.specs.Committing.{sync_seen, StandsToCommit, IsAwaitedWrite, IsAskedBy, HearsWrite, HearsGranted, IsSynchronousSnapshot, FollowsSynchronousMode, AsksInSynchronousMode, ListsMember, IsCommitInputOf, is_claim_outside_sync, IsLawfulAs}
+use Rattle.agent_commit_law.specs.Committing.{sync_seen, StandsToCommit, IsAwaitedWrite, IsAskedBy, HearsWrite, HearsGranted, IsSynchronousSnapshot, FollowsSynchronousMode, AsksInSynchronousMode, ListsMember, IsCommitInputOf, is_claim_outside_sync, IsLawfulAs, StandsAlone}
 use Rattle.agent_model.specs.Decisions.{takes_over, gives_back, may_create, granted}
 use Rattle.agent_model.specs.HandingOver.{checking, hands_over}
 use Rattle.agent_model.specs.Outputs.{has_one, with_output}
@@ -57,7 +58,7 @@ use Rattle.agent_commit_law.proofs.CommitGrounds.{IsBehind, before-behind, befor
 use Rattle.agent_commit_law.proofs.CommitIdling.{Idle, idle-then, waits-nothing, waits-new, stays, falls, same-idle, quiet-idle, postpones-idle, failover-idle}
 use Rattle.agent_commit_law.proofs.CommitLawful.{lawful-as, keeps-turn, keeps-server, keeps-ready, sends-nothing, sends-one}
 use Rattle.agent_commit_law.proofs.CommitGrowing.{narrows-grows, required-needs, wanted-connected}
-use Rattle.agent_commit_law.proofs.CommitQuiet.{IsQuiet, IsUnasking, asks-last, quietly, quiet-armed, quiet-fed, quiet-none, quiet-unbegun, last-unbegun, passing-unasked, unasked}
+use Rattle.agent_commit_law.proofs.CommitQuiet.{IsUnasking, asks-last, quietly, quiet-armed, quiet-fed, quiet-none, quiet-unbegun, last-unbegun, passing-unasked, unasked}
 use Rattle.agent_commit_law.proofs.CommitSteps.{IsForeign, wanted_at, confirmed_at, required_at, PlanSteps, LeaseSteps, WriteSteps, granted-steps}
 use Rattle.agent_commit_law.proofs.CommitTools.{IsWithin, HasReached, within-set, both-first, either-first, either-one, either-within, unnamed-confirmers, waiting-covers, waiting-narrows, confirmed-reached}
 use Rattle.agent_roles.proofs.Fitting.{ended-for}
@@ -108,7 +109,7 @@ takes-over-lawful : (now ttl : Ticks) (sequence : ℕ) (grant : Granted) (snapsh
 takes-over-lawful now ttl sequence grant snapshot s m input o b ground onward is =
     let behind : IsBehind o b = ground.behind in
     let x : Outcome = takes_over now grant.revision (arming now ttl (Told snapshot b)) in
-    let quiet : All IsQuiet x.outputs = quiet-armed (deadline_after now ttl b.machine.watchdog) b.outputs (behind.idle.quiet ground.quiet) in
+    let quiet : All StandsAlone x.outputs = quiet-armed (deadline_after now ttl b.machine.watchdog) b.outputs (behind.idle.quiet ground.quiet) in
     lawful-as now (HeardGranted sequence grant snapshot) (Some snapshot) s m input o x ground.stands is onward (waits-nothing o x refl)
     (TakingOver (record {
       keeps = keeps-server s m input o x ground.stands is (quiet-unbegun x.outputs quiet) (ap (λ (r : Replication). r.required) behind.replication);
@@ -199,7 +200,7 @@ plan-lawful : (now ttl : Ticks) (sequence : ℕ) (grant : Granted) (snapshot : S
 plan-lawful now ttl sequence grant snapshot s m input o b ground leased leads =
     let behind : IsBehind o b = ground.behind in
     let fed : Outcome = led_on now ttl grant.revision (Told snapshot b) in
-    let quiet : All IsQuiet fed.outputs = quiet-fed (deadline_after now ttl b.machine.watchdog) b.outputs (behind.idle.quiet ground.quiet) in
+    let quiet : All StandsAlone fed.outputs = quiet-fed (deadline_after now ttl b.machine.watchdog) b.outputs (behind.idle.quiet ground.quiet) in
     let led : IsLedBy s m snapshot o = led-by s m sequence grant snapshot input o ground.sound ground.stands leased.hears leased.awaited (leads-live s m o b ground.stands behind leads) in
     let published : MemberSet = published_in snapshot in
     let wanted : MemberSet = wanted_at now snapshot fed in
@@ -265,7 +266,7 @@ lease-lawful now ttl sequence grant snapshot s m input o b ground leased unready
     let ended : Outcome = record (ending_server now StartTooLong fed) { role = Ending grant.revision HandOver } in
     let stopped : Outcome = ending_server now WatchdogNotArmed told in
     let back : Outcome = gives_back grant.revision told in
-    let refused : Outcome = gives_back grant.revision (record told { outputs = with_output outputs.CannotArm b.outputs }) in
+    let refused : Outcome = gives_back grant.revision (record told { outputs = with_output (outputs.Note agent_notes.CannotArm) b.outputs }) in
     let still : (x : Outcome) → Idle None b x → Lawful now sequence grant snapshot s m input o x = λ x idle. rests now sequence grant snapshot s m input o b x ground idle in
     record {
       other = still told (told-idle snapshot b);
@@ -275,7 +276,7 @@ lease-lawful now ttl sequence grant snapshot s m input o b ground leased unready
       stops = λ _. still stopped (stays None b stopped refl refl refl refl (waits-nothing b stopped refl) (λ q. quietly b.outputs (outputs.Stop WatchdogNotArmed) q tt));
       takes_over = λ _. takes-over-lawful now ttl sequence grant snapshot s m input o b ground;
       returns = still back (falls None b back refl refl refl refl refl (waits-nothing b back refl) (λ q. quietly b.outputs _ q tt));
-      refuses = still refused (falls None b refused refl refl refl refl refl (waits-nothing b refused refl) (λ q. quietly (with_output outputs.CannotArm b.outputs) _ (quietly b.outputs outputs.CannotArm q tt) tt));
+      refuses = still refused (falls None b refused refl refl refl refl refl (waits-nothing b refused refl) (λ q. quietly (with_output (outputs.Note agent_notes.CannotArm) b.outputs) _ (quietly b.outputs (outputs.Note agent_notes.CannotArm) q tt) tt));
       claims = λ creates. arms-lawful now ttl sequence grant snapshot s m input o b ground leased creates (unready-before creates);
     }
 
@@ -292,7 +293,7 @@ write-lawful now sequence grant snapshot s m input o b ground awaited hears foll
     }
 
 -- a granted request
-pub grant-commits : (now : Ticks) (sequence : ℕ) (grant : Granted) (snapshot : SnapshotFacts) (s : State) (m : ℕ) (input : AgentInput) (o : Outcome) → IsSound s → StandsToCommit s m o → All IsQuiet o.outputs → is_paused o.knows ≡ false → AsksInSynchronousMode o.knows → IsSynchronousSnapshot snapshot → HearsGranted s m input.heard sequence grant snapshot o.knows
+pub grant-commits : (now : Ticks) (sequence : ℕ) (grant : Granted) (snapshot : SnapshotFacts) (s : State) (m : ℕ) (input : AgentInput) (o : Outcome) → IsSound s → StandsToCommit s m o → All StandsAlone o.outputs → is_paused o.knows ≡ false → AsksInSynchronousMode o.knows → IsSynchronousSnapshot snapshot → HearsGranted s m input.heard sequence grant snapshot o.knows
     → IsCommitInputOf s m o (granted now sequence grant snapshot (reconciled now o)) input → IsLawfulAs now (HeardGranted sequence grant snapshot) o s m input
 grant-commits now sequence grant snapshot s m input o sound stands quiet was asks on hears is =
     let b : Outcome = reconciled now o in

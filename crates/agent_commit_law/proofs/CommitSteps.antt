@@ -10,6 +10,7 @@ use Rattle.lease_store.specs.Writes.{nobody}
 use Rattle.cluster_config.specs.KeyValues.{config_in, sync_in}
 use Rattle.cluster_config.specs.Snapshots.{SnapshotFacts}
 use Rattle.cluster_config.specs.declared.view.LeaderView.{LeaderView}
+use Rattle.event_book.specs.declared.agent_note.AgentNote.TheVariants as agent_notes
 use Rattle.event_book.specs.declared.reason.Reason.TheVariants.{StartTooLong, WatchdogNotArmed}
 use Rattle.sync_state.specs.Plans.{change_of, plan_on, plan_off}
 use Rattle.sync_state.specs.Sets.{both, either, is_within, are_same}
@@ -104,7 +105,7 @@ pub record LeaseSteps (P : Outcome → Type 0) (now ttl : Ticks) (revision : ℕ
   pub stops : o.role ≡ Unleased → P (ending_server now WatchdogNotArmed (Told snapshot o))
   pub takes_over : o.role ≡ Unleased → P (takes_over now revision (arming now ttl (Told snapshot o)))
   pub returns : P (gives_back revision (Told snapshot o))
-  pub refuses : P (gives_back revision (record (Told snapshot o) { outputs = with_output outputs.CannotArm o.outputs }))
+  pub refuses : P (gives_back revision (record (Told snapshot o) { outputs = with_output (outputs.Note agent_notes.CannotArm) o.outputs }))
   pub claims : may_create o.role ≡ true → P (claims now revision (passing (arming now ttl (Told snapshot o))))
 
 renewed-steps : (P : Outcome → Type 0) (now ttl : Ticks) (revision : ℕ) (snapshot : SnapshotFacts) (o : Outcome) (held : ℕ) → o.role ≡ Leader held → IsSynchronousSnapshot snapshot → LeaseSteps P now ttl revision snapshot o → P (leader_renewed now ttl revision (Told snapshot o))
@@ -119,7 +120,7 @@ unleased-steps P now ttl revision snapshot o is rows =
 
 takes-steps : (P : Outcome → Type 0) (now ttl : Ticks) (revision : ℕ) (snapshot : SnapshotFacts) (o : Outcome) → may_create o.role ≡ true → o.knows.turn_settings.synchronous_mode ≡ true → LeaseSteps P now ttl revision snapshot o → P (takes_key now ttl revision (Told snapshot o))
 takes-steps P now ttl revision snapshot o creates mode rows = let told : Outcome = Told snapshot o in let arm : Outcome = arming now ttl told in
-    let refuses : Outcome = gives_back revision (record told { outputs = with_output outputs.CannotArm o.outputs }) in
+    let refuses : Outcome = gives_back revision (record told { outputs = with_output (outputs.Note agent_notes.CannotArm) o.outputs }) in
     if-cases P (may_take now told.knows o.machine) (arms now ttl revision told) (gives_back revision told)
     (λ _. if-cases P (is_refusing o.machine.watchdog.mode o.machine.watchdog.works) refuses (begins_or_claims now revision arm) (λ _. rows.refuses)
     (λ _. if-cases P o.knows.turn_settings.synchronous_mode (claims now revision (passing arm)) (begins now revision arm) (λ _. rows.claims creates) (λ off. absurd (no-way (sym off ∙ mode)))))

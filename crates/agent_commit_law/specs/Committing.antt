@@ -239,12 +239,7 @@ IsCovered (outputs.Send to sequence body) = IsQuietBody body
 IsCovered (outputs.Armed until) = Unit {0}
 IsCovered (outputs.Fed until) = Unit {0}
 IsCovered outputs.Disarmed = Unit {0}
-IsCovered outputs.CannotArm = Unit {0}
-IsCovered outputs.PostponesPromotion = Unit {0}
-IsCovered outputs.DisablesWatchdog = Unit {0}
-IsCovered outputs.RunsWithoutKey = Unit {0}
-IsCovered (outputs.DoesNotRace bar) = Unit {0}
-IsCovered (outputs.HandsOver candidate) = Unit {0}
+IsCovered (outputs.Note note) = Unit {0}
 IsCovered (outputs.Told request told) = Unit {0}
 IsCovered _ = ⊥
 

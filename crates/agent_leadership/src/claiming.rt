@@ -10,7 +10,7 @@ ghost use Rattle.agent_turn.specs.Roles.{role_of};
 
 use agent_model::{Knowledge, Output, Question};
 use agent_turn::{Role, Turn, expected_of, is_named_if, is_paused, is_wanted_by, unnamed};
-use event_book::Body;
+use event_book::{AgentNote, Body};
 use leader_key::{Armed, Writer};
 use lease_store::Txn;
 use pat_base::State;
@@ -131,6 +131,6 @@ fn postpone(armed: Armed, turn: &mut Turn) -> Role
     ensures left { Spent 2 0 turn.old turn.new }
 {
     let lease = turn.undo(armed);
-    turn.out.put(Output::PostponesPromotion);
+    turn.out.put(Output::Note(AgentNote::PostponesPromotion));
     Role::Holder(lease)
 }

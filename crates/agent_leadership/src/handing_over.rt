@@ -16,7 +16,7 @@ use crate::planning::take_step;
 use agent_model::{Answers, Knowledge, Output, PendingQuestion, Question, SyncRead, Who, Why};
 use agent_turn::{Role, Turn, is_paused};
 use cluster_config::{Snapshot, candidate_of, is_standby};
-use event_book::Body;
+use event_book::{AgentNote, Body};
 use leader_key::Writer;
 use leader_race::{earlier, may_fail_over};
 use lease_store::{FailoverKey, Txn};
@@ -217,7 +217,8 @@ fn hand_over(candidate: MemberId, writer: Writer, turn: &mut Turn) -> Role
     ensures left { Spent 2 0 turn.old turn.new }
 {
     turn.knows.handed_over = true;
-    turn.out.put(Output::HandsOver { candidate });
+    turn.out
+        .put(Output::Note(AgentNote::HandsOver { candidate }));
     turn.machine.server.stop(turn.moment);
     turn.out.put(Output::ShutDown);
     Role::Ending(writer, Why::HandOver)

@@ -13,7 +13,7 @@ use crate::claiming::begin_or_claim;
 use crate::handing_over::do_duties;
 use agent_model::{Knowledge, Machine, Output, Why};
 use agent_turn::{Role, Turn, is_hold_active, is_wanted, may_lead_in_sync};
-use event_book::Reason;
+use event_book::{AgentNote, Reason};
 use leader_key::{Lease, Writer};
 use lease_store::Granted;
 use pat_base::{State, Ticks};
@@ -108,7 +108,7 @@ pub fn take_key(lease: Lease, turn: &mut Turn, ttl: Ticks) -> Role
     match turn.arm(lease, ttl) {
         Ok(armed) => begin_or_claim(armed, turn),
         Err(lease) => {
-            turn.out.put(Output::CannotArm);
+            turn.out.put(Output::Note(AgentNote::CannotArm));
             turn.release(lease);
             Role::Follower
         }

@@ -13,7 +13,7 @@ use crate::following::start_replica;
 use agent_model::{Knowledge, Machine, Output, PendingQuestion, Question};
 use agent_turn::{Role, Turn, info_of, is_paused, may_create, view_of, word_of};
 use cluster_config::RoleWord;
-use event_book::Body;
+use event_book::{AgentNote, Body};
 use leader_race::{may_race, wins};
 use lease_store::Txn;
 use pat_base::{Ineligibility, State, Ticks};
@@ -138,7 +138,8 @@ pub(crate) fn stay_out(bar: Ineligibility, turn: &mut Turn)
     ensures outcome { ComesTo (barred bar) turn.old turn.new }
     ensures left { Spent 2 1 turn.old turn.new }
 {
-    turn.out.put(Output::DoesNotRace { bar });
+    turn.out
+        .put(Output::Note(AgentNote::DoesNotRace { because: bar }));
     turn.touch();
 }
 

@@ -8,6 +8,7 @@ use Rattle.lease_store.specs.declared.granted.Granted.{Granted}
 use Rattle.lease_store.specs.declared.txn.Txn.{Txn}
 use Rattle.wal_model.specs.declared.entry.HistoryPoint.{HistoryPoint}
 use Rattle.cluster_config.specs.Snapshots.{SnapshotFacts}
+use Rattle.event_book.specs.declared.agent_note.AgentNote.TheVariants as agent_notes
 use Rattle.event_book.specs.declared.message.Body.TheVariants as bodies
 use Rattle.event_book.specs.declared.reason.Reason.TheVariants.{StartTooLong, WatchdogNotArmed}
 use Rattle.lease_law.specs.Past.{query_of, lease_span as span_asked}
@@ -180,7 +181,7 @@ got-silent now points sequence snapshot o b later same silent = let read : Outco
       follows = λ leader _ _. follow-holds now leader.holder o read refl;
       free = λ _ _. free-holds now o read later refl silent;
       runs_on = λ _. nothing now o (running_without_key read) refl;
-      asks_on = λ _. asked-now now o (asks_as_unleased now read) (with_output outputs.RunsWithoutKey b.outputs) _ _ (silently b.outputs outputs.RunsWithoutKey silent tt) refl refl refl refl (more-than o.knows.sequence b.knows.sequence later);
+      asks_on = λ _. asked-now now o (asks_as_unleased now read) (with_output (outputs.Note agent_notes.RunsWithoutKey) b.outputs) _ _ (silently b.outputs (outputs.Note agent_notes.RunsWithoutKey) silent tt) refl refl refl refl (more-than o.knows.sequence b.knows.sequence later);
     })
 
 got-fronts : (now : Ticks) (points : List HistoryPoint) (sequence : ℕ) (snapshot : SnapshotFacts) (o b : Outcome) → o.knows.sequence ≤ b.knows.sequence → b.knows.waited ≡ o.knows.waited → Fronts o b → Holds now o (read_answered now points sequence snapshot b)
@@ -227,7 +228,7 @@ unleased-holds now ttl revision o b none = let ended : Outcome = ending_server n
     if-cases (Holds now o) (is_refusing b.machine.watchdog.mode b.machine.watchdog.works) ended over (λ _. nothing now o ended none) (λ _. nothing now o over none)
 
 takes-holds : (now ttl : Ticks) (revision : ℕ) (o b : Outcome) → b.knows.waited ≡ None → Holds now o (takes_key now ttl revision b)
-takes-holds now ttl revision o b none = let back : Outcome = gives_back revision (record b { outputs = with_output outputs.CannotArm b.outputs }) in let arm : Outcome = arming now ttl b in
+takes-holds now ttl revision o b none = let back : Outcome = gives_back revision (record b { outputs = with_output (outputs.Note agent_notes.CannotArm) b.outputs }) in let arm : Outcome = arming now ttl b in
     if-cases (Holds now o) (may_take now b.knows b.machine) (arms now ttl revision b) (gives_back revision b)
     (λ _. if-cases (Holds now o) (is_refusing b.machine.watchdog.mode b.machine.watchdog.works) back (begins_or_claims now revision arm) (λ _. nothing now o back none)
     (λ _. begins-or-claims-by (Holds now o) now revision arm (nothing now o (begins now revision arm) none) (only-reads now o (claims now revision (passing arm)) _ refl refl)))

@@ -7,6 +7,7 @@ use Rattle.pat_base.specs.ServerState.{live}
 use Rattle.lease_store.specs.declared.granted.Granted.{Granted}
 use Rattle.lease_store.specs.declared.txn.Txn.TheVariants as txns
 use Rattle.cluster_config.specs.Snapshots.{SnapshotFacts}
+use Rattle.event_book.specs.declared.agent_note.AgentNote.TheVariants as agent_notes
 use Rattle.event_book.specs.declared.message.Body.TheVariants as bodies
 use Rattle.event_book.specs.declared.reason.Reason.TheVariants.{StartTooLong, WatchdogNotArmed}
 use Rattle.leader_key.specs.Watchdog.{is_armable}
@@ -99,12 +100,12 @@ begins-begins P now revision b silent last = let required : Output = outputs.Req
 arms-begins : (now ttl : Ticks) (sequence : ℕ) (grant : Granted) (revision : ℕ) (o b : Outcome) → Decides sequence grant o → is_hold_active now o.machine.hold ≡ false → is_armable b.machine.watchdog.mode b.machine.watchdog.works ≡ true → All IsSilent b.outputs
     → OutputsBeginBehind (BeginsOn now sequence grant o) [] (arms now ttl revision b).outputs
 arms-begins now ttl sequence grant revision o b decides free armable silent =
-    let cannot : Outcome = record b { outputs = with_output outputs.CannotArm b.outputs } in
+    let cannot : Outcome = record b { outputs = with_output (outputs.Note agent_notes.CannotArm) b.outputs } in
     let arm : Outcome = arming now ttl b in
     let told : has_one is_arming arm.outputs ≡ true = armed-first b.outputs _ (is_armable b.machine.watchdog.mode b.machine.watchdog.works) armable in
     let rest : All IsSilent arm.outputs = silent-armed (deadline_after now ttl b.machine.watchdog) b.outputs silent in
     if-cases (λ (x : Outcome). OutputsBeginBehind (BeginsOn now sequence grant o) [] x.outputs) (is_refusing b.machine.watchdog.mode b.machine.watchdog.works) (gives_back revision cannot) (begins_or_claims now revision arm)
-    (λ _. gives-back-begins (BeginsOn now sequence grant o) revision cannot (silently b.outputs outputs.CannotArm silent tt))
+    (λ _. gives-back-begins (BeginsOn now sequence grant o) revision cannot (silently b.outputs (outputs.Note agent_notes.CannotArm) silent tt))
     (λ _. begins-or-claims-by (λ (x : Outcome). OutputsBeginBehind (BeginsOn now sequence grant o) [] x.outputs) now revision arm
     (begins-begins (BeginsOn now sequence grant o) now revision arm rest
     (λ all is. OnLease decides free (subst (λ (l : List Output). has_one is_arming l ≡ true) (sym is) (one-before is_arming arm.outputs (outputs.Require (unnamed arm.knows.turn_settings)) told))))

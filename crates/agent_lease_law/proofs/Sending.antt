@@ -13,6 +13,7 @@ use Rattle.lease_store.specs.declared.txn.Txn.TheVariants as txns
 use Rattle.wal_model.specs.declared.entry.HistoryPoint.{HistoryPoint}
 use Rattle.cluster_config.specs.declared.snapshot.LeaderEntry.{LeaderEntry}
 use Rattle.cluster_config.specs.Snapshots.{SnapshotFacts, leader_in}
+use Rattle.event_book.specs.declared.agent_note.AgentNote.TheVariants as agent_notes
 use Rattle.event_book.specs.declared.message.Body.{Body}
 use Rattle.event_book.specs.declared.message.Body.TheVariants as bodies
 use Rattle.event_book.specs.declared.reason.Reason.TheVariants.{StoreOutOfReach, LeaderKeyLost, StartTooLong, WatchdogNotArmed}
@@ -130,7 +131,7 @@ silent-fed (Some deadline) outs all = silently outs (outputs.Fed deadline) all t
 
 silent-disabled : (renews : Bool) (deadline : Option Ticks) (outs : List Output) → All IsSilent outs → All IsSilent (disabling_told renews deadline outs)
 silent-disabled renews None outs all = all
-silent-disabled true (Some deadline) outs all = silently (with_output outputs.Disarmed outs) outputs.DisablesWatchdog (silently outs outputs.Disarmed all tt) tt
+silent-disabled true (Some deadline) outs all = silently (with_output outputs.Disarmed outs) (outputs.Note agent_notes.DisablesWatchdog) (silently outs outputs.Disarmed all tt) tt
 silent-disabled false (Some deadline) outs all = silently outs outputs.Disarmed all tt
 
 -- the release of this revision under this number, or a silent output
@@ -222,7 +223,7 @@ judged-mild low now o less silent =
     let later : low < high = omega (arith, less) in
     judged-by (AllMild low) now o
     (All-push (IsMild low high) o.outputs _ (mild-front low high o.outputs silent) (later, omega arith, refl))
-    (λ bar. All-push (IsMild low high) (with_output (outputs.DoesNotRace bar) o.outputs) _ (mild-front low high (with_output (outputs.DoesNotRace bar) o.outputs) (silently o.outputs (outputs.DoesNotRace bar) silent tt)) (later, omega arith, tt))
+    (λ bar. All-push (IsMild low high) (with_output (outputs.Note (agent_notes.DoesNotRace bar)) o.outputs) _ (mild-front low high (with_output (outputs.Note (agent_notes.DoesNotRace bar)) o.outputs) (silently o.outputs (outputs.Note (agent_notes.DoesNotRace bar)) silent tt)) (later, omega arith, tt))
 
 -- so do the asks
 ask-mild : (low high : ℕ) (who : Who) (sequence : ℕ) (member : Option MemberId) (outs : List Output) → low < sequence → sequence ≤ high → All (IsMild low high) outs → All (IsMild low high) (asking_one who sequence member outs)
@@ -244,8 +245,8 @@ pub handover-mild : (low : ℕ) (now : Ticks) (held : ℕ) (o : Outcome) → low
 handover-mild low now held o less silent = let out : ℕ = o.knows.sequence in record {
   kept = mild-front low out o.outputs silent;
   clears = λ compared. All-push (IsMild low (out + 1)) o.outputs _ (mild-front low (out + 1) o.outputs silent) (omega (arith, less), omega arith, tt);
-  hands = λ candidate. mild-front low out (with_output outputs.ShutDown (with_output (outputs.HandsOver candidate) o.outputs))
-      (silently (with_output (outputs.HandsOver candidate) o.outputs) outputs.ShutDown (silently o.outputs (outputs.HandsOver candidate) silent tt) tt);
+  hands = λ candidate. mild-front low out (with_output outputs.ShutDown (with_output (outputs.Note (agent_notes.HandsOver candidate)) o.outputs))
+      (silently (with_output (outputs.Note (agent_notes.HandsOver candidate)) o.outputs) outputs.ShutDown (silently o.outputs (outputs.Note (agent_notes.HandsOver candidate)) silent tt) tt);
 }
 
 -- so does who asks for whom it may hand over to
@@ -294,7 +295,7 @@ before-may G now o alone silent = fronts-may G o (reconciled now o) (before-fron
 
 -- a promotion that is postponed sends nothing
 pub postpones-silent : (held : ℕ) (o : Outcome) → All IsSilent o.outputs → All IsSilent (postpones held o).outputs
-postpones-silent held o silent = silently (disarmed o.machine.watchdog.deadline o.outputs) outputs.PostponesPromotion (silent-disarmed o.machine.watchdog.deadline o.outputs silent) tt
+postpones-silent held o silent = silently (disarmed o.machine.watchdog.deadline o.outputs) (outputs.Note agent_notes.PostponesPromotion) (silent-disarmed o.machine.watchdog.deadline o.outputs silent) tt
 
 overdue-mild : (low : ℕ) (now : Ticks) (o : Outcome) → low ≤ o.knows.sequence → All IsSilent o.outputs → AllMild low (overdue now o)
 overdue-mild low now o less silent = let out : ℕ = o.knows.sequence in
@@ -399,7 +400,7 @@ free-may G now o b later silent = let x : Outcome = record b { role = Follower }
     free-by (AllMay G o) now x (record {
       starts = touches G o (starting_replica now None x) x.outputs later (silently b.outputs (outputs.StartReplica None) silent tt);
       touches = touches G o x x.outputs later silent;
-      bars = λ bar. touches G o (record x { outputs = with_output (outputs.DoesNotRace bar) x.outputs }) x.outputs later (silently b.outputs (outputs.DoesNotRace bar) silent tt);
+      bars = λ bar. touches G o (record x { outputs = with_output (outputs.Note (agent_notes.DoesNotRace bar)) x.outputs }) x.outputs later (silently b.outputs (outputs.Note (agent_notes.DoesNotRace bar)) silent tt);
       judges = mild-all G o (judged now (unheard x)) (judged-mild o.knows.sequence now (unheard x) later silent);
       asks = mild-all G o (asking_others now (unheard x)) (others-mild o.knows.sequence now (unheard x) later silent);
     })
@@ -417,9 +418,9 @@ got-silent G now points sequence snapshot o b later silent = let read : Outcome 
       touches = touches G o read read.outputs later silent;
       follows = λ leader _ _. follow-may G now leader.holder o read later silent;
       free = λ _ _. free-may G now o read later silent;
-      runs_on = λ _. let runs : Outcome = running_without_key read in front G o runs runs.outputs (silently b.outputs outputs.RunsWithoutKey silent tt);
-      asks_on = λ _. let asks : Outcome = asks_as_unleased now read in let runs : List Output = with_output outputs.RunsWithoutKey b.outputs in
-          push G o asks runs _ (front G o asks runs (silently b.outputs outputs.RunsWithoutKey silent tt)) (sends G o asks b.knows.sequence _ later refl refl);
+      runs_on = λ _. let runs : Outcome = running_without_key read in front G o runs runs.outputs (silently b.outputs (outputs.Note agent_notes.RunsWithoutKey) silent tt);
+      asks_on = λ _. let asks : Outcome = asks_as_unleased now read in let runs : List Output = with_output (outputs.Note agent_notes.RunsWithoutKey) b.outputs in
+          push G o asks runs _ (front G o asks runs (silently b.outputs (outputs.Note agent_notes.RunsWithoutKey) silent tt)) (sends G o asks b.knows.sequence _ later refl refl);
     })
 
 pub got-none : (now : Ticks) (points : List HistoryPoint) (sequence : ℕ) (snapshot : SnapshotFacts) (o : Outcome) → o.knows.waited ≡ None → read_answered now points sequence snapshot o ≡ o
@@ -449,7 +450,7 @@ refused-silent now sequence o silent = refused-by (λ (x : Outcome). All IsSilen
   unleased = λ _. silently o.outputs (outputs.Stop LeaderKeyLost) silent tt;
   follower = λ held _. silent;
   ready = λ held _. postpones-silent held (waiting_no_more o) silent;
-  runs_on = λ _. silently o.outputs outputs.RunsWithoutKey silent tt;
+  runs_on = λ _. silently o.outputs (outputs.Note agent_notes.RunsWithoutKey) silent tt;
 })
 
 refused-none : (now : Ticks) (sequence : ℕ) (o : Outcome) → o.knows.waited ≡ None → refused now sequence o ≡ o
@@ -552,10 +553,10 @@ claims-may G now revision o b later silent = let after : Outcome = claims now re
     push G o after b.outputs _ (front G o after b.outputs silent) (sends G o after b.knows.sequence _ later refl tt)
 
 arms-may : (G : ℕ → Type 0) (now ttl : Ticks) (revision : ℕ) (o b : Outcome) → o.knows.sequence ≤ b.knows.sequence → live b.machine.server.state ≡ false → G revision → All IsSilent b.outputs → AllMay G o (arms now ttl revision b)
-arms-may G now ttl revision o b later ended given silent = let cannot : Outcome = record b { outputs = with_output outputs.CannotArm b.outputs } in let arm : Outcome = arming now ttl b in
+arms-may G now ttl revision o b later ended given silent = let cannot : Outcome = record b { outputs = with_output (outputs.Note agent_notes.CannotArm) b.outputs } in let arm : Outcome = arming now ttl b in
     let rest : All IsSilent arm.outputs = silent-armed (deadline_after now ttl b.machine.watchdog) b.outputs silent in
     if-cases (AllMay G o) (is_refusing b.machine.watchdog.mode b.machine.watchdog.works) (gives_back revision cannot) (begins_or_claims now revision arm)
-    (λ _. gives-back-may G revision o cannot later ended given (silently b.outputs outputs.CannotArm silent tt))
+    (λ _. gives-back-may G revision o cannot later ended given (silently b.outputs (outputs.Note agent_notes.CannotArm) silent tt))
     (λ _. begins-or-claims-by (AllMay G o) now revision arm (begins-may G now revision o arm given rest) (claims-may G now revision o (passing arm) later (silent-passing arm rest)))
 
 takes-may : (G : ℕ → Type 0) (now ttl : Ticks) (revision : ℕ) (o b : Outcome) → o.knows.sequence ≤ b.knows.sequence → live b.machine.server.state ≡ false → G revision → All IsSilent b.outputs → AllMay G o (takes_key now ttl revision b)

@@ -20,6 +20,7 @@ use Rattle.agent_model.specs.declared.output.Output.TheVariants as outputs
 use Rattle.agent_model.specs.declared.output.Target.TheVariants as targets
 use Rattle.agent_model.specs.declared.why.Why.{Why}
 use Rattle.agent_model.specs.declared.who.Who.{Who}
+use Rattle.event_book.specs.declared.agent_note.AgentNote.TheVariants as agent_notes
 use Rattle.event_book.specs.declared.message.Body.TheVariants as bodies
 use Rattle.agent_model.specs.declared.why.Why.TheVariants.{HandOver, Lost}
 use Rattle.agent_model.specs.Acting.{arming, armed, deadline_after, disarmed, fed_until, is_refusing, touching, waiting_no_more}
@@ -131,14 +132,14 @@ postponed-row : (held : ℕ) (o : Outcome) → Row o (postpones held o)
 postponed-row held o =
     grows-then 1 1 9 o.knows.sequence o.knows.sequence o.knows.sequence o.outputs (disarmed o.machine.watchdog.deadline o.outputs) _ (omega arith)
     (disarmed-one o.knows.sequence o.machine.watchdog.deadline o.outputs)
-    (one o.knows.sequence o.knows.sequence (disarmed o.machine.watchdog.deadline o.outputs) outputs.PostponesPromotion (omega arith) tt)
+    (one o.knows.sequence o.knows.sequence (disarmed o.machine.watchdog.deadline o.outputs) (outputs.Note agent_notes.PostponesPromotion) (omega arith) tt)
 
 -- a leader hands over
 hands-row : (now : Ticks) (held : ℕ) (candidate : MemberId) (o : Outcome) → Brings 2 o (hands_over now held candidate o)
 hands-row now held candidate o =
-    grows-then 1 1 2 o.knows.sequence o.knows.sequence o.knows.sequence o.outputs (with_output (outputs.HandsOver candidate) o.outputs) _ (omega arith)
-    (one o.knows.sequence o.knows.sequence o.outputs (outputs.HandsOver candidate) (omega arith) tt)
-    (one o.knows.sequence o.knows.sequence (with_output (outputs.HandsOver candidate) o.outputs) outputs.ShutDown (omega arith) tt)
+    grows-then 1 1 2 o.knows.sequence o.knows.sequence o.knows.sequence o.outputs (with_output (outputs.Note (agent_notes.HandsOver candidate)) o.outputs) _ (omega arith)
+    (one o.knows.sequence o.knows.sequence o.outputs (outputs.Note (agent_notes.HandsOver candidate)) (omega arith) tt)
+    (one o.knows.sequence o.knows.sequence (with_output (outputs.Note (agent_notes.HandsOver candidate)) o.outputs) outputs.ShutDown (omega arith) tt)
 
 handover-rows : (now : Ticks) (held : ℕ) (o : Outcome) → HandoverRows (Brings 2 o) now held o
 handover-rows now held o = record {
@@ -264,7 +265,7 @@ got-row now points sequence snapshot o =
       touches = more _ _ _ _ (said o.knows.sequence (o.knows.sequence + 1) o.outputs _ (omega arith) (omega (arith, read.knows.settings.ttl_range)));
       follows = λ leader _ _. more _ _ _ _ (follow-row now leader.holder read);
       free = λ _ _. free-row now read;
-      runs_on = λ _. more _ _ _ _ (said o.knows.sequence o.knows.sequence o.outputs outputs.RunsWithoutKey (omega arith) tt);
+      runs_on = λ _. more _ _ _ _ (said o.knows.sequence o.knows.sequence o.outputs (outputs.Note agent_notes.RunsWithoutKey) (omega arith) tt);
       asks_on = λ _. more _ _ _ _ (said-both o.knows.sequence o.outputs _ _ tt (omega (arith, read.knows.settings.ttl_range)));
     })
 
@@ -285,7 +286,7 @@ refused-row now sequence o = refused-by (Row o) now sequence o (record {
   unleased = λ _. said o.knows.sequence o.knows.sequence o.outputs _ (omega arith) tt;
   follower = λ held _. kept;
   ready = λ held _. postponed-row held (waiting_no_more o);
-  runs_on = λ _. said o.knows.sequence o.knows.sequence o.outputs outputs.RunsWithoutKey (omega arith) tt;
+  runs_on = λ _. said o.knows.sequence o.knows.sequence o.outputs (outputs.Note agent_notes.RunsWithoutKey) (omega arith) tt;
 })
 
 back-row : (held : ℕ) (o : Outcome) → Brings 1 o (gives_back held o)
@@ -310,9 +311,9 @@ begun-row : (now : Ticks) (held : ℕ) (o : Outcome) → Brings 2 o (begins_or_c
 begun-row now held o = begins-or-claims-by (Brings 2 o) now held o (begins-row now held o) (claims-row now held o)
 
 arms-row : (now ttl : Ticks) (held : ℕ) (o : Outcome) → Row o (arms now ttl held o)
-arms-row now ttl held o = if-cases (Row o) (is_refusing o.machine.watchdog.mode o.machine.watchdog.works) (gives_back held (record o { outputs = with_output outputs.CannotArm o.outputs })) (begins_or_claims now held (arming now ttl o))
-    (λ _. grows-then 1 1 9 o.knows.sequence o.knows.sequence (o.knows.sequence + 1) o.outputs (with_output outputs.CannotArm o.outputs) _ (omega arith)
-    (one o.knows.sequence o.knows.sequence o.outputs outputs.CannotArm (omega arith) tt) (back-row held (record o { outputs = with_output outputs.CannotArm o.outputs })))
+arms-row now ttl held o = if-cases (Row o) (is_refusing o.machine.watchdog.mode o.machine.watchdog.works) (gives_back held (record o { outputs = with_output (outputs.Note agent_notes.CannotArm) o.outputs })) (begins_or_claims now held (arming now ttl o))
+    (λ _. grows-then 1 1 9 o.knows.sequence o.knows.sequence (o.knows.sequence + 1) o.outputs (with_output (outputs.Note agent_notes.CannotArm) o.outputs) _ (omega arith)
+    (one o.knows.sequence o.knows.sequence o.outputs (outputs.Note agent_notes.CannotArm) (omega arith) tt) (back-row held (record o { outputs = with_output (outputs.Note agent_notes.CannotArm) o.outputs })))
     (λ _. grows-then 1 2 9 o.knows.sequence o.knows.sequence _ o.outputs (armed (deadline_after now ttl o.machine.watchdog) o.outputs) _ (omega arith)
     (armed-one o.knows.sequence (deadline_after now ttl o.machine.watchdog) o.outputs) (begun-row now held (arming now ttl o)))
 
@@ -347,7 +348,7 @@ duties-row most whole now held start led h before =
 disabled-one : (sequence : ℕ) (renews : Bool) (deadline : Option Ticks) (before : List Output) → Grows 2 sequence sequence before (disabling_told renews deadline before)
 disabled-one sequence renews None before = weaker 1 2 _ _ _ _ (omega arith) (none sequence before)
 disabled-one sequence true (Some deadline) before =
-    grows-then 1 1 2 sequence sequence sequence before (with_output outputs.Disarmed before) _ (omega arith) (one sequence sequence before outputs.Disarmed (omega arith) tt) (one sequence sequence (with_output outputs.Disarmed before) outputs.DisablesWatchdog (omega arith) tt)
+    grows-then 1 1 2 sequence sequence sequence before (with_output outputs.Disarmed before) _ (omega arith) (one sequence sequence before outputs.Disarmed (omega arith) tt) (one sequence sequence (with_output outputs.Disarmed before) (outputs.Note agent_notes.DisablesWatchdog) (omega arith) tt)
 disabled-one sequence false (Some deadline) before = weaker 1 2 _ _ _ _ (omega arith) (one sequence sequence before outputs.Disarmed (omega arith) tt)
 
 disabling-row : (renews : Bool) (o : Outcome) → Brings 2 o (disabling_watchdog renews o)

@@ -5,6 +5,7 @@ use Rattle.pat_base.specs.declared.server_state.State.TheVariants as states
 use Rattle.pat_base.specs.declared.ticks.Ticks.{Ticks}
 use Rattle.lease_store.specs.declared.txn.Txn.TheVariants as txns
 use Rattle.pg_model.specs.declared.status.ServerStatus.{ServerStatus}
+use Rattle.event_book.specs.declared.agent_note.AgentNote.TheVariants as agent_notes
 use Rattle.event_book.specs.declared.message.Body.TheVariants as bodies
 use Rattle.agent_model.specs.declared.knowledge.Knowledge.{Knowledge}
 use Rattle.agent_model.specs.declared.knowledge.Question.TheVariants.{Claiming}
@@ -42,7 +43,7 @@ begins_or_claims now revision o = if o.knows.turn_settings.synchronous_mode then
 
 -- the member keeps the leader key, and its promotion is postponed: what was armed is given up
 abbrev pub postpones : ℕ → Outcome → Outcome
-postpones revision o = let undone = disarming o in record undone { role = Holder revision; outputs = with_output outputs.PostponesPromotion undone.outputs }
+postpones revision o = let undone = disarming o in record undone { role = Holder revision; outputs = with_output (outputs.Note agent_notes.PostponesPromotion) undone.outputs }
 
 -- a claim of the sync key fails: who is about to begin on it doesn't
 abbrev pub claim_fails_as : RoleFacts → Outcome → Outcome

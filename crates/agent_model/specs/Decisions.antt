@@ -6,6 +6,7 @@ use Rattle.pat_base.specs.declared.server_state.State.TheVariants as states
 use Rattle.pat_base.specs.declared.ticks.Ticks.{Ticks}
 use Rattle.lease_store.specs.declared.granted.Granted.{Granted}
 use Rattle.pg_model.specs.declared.status.ServerStatus.{ServerStatus}
+use Rattle.event_book.specs.declared.agent_note.AgentNote.TheVariants as agent_notes
 use Rattle.event_book.specs.declared.reason.Reason.TheVariants.{StartTooLong, WatchdogNotArmed}
 use Rattle.cluster_config.specs.Snapshots.{SnapshotFacts}
 use Rattle.agent_model.specs.declared.knowledge.Knowledge.{Knowledge}
@@ -83,7 +84,7 @@ gives_back revision o = record (releasing revision o) { role = Follower }
 -- nobody begins without an armed watchdog, where the member needs one
 abbrev pub arms : Ticks → Ticks → ℕ → Outcome → Outcome
 arms now ttl revision o =
-    if is_refusing o.machine.watchdog.mode o.machine.watchdog.works then gives_back revision (record o { outputs = with_output outputs.CannotArm o.outputs }) else begins_or_claims now revision (arming now ttl o)
+    if is_refusing o.machine.watchdog.mode o.machine.watchdog.works then gives_back revision (record o { outputs = with_output (outputs.Note agent_notes.CannotArm) o.outputs }) else begins_or_claims now revision (arming now ttl o)
 
 -- an agent that isn't leading gets a lease
 abbrev pub takes_key : Ticks → Ticks → ℕ → Outcome → Outcome

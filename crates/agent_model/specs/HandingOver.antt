@@ -13,6 +13,7 @@ use Rattle.cluster_config.specs.declared.snapshot.LeaderEntry.{LeaderEntry}
 use Rattle.cluster_config.specs.Naming.{candidate_of, is_member, is_standby}
 use Rattle.cluster_config.specs.Snapshots.{SnapshotFacts, leader_in}
 use Rattle.leader_race.specs.Peers.{first_of}
+use Rattle.event_book.specs.declared.agent_note.AgentNote.TheVariants as agent_notes
 use Rattle.event_book.specs.declared.message.Body.TheVariants as bodies
 use Rattle.agent_model.specs.declared.knowledge.Knowledge.{Knowledge}
 use Rattle.agent_model.specs.declared.knowledge.Question.TheVariants.{FindingCandidate}
@@ -83,7 +84,7 @@ successor_by (Some failover) knows server = first_of (is_successor knows server 
 
 -- the member notes that it hands over to this one, and ends its server; it gives up the leader key when that has ended
 abbrev pub hands_over : Ticks → ℕ → MemberId → Outcome → Outcome
-hands_over now revision candidate o = record (shutting_down now (record o { outputs = with_output (outputs.HandsOver candidate) o.outputs })) { role = Ending revision HandOver; knows = record o.knows { handed_over = true } }
+hands_over now revision candidate o = record (shutting_down now (record o { outputs = with_output (outputs.Note (agent_notes.HandsOver candidate)) o.outputs })) { role = Ending revision HandOver; knows = record o.knows { handed_over = true } }
 
 -- a leader hands over, or asks that the failover key be removed where nobody may lead next
 abbrev pub hands_over_to : Ticks → ℕ → Option MemberId → Outcome → Outcome

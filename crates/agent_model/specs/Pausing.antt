@@ -10,6 +10,7 @@ use Rattle.lease_store.specs.declared.value.FailoverKey.{FailoverKey}
 use Rattle.cluster_config.specs.KeyValues.{failover_in}
 use Rattle.cluster_config.specs.Naming.{is_candidate}
 use Rattle.cluster_config.specs.Snapshots.{SnapshotFacts}
+use Rattle.event_book.specs.declared.agent_note.AgentNote.TheVariants as agent_notes
 use Rattle.agent_model.specs.declared.knowledge.Knowledge.{Knowledge}
 use Rattle.agent_model.specs.declared.output.Output.{Output}
 use Rattle.agent_model.specs.declared.output.Output.TheVariants as outputs
@@ -35,12 +36,12 @@ ends_forks settings = not (settings.use_pg_rewind || settings.pause)
 
 -- a primary runs on without the leader key
 abbrev pub running_without_key : Outcome → Outcome
-running_without_key o = record o { role = Unleased; outputs = with_output outputs.RunsWithoutKey o.outputs }
+running_without_key o = record o { role = Unleased; outputs = with_output (outputs.Note agent_notes.RunsWithoutKey) o.outputs }
 
 -- a deadline that is removed is told; where that comes of a renewal, it is noted besides
 abbrev pub disabling_told : Bool → Option Ticks → List Output → List Output
 disabling_told renews None out = out
-disabling_told true (Some deadline) out = with_output outputs.DisablesWatchdog (with_output outputs.Disarmed out)
+disabling_told true (Some deadline) out = with_output (outputs.Note agent_notes.DisablesWatchdog) (with_output outputs.Disarmed out)
 disabling_told false (Some deadline) out = with_output outputs.Disarmed out
 
 -- a member leads without a watchdog: its deadline is removed, on a renewal or on the grant of a free key

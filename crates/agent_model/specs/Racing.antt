@@ -7,6 +7,7 @@ use Rattle.pat_base.specs.declared.ineligibility.Ineligibility.{Ineligibility}
 use Rattle.lease_store.specs.declared.txn.Txn.TheVariants as txns
 use Rattle.pg_model.specs.declared.status.ServerStatus.{ServerStatus}
 use Rattle.pg_model.specs.Facts.{is_down}
+use Rattle.event_book.specs.declared.agent_note.AgentNote.TheVariants as agent_notes
 use Rattle.event_book.specs.declared.message.Body.TheVariants as bodies
 use Rattle.cluster_config.specs.declared.view.AgentView.{AgentView}
 use Rattle.cluster_config.specs.declared.view.RoleWord.TheVariants as words
@@ -44,7 +45,7 @@ creating now o = asking now Creating (seconds_after now o.knows.settings.retry_t
 
 -- a member that is barred tells by what, and tells of itself
 abbrev pub barred : Ineligibility → Outcome → Outcome
-barred bar o = touching (record o { outputs = with_output (outputs.DoesNotRace bar) o.outputs })
+barred bar o = touching (record o { outputs = with_output (outputs.Note (agent_notes.DoesNotRace bar)) o.outputs })
 
 -- what bars a member that shows this from winning, by the newest snapshot and these answers; nothing where there is no snapshot
 abbrev pub outcome_by : AgentView → Option SnapshotFacts → List PeerAnswer → Option Ineligibility

@@ -1,8 +1,8 @@
 //! What an agent does.
 
 use crate::Told;
-use event_book::{Body, Reason};
-use pat_base::{Ineligibility, MemberId, PeerAnswer, Required, Ticks};
+use event_book::{AgentNote, Body, Reason};
+use pat_base::{MemberId, PeerAnswer, Required, Ticks};
 
 /// Whom an agent writes to.
 #[derive(Clone, Copy, Debug, PartialEq, Eq)]
@@ -77,24 +77,10 @@ pub enum Output {
     },
     /// The watchdog has no deadline any more.
     Disarmed,
-    /// The member needs a watchdog, and its device doesn't work.
-    CannotArm,
     /// The member takes the leader key though the sync key doesn't name it: a failover by hand names it.
     ClaimsOutsideSync,
-    /// The member keeps the leader key without beginning: its claim of the sync key failed.
-    PostponesPromotion,
-    /// In a pause: the deadline was removed on a renewal of the leader key.
-    DisablesWatchdog,
-    /// In a pause: the server runs on as a primary without the leader key.
-    RunsWithoutKey,
-    /// The member doesn't race for the free leader key, since this bars it.
-    DoesNotRace {
-        bar: Ineligibility,
-    },
-    /// The member hands over to this one.
-    HandsOver {
-        candidate: MemberId,
-    },
+    /// It is printed, and changes nothing.
+    Note(AgentNote),
     /// What the agent answers the operator's request of this number in the incarnation.
     Told {
         request: u64,

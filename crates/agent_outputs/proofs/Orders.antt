@@ -9,6 +9,7 @@ use Rattle.lease_store.specs.declared.granted.Granted.{Granted}
 use Rattle.lease_store.specs.declared.txn.Txn.TheVariants as txns
 use Rattle.wal_model.specs.declared.entry.HistoryPoint.{HistoryPoint}
 use Rattle.cluster_config.specs.Snapshots.{SnapshotFacts}
+use Rattle.event_book.specs.declared.agent_note.AgentNote.TheVariants as agent_notes
 use Rattle.event_book.specs.declared.message.Body.{Body}
 use Rattle.event_book.specs.declared.message.Body.TheVariants as bodies
 use Rattle.event_book.specs.declared.reason.Reason.{Reason}
@@ -160,7 +161,7 @@ before-reaches now start o r = before-by (Reaches now start) now o (record {
 
 judged-reaches : (now : Ticks) (start : Machine) (o : Outcome) → Reaches now start o → Reaches now start (judged now o)
 judged-reaches now start o r = judged-by (Reaches now start) now o (one-more now start o.machine o.outputs _ tt r)
-    (λ bar. touch-reaches now start (record (waiting_no_more o) { outputs = with_output (outputs.DoesNotRace bar) o.outputs }) (one-more now start o.machine o.outputs (outputs.DoesNotRace bar) tt r))
+    (λ bar. touch-reaches now start (record (waiting_no_more o) { outputs = with_output (outputs.Note (agent_notes.DoesNotRace bar)) o.outputs }) (one-more now start o.machine o.outputs (outputs.Note (agent_notes.DoesNotRace bar)) tt r))
 
 -- asks of other members leave the machine alone
 ask-reaches : (now : Ticks) (start machine : Machine) (who : Who) (sequence : ℕ) (member : Option MemberId) (outs : List Output) → Reached now start machine outs → Reached now start machine (asking_one who sequence member outs)
@@ -185,7 +186,7 @@ handover-rows : (now : Ticks) (start : Machine) (revision : ℕ) (o : Outcome) �
 handover-rows now start revision o r = record {
   kept = r;
   clears = λ compared. send-reaches now start _ (waiting_no_more o) r;
-  hands = λ candidate. shut-reaches now start (record (waiting_no_more o) { outputs = with_output (outputs.HandsOver candidate) o.outputs }) (one-more now start o.machine o.outputs (outputs.HandsOver candidate) tt r);
+  hands = λ candidate. shut-reaches now start (record (waiting_no_more o) { outputs = with_output (outputs.Note (agent_notes.HandsOver candidate)) o.outputs }) (one-more now start o.machine o.outputs (outputs.Note (agent_notes.HandsOver candidate)) tt r);
 }
 
 reply-rows : (now : Ticks) (start : Machine) (o : Outcome) → Reaches now start o → ReplyRows (Reaches now start) o
@@ -195,7 +196,7 @@ require-reaches : (now : Ticks) (start : Machine) (required : Required) (o : Out
 require-reaches now start required o r = one-more now start o.machine o.outputs (outputs.Require required) tt r
 
 postpone-reaches : (now : Ticks) (start : Machine) (held : ℕ) (o : Outcome) → Reaches now start o → Reaches now start (postpones held o)
-postpone-reaches now start held o r = one-more now start (disarming o).machine (disarming o).outputs outputs.PostponesPromotion tt (disarm-reaches now start o r)
+postpone-reaches now start held o r = one-more now start (disarming o).machine (disarming o).outputs (outputs.Note agent_notes.PostponesPromotion) tt (disarm-reaches now start o r)
 
 overdue-reaches : (now : Ticks) (start : Machine) (o : Outcome) → Reaches now start o → Reaches now start (overdue now o)
 overdue-reaches now start o r = overdue-by (Reaches now start) now o (record {
@@ -229,7 +230,7 @@ free-reaches now start o r = let x : Outcome = record o { role = Follower } in
     free-by (Reaches now start) now x (record {
       starts = touch-reaches now start (starting_replica now None x) (start-reaches now start None x r);
       touches = touch-reaches now start x r;
-      bars = λ bar. touch-reaches now start (record x { outputs = with_output (outputs.DoesNotRace bar) x.outputs }) (one-more now start o.machine o.outputs (outputs.DoesNotRace bar) tt r);
+      bars = λ bar. touch-reaches now start (record x { outputs = with_output (outputs.Note (agent_notes.DoesNotRace bar)) x.outputs }) (one-more now start o.machine o.outputs (outputs.Note (agent_notes.DoesNotRace bar)) tt r);
       judges = judged-reaches now start (unheard x) r;
       asks = asks-reach now start o.machine o.knows.who (o.knows.sequence + 1) MOST_MEMBERS o.outputs r;
     })
@@ -245,7 +246,7 @@ answered-reaches now start sequence answer o r = answered-by (Reaches now start)
 
 -- a primary runs on without the leader key
 run-reaches : (now : Ticks) (start : Machine) (o : Outcome) → Reaches now start o → Reaches now start (running_without_key o)
-run-reaches now start o r = one-more now start o.machine o.outputs outputs.RunsWithoutKey tt r
+run-reaches now start o r = one-more now start o.machine o.outputs (outputs.Note agent_notes.RunsWithoutKey) tt r
 
 got-carries : (now : Ticks) (points : List HistoryPoint) (start : Machine) (sequence : ℕ) (snapshot : SnapshotFacts) (o : Outcome) → Reaches now start o → IsCarriedOut now start (read_answered now points sequence snapshot o)
 got-carries now points start sequence snapshot o r = let read : Outcome = record o { knows = read_noted now snapshot o.knows } in
@@ -295,7 +296,7 @@ renewed-reaches now ttl start revision o r = let led : Outcome = led_on now ttl 
 
 -- a watchdog that rests
 rests : (now : Ticks) (start machine : Machine) (outs : List Output) (renews : Bool) (deadline : Option Ticks) → machine.watchdog.deadline ≡ deadline → Reached now start machine outs → Reached now start (without_deadline machine) (disabling_told renews deadline outs)
-rests now start machine outs true (Some deadline) is r = one-more now start (without_deadline machine) (with_output outputs.Disarmed outs) outputs.DisablesWatchdog tt (disarms now start machine outs (Some deadline) is r)
+rests now start machine outs true (Some deadline) is r = one-more now start (without_deadline machine) (with_output outputs.Disarmed outs) (outputs.Note agent_notes.DisablesWatchdog) tt (disarms now start machine outs (Some deadline) is r)
 rests now start machine outs false (Some deadline) is r = disarms now start machine outs (Some deadline) is r
 rests now start machine outs renews None is r = disarms now start machine outs None is r
 
@@ -316,7 +317,7 @@ passing-reaches now start o r = passing-by (λ (outs : List Output). Reached now
 arms-reaches : (now ttl : Ticks) (start : Machine) (revision : ℕ) (o : Outcome) → Reaches now start o → Reaches now start (arms now ttl revision o)
 arms-reaches now ttl start revision o r =
     if-cases (Reaches now start) (is_refusing o.machine.watchdog.mode o.machine.watchdog.works) _ (begins_or_claims now revision (arming now ttl o))
-    (λ _. send-reaches now start (bodies.Request (txns.Release revision)) (record o { outputs = with_output outputs.CannotArm o.outputs }) (one-more now start o.machine o.outputs outputs.CannotArm tt r))
+    (λ _. send-reaches now start (bodies.Request (txns.Release revision)) (record o { outputs = with_output (outputs.Note agent_notes.CannotArm) o.outputs }) (one-more now start o.machine o.outputs (outputs.Note agent_notes.CannotArm) tt r))
     (λ _. let arm : Outcome = arming now ttl o in let fed : Reaches now start arm = arm-reaches now ttl start o r in
     begins-or-claims-by (Reaches now start) now revision arm (begin-reaches now start revision arm fed) (send-reaches now start _ (passing arm) (passing-reaches now start arm fed)))
 

@@ -13,6 +13,7 @@ use Rattle.lease_store.specs.declared.txn.Txn.TheVariants as txns
 use Rattle.lease_store.specs.Writes.{nobody}
 use Rattle.wal_model.specs.declared.entry.HistoryPoint.{HistoryPoint}
 use Rattle.cluster_config.specs.Snapshots.{SnapshotFacts}
+use Rattle.event_book.specs.declared.agent_note.AgentNote.TheVariants as agent_notes
 use Rattle.event_book.specs.declared.message.Body.{Body}
 use Rattle.event_book.specs.declared.message.Body.TheVariants as bodies
 use Rattle.event_book.specs.declared.reason.Reason.TheVariants.{StartTooLong}
@@ -212,7 +213,7 @@ judged-reaches now known o r =
     let quiet : Reaches now known (waiting_no_more o) = rests now known o.knows _ o.outputs refl refl refl refl r in
     judged-by (Reaches now known) now o
     (ask-reaches now known Creating (seconds_after now o.knows.settings.retry_timeout) _ (waiting_no_more o) (is-spanned o.knows.settings) (λ _. refl) (λ e. absurd (both e)) quiet)
-    (λ bar. send-reaches now known _ (record (waiting_no_more o) { outputs = with_output (outputs.DoesNotRace bar) o.outputs }) tt (one-more now known (waiting_no_more o).knows o.outputs (outputs.DoesNotRace bar) tt quiet))
+    (λ bar. send-reaches now known _ (record (waiting_no_more o) { outputs = with_output (outputs.Note (agent_notes.DoesNotRace bar)) o.outputs }) tt (one-more now known (waiting_no_more o).knows o.outputs (outputs.Note (agent_notes.DoesNotRace bar)) tt quiet))
 
 -- the asks to other members, all under the next number
 ask-sends : (low high : ℕ) (who : Who) (sequence : ℕ) (member : Option MemberId) (outs : List Output) → low < sequence → sequence ≤ high → All (SendsBetween low high) outs → All (SendsBetween low high) (asking_one who sequence member outs)
@@ -273,8 +274,8 @@ handover-reaches now known revision o r =
     record {
       kept = quiet;
       clears = λ compared. drop-reaches now known compared (waiting_no_more o) quiet;
-      hands = λ candidate. goes-on now known (waiting_no_more o).knows (hands_over now revision candidate (waiting_no_more o)).knows (with_output outputs.ShutDown (with_output (outputs.HandsOver candidate) o.outputs)) refl refl refl refl
-          (one-more now known (waiting_no_more o).knows (with_output (outputs.HandsOver candidate) o.outputs) outputs.ShutDown tt (one-more now known (waiting_no_more o).knows o.outputs (outputs.HandsOver candidate) tt quiet));
+      hands = λ candidate. goes-on now known (waiting_no_more o).knows (hands_over now revision candidate (waiting_no_more o)).knows (with_output outputs.ShutDown (with_output (outputs.Note (agent_notes.HandsOver candidate)) o.outputs)) refl refl refl refl
+          (one-more now known (waiting_no_more o).knows (with_output (outputs.Note (agent_notes.HandsOver candidate)) o.outputs) outputs.ShutDown tt (one-more now known (waiting_no_more o).knows o.outputs (outputs.Note (agent_notes.HandsOver candidate)) tt quiet));
     }
 
 -- operators are answered
@@ -286,7 +287,7 @@ reply-reaches now known o r = record { kept = r; answers = λ request told. answ
 
 -- a promotion that is postponed
 postpone-reaches : (now : Ticks) (known : Knowledge) (held : ℕ) (o : Outcome) → Reaches now known o → Reaches now known (postpones held o)
-postpone-reaches now known held o r = one-more now known o.knows (disarmed o.machine.watchdog.deadline o.outputs) outputs.PostponesPromotion tt (disarm-reaches now known o r)
+postpone-reaches now known held o r = one-more now known o.knows (disarmed o.machine.watchdog.deadline o.outputs) (outputs.Note agent_notes.PostponesPromotion) tt (disarm-reaches now known o r)
 
 overdue-reaches : (now : Ticks) (known : Knowledge) (o : Outcome) → Reaches now known o → Reaches now known (overdue now o)
 overdue-reaches now known o r =
@@ -335,7 +336,7 @@ free-reaches now known o r = let x : Outcome = record o { role = Follower } in
     free-by (Reaches now known) now x (record {
       starts = touch-reaches now known (starting_replica now None x) (one-more now known o.knows o.outputs (outputs.StartReplica None) tt r);
       touches = touch-reaches now known x r;
-      bars = λ bar. touch-reaches now known (record x { outputs = with_output (outputs.DoesNotRace bar) x.outputs }) (one-more now known o.knows o.outputs (outputs.DoesNotRace bar) tt r);
+      bars = λ bar. touch-reaches now known (record x { outputs = with_output (outputs.Note (agent_notes.DoesNotRace bar)) x.outputs }) (one-more now known o.knows o.outputs (outputs.Note (agent_notes.DoesNotRace bar)) tt r);
       judges = judged-reaches now known (unheard x) alone;
       asks = others-reach now known (unheard x) alone;
     })
@@ -365,8 +366,8 @@ got-reaches now points known sequence snapshot o r =
       touches = touch-reaches now known read told;
       follows = λ leader _ _. follow-reaches now known leader.holder read told;
       free = λ _ _. free-reaches now known read told;
-      runs_on = λ _. one-more now known read.knows o.outputs outputs.RunsWithoutKey tt told;
-      asks_on = λ _. ask-reaches now known Creating (seconds_after now read.knows.settings.retry_timeout) _ (running_without_key read) (is-spanned read.knows.settings) (λ _. refl) (λ e. absurd (both e)) (one-more now known read.knows o.outputs outputs.RunsWithoutKey tt told);
+      runs_on = λ _. one-more now known read.knows o.outputs (outputs.Note agent_notes.RunsWithoutKey) tt told;
+      asks_on = λ _. ask-reaches now known Creating (seconds_after now read.knows.settings.retry_timeout) _ (running_without_key read) (is-spanned read.knows.settings) (λ _. refl) (λ e. absurd (both e)) (one-more now known read.knows o.outputs (outputs.Note agent_notes.RunsWithoutKey) tt told);
     })
 
 refused-reaches : (now : Ticks) (known : Knowledge) (sequence : ℕ) (o : Outcome) → Reaches now known o → Reaches now known (refused now sequence o)
@@ -379,7 +380,7 @@ refused-reaches now known sequence o r =
       unleased = λ _. one-more now known _ o.outputs _ tt quiet;
       follower = λ held _. quiet;
       ready = λ held _. postpone-reaches now known held (waiting_no_more o) quiet;
-      runs_on = λ _. one-more now known _ o.outputs outputs.RunsWithoutKey tt quiet;
+      runs_on = λ _. one-more now known _ o.outputs (outputs.Note agent_notes.RunsWithoutKey) tt quiet;
     })
 
 feed-reaches : (now ttl : Ticks) (known : Knowledge) (o : Outcome) → Reaches now known o → Reaches now known (feeding now ttl o)
@@ -452,7 +453,7 @@ claim-reaches now known revision o r =
 arms-reaches : (now ttl : Ticks) (known : Knowledge) (revision : ℕ) (o : Outcome) → Reaches now known o → Reaches now known (arms now ttl revision o)
 arms-reaches now ttl known revision o r =
     if-cases (Reaches now known) (is_refusing o.machine.watchdog.mode o.machine.watchdog.works) _ (begins_or_claims now revision (arming now ttl o))
-    (λ _. send-reaches now known (bodies.Request (txns.Release revision)) (record o { outputs = with_output outputs.CannotArm o.outputs }) tt (one-more now known o.knows o.outputs outputs.CannotArm tt r))
+    (λ _. send-reaches now known (bodies.Request (txns.Release revision)) (record o { outputs = with_output (outputs.Note agent_notes.CannotArm) o.outputs }) tt (one-more now known o.knows o.outputs (outputs.Note agent_notes.CannotArm) tt r))
     (λ _. let arm : Outcome = arming now ttl o in let fed : Reaches now known arm = arm-reaches now ttl known o r in
     begins-or-claims-by (Reaches now known) now revision arm (begin-reaches now known revision arm fed) (claim-reaches now known revision arm fed))
 
@@ -464,7 +465,7 @@ takes-reaches now ttl known revision o r =
 -- a watchdog that rests
 rests-told : (now : Ticks) (known after : Knowledge) (renews : Bool) (deadline : Option Ticks) (outs : List Output) → AsksAnew now known after outs → AsksAnew now known after (disabling_told renews deadline outs)
 rests-told now known after renews None outs r = r
-rests-told now known after true (Some deadline) outs r = one-more now known after (with_output outputs.Disarmed outs) outputs.DisablesWatchdog tt (one-more now known after outs outputs.Disarmed tt r)
+rests-told now known after true (Some deadline) outs r = one-more now known after (with_output outputs.Disarmed outs) (outputs.Note agent_notes.DisablesWatchdog) tt (one-more now known after outs outputs.Disarmed tt r)
 rests-told now known after false (Some deadline) outs r = one-more now known after outs outputs.Disarmed tt r
 
 disabled-reaches : (now : Ticks) (known : Knowledge) (renews : Bool) (o : Outcome) → Reaches now known o → Reaches now known (disabling_watchdog renews o)

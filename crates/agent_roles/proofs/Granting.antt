@@ -4,6 +4,7 @@ use Rattle.pat_base.specs.declared.ticks.Ticks.{Ticks}
 use Rattle.lease_store.specs.declared.granted.Granted.{Granted}
 use Rattle.leader_key.specs.Watchdog.{is_armable, fed}
 use Rattle.cluster_config.specs.Snapshots.{SnapshotFacts, failsafe_in}
+use Rattle.event_book.specs.declared.agent_note.AgentNote.TheVariants as agent_notes
 use Rattle.event_book.specs.declared.reason.Reason.TheVariants.{StartTooLong, WatchdogNotArmed}
 use Rattle.pat_base.specs.ServerState.{live}
 use Rattle.agent_model.specs.declared.knowledge.PendingQuestion.{PendingQuestion}
@@ -118,7 +119,7 @@ renewed-may now sequence grant snapshot o awaited = let led : Outcome = led_on n
         kept = leads-live now sequence grant snapshot o (waiting_no_more (unheard led)) awaited refl refl refl refl told (λ e. e);
         clears = λ compared. leads-live now sequence grant snapshot o (dropping compared (waiting_no_more (unheard led))) awaited refl refl refl refl (λ armable. one-before is_feeding led.outputs _ (told armable)) (λ e. e);
         hands = λ candidate. leads-live now sequence grant snapshot o (hands_over now grant.revision candidate (waiting_no_more (unheard led))) awaited refl refl refl refl
-            (λ armable. one-before is_feeding (with_output (outputs.HandsOver candidate) led.outputs) outputs.ShutDown (one-before is_feeding led.outputs (outputs.HandsOver candidate) (told armable))) (stop-live now o.machine.server);
+            (λ armable. one-before is_feeding (with_output (outputs.Note (agent_notes.HandsOver candidate)) led.outputs) outputs.ShutDown (one-before is_feeding led.outputs (outputs.Note (agent_notes.HandsOver candidate)) (told armable))) (stop-live now o.machine.server);
       };
     })
 
@@ -134,7 +135,7 @@ passing-told o told = passing-by (λ (outs : List Output). has_one is_feeding ou
 
 arms-may : (now : Ticks) (sequence : ℕ) (grant : Granted) (snapshot : SnapshotFacts) (o : Outcome) (awaited : IsAwaitedLease sequence grant o.knows) → live o.machine.server.state ≡ false → is_hold_active now o.machine.hold ≡ false
     → GrantMay now sequence grant snapshot o (arms now awaited.waited.ttl grant.revision (Told snapshot o))
-arms-may now sequence grant snapshot o awaited ended free = let back : Outcome = gives_back grant.revision (record (Told snapshot o) { outputs = with_output outputs.CannotArm o.outputs }) in
+arms-may now sequence grant snapshot o awaited ended free = let back : Outcome = gives_back grant.revision (record (Told snapshot o) { outputs = with_output (outputs.Note agent_notes.CannotArm) o.outputs }) in
     let arm : Outcome = arming now awaited.waited.ttl (Told snapshot o) in
     let told : is_armable o.machine.watchdog.mode o.machine.watchdog.works ≡ true → has_one is_feeding arm.outputs ≡ true = armed-told o.outputs _ (is_armable o.machine.watchdog.mode o.machine.watchdog.works) in
     if-cases (GrantMay now sequence grant snapshot o) (is_refusing o.machine.watchdog.mode o.machine.watchdog.works) back (begins_or_claims now grant.revision arm)

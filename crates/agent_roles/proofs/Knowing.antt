@@ -14,6 +14,7 @@ use Rattle.lease_store.specs.declared.key.Key.TheVariants as keys
 use Rattle.lease_store.specs.declared.value.KeyEntry.{KeyEntry}
 use Rattle.wal_model.specs.declared.entry.HistoryPoint.{HistoryPoint}
 use Rattle.cluster_config.specs.Snapshots.{SnapshotFacts, entry_in, failsafe_by, failsafe_of_entry, failsafe_in, settings_by, settings_of_entry}
+use Rattle.event_book.specs.declared.agent_note.AgentNote.TheVariants as agent_notes
 use Rattle.event_book.specs.declared.reason.Reason.TheVariants.{StartTooLong, WatchdogNotArmed}
 use Rattle.lease_law.specs.Leases.{LeaderSeen, FailsafeKey}
 use Rattle.event_book.specs.Functions.{set_members}
@@ -431,7 +432,7 @@ unleased-onward now ttl revision snapshot o = let over : Outcome = takes_over no
     (λ _. quiet-told snapshot o ended refl refl refl refl refl refl (omega arith) refl refl) (λ _. quiet-told snapshot o over refl refl refl refl refl refl (omega arith) refl refl)
 
 arms-onward : (now ttl : Ticks) (revision : ℕ) (snapshot : SnapshotFacts) (o : Outcome) → Onward (Some snapshot) o (arms now ttl revision (Told snapshot o))
-arms-onward now ttl revision snapshot o = let back : Outcome = gives_back revision (record (Told snapshot o) { outputs = with_output outputs.CannotArm o.outputs }) in let arm : Outcome = arming now ttl (Told snapshot o) in
+arms-onward now ttl revision snapshot o = let back : Outcome = gives_back revision (record (Told snapshot o) { outputs = with_output (outputs.Note agent_notes.CannotArm) o.outputs }) in let arm : Outcome = arming now ttl (Told snapshot o) in
     if-cases (Onward (Some snapshot) o) (is_refusing o.machine.watchdog.mode o.machine.watchdog.works) back (begins_or_claims now revision arm)
     (λ _. quiet-told snapshot o back refl refl refl refl refl refl (omega arith) refl refl)
     (λ _. begins-or-claims-by (Onward (Some snapshot) o) now revision arm (quiet-told snapshot o (begins now revision arm) refl refl refl refl refl refl (omega arith) refl refl)

@@ -19,6 +19,7 @@ use Rattle.pg_model.specs.declared.status.ServerStatus.{ServerStatus}
 use Rattle.pg_model.specs.Running.{is_primary}
 use Rattle.pg_model.specs.Status.{status_wiped}
 use Rattle.cluster_config.specs.Snapshots.{SnapshotFacts, leader_in, settings_in}
+use Rattle.event_book.specs.declared.agent_note.AgentNote.TheVariants as agent_notes
 use Rattle.event_book.specs.declared.message.Body.TheVariants as bodies
 use Rattle.event_book.specs.declared.reason.Reason.{Reason}
 use Rattle.event_book.specs.declared.reason.Reason.TheVariants.{StartTooLong, WatchdogNotArmed}
@@ -124,7 +125,7 @@ module _ (now : Ticks) (heard : Heard) (b : Outcome) where
 
   disabled-so : (outs : List Output) (role : RoleFacts) (waited : Option PendingQuestion) (renews : Bool) (deadline : Option Ticks) → Sofar outs role waited → Sofar (disabling_told renews deadline outs) role waited
   disabled-so outs role waited renews None s = s
-  disabled-so outs role waited true (Some deadline) s = more (with_output outputs.Disarmed outs) role waited outputs.DisablesWatchdog tt tt (more outs role waited outputs.Disarmed tt tt s)
+  disabled-so outs role waited true (Some deadline) s = more (with_output outputs.Disarmed outs) role waited (outputs.Note agent_notes.DisablesWatchdog) tt tt (more outs role waited outputs.Disarmed tt tt s)
   disabled-so outs role waited false (Some deadline) s = more outs role waited outputs.Disarmed tt tt s
 
   touch-so : (x : Outcome) → So x → So (touching x)
@@ -152,7 +153,7 @@ module _ (now : Ticks) (heard : Heard) (b : Outcome) where
   judged-so : (x : Outcome) → CreateGround heard b → So x → So (judged now x)
   judged-so x may s = judged-by So now x
       (waits _ x.role None _ refl (more x.outputs x.role None _ may tt (quiet x s)))
-      (λ bar. touch-so (record (waiting_no_more x) { outputs = with_output (outputs.DoesNotRace bar) x.outputs }) (more x.outputs x.role None (outputs.DoesNotRace bar) tt tt (quiet x s)))
+      (λ bar. touch-so (record (waiting_no_more x) { outputs = with_output (outputs.Note (agent_notes.DoesNotRace bar)) x.outputs }) (more x.outputs x.role None (outputs.Note (agent_notes.DoesNotRace bar)) tt tt (quiet x s)))
 
   -- a leader hands over
   handover-so : (revision : ℕ) (x : Outcome) → All KeepsLeases x.outputs → So x → HandoverRows So now revision x
@@ -160,10 +161,10 @@ module _ (now : Ticks) (heard : Heard) (b : Outcome) where
     kept = quiet x s;
     clears = λ compared. more x.outputs x.role None _ tt tt (quiet x s);
     hands = λ candidate.
-        let told : List Output = with_output (outputs.HandsOver candidate) x.outputs in
-        let again : All KeepsLeases told = All-push KeepsLeases x.outputs (outputs.HandsOver candidate) all tt in
+        let told : List Output = with_output (outputs.Note (agent_notes.HandsOver candidate)) x.outputs in
+        let again : All KeepsLeases told = All-push KeepsLeases x.outputs (outputs.Note (agent_notes.HandsOver candidate)) all tt in
         with-role (with_output outputs.ShutDown told) x.role (Ending revision HandOver) None (All-push KeepsLeases told outputs.ShutDown again tt)
-        (more told x.role None outputs.ShutDown tt tt (more x.outputs x.role None (outputs.HandsOver candidate) tt tt (quiet x s)));
+        (more told x.role None outputs.ShutDown tt tt (more x.outputs x.role None (outputs.Note (agent_notes.HandsOver candidate)) tt tt (quiet x s)));
   }
 
   reply-so : (x : Outcome) → So x → ReplyRows So x
@@ -172,8 +173,8 @@ module _ (now : Ticks) (heard : Heard) (b : Outcome) where
   postpone-so : (held : ℕ) (x : Outcome) → lease_of x.role ≡ Some held → So x → So (postpones held x)
   postpone-so held x has s =
       let outs : List Output = disarmed x.machine.watchdog.deadline x.outputs in
-      from-lease (with_output outputs.PostponesPromotion outs) x.role (Holder held) x.knows.waited held has
-      (more outs x.role x.knows.waited outputs.PostponesPromotion tt tt (disarm-so x.outputs x.role x.knows.waited x.machine.watchdog.deadline s))
+      from-lease (with_output (outputs.Note agent_notes.PostponesPromotion) outs) x.role (Holder held) x.knows.waited held has
+      (more outs x.role x.knows.waited (outputs.Note agent_notes.PostponesPromotion) tt tt (disarm-so x.outputs x.role x.knows.waited x.machine.watchdog.deadline s))
 
   begin-so : (revision : ℕ) (x : Outcome) → Ground outputs.Begin → All KeepsLeases x.outputs → So x → So (begins now revision x)
   begin-so revision x may all s =
@@ -200,7 +201,7 @@ module _ (now : Ticks) (heard : Heard) (b : Outcome) where
       free-by So now y (record {
         starts = touch-so (starting_replica now None y) (more x.outputs Follower x.knows.waited (outputs.StartReplica None) tt tt z);
         touches = touch-so y z;
-        bars = λ bar. touch-so (record y { outputs = with_output (outputs.DoesNotRace bar) y.outputs }) (more x.outputs Follower x.knows.waited (outputs.DoesNotRace bar) tt tt z);
+        bars = λ bar. touch-so (record y { outputs = with_output (outputs.Note (agent_notes.DoesNotRace bar)) y.outputs }) (more x.outputs Follower x.knows.waited (outputs.Note (agent_notes.DoesNotRace bar)) tt tt z);
         judges = judged-so (unheard y) (Finds free may) z;
         asks = record { grounds = (asks-so x.knows.who (x.knows.sequence + 1) MOST_MEMBERS x.outputs Follower x.knows.waited z).grounds; keeps = inr refl; asks = λ e. inr (free, may) };
       })
@@ -270,7 +271,7 @@ module _ (now : Ticks) (heard : Heard) (b : Outcome) where
     unleased = λ _ _. end-so _ (waiting_no_more x) (quiet x s);
     follower = λ held _. without x.outputs x.role Follower None refl (quiet x s);
     ready = λ held is. postpone-so held (waiting_no_more x) (rw is refl) (quiet x s);
-    runs_on = λ _. without _ x.role Unleased None refl (more x.outputs x.role None outputs.RunsWithoutKey tt tt (quiet x s));
+    runs_on = λ _. without _ x.role Unleased None refl (more x.outputs x.role None (outputs.Note agent_notes.RunsWithoutKey) tt tt (quiet x s));
   })
 
   -- ---- the answer to a read
@@ -292,10 +293,10 @@ module _ (now : Ticks) (heard : Heard) (b : Outcome) where
         touches = touch-so read r;
         follows = λ leader _ _. follow-so read leader.holder like.machine r;
         free = λ none may. free-so read (free none) (ap may_create (sym like.role) ∙ may) r;
-        runs_on = λ _. without _ x.role Unleased None refl (more x.outputs x.role None outputs.RunsWithoutKey tt tt r);
+        runs_on = λ _. without _ x.role Unleased None refl (more x.outputs x.role None (outputs.Note agent_notes.RunsWithoutKey) tt tt r);
         asks_on = λ none primary paused.
-            let runs : So (running_without_key read) = without _ x.role Unleased None refl (more x.outputs x.role None outputs.RunsWithoutKey tt tt r) in
-            waits _ Unleased None _ refl (more (with_output outputs.RunsWithoutKey x.outputs) Unleased None _ (RunsOn (free none) (ap has_primary (sym like.role) ∙ primary) (paused-by x snapshot like paused)) tt runs);
+            let runs : So (running_without_key read) = without _ x.role Unleased None refl (more x.outputs x.role None (outputs.Note agent_notes.RunsWithoutKey) tt tt r) in
+            waits _ Unleased None _ refl (more (with_output (outputs.Note agent_notes.RunsWithoutKey) x.outputs) Unleased None _ (RunsOn (free none) (ap has_primary (sym like.role) ∙ primary) (paused-by x snapshot like paused)) tt runs);
       })
 
   -- ---- a grant
@@ -305,7 +306,7 @@ module _ (now : Ticks) (heard : Heard) (b : Outcome) where
 
   disabled-keeps : (outs : List Output) (renews : Bool) (deadline : Option Ticks) → All KeepsLeases outs → All KeepsLeases (disabling_told renews deadline outs)
   disabled-keeps outs renews None all = all
-  disabled-keeps outs true (Some deadline) all = All-push KeepsLeases (with_output outputs.Disarmed outs) outputs.DisablesWatchdog (All-push KeepsLeases outs outputs.Disarmed all tt) tt
+  disabled-keeps outs true (Some deadline) all = All-push KeepsLeases (with_output outputs.Disarmed outs) (outputs.Note agent_notes.DisablesWatchdog) (All-push KeepsLeases outs outputs.Disarmed all tt) tt
   disabled-keeps outs false (Some deadline) all = All-push KeepsLeases outs outputs.Disarmed all tt
 
   -- where one is waited for, nothing was given back before
@@ -347,8 +348,8 @@ module _ (now : Ticks) (heard : Heard) (b : Outcome) where
     takes-so ttl decides unpaused all s =
         let r : So Heard_so = quiet b s in
         if-cases So (may_take now (informed snapshot b.knows) b.machine) (arms now ttl grant.revision Heard_so) (gives_back grant.revision Heard_so)
-        (λ may. if-cases So (is_refusing b.machine.watchdog.mode b.machine.watchdog.works) (gives_back grant.revision (record Heard_so { outputs = with_output outputs.CannotArm b.outputs })) (begins_or_claims now grant.revision (arming now ttl Heard_so))
-        (λ _. gives-so grant.revision (record Heard_so { outputs = with_output outputs.CannotArm b.outputs }) (more b.outputs b.role None outputs.CannotArm tt tt r))
+        (λ may. if-cases So (is_refusing b.machine.watchdog.mode b.machine.watchdog.works) (gives_back grant.revision (record Heard_so { outputs = with_output (outputs.Note agent_notes.CannotArm) b.outputs })) (begins_or_claims now grant.revision (arming now ttl Heard_so))
+        (λ _. gives-so grant.revision (record Heard_so { outputs = with_output (outputs.Note agent_notes.CannotArm) b.outputs }) (more b.outputs b.role None (outputs.Note agent_notes.CannotArm) tt tt r))
         (λ works. begins-or-claims-so grant.revision (arming now ttl Heard_so)
         (subst (λ (h : Heard). TakeGround now h b grant.revision) (sym is) (may-take now sequence grant snapshot b decides may (λ _. works) (λ paused. absurd (no-way (sym unpaused ∙ paused))))) refl refl
         (armed-keeps b.outputs (deadline_after now ttl b.machine.watchdog) all)

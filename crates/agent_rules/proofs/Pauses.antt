@@ -18,6 +18,7 @@ use Rattle.pg_model.specs.Running.{is_primary}
 use Rattle.cluster_config.specs.KeyValues.{failover_in}
 use Rattle.cluster_config.specs.Naming.{is_candidate}
 use Rattle.cluster_config.specs.Snapshots.{SnapshotFacts}
+use Rattle.event_book.specs.declared.agent_note.AgentNote.TheVariants as agent_notes
 use Rattle.event_book.specs.declared.message.Body.TheVariants as bodies
 use Rattle.event_book.specs.declared.reason.Reason.TheVariants.{WatchdogNotArmed}
 use Rattle.agent_model.specs.declared.heard.Heard.{Heard}
@@ -96,7 +97,7 @@ calm-fed (Some until) outs all = calmly outs (outputs.Fed until) tt all
 
 calm-disabled : (renews : Bool) (deadline : Option Ticks) (outs : List Output) → Calm outs → Calm (disabling_told renews deadline outs)
 calm-disabled renews None outs all = all
-calm-disabled true (Some deadline) outs all = calmly (with_output outputs.Disarmed outs) outputs.DisablesWatchdog tt (calmly outs outputs.Disarmed tt all)
+calm-disabled true (Some deadline) outs all = calmly (with_output outputs.Disarmed outs) (outputs.Note agent_notes.DisablesWatchdog) tt (calmly outs outputs.Disarmed tt all)
 calm-disabled false (Some deadline) outs all = calmly outs outputs.Disarmed tt all
 
 calm-ask : (who : Who) (sequence : ℕ) (member : Option MemberId) (outs : List Output) → Calm outs → Calm (asking_one who sequence member outs)
@@ -164,13 +165,13 @@ module _ (now : Ticks) (heard : Heard) (b : Outcome) where
   touched x r = behind x.outputs x.role x.knows.settings _ tt r
 
   judged-calm : (x : Outcome) → Calm x.outputs → R (judged now x)
-  judged-calm x all = judged-by R now x (calm _ _ _ (calmly x.outputs _ tt all)) (λ bar. calm _ _ _ (calmly _ _ tt (calmly x.outputs (outputs.DoesNotRace bar) tt all)))
+  judged-calm x all = judged-by R now x (calm _ _ _ (calmly x.outputs _ tt all)) (λ bar. calm _ _ _ (calmly _ _ tt (calmly x.outputs (outputs.Note (agent_notes.DoesNotRace bar)) tt all)))
 
   handover-calm : (revision : ℕ) (x : Outcome) → Calm x.outputs → HandoverRows R now revision x
   handover-calm revision x all = record {
     kept = calm x.outputs x.role x.knows.settings all;
     clears = λ compared. calm _ _ _ (calmly x.outputs _ tt all);
-    hands = λ candidate. order (with_output (outputs.HandsOver candidate) x.outputs) (Ending revision HandOver) x.knows.settings outputs.ShutDown (calmly x.outputs (outputs.HandsOver candidate) tt all) (λ _. tt);
+    hands = λ candidate. order (with_output (outputs.Note (agent_notes.HandsOver candidate)) x.outputs) (Ending revision HandOver) x.knows.settings outputs.ShutDown (calmly x.outputs (outputs.Note (agent_notes.HandsOver candidate)) tt all) (λ _. tt);
   }
 
   reply-calm : (x : Outcome) → Calm x.outputs → ReplyRows R x
@@ -183,7 +184,7 @@ module _ (now : Ticks) (heard : Heard) (b : Outcome) where
     leader = λ held _ unpaused. free-of _ _ _ unpaused;
     unleased = λ _ unpaused. free-of _ _ _ unpaused;
     judges = λ _ _. judged-calm x all;
-    ready = λ held _. calm _ _ _ (calmly _ outputs.PostponesPromotion tt (calm-disarmed x.machine.watchdog.deadline x.outputs all));
+    ready = λ held _. calm _ _ _ (calmly _ (outputs.Note agent_notes.PostponesPromotion) tt (calm-disarmed x.machine.watchdog.deadline x.outputs all));
     checks = λ held _. handover-calm held x all;
   })
 
@@ -242,7 +243,7 @@ module _ (now : Ticks) (heard : Heard) (b : Outcome) where
   raced-calm None x all =
       if-cases R (all_answered x.knows.who []) (judged now (unheard x)) (asking_others now (unheard x)) (λ _. judged-calm (unheard x) all)
       (λ _. calm _ _ _ (calm-asks x.knows.who (x.knows.sequence + 1) MOST_MEMBERS x.outputs all))
-  raced-calm (Some bar) x all = calm _ _ _ (calmly _ _ tt (calmly x.outputs (outputs.DoesNotRace bar) tt all))
+  raced-calm (Some bar) x all = calm _ _ _ (calmly _ _ tt (calmly x.outputs (outputs.Note (agent_notes.DoesNotRace bar)) tt all))
 
   free-calm : (x : Outcome) → Calm x.outputs → R (finds_free now x)
   free-calm x all =
@@ -264,8 +265,8 @@ module _ (now : Ticks) (heard : Heard) (b : Outcome) where
         touches = touched read (calm read.outputs read.role read.knows.settings all);
         follows = λ leader _ _. follow-calm read leader.holder same all;
         free = λ _ _. free-calm read all;
-        runs_on = λ _. calm _ _ _ (calmly x.outputs outputs.RunsWithoutKey tt all);
-        asks_on = λ _ _ _. calm _ _ _ (calmly _ _ tt (calmly x.outputs outputs.RunsWithoutKey tt all));
+        runs_on = λ _. calm _ _ _ (calmly x.outputs (outputs.Note agent_notes.RunsWithoutKey) tt all);
+        asks_on = λ _ _ _. calm _ _ _ (calmly _ _ tt (calmly x.outputs (outputs.Note agent_notes.RunsWithoutKey) tt all));
       })
 
   refused-calm : (sequence : ℕ) (x : Outcome) → Calm x.outputs → R (refused now sequence x)
@@ -275,8 +276,8 @@ module _ (now : Ticks) (heard : Heard) (b : Outcome) where
     leader = λ held _ unpaused. free-of _ _ _ unpaused;
     unleased = λ _ unpaused. free-of _ _ _ unpaused;
     follower = λ held _. calm _ _ _ all;
-    ready = λ held _. calm _ _ _ (calmly _ outputs.PostponesPromotion tt (calm-disarmed x.machine.watchdog.deadline x.outputs all));
-    runs_on = λ _. calm _ _ _ (calmly x.outputs outputs.RunsWithoutKey tt all);
+    ready = λ held _. calm _ _ _ (calmly _ (outputs.Note agent_notes.PostponesPromotion) tt (calm-disarmed x.machine.watchdog.deadline x.outputs all));
+    runs_on = λ _. calm _ _ _ (calmly x.outputs (outputs.Note agent_notes.RunsWithoutKey) tt all);
   })
 
   answered-calm : (sequence : ℕ) (answer : PeerAnswer) (x : Outcome) → Calm x.outputs → R (answered now sequence answer x)
@@ -355,7 +356,7 @@ module _ (now : Ticks) (heard : Heard) (b : Outcome) where
         (record {
           other = calm Told.outputs Told.role Told.knows.settings all;
           begins = λ revision _ may. begin-calm revision Told (by-snapshot revision may) all;
-          postpones = λ revision _. calm _ _ _ (calmly _ outputs.PostponesPromotion tt (calm-disarmed b.machine.watchdog.deadline b.outputs all));
+          postpones = λ revision _. calm _ _ _ (calmly _ (outputs.Note agent_notes.PostponesPromotion) tt (calm-disarmed b.machine.watchdog.deadline b.outputs all));
           settles = λ required _. calm _ _ _ (calmly b.outputs (outputs.Require required) tt all);
         })
 

@@ -5,6 +5,7 @@ use Rattle.pat_base.specs.declared.ticks.Ticks.{Ticks}
 use Rattle.lease_store.specs.declared.granted.Granted.{Granted}
 use Rattle.wal_model.specs.declared.entry.HistoryPoint.{HistoryPoint}
 use Rattle.cluster_config.specs.Snapshots.{SnapshotFacts}
+use Rattle.event_book.specs.declared.agent_note.AgentNote.TheVariants as agent_notes
 use Rattle.agent_model.specs.declared.heard.Heard.{Heard}
 use Rattle.agent_model.specs.declared.heard.Heard.TheVariants.{Wake, ReadAnswered, Granted as HeardGranted, Mismatch, Asked, Answered, Operated as HearsOperator}
 use Rattle.agent_model.specs.declared.knowledge.Question.{Question}
@@ -80,7 +81,7 @@ takes-then now sequence grant snapshot o unpaused awaited may take armed =
     ∙ ap (λ (b : Bool). cond b (granted_in_pause now (asks_renewal waited.question) grant.revision o.role told) (lease_granted now waited.ttl grant.revision o.role told)) unpaused
     ∙ takes-it now waited.ttl grant.revision o.role told may
     ∙ ap (λ (b : Bool). cond b (arms now waited.ttl grant.revision told) (gives_back grant.revision told)) take
-    ∙ ap (λ (b : Bool). cond b (gives_back grant.revision (let barred : Outcome = record told { outputs = with_output outputs.CannotArm told.outputs } in barred)) (begins_or_claims now grant.revision (arming now waited.ttl told))) armed
+    ∙ ap (λ (b : Bool). cond b (gives_back grant.revision (let barred : Outcome = record told { outputs = with_output (outputs.Note agent_notes.CannotArm) told.outputs } in barred)) (begins_or_claims now grant.revision (arming now waited.ttl told))) armed
 
 lease-begins : (now : Ticks) (sequence : ℕ) (grant : Granted) (snapshot : SnapshotFacts) (o : Outcome) → (awaited : IsAwaitedLease sequence grant o.knows) → granted now sequence grant snapshot o ≡ begins_or_claims now grant.revision (arming now awaited.waited.ttl (Told snapshot o))
     → (o.knows.turn_settings.synchronous_mode ≡ false → BeginsOn now grant.revision o (granted now sequence grant snapshot o)) × (o.knows.turn_settings.synchronous_mode ≡ true → ClaimsOn grant.revision o (granted now sequence grant snapshot o))

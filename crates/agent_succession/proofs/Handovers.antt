@@ -12,6 +12,7 @@ use Rattle.lease_law.proofs.Tools.{le-from, none-some, some-is}
 use Rattle.cluster_config.specs.Naming.{is_standby}
 use Rattle.leader_race.specs.Eligibility.{may_fail_over}
 use Rattle.leader_race.specs.Peers.{earlier, first_of, member_where}
+use Rattle.event_book.specs.declared.agent_note.AgentNote.TheVariants as agent_notes
 use Rattle.agent_model.specs.declared.knowledge.SyncRead.{SyncRead}
 use Rattle.agent_model.specs.declared.output.Output.{Output}
 use Rattle.agent_model.specs.declared.output.Output.TheVariants as outputs
@@ -91,26 +92,26 @@ may-lead o failover candidate found =
     }
 
 -- ---- a handover that is judged
-asks-nobody : (sent : Output) (o : Outcome) (candidate : MemberId) → (sent ≡ outputs.HandsOver candidate → ⊥) → Contains (with_output sent o.outputs) (outputs.HandsOver candidate) → Contains o.outputs (outputs.HandsOver candidate)
-asks-nobody sent o candidate other among = elim (Contains-push_cases o.outputs sent (outputs.HandsOver candidate) among) [ inl before-it ↦ before-it | inr is ↦ absurd (other is) ]
+asks-nobody : (sent : Output) (o : Outcome) (candidate : MemberId) → (sent ≡ outputs.Note (agent_notes.HandsOver candidate) → ⊥) → Contains (with_output sent o.outputs) (outputs.Note (agent_notes.HandsOver candidate)) → Contains o.outputs (outputs.Note (agent_notes.HandsOver candidate))
+asks-nobody sent o candidate other among = elim (Contains-push_cases o.outputs sent (outputs.Note (agent_notes.HandsOver candidate)) among) [ inl before-it ↦ before-it | inr is ↦ absurd (other is) ]
 
-same-candidate : (member candidate : MemberId) → ◌≡◌ {A = Output} (outputs.HandsOver member) (outputs.HandsOver candidate) → member ≡ candidate
+same-candidate : (member candidate : MemberId) → ◌≡◌ {A = Output} (outputs.Note (agent_notes.HandsOver member)) (outputs.Note (agent_notes.HandsOver candidate)) → member ≡ candidate
 same-candidate member candidate e = cc
 
-ends-nobody : (candidate : MemberId) → ◌≡◌ {A = Output} outputs.ShutDown (outputs.HandsOver candidate) → ⊥
+ends-nobody : (candidate : MemberId) → ◌≡◌ {A = Output} outputs.ShutDown (outputs.Note (agent_notes.HandsOver candidate)) → ⊥
 ends-nobody candidate e = cc
 
 module _ (now : Ticks) (revision : ℕ) (candidate : MemberId) (o : Outcome) where
   abbrev Right : Outcome → Type 0
-  Right after = Contains after.outputs (outputs.HandsOver candidate) → Contains o.outputs (outputs.HandsOver candidate) ⊎ HandsOverTo revision candidate o after
+  Right after = Contains after.outputs (outputs.Note (agent_notes.HandsOver candidate)) → Contains o.outputs (outputs.Note (agent_notes.HandsOver candidate)) ⊎ HandsOverTo revision candidate o after
 
   clears : Right (clearing (waiting_no_more o))
-  clears among = inl (clearing-by (λ (after : Outcome). Contains after.outputs (outputs.HandsOver candidate) → Contains o.outputs (outputs.HandsOver candidate)) (waiting_no_more o) (λ before-it. before-it) (λ compared. asks-nobody _ o candidate (λ e. cc)) among)
+  clears among = inl (clearing-by (λ (after : Outcome). Contains after.outputs (outputs.Note (agent_notes.HandsOver candidate)) → Contains o.outputs (outputs.Note (agent_notes.HandsOver candidate))) (waiting_no_more o) (λ before-it. before-it) (λ compared. asks-nobody _ o candidate (λ e. cc)) among)
 
   hands : (failover : FailoverKey) (member : MemberId) → o.knows.turn_failover ≡ Some failover → first_of (is_successor o.knows o.machine.server failover) o.knows.answers ≡ Some member → Right (hands_over_to now revision (Some member) (waiting_no_more o))
   hands failover member asked is among =
-      let noted : List Output = with_output (outputs.HandsOver member) o.outputs in
-      elim (Contains-push_cases o.outputs (outputs.HandsOver member) (outputs.HandsOver candidate) (asks-nobody outputs.ShutDown (record o { outputs = noted }) candidate (ends-nobody candidate) among)) [
+      let noted : List Output = with_output (outputs.Note (agent_notes.HandsOver member)) o.outputs in
+      elim (Contains-push_cases o.outputs (outputs.Note (agent_notes.HandsOver member)) (outputs.Note (agent_notes.HandsOver candidate)) (asks-nobody outputs.ShutDown (record o { outputs = noted }) candidate (ends-nobody candidate) among)) [
         | inl before-it ↦ inl before-it
         | inr same ↦ inr (record {
           failover = failover;

@@ -8,6 +8,7 @@ use Rattle.lease_store.specs.declared.granted.Granted.{Granted}
 use Rattle.lease_store.specs.declared.txn.Txn.TheVariants as txns
 use Rattle.leader_race.specs.Eligibility.{eligibility_of}
 use Rattle.leader_race.specs.Outcome.{outcome_of}
+use Rattle.event_book.specs.declared.agent_note.AgentNote.TheVariants as agent_notes
 use Rattle.event_book.specs.declared.message.Body.TheVariants as bodies
 use Rattle.cluster_config.specs.Snapshots.{SnapshotFacts, leader_in, settings_in}
 use Rattle.agent_model.specs.declared.heard.Heard.{Heard}
@@ -44,7 +45,7 @@ pub record StaysOut (snapshot : SnapshotFacts) (bar : Ineligibility) (o after : 
   pub role : after.role ≡ Follower
   pub machine : after.machine ≡ o.machine
   pub waits : after.knows.waited ≡ None
-  pub outputs_are : after.outputs ≡ with_output (outputs.Send targets.Store (o.knows.sequence + 1) (bodies.Request (txns.Touch (info_of o.knows.who o.machine.server) (lease_span (settings_in o.knows.settings snapshot))))) (with_output (outputs.DoesNotRace bar) o.outputs)
+  pub outputs_are : after.outputs ≡ with_output (outputs.Send targets.Store (o.knows.sequence + 1) (bodies.Request (txns.Touch (info_of o.knows.who o.machine.server) (lease_span (settings_in o.knows.settings snapshot))))) (with_output (outputs.Note (agent_notes.DoesNotRace bar)) o.outputs)
 
 -- the agent asks for the leader key, and waits for the answer
 pub record AsksForKey (o after : Outcome) : Type 0 where
@@ -88,7 +89,7 @@ pub record LosesRace (bar : Ineligibility) (o after : Outcome) : Type 0 where
   pub role : after.role ≡ o.role
   pub machine : after.machine ≡ o.machine
   pub waits : after.knows.waited ≡ None
-  pub outputs_are : after.outputs ≡ with_output (outputs.Send targets.Store (o.knows.sequence + 1) (bodies.Request (txns.Touch (info_of o.knows.who o.machine.server) (lease_span o.knows.settings)))) (with_output (outputs.DoesNotRace bar) o.outputs)
+  pub outputs_are : after.outputs ≡ with_output (outputs.Send targets.Store (o.knows.sequence + 1) (bodies.Request (txns.Touch (info_of o.knows.who o.machine.server) (lease_span o.knows.settings)))) (with_output (outputs.Note (agent_notes.DoesNotRace bar)) o.outputs)
 
 -- it loses the race, and then a turn begins that is due
 pub record LosesAndTurns (now : Ticks) (bar : Ineligibility) (o after : Outcome) : Type 0 where

@@ -16,7 +16,7 @@ use crate::outputs::Outputs;
 use crate::role::Role;
 use crate::turn::Turn;
 use agent_model::{Output, PendingQuestion, Question, Target, Why};
-use event_book::{Body, Reason};
+use event_book::{AgentNote, Body, Reason};
 use leader_key::{Armed, Lease, Mode, NotArmed, Watchdog, Writer};
 use lease_store::{Granted, Txn};
 use pat_base::{Required, Ticks};
@@ -219,7 +219,7 @@ impl Turn<'_> {
         ensures outcome { ComesTo running_without_key self.old self.new }
         ensures left { Spent 1 0 self.old self.new }
     {
-        self.out.put(Output::RunsWithoutKey);
+        self.out.put(Output::Note(AgentNote::RunsWithoutKey));
         Role::Unleased
     }
 }
@@ -288,6 +288,6 @@ fn tell_rest(out: &mut Outputs, renews: bool, deadline: Option<Ticks>)
     }
     out.put(Output::Disarmed);
     if renews {
-        out.put(Output::DisablesWatchdog);
+        out.put(Output::Note(AgentNote::DisablesWatchdog));
     }
 }

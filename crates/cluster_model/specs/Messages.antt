@@ -16,7 +16,7 @@ use Rattle.event_book.specs.declared.event.Event.{Event}
 use Rattle.event_book.specs.declared.event.EventKind.{EventKind}
 use Rattle.event_book.specs.declared.event.EventKind.TheVariants as kinds
 use Rattle.event_book.specs.declared.event.MessageEvent.TheVariants.{Sent, Delivered, Lost}
-use Rattle.event_book.specs.declared.event.Note.TheVariants.{CannotArm, ConnectionFailed, DisablesWatchdog, NoMessage, PostponesPromotion, RunsWithoutKey, Undeliverable}
+use Rattle.event_book.specs.declared.event.Note.TheVariants.{ConnectionFailed, NoMessage, Undeliverable}
 use Rattle.event_book.specs.declared.event.StoreEvent.TheVariants as stores
 use Rattle.event_book.specs.declared.event.WatchdogEvent.TheVariants.{Disarmed}
 use Rattle.event_book.specs.declared.link.LinkEnd.{LinkEnd}
@@ -51,7 +51,7 @@ use Rattle.cluster_model.specs.Beginnings.{begin_kinds, server_restart_kinds}
 use Rattle.cluster_model.specs.Commands.{kinds_of}
 use Rattle.cluster_model.specs.Inputs.{agent_at, moment_of, outcome_of, outcome_of_heard, may_act, outputs_of, standing_of, is_to_wake}
 use Rattle.cluster_model.specs.Limits.{most_in_flight}
-use Rattle.cluster_model.specs.Orders.{arming, declared_member, feed_kinds, feeding, handing_over, hold_taken, not_racing, repair_over, replica_start_kinds, require_of, server_at, stop_kinds, stop_of, upstream_of, wipe_of}
+use Rattle.cluster_model.specs.Orders.{agent_noting, arming, declared_member, feed_kinds, feeding, hold_taken, repair_over, replica_start_kinds, require_of, server_at, stop_kinds, stop_of, upstream_of, wipe_of}
 use Rattle.cluster_model.specs.Parts.{event_of, events_of, events_then, for_some, each}
 use Rattle.cluster_model.specs.Requests.{action_of, answer_at, replying, silence, told_kind}
 use Rattle.cluster_model.specs.State.{Cluster}
@@ -125,13 +125,8 @@ output_events member heard cluster (outputs.Require required) = server_order_eve
 output_events member heard cluster (outputs.Armed until) = events_of cluster (feed_kinds member heard (arming member until heard))
 output_events member heard cluster (outputs.Fed until) = events_of cluster (feed_kinds member heard (feeding member until heard))
 output_events member heard cluster outputs.Disarmed = event_of cluster (kinds.Watchdog (Disarmed member))
-output_events member heard cluster outputs.CannotArm = event_of cluster (kinds.Note (CannotArm member))
+output_events member heard cluster (outputs.Note note) = event_of cluster (agent_noting cluster.facts.members member note)
 output_events member heard cluster outputs.ClaimsOutsideSync = event_of cluster (kinds.Agent (Passed member))
-output_events member heard cluster outputs.PostponesPromotion = event_of cluster (kinds.Note (PostponesPromotion member))
-output_events member heard cluster outputs.DisablesWatchdog = event_of cluster (kinds.Note (DisablesWatchdog member))
-output_events member heard cluster outputs.RunsWithoutKey = event_of cluster (kinds.Note (RunsWithoutKey member))
-output_events member heard cluster (outputs.DoesNotRace bar) = event_of cluster (not_racing cluster.facts.members member bar)
-output_events member heard cluster (outputs.HandsOver candidate) = events_of cluster (kinds_of (option_map (handing_over member) (slice_get cluster.facts.members candidate.number)))
 output_events member heard cluster (outputs.Told request told) = events_of cluster (kinds_of (told_kind member (agent_at cluster.agents member.id.number) told))
 output_events member heard cluster (outputs.HoldTaken until from sequence) = events_of cluster (kinds_of (option_map (hold_taken member until heard.incarnation sequence) (slice_get cluster.facts.members from.number)))
 

@@ -13,6 +13,8 @@ use Rattle.pg_cluster.specs.declared.answers.Rewound.{Rewound}
 use Rattle.pg_cluster.specs.Rewinding.{may_clone_at, rewind_at}
 use Rattle.pg_model.specs.Facts.{ServerFacts, is_creating, is_down, is_replica, is_up}
 use Rattle.pg_model.specs.Running.{is_primary}
+use Rattle.event_book.specs.declared.agent_note.AgentNote.{AgentNote}
+use Rattle.event_book.specs.declared.agent_note.AgentNote.TheVariants as agent_notes
 use Rattle.event_book.specs.declared.event.EventKind.{EventKind}
 use Rattle.event_book.specs.declared.event.EventKind.TheVariants as kinds
 use Rattle.event_book.specs.declared.event.LogEvent.TheVariants as logs
@@ -134,10 +136,12 @@ barring _ = None
 abbrev pub declared_name : List Member → Option MemberId → Option Name
 declared_name members id = option_map (λ member. member.name) (declared_member members id)
 
--- a member doesn't race for the free leader key, with the name of the member that bars it, if one does
-abbrev pub not_racing : List Member → Member → Ineligibility → EventKind
-not_racing members member bar = kinds.Note (notes.DoesNotRace member bar (declared_name members (barring bar)))
+-- the member that a note of an agent speaks of, if it speaks of one
+abbrev pub spoken_of : AgentNote → Option MemberId
+spoken_of (agent_notes.DoesNotRace because) = barring because
+spoken_of (agent_notes.HandsOver candidate) = Some candidate
+spoken_of _ = None
 
--- a member hands over to this one
-abbrev pub handing_over : Member → Member → EventKind
-handing_over member candidate = kinds.Note (notes.HandsOver member candidate)
+-- what the agent of a member notes, with the name of the member that it speaks of
+abbrev pub agent_noting : List Member → Member → AgentNote → EventKind
+agent_noting members member note = kinds.Note (notes.OfAgent member note (declared_name members (spoken_of note)))

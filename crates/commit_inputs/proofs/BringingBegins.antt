@@ -52,12 +52,7 @@ kept-by now machine (outputs.Send to sequence body) covered = refl
 kept-by now machine (outputs.Armed until) covered = refl
 kept-by now machine (outputs.Fed until) covered = refl
 kept-by now machine outputs.Disarmed covered = refl
-kept-by now machine outputs.CannotArm covered = refl
-kept-by now machine outputs.DisablesWatchdog covered = refl
-kept-by now machine outputs.RunsWithoutKey covered = refl
-kept-by now machine outputs.PostponesPromotion covered = refl
-kept-by now machine (outputs.DoesNotRace bar) covered = refl
-kept-by now machine (outputs.HandsOver candidate) covered = refl
+kept-by now machine (outputs.Note note) covered = refl
 kept-by now machine (outputs.Told request told) covered = refl
 kept-by now machine _ covered = absurd covered
 

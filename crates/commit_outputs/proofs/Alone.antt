@@ -30,7 +30,7 @@ use Rattle.cluster_model.specs.Cluster.{cluster_after, cluster_over}
 use Rattle.cluster_model.specs.Commands.{kinds_of}
 use Rattle.cluster_model.specs.Inputs.{agent_at}
 use Rattle.cluster_model.specs.Messages.{output_events, repair_events}
-use Rattle.cluster_model.specs.Orders.{arming, declared_member, feed_kinds, feeding, following_of, handing_over, not_racing, repair_over, replica_start_kinds, server_at, stop_kinds, stop_of, upstream_of, wipe_of}
+use Rattle.cluster_model.specs.Orders.{agent_noting, arming, declared_member, feed_kinds, feeding, following_of, repair_over, replica_start_kinds, server_at, stop_kinds, stop_of, upstream_of, wipe_of}
 use Rattle.cluster_model.specs.Parts.{each, event_of, events_of, for_some}
 use Rattle.cluster_model.specs.Requests.{config_text_of, told_kind}
 use Rattle.cluster_model.specs.State.{Cluster}
@@ -174,20 +174,13 @@ module _ (setup : Setup) (member : Member) where
     output-moves past cluster (outputs.Armed until) fits table alone answers = free-moves past cluster (feed_kinds member message (arming member until message)) fits (tt, (tt, tt))
     output-moves past cluster (outputs.Fed until) fits table alone answers = free-moves past cluster (feed_kinds member message (feeding member until message)) fits (tt, (tt, tt))
     output-moves past cluster outputs.Disarmed fits table alone answers = free-moves past cluster (kinds.Watchdog (watchdogs.Disarmed member) ∷ []) fits (tt, tt)
-    output-moves past cluster outputs.CannotArm fits table alone answers = free-moves past cluster (kinds.Note (notes.CannotArm member) ∷ []) fits (tt, tt)
-    output-moves past cluster outputs.DisablesWatchdog fits table alone answers = free-moves past cluster (kinds.Note (notes.DisablesWatchdog member) ∷ []) fits (tt, tt)
-    output-moves past cluster outputs.RunsWithoutKey fits table alone answers = free-moves past cluster (kinds.Note (notes.RunsWithoutKey member) ∷ []) fits (tt, tt)
+    output-moves past cluster (outputs.Note note) fits table alone answers = free-moves past cluster (agent_noting cluster.facts.members member note ∷ []) fits (tt, tt)
     output-moves past cluster outputs.ClaimsOutsideSync fits table alone answers = absurd alone
-    output-moves past cluster outputs.PostponesPromotion fits table alone answers = free-moves past cluster (kinds.Note (notes.PostponesPromotion member) ∷ []) fits (tt, tt)
-    output-moves past cluster (outputs.DoesNotRace bar) fits table alone answers = free-moves past cluster (not_racing cluster.facts.members member bar ∷ []) fits (tt, tt)
     output-moves past cluster outputs.ShutDown fits table alone answers = shuts-moves past cluster (server_at cluster member) refl fits
     output-moves past cluster (outputs.Repair leader repair) fits table alone answers = repair-moves past cluster repair (slice_get cluster.facts.members leader.number) fits
     output-moves past cluster (outputs.HoldTaken until from sequence) fits table alone answers = absurd table
     output-moves past cluster (outputs.Restart as_primary) fits table alone answers = restarts-moves past cluster (server_at cluster member) refl fits
     output-moves past cluster outputs.Wipe fits table alone answers = wipes-moves past cluster (server_at cluster member) refl fits
-    output-moves past cluster (outputs.HandsOver candidate) fits table alone answers =
-        let kind : Option EventKind = option_map (handing_over member) (slice_get cluster.facts.members candidate.number) in
-        free-moves past cluster (kinds_of kind) fits (one-kind IsFree kind (noted-free (λ next. notes.HandsOver member next) (slice_get cluster.facts.members candidate.number)))
     output-moves past cluster (outputs.Told request told) fits table alone answers =
         let kind : Option EventKind = told_kind member (agent_at cluster.agents member.id.number) told in
         free-moves past cluster (kinds_of kind) fits (one-kind IsFree kind (told-free member (agent_at cluster.agents member.id.number) told))

@@ -275,13 +275,8 @@ module _ (member : Member) (message : HeardMessage) where
   output-covers past cluster none (outputs.Armed until) is table = record { own = (tt, (tt, tt)); leaves = (tt, (tt, tt)); aside = (tt, (tt, tt)); ordered = (tt, (tt, tt)); flight = λ i. refl; live = refl; told = refl; held = refl; later = omega arith }
   output-covers past cluster none (outputs.Fed until) is table = record { own = (tt, (tt, tt)); leaves = (tt, (tt, tt)); aside = (tt, (tt, tt)); ordered = (tt, (tt, tt)); flight = λ i. refl; live = refl; told = refl; held = refl; later = omega arith }
   output-covers past cluster none outputs.Disarmed is table = record { own = (tt, tt); leaves = (tt, tt); aside = (tt, tt); ordered = (tt, tt); flight = λ i. refl; live = refl; told = refl; held = refl; later = omega arith }
-  output-covers past cluster none outputs.CannotArm is table = record { own = (tt, tt); leaves = (tt, tt); aside = (tt, tt); ordered = (tt, tt); flight = λ i. refl; live = refl; told = refl; held = refl; later = omega arith }
-  output-covers past cluster none outputs.DisablesWatchdog is table = record { own = (tt, tt); leaves = (tt, tt); aside = (tt, tt); ordered = (tt, tt); flight = λ i. refl; live = refl; told = refl; held = refl; later = omega arith }
-  output-covers past cluster none outputs.RunsWithoutKey is table = record { own = (tt, tt); leaves = (tt, tt); aside = (tt, tt); ordered = (tt, tt); flight = λ i. refl; live = refl; told = refl; held = refl; later = omega arith }
+  output-covers past cluster none (outputs.Note note) is table = record { own = (tt, tt); leaves = (tt, tt); aside = (tt, tt); ordered = (tt, tt); flight = λ i. refl; live = refl; told = refl; held = refl; later = omega arith }
   output-covers past cluster none outputs.ClaimsOutsideSync is table = record { own = (tt, tt); leaves = (tt, tt); aside = (tt, tt); ordered = (tt, tt); flight = λ i. refl; live = refl; told = refl; held = refl; later = omega arith }
-  output-covers past cluster none outputs.PostponesPromotion is table = record { own = (tt, tt); leaves = (tt, tt); aside = (tt, tt); ordered = (tt, tt); flight = λ i. refl; live = refl; told = refl; held = refl; later = omega arith }
-  output-covers past cluster none (outputs.DoesNotRace bar) is table = record { own = (tt, tt); leaves = (tt, tt); aside = (tt, tt); ordered = (tt, tt); flight = λ i. refl; live = refl; told = refl; held = refl; later = omega arith }
-  output-covers past cluster none (outputs.HandsOver candidate) is table = said-covers past cluster (λ next. notes.HandsOver member next) (slice_get cluster.facts.members candidate.number)
   output-covers past cluster none (outputs.Told request told) is table = told-covers past cluster (agent_at cluster.agents M) told
   output-covers past cluster none _ is table = absurd is
 

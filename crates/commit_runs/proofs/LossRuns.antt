@@ -36,7 +36,7 @@ use Rattle.cluster_model.specs.Hearing.{heard_from}
 use Rattle.cluster_model.specs.Inputs.{agent_at, outcome_of, outcome_of_heard, outputs_of}
 use Rattle.cluster_model.specs.Messages.{agent_message, heard_message, input_events, no_message, output_events, receiver_of, replying_events, sending_events, server_order_events}
 use Rattle.cluster_model.specs.Next.{run_events}
-use Rattle.cluster_model.specs.Orders.{declared_member, following_of, handing_over, hold_taken, is_same_required, repair_over, replica_start_kinds, require_of, server_at, stop_kind, stop_kinds, stop_of, upstream_of, wipe_of}
+use Rattle.cluster_model.specs.Orders.{declared_member, following_of, hold_taken, is_same_required, repair_over, replica_start_kinds, require_of, server_at, stop_kind, stop_kinds, stop_of, upstream_of, wipe_of}
 use Rattle.cluster_model.specs.Parts.{event_of, events_of}
 use Rattle.cluster_model.specs.Starting.{cluster_of}
 use Rattle.cluster_model.specs.Requests.{told_kind}
@@ -159,16 +159,6 @@ module _ (head : HeadText) where
       upheld-loseless head book cluster _ good (order-none cluster member (require_of cluster.facts.members member required) (λ s. holds-cond (is_same_required s.required required) None _ tt tt))
   upholds-output member heard (outputs.Armed until) book cluster good = upheld-loseless head book cluster _ good (tt, (tt, tt))
   upholds-output member heard (outputs.Fed until) book cluster good = upheld-loseless head book cluster _ good (tt, (tt, tt))
-  upholds-output member heard outputs.Disarmed book cluster good = upheld-loseless head book cluster _ good (tt, tt)
-  upholds-output member heard outputs.CannotArm book cluster good = upheld-loseless head book cluster _ good (tt, tt)
-  upholds-output member heard outputs.ClaimsOutsideSync book cluster good = upheld-loseless head book cluster _ good (tt, tt)
-  upholds-output member heard outputs.PostponesPromotion book cluster good = upheld-loseless head book cluster _ good (tt, tt)
-  upholds-output member heard outputs.DisablesWatchdog book cluster good = upheld-loseless head book cluster _ good (tt, tt)
-  upholds-output member heard outputs.RunsWithoutKey book cluster good = upheld-loseless head book cluster _ good (tt, tt)
-  upholds-output member heard (outputs.DoesNotRace bar) book cluster good = upheld-loseless head book cluster _ good (tt, tt)
-  upholds-output member heard (outputs.HandsOver candidate) book cluster good =
-      let found = slice_get cluster.facts.members candidate.number in
-      upheld-loseless head book cluster _ good (none-if cluster (option_map (handing_over member) found) (holds-mapped found (handing_over member) (λ m. tt)))
   upholds-output member heard (outputs.Told request told) book cluster good =
       let agent = agent_at cluster.agents member.id.number in
       upheld-loseless head book cluster _ good (none-if cluster (told_kind member agent told) (told-holds LosesNone member agent told (λ reply. tt)))
@@ -176,6 +166,7 @@ module _ (head : HeadText) where
       let found = slice_get cluster.facts.members from.number in
       let hold = hold_taken member until heard.incarnation sequence in
       upheld-loseless head book cluster _ good (none-if cluster (option_map hold found) (holds-mapped found hold (λ m. tt)))
+  upholds-output member heard _ book cluster good = upheld-loseless head book cluster _ good (tt, tt)
 
   -- what an agent does behind an event
   input-upheld : (book : List Event) (cluster : Cluster) (kind : EventKind) (member : Member) (heard : HeardMessage) (outcome : Option Outcome) → TellsSoFar head book cluster → LosesNone kind

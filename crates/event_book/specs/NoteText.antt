@@ -4,7 +4,7 @@ use Rattle.std.specs.Fmt.{decimal}
 use Rattle.pat_base.specs.Name.{name_bytes}
 use Rattle.event_book.specs.declared.event.Note.{Note}
 use Rattle.event_book.specs.declared.event.Note.TheVariants as notes
-use Rattle.event_book.specs.Reasons.{reason_text, ineligibility_text}
+use Rattle.event_book.specs.Reasons.{agent_note_text, reason_text}
 
 -- what the REST interface of the agent of this name answered; behind the status stands no blank where there is no body
 abbrev pub answered_line : ℕ → List ℕ → ℕ → List ℕ → Option (List ℕ)
@@ -28,21 +28,10 @@ reply_line tick notes.ConnectionFailed = Some (decimal tick ++ codes " connectio
 reply_line tick (notes.CtlLine line) = ctl_line line
 reply_line tick _ = None
 
--- the line of a note about one member alone
-abbrev pub own_note_line : ℕ → Note → Option (List ℕ)
-own_note_line tick (notes.CannotArm member) = Some (decimal tick ++ (codes " " ++ (name_bytes member.name ++ codes " cannot arm its watchdog\n")))
-own_note_line tick (notes.DisablesWatchdog member) = Some (decimal tick ++ (codes " " ++ (name_bytes member.name ++ codes " disables its watchdog\n")))
-own_note_line tick (notes.PostponesPromotion member) = Some (decimal tick ++ (codes " " ++ (name_bytes member.name ++ codes " postpones its promotion\n")))
-own_note_line tick (notes.RunsWithoutKey member) = Some (decimal tick ++ (codes " " ++ (name_bytes member.name ++ codes " runs as primary without the leader key\n")))
-own_note_line tick (notes.StaysByFailsafe member) = Some (decimal tick ++ (codes " " ++ (name_bytes member.name ++ codes " stays primary by failsafe\n")))
-own_note_line tick note = reply_line tick note
-
 -- the line of a note
 abbrev pub note_line : ℕ → Note → Option (List ℕ)
+note_line tick (notes.OfAgent member note about) = Some (decimal tick ++ (codes " " ++ (name_bytes member.name ++ (codes " " ++ (agent_note_text note about ++ codes "\n")))))
 note_line tick (notes.EndsServer member reason) =
     Some (decimal tick ++ (codes " " ++ (name_bytes member.name ++ (codes " ends its server: " ++ (reason_text reason ++ codes "\n")))))
-note_line tick (notes.DoesNotRace member bar by) =
-    Some (decimal tick ++ (codes " " ++ (name_bytes member.name ++ (codes " does not race: " ++ (ineligibility_text bar by ++ codes "\n")))))
-note_line tick (notes.HandsOver member candidate) =
-    Some (decimal tick ++ (codes " " ++ (name_bytes member.name ++ (codes " hands over to " ++ (name_bytes candidate.name ++ codes "\n")))))
-note_line tick note = own_note_line tick note
+note_line tick (notes.StaysByFailsafe member) = Some (decimal tick ++ (codes " " ++ (name_bytes member.name ++ codes " stays primary by failsafe\n")))
+note_line tick note = reply_line tick note

@@ -1,8 +1,8 @@
 //! What can happen. An event stands in the book only where something changed. It has the names that its line prints.
 
-use crate::{Basis, Bytes, Link, Member, Message, Names, Reason, ServerOf};
+use crate::{AgentNote, Basis, Bytes, Link, Member, Message, Names, Reason, ServerOf};
 use lease_store::{Expected, Key, OperatorAction, Txn, TxnKind};
-use pat_base::{Ineligibility, Lsn, Name, Required, Shared, Ticks};
+use pat_base::{Lsn, Name, Required, Shared, Ticks};
 use wal_model::Entry;
 
 /// A happening, at a moment in ticks of 100 ms.
@@ -281,36 +281,16 @@ pub enum LinkEvent {
 /// What is printed, and read by no definition.
 #[derive(Debug, Drop)]
 pub enum Note {
-    /// The member has no watchdog that can be armed, and needs one.
-    CannotArm {
+    /// The member's agent notes this. With the name of the member that the note speaks of, where it speaks of one that is declared.
+    OfAgent {
         member: Member,
-    },
-    /// The member's watchdog rests while the cluster is paused.
-    DisablesWatchdog {
-        member: Member,
+        note: AgentNote,
+        about: Option<Name>,
     },
     /// The member's agent ends its server for this reason.
     EndsServer {
         member: Member,
         reason: Reason,
-    },
-    /// The member keeps the leader key without beginning to write.
-    PostponesPromotion {
-        member: Member,
-    },
-    /// Why the member doesn't ask for a free leader key, with the name of the member that bars it, if one does.
-    DoesNotRace {
-        member: Member,
-        bar: Ineligibility,
-        by: Option<Name>,
-    },
-    HandsOver {
-        member: Member,
-        candidate: Member,
-    },
-    /// In a pause, a primary has no lease.
-    RunsWithoutKey {
-        member: Member,
     },
     /// All members that a primary asked, as it can't reach the key store, accept that it stays primary.
     StaysByFailsafe {

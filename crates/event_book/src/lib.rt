@@ -1,6 +1,7 @@
 //! The book of a run: the list of what happened, what it leaves, and how it is printed.
 #![tactic(auto)]
 
+mod agent_note;
 mod agent_process;
 mod event;
 mod laws;
@@ -16,6 +17,7 @@ mod reason;
 mod server_printing;
 mod store_printing;
 
+pub use agent_note::AgentNote;
 pub use agent_process::AgentProcess;
 pub use event::{
     AgentEvent, Event, EventKind, LinkEvent, LogEvent, MessageEvent, Note, ReplicationEvent,

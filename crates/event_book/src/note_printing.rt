@@ -1,10 +1,10 @@
 //! The printed lines of notes.
 ghost use Rattle.std.specs.Prelude.{◌≡◌, ◌++◌, OnOk, string_bytes};
 ghost use Rattle.pat_base.specs.Name.{name_bytes};
-ghost use Rattle.event_book.specs.NoteText.{note_line, own_note_line, reply_line, answered_line, ctl_line};
+ghost use Rattle.event_book.specs.NoteText.{note_line, reply_line, answered_line, ctl_line};
 ghost use Rattle.event_book.specs.Text.{bytes_or_none};
 
-use crate::reason::IneligibilityText;
+use crate::agent_note::AgentNoteText;
 use crate::{Bytes, Note};
 use pat_base::{Name, Ticks};
 use std::alloc::AllocError;
@@ -18,42 +18,17 @@ pub fn write_note_line(line: &mut String, tick: Ticks, note: &Note) -> Result<()
             let name = member.name;
             write!(line, "{tick} {name} ends its server: {reason}\n")
         }
-        Note::DoesNotRace { member, bar, by } => {
+        Note::OfAgent {
+            member,
+            note,
+            about,
+        } => {
             let name = member.name;
-            let why = IneligibilityText { bar: *bar, by: *by };
-            write!(line, "{tick} {name} does not race: {why}\n")
-        }
-        Note::HandsOver { member, candidate } => {
-            let (name, next) = (member.name, candidate.name);
-            write!(line, "{tick} {name} hands over to {next}\n")
-        }
-        other => write_own_note_line(line, tick, other),
-    }
-}
-
-/// Appends the line of a note about one member alone.
-fn write_own_note_line(line: &mut String, tick: Ticks, note: &Note) -> Result<(), AllocError>
-    ensures { OnOk result (string_bytes line.new ≡ string_bytes line.old ++ bytes_or_none (own_note_line tick.0 note.now)) }
-{
-    match note {
-        Note::CannotArm { member } => {
-            let name = member.name;
-            write!(line, "{tick} {name} cannot arm its watchdog\n")
-        }
-        Note::DisablesWatchdog { member } => {
-            let name = member.name;
-            write!(line, "{tick} {name} disables its watchdog\n")
-        }
-        Note::PostponesPromotion { member } => {
-            let name = member.name;
-            write!(line, "{tick} {name} postpones its promotion\n")
-        }
-        Note::RunsWithoutKey { member } => {
-            let name = member.name;
-            write!(
-                line,
-                "{tick} {name} runs as primary without the leader key\n"
-            )
+            let text = AgentNoteText {
+                note: *note,
+                about: *about,
+            };
+            write!(line, "{tick} {name} {text}\n")
         }
         Note::StaysByFailsafe { member } => {
             let name = member.name;

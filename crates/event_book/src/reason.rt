@@ -1,4 +1,6 @@
 //! Why watchdogs are fed, and why servers are ended.
+ghost use Rattle.std.specs.Prelude.{◌≡◌};
+ghost use Rattle.event_book.specs.Reasons.{name_or_another};
 
 use pat_base::{Ineligibility, MemberSet, Name};
 use std::fmt;
@@ -46,18 +48,13 @@ pub struct IneligibilityText {
     pub by: Option<Name>,
 }
 
-impl IneligibilityText {
-    ghost use Rattle.std.specs.Prelude.{◌≡◌};
-    ghost use Rattle.event_book.specs.Reasons.{barring_text};
-
-    /// The member that bars it, by its name where that is told.
-    fn barring(&self) -> &str
-        ensures { result.now ≡ barring_text self.now.by }
-    {
-        match &self.by {
-            None => "another member",
-            Some(name) => name.as_str(),
-        }
+/// Another member, by its name where that is told.
+pub fn name_or_another(name: &Option<Name>) -> &str
+    ensures { result.now ≡ name_or_another name.now }
+{
+    match name {
+        None => "another member",
+        Some(name) => name.as_str(),
     }
 }
 
@@ -68,7 +65,7 @@ impl fmt::Display for IneligibilityText {
     ghost output = { λ text. Some (ineligibility_text text.bar text.by) };
 
     fn fmt<W: fmt::Write>(&self, f: &mut fmt::Formatter<W>) -> fmt::Result {
-        let other = self.barring();
+        let other = name_or_another(&self.by);
         match self.bar {
             Ineligibility::NotRunning => f.write_str("its server is not a replica"),
             Ineligibility::NoFailover => f.write_str("it may not fail over"),

@@ -37,12 +37,12 @@ use Rattle.wal_model.specs.Lacking.{lacks_in}
 use Rattle.cluster_model.specs.Losing.{loss_if}
 use Rattle.wal_model.specs.declared.entry.Entry.{Entry}
 use Rattle.cluster_model.specs.Messages.{agent_message, lost_at_once, sending_events, output_events, replying_events, server_order_events}
-use Rattle.cluster_model.specs.Orders.{declared_member, following_of, handing_over, is_same_required, arming, feeding, feed_kinds, replica_start_kinds, require_of, required_names, server_at, stop_kind, stop_kinds, stop_of, upstream_of, repair_over, wipe_of}
+use Rattle.cluster_model.specs.Orders.{declared_member, following_of, is_same_required, arming, feeding, feed_kinds, replica_start_kinds, require_of, required_names, server_at, stop_kind, stop_kinds, stop_of, upstream_of, repair_over, wipe_of}
 use Rattle.cluster_model.specs.Parts.{events_of, for_some}
 use Rattle.cluster_model.specs.Requests.{told_kind}
 use Rattle.cluster_model.specs.State.{Cluster}
 use Rattle.event_book.specs.Kinds.{AllAre}
-use Rattle.cluster_model.proofs.Founds.{holds-if, holds-mapped, holds-then, repaired-holds, told-holds}
+use Rattle.cluster_model.proofs.Founds.{holds-if, holds-then, repaired-holds, told-holds}
 use Rattle.cluster_model.proofs.Lists.{AllKinds, HoldsIf, all-kinds, one-kind}
 use Rattle.lease_inputs.specs.InputEvents.{Asks, AsksPeer, AnswersPeer, IsOfInput, IsToBegin}
 
@@ -166,15 +166,8 @@ module _ (member : Member) (incarnation heard : ℕ) (Q : Output → Type 0) whe
   output-mine cluster message at runs (outputs.Armed until) table is = all-kinds Mine cluster (feed_kinds member message (arming member until message)) (refl, ((refl, at, is), tt))
   output-mine cluster message at runs (outputs.Fed until) table is = all-kinds Mine cluster (feed_kinds member message (feeding member until message)) (refl, ((refl, ap (λ (n : ℕ). bases.Grant n) at, is), tt))
   output-mine cluster message at runs outputs.Disarmed table is = (refl, tt)
-  output-mine cluster message at runs outputs.CannotArm table is = (tt, tt)
+  output-mine cluster message at runs (outputs.Note note) table is = (tt, tt)
   output-mine cluster message at runs outputs.ClaimsOutsideSync table is = (refl, tt)
-  output-mine cluster message at runs outputs.PostponesPromotion table is = (tt, tt)
-  output-mine cluster message at runs outputs.DisablesWatchdog table is = (tt, tt)
-  output-mine cluster message at runs outputs.RunsWithoutKey table is = (tt, tt)
-  output-mine cluster message at runs (outputs.DoesNotRace bar) table is = (tt, tt)
-  output-mine cluster message at runs (outputs.HandsOver candidate) table is =
-      let found = slice_get cluster.facts.members candidate.number in
-      kinds-mine cluster (option_map (handing_over member) found) (holds-mapped Mine (handing_over member) found (λ other. tt))
   output-mine cluster message at runs (outputs.Told request told) table is =
       let agent = agent_at cluster.agents member.id.number in
       kinds-mine cluster (told_kind member agent told) (told-holds Mine member agent told (λ reply. tt))

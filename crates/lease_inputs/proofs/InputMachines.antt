@@ -1,6 +1,6 @@
 -- The machine of a member behind what an input of its agent brings.
 use Rattle.pat_base.specs.Changes.{with_changed}
-use Rattle.std.proofs.Common.{◌≡◌, ◌+◌, ◌==◌, ◌&&◌, ◌||◌, not, nat_le, ℕ, Bool, true, false, if◌then◌else◌, List, [], ◌∷◌, Option, Some, None, length, slice_get, option_and_then, option_map, refl, sym, subst, ap, ◌∙◌}
+use Rattle.std.proofs.Common.{◌≡◌, ◌+◌, ◌==◌, ◌&&◌, ◌||◌, not, nat_le, ℕ, Bool, true, false, if◌then◌else◌, List, [], ◌∷◌, Option, Some, None, length, slice_get, option_and_then, refl, sym, subst, ap, ◌∙◌}
 use Rattle.pat_base.specs.declared.member_id.MemberId.{MemberId}
 use Rattle.pat_base.specs.declared.server_id.ServerId.{ServerId}
 use Rattle.pat_base.specs.declared.server_state.Required.{Required}
@@ -51,11 +51,11 @@ use Rattle.cluster_model.specs.Limits.{most_in_flight}
 use Rattle.cluster_model.specs.Messages.{agent_message, lost_at_once, send_events, sending_events, replying_events, receiver_of, output_events}
 use Rattle.wal_model.specs.Lacking.{lacks_in}
 use Rattle.cluster_model.specs.Losing.{loss_if}
-use Rattle.cluster_model.specs.Orders.{declared_member, following_of, handing_over, is_same_required, not_racing, replica_start_kinds, require_of, required_names, server_at, stop_kind, stop_kinds, upstream_of, repair_over, stop_of, wipe_of}
+use Rattle.cluster_model.specs.Orders.{agent_noting, declared_member, following_of, is_same_required, replica_start_kinds, require_of, required_names, server_at, stop_kind, stop_kinds, upstream_of, repair_over, stop_of, wipe_of}
 use Rattle.cluster_model.specs.Parts.{events_of, for_some}
 use Rattle.cluster_model.specs.Requests.{told_kind}
 use Rattle.cluster_model.specs.State.{Cluster}
-use Rattle.cluster_model.proofs.Founds.{holds-mapped, repaired-holds, told-holds}
+use Rattle.cluster_model.proofs.Founds.{repaired-holds, told-holds}
 use Rattle.cluster_model.proofs.Lists.{HoldsIf}
 use Rattle.lease_parts.proofs.Quiet.{live-kept}
 use Rattle.lease_parts.specs.Machines.{live_in, live_now}
@@ -663,16 +663,10 @@ module _ (member : Member) where
     deadline = item-here cluster.facts.deadlines member.id.number _ machine.watchdog.deadline old.deadline;
     hold = old.hold;
   }
-  output-here cluster message machine outputs.CannotArm table none old = unmoved cluster (cluster_after cluster (kinds.Note (notes.CannotArm member))) member.id.number machine refl refl refl old
-  output-here cluster message machine outputs.DisablesWatchdog table none old = unmoved cluster (cluster_after cluster (kinds.Note (notes.DisablesWatchdog member))) member.id.number machine refl refl refl old
-  output-here cluster message machine outputs.RunsWithoutKey table none old = unmoved cluster (cluster_after cluster (kinds.Note (notes.RunsWithoutKey member))) member.id.number machine refl refl refl old
+  output-here cluster message machine (outputs.Note note) table none old = unmoved cluster (cluster_after cluster (agent_noting cluster.facts.members member note)) member.id.number machine refl refl refl old
   output-here cluster message machine outputs.ClaimsOutsideSync table none old = unmoved cluster (cluster_after cluster (kinds.Agent (agents.Passed member))) member.id.number machine refl refl refl old
-  output-here cluster message machine outputs.PostponesPromotion table none old = unmoved cluster (cluster_after cluster (kinds.Note (notes.PostponesPromotion member))) member.id.number machine refl refl refl old
-  output-here cluster message machine (outputs.DoesNotRace bar) table none old = unmoved cluster (cluster_after cluster (not_racing cluster.facts.members member bar)) member.id.number machine refl refl refl old
   output-here cluster message machine (outputs.Restart as_primary) table none old = restart-here cluster machine old
   output-here cluster message machine outputs.Wipe table none old = wipe-here cluster machine old
-  output-here cluster message machine (outputs.HandsOver candidate) table none old =
-      note-here cluster machine (option_map (handing_over member) (slice_get cluster.facts.members candidate.number)) (holds-mapped IsOfNote (handing_over member) (slice_get cluster.facts.members candidate.number) (λ other. tt)) old
   output-here cluster message machine (outputs.Told request told) table none old =
       note-here cluster machine (told_kind member (agent_at cluster.agents member.id.number) told) (told-holds IsOfNote member (agent_at cluster.agents member.id.number) told (λ reply. tt)) old
   output-here cluster message machine (outputs.HoldTaken until from sequence) table none old = absurd table

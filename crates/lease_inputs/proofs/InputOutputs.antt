@@ -179,27 +179,8 @@ module _ (member : Member) (incarnation : ℕ) (message : HeardMessage) where
   pub output-numbered : (cluster : Cluster) (output : Output) → Runs cluster.facts.processes → IsOfTable output → AreNumberedAbove cluster.facts.sent (Brings cluster output)
   output-numbered cluster (outputs.Send to sequence body) runs table = send-numbered cluster (receiver_of cluster.facts.members to) sequence body (slice_get cluster.facts.processes member.id.number)
   output-numbered cluster (outputs.Answer to asked sequence answer) runs table = reply-numbered cluster (receiver_of cluster.facts.members (targets.Member to)) asked sequence (bodies.Answer answer)
-  output-numbered cluster outputs.Begin runs table = other-numbered cluster outputs.Begin runs table tt
-  output-numbered cluster (outputs.StartReplica leader) runs table = other-numbered cluster (outputs.StartReplica leader) runs table tt
-  output-numbered cluster (outputs.Stop reason) runs table = other-numbered cluster (outputs.Stop reason) runs table tt
-  output-numbered cluster (outputs.Follow leader) runs table = other-numbered cluster (outputs.Follow leader) runs table tt
-  output-numbered cluster (outputs.Require required) runs table = other-numbered cluster (outputs.Require required) runs table tt
-  output-numbered cluster (outputs.Armed until) runs table = other-numbered cluster (outputs.Armed until) runs table tt
-  output-numbered cluster (outputs.Fed until) runs table = other-numbered cluster (outputs.Fed until) runs table tt
-  output-numbered cluster outputs.Disarmed runs table = other-numbered cluster outputs.Disarmed runs table tt
-  output-numbered cluster outputs.CannotArm runs table = other-numbered cluster outputs.CannotArm runs table tt
-  output-numbered cluster outputs.DisablesWatchdog runs table = other-numbered cluster outputs.DisablesWatchdog runs table tt
-  output-numbered cluster outputs.RunsWithoutKey runs table = other-numbered cluster outputs.RunsWithoutKey runs table tt
-  output-numbered cluster outputs.ClaimsOutsideSync runs table = other-numbered cluster outputs.ClaimsOutsideSync runs table tt
-  output-numbered cluster outputs.PostponesPromotion runs table = other-numbered cluster outputs.PostponesPromotion runs table tt
-  output-numbered cluster (outputs.DoesNotRace bar) runs table = other-numbered cluster (outputs.DoesNotRace bar) runs table tt
-  output-numbered cluster outputs.ShutDown runs table = other-numbered cluster outputs.ShutDown runs table tt
-  output-numbered cluster (outputs.Repair leader repair) runs table = other-numbered cluster (outputs.Repair leader repair) runs table tt
-  output-numbered cluster (outputs.Restart as_primary) runs table = other-numbered cluster (outputs.Restart as_primary) runs table tt
-  output-numbered cluster outputs.Wipe runs table = other-numbered cluster outputs.Wipe runs table tt
-  output-numbered cluster (outputs.HandsOver candidate) runs table = other-numbered cluster (outputs.HandsOver candidate) runs table tt
-  output-numbered cluster (outputs.Told request told) runs table = other-numbered cluster (outputs.Told request told) runs table tt
   output-numbered cluster (outputs.HoldTaken until from sequence) runs table = absurd table
+  output-numbered cluster output runs table = other-numbered cluster output runs table tt
 
   pub each-numbered : (cluster : Cluster) (outs : List Output) → Runs cluster.facts.processes → All IsOfTable outs → AreNumberedAbove cluster.facts.sent (each (output_events member message) cluster outs)
   each-numbered cluster [] runs table = tt

@@ -107,27 +107,8 @@ module _ (member : Member) (incarnation : ℕ) (message : HeardMessage) where
   output-measured : (moments : Moments) (since : Ticks) (cluster : Cluster) (output : Output) → Runs cluster.facts.processes → IsOfTable output → IsHeardAt moments cluster message → AreMeasured moments since (Brings cluster output)
   output-measured moments since cluster (outputs.Armed until) runs table heard = (tt, (heard.known, tt))
   output-measured moments since cluster (outputs.Fed until) runs table heard = (tt, (heard.known, tt))
-  output-measured moments since cluster (outputs.Send to sequence body) runs table heard = silent moments since cluster (outputs.Send to sequence body) runs table tt
-  output-measured moments since cluster (outputs.Answer to asked sequence answer) runs table heard = silent moments since cluster (outputs.Answer to asked sequence answer) runs table tt
-  output-measured moments since cluster outputs.Begin runs table heard = silent moments since cluster outputs.Begin runs table tt
-  output-measured moments since cluster (outputs.StartReplica leader) runs table heard = silent moments since cluster (outputs.StartReplica leader) runs table tt
-  output-measured moments since cluster (outputs.Stop reason) runs table heard = silent moments since cluster (outputs.Stop reason) runs table tt
-  output-measured moments since cluster (outputs.Follow leader) runs table heard = silent moments since cluster (outputs.Follow leader) runs table tt
-  output-measured moments since cluster (outputs.Require required) runs table heard = silent moments since cluster (outputs.Require required) runs table tt
-  output-measured moments since cluster outputs.Disarmed runs table heard = silent moments since cluster outputs.Disarmed runs table tt
-  output-measured moments since cluster outputs.CannotArm runs table heard = silent moments since cluster outputs.CannotArm runs table tt
-  output-measured moments since cluster outputs.DisablesWatchdog runs table heard = silent moments since cluster outputs.DisablesWatchdog runs table tt
-  output-measured moments since cluster outputs.RunsWithoutKey runs table heard = silent moments since cluster outputs.RunsWithoutKey runs table tt
-  output-measured moments since cluster outputs.ClaimsOutsideSync runs table heard = silent moments since cluster outputs.ClaimsOutsideSync runs table tt
-  output-measured moments since cluster outputs.PostponesPromotion runs table heard = silent moments since cluster outputs.PostponesPromotion runs table tt
-  output-measured moments since cluster outputs.ShutDown runs table heard = silent moments since cluster outputs.ShutDown runs table tt
-  output-measured moments since cluster (outputs.Repair leader repair) runs table heard = silent moments since cluster (outputs.Repair leader repair) runs table tt
-  output-measured moments since cluster (outputs.DoesNotRace bar) runs table heard = silent moments since cluster (outputs.DoesNotRace bar) runs table tt
-  output-measured moments since cluster (outputs.Restart as_primary) runs table heard = silent moments since cluster (outputs.Restart as_primary) runs table tt
-  output-measured moments since cluster outputs.Wipe runs table heard = silent moments since cluster outputs.Wipe runs table tt
-  output-measured moments since cluster (outputs.HandsOver candidate) runs table heard = silent moments since cluster (outputs.HandsOver candidate) runs table tt
-  output-measured moments since cluster (outputs.Told request told) runs table heard = silent moments since cluster (outputs.Told request told) runs table tt
   output-measured moments since cluster (outputs.HoldTaken until from sequence) runs table heard = absurd table
+  output-measured moments since cluster output runs table heard = silent moments since cluster output runs table tt
 
   -- all of them
   each-measured : (moments : Moments) (since : Ticks) (cluster : Cluster) (outs : List Output) → Runs cluster.facts.processes → All IsOfTable outs → IsHeardAt moments cluster message → AreMeasured moments since (each (output_events member message) cluster outs)

@@ -55,7 +55,7 @@ use Rattle.cluster_model.specs.Limits.{most_in_flight}
 use Rattle.cluster_model.specs.Losing.{is_lacking, loss_if, loss_of, losses_of}
 use Rattle.cluster_model.specs.Messages.{answer_events_by, answer_message, decision_body, decision_events, lost_at_once, output_events, receiver_of, replying_events, send_events, sending_events}
 use Rattle.cluster_model.specs.Next.{acknowledge_events, all_entries, confirm_events, receive_events, receive_events_at_most, receive_events_of}
-use Rattle.cluster_model.specs.Orders.{declared_member, feed_kinds, arming, feeding, following_of, handing_over, hold_taken, is_same_required, repair_over, replica_start_kinds, require_of, required_names, server_at, stop_kind, stop_kinds, stop_of, upstream_of, wipe_of}
+use Rattle.cluster_model.specs.Orders.{declared_member, feed_kinds, arming, feeding, following_of, hold_taken, is_same_required, repair_over, replica_start_kinds, require_of, required_names, server_at, stop_kind, stop_kinds, stop_of, upstream_of, wipe_of}
 use Rattle.cluster_model.specs.Parts.{each, events_of, for_some}
 use Rattle.cluster_model.specs.State.{Cluster}
 use Rattle.cluster_model.specs.Streaming.{confirm_of, source_of, unconfirmed_end}
@@ -216,9 +216,6 @@ output-apart member heard cluster (outputs.Require required) is =
     (λ s. unless-apart (kinds.Replication (replications.RequiredSet (server_of member) required (required_names cluster.facts.members required))) (is_same_required s.required required) tt)
 output-apart member heard cluster (outputs.Armed until) is = all-kinds IsApart cluster (feed_kinds member heard (arming member until heard)) (tt, (tt, tt))
 output-apart member heard cluster (outputs.Fed until) is = all-kinds IsApart cluster (feed_kinds member heard (feeding member until heard)) (tt, (tt, tt))
-output-apart member heard cluster (outputs.HandsOver candidate) is =
-    let found = slice_get cluster.facts.members candidate.number in
-    apart-if cluster (option_map (handing_over member) found) (holds-mapped IsApart (handing_over member) found (λ m. tt))
 output-apart member heard cluster (outputs.HoldTaken until from sequence) is =
     let found = slice_get cluster.facts.members from.number in
     let hold = hold_taken member until heard.incarnation sequence in

@@ -2,7 +2,7 @@
 ghost use Rattle.std.specs.Prelude.{ℕ, ◌≡◌, ◌<◌, ◌+◌, ◌^◌, IfSome, IfOk, Some, None, option_and_then, option_map, slice_get};
 ghost use Rattle.event_book.specs.Members.{server_of};
 ghost use Rattle.cluster_model.specs.Messages.{receiver_of};
-ghost use Rattle.cluster_model.specs.Orders.{arming, barring, declared_member, declared_name, feeding, following_of, handing_over, hold_taken, is_same_required, not_racing, require_of, stop_kind, stop_of, upstream_of, wipe_of};
+ghost use Rattle.cluster_model.specs.Orders.{agent_noting, arming, barring, declared_member, declared_name, feeding, following_of, hold_taken, is_same_required, require_of, spoken_of, stop_kind, stop_of, upstream_of, wipe_of};
 ghost use Rattle.cluster_model.specs.State.{Cluster};
 ghost use Rattle.world_model.specs.Comes.{MayCome};
 
@@ -10,8 +10,8 @@ use crate::naming::required_names;
 use agent_model::Target;
 use cluster_model::HeardMessage;
 use event_book::{
-    Basis, EventKind, LinkEnd, LogEvent, Member, Note, ReplicationEvent, ServerEvent, ServerOf,
-    WatchdogEvent,
+    AgentNote, Basis, EventKind, LinkEnd, LogEvent, Member, Note, ReplicationEvent, ServerEvent,
+    ServerOf, WatchdogEvent,
 };
 use pat_base::{Ineligibility, MemberId, Name, Required, State, Ticks};
 use pg_cluster::Servers;
@@ -166,15 +166,6 @@ pub fn hold_of_request(
     }))
 }
 
-/// A member hands over to this one: what happens where there is that one.
-pub fn handing_over(member: Member, candidate: Option<Member>) -> Option<EventKind>
-    ensures kind { result ≡ option_map (handing_over member) candidate }
-    ensures comes { (cluster : Cluster) → IfSome result (MayCome cluster) }
-{
-    let candidate = candidate?;
-    Some(EventKind::Note(Note::HandsOver { member, candidate }))
-}
-
 /// The first deadline of a watchdog, on the message that was heard.
 pub fn arming(member: Member, until: Ticks, heard: HeardMessage) -> EventKind
     ensures kind { result ≡ arming member until heard }
@@ -201,16 +192,27 @@ pub fn feeding(member: Member, until: Ticks, heard: HeardMessage) -> EventKind
     })
 }
 
-/// A member that doesn't race for the free leader key, with the name of the member that bars it, if one does.
-pub fn not_racing(members: &[Member], member: Member, bar: Ineligibility) -> EventKind
-    ensures kind { result ≡ not_racing members.now member bar }
+/// What the agent of a member notes, with the name of the member that it speaks of.
+pub fn agent_noting(members: &[Member], member: Member, note: AgentNote) -> EventKind
+    ensures kind { result ≡ agent_noting members.now member note }
     ensures comes { (cluster : Cluster) → MayCome cluster result }
 {
-    EventKind::Note(Note::DoesNotRace {
+    EventKind::Note(Note::OfAgent {
         member,
-        bar,
-        by: declared_name(members, barring(bar)),
+        note,
+        about: declared_name(members, spoken_of(note)),
     })
+}
+
+/// The member that a note of an agent speaks of, if it speaks of one.
+fn spoken_of(note: AgentNote) -> Option<MemberId>
+    ensures { result ≡ spoken_of note }
+{
+    match note {
+        AgentNote::DoesNotRace { because } => barring(because),
+        AgentNote::HandsOver { candidate } => Some(candidate),
+        _ => None,
+    }
 }
 
 /// The name of the declared member of this number, if there is a number.

@@ -54,7 +54,7 @@ use Rattle.cluster_model.specs.Inputs.{agent_at, outcome_of_heard, outputs_of}
 use Rattle.cluster_model.specs.Limits.{most_in_flight}
 use Rattle.cluster_model.specs.Losing.{loss_if}
 use Rattle.cluster_model.specs.Messages.{answer_events_by, answer_message, arrival_events_at, decision_body, decision_events, heard_message, lost_at_once, message_events, message_events_by, output_events, receiver_of, send_events, sending_events, replying_events, server_order_events}
-use Rattle.cluster_model.specs.Orders.{arming, declared_member, feed_kinds, feeding, following_of, handing_over, hold_taken, is_same_required, replica_start_kinds, require_of, required_names, server_at, stop_kind, stop_kinds, stop_of, upstream_of, repair_over, wipe_of}
+use Rattle.cluster_model.specs.Orders.{arming, declared_member, feed_kinds, feeding, following_of, hold_taken, is_same_required, replica_start_kinds, require_of, required_names, server_at, stop_kind, stop_kinds, stop_of, upstream_of, repair_over, wipe_of}
 use Rattle.rest_answer.specs.Replies.{json_of}
 use Rattle.cluster_model.specs.Requests.{replying, config_text_of, told_kind}
 use Rattle.cluster_model.specs.Parts.{each, events_of, for_some}
@@ -250,16 +250,6 @@ output-above last cluster member heard (outputs.Require required) low =
     (λ s. require-above last (kinds.Replication (replications.RequiredSet (server_of member) required (required_names cluster.facts.members required))) (is_same_required s.required required) tt)
 output-above last cluster member heard (outputs.Armed until) low = all-kinds (IsAbove last) cluster (feed_kinds member heard (arming member until heard)) (tt, (tt, tt))
 output-above last cluster member heard (outputs.Fed until) low = all-kinds (IsAbove last) cluster (feed_kinds member heard (feeding member until heard)) (tt, (tt, tt))
-output-above last cluster member heard outputs.Disarmed low = (tt, tt)
-output-above last cluster member heard outputs.CannotArm low = (tt, tt)
-output-above last cluster member heard outputs.ClaimsOutsideSync low = (tt, tt)
-output-above last cluster member heard outputs.PostponesPromotion low = (tt, tt)
-output-above last cluster member heard outputs.DisablesWatchdog low = (tt, tt)
-output-above last cluster member heard outputs.RunsWithoutKey low = (tt, tt)
-output-above last cluster member heard (outputs.DoesNotRace bar) low = (tt, tt)
-output-above last cluster member heard (outputs.HandsOver candidate) low =
-    let found = slice_get cluster.facts.members candidate.number in
-    kinds-above last cluster (option_map (handing_over member) found) (mapped-above last (handing_over member) found (λ candidate. tt))
 output-above last cluster member heard (outputs.Told request told) low =
     let agent = agent_at cluster.agents member.id.number in
     kinds-above last cluster (told_kind member agent told) (told-above last member agent told)
@@ -267,6 +257,7 @@ output-above last cluster member heard (outputs.HoldTaken until from sequence) l
     let found = slice_get cluster.facts.members from.number in
     let hold = hold_taken member until heard.incarnation sequence in
     kinds-above last cluster (option_map hold found) (mapped-above last hold found (λ from. tt))
+output-above last cluster member heard _ low = (tt, tt)
 
 outputs-above : (last : ℕ) (cluster : Cluster) (member : Member) (heard : HeardMessage) (outs : List Output) → last ≤ cluster.facts.sent → AllAre (IsAbove last) (each (output_events member heard) cluster outs)
 outputs-above last cluster member heard [] low = tt

@@ -14,12 +14,11 @@ use crate::servers::{
     begin, follow, require, restart_server, shut_down, start_replica, stop, wipe,
 };
 use crate::telling::{
-    tell_answer, tell_arming, tell_bar, tell_disarming, tell_feeding, tell_handover, tell_hold,
-    tell_note, tell_passing,
+    tell_answer, tell_arming, tell_disarming, tell_feeding, tell_hold, tell_note, tell_passing,
 };
 use agent_model::{Output, Target};
 use cluster_model::HeardMessage;
-use event_book::{Body, Event, LinkEnd, Member, Message, Note};
+use event_book::{Body, Event, LinkEnd, Member, Message};
 use ha_loop::Outputs;
 use pat_base::{MemberId, PeerAnswer};
 use std::alloc::AllocError;
@@ -78,13 +77,8 @@ fn carry(
         Output::Armed { until } => tell_arming(stage, member, until, heard, events),
         Output::Fed { until } => tell_feeding(stage, member, until, heard, events),
         Output::Disarmed => tell_disarming(stage, member, events),
-        Output::CannotArm => tell_note(stage, Note::CannotArm { member }, events),
         Output::ClaimsOutsideSync => tell_passing(stage, member, events),
-        Output::PostponesPromotion => tell_note(stage, Note::PostponesPromotion { member }, events),
-        Output::DisablesWatchdog => tell_note(stage, Note::DisablesWatchdog { member }, events),
-        Output::RunsWithoutKey => tell_note(stage, Note::RunsWithoutKey { member }, events),
-        Output::DoesNotRace { bar } => tell_bar(stage, member, bar, events),
-        Output::HandsOver { candidate } => tell_handover(stage, member, candidate, events),
+        Output::Note(note) => tell_note(stage, member, note, events),
         Output::Told { told, .. } => tell_answer(stage, member, told, events),
         Output::HoldTaken {
             until,

@@ -2,7 +2,7 @@
 ghost use Rattle.std.specs.Prelude.{OnOk, option_map, slice_get};
 ghost use Rattle.cluster_model.specs.Commands.{kinds_of};
 ghost use Rattle.cluster_model.specs.Inputs.{agent_at};
-ghost use Rattle.cluster_model.specs.Orders.{arming, feed_kinds, feeding, handing_over, hold_taken, not_racing};
+ghost use Rattle.cluster_model.specs.Orders.{agent_noting, arming, feed_kinds, feeding, hold_taken};
 ghost use Rattle.cluster_model.specs.Parts.{event_of, events_of};
 ghost use Rattle.cluster_model.specs.Requests.{told_kind};
 ghost use Rattle.cluster_model.specs.State.{Cluster};
@@ -12,12 +12,10 @@ ghost use Rattle.world_model.specs.Room.{HasRoom, feeding_cost};
 
 use agent_model::Told;
 use cluster_model::HeardMessage;
-use event_book::{AgentEvent, Event, EventKind, Member, Note, WatchdogEvent};
-use pat_base::{Ineligibility, MemberId, Ticks};
+use event_book::{AgentEvent, AgentNote, Event, EventKind, Member, WatchdogEvent};
+use pat_base::{MemberId, Ticks};
 use std::alloc::AllocError;
-use world_parts::order_kinds::{
-    arming, feeding, handing_over, hold_of_request, member_at, not_racing,
-};
+use world_parts::order_kinds::{agent_noting, arming, feeding, hold_of_request, member_at};
 use world_parts::requests::told_kind;
 use world_stage::Stage;
 
@@ -94,40 +92,18 @@ pub fn tell_passing(
     stage.happen(EventKind::Agent(passed), events)
 }
 
-/// An agent does something that a note alone tells.
-pub fn tell_note(stage: &mut Stage, note: Note, events: &mut Vec<Event>) -> Result<(), AllocError>
-    requires { HasRoom stage.old 1 }
-    ensures { OnOk result (Emits stage.old stage.new events.old.items events.new.items (event_of stage.old (EventKind.Note note)) 1) }
-{
-    stage.happen(EventKind::Note(note), events)
-}
-
-/// A member doesn't race for the free leader key, since this bars it.
-pub fn tell_bar(
+/// The agent of a member notes something.
+pub fn tell_note(
     stage: &mut Stage,
     member: Member,
-    bar: Ineligibility,
+    note: AgentNote,
     events: &mut Vec<Event>,
 ) -> Result<(), AllocError>
     requires { HasRoom stage.old 1 }
-    ensures { OnOk result (Emits stage.old stage.new events.old.items events.new.items (event_of stage.old (not_racing stage.old.facts.members member bar)) 1) }
+    ensures { OnOk result (Emits stage.old stage.new events.old.items events.new.items (event_of stage.old (agent_noting stage.old.facts.members member note)) 1) }
 {
-    let barred = not_racing(stage.members(), member, bar);
-    stage.happen(barred, events)
-}
-
-/// A member hands over to this one, if there is that one.
-pub fn tell_handover(
-    stage: &mut Stage,
-    member: Member,
-    candidate: MemberId,
-    events: &mut Vec<Event>,
-) -> Result<(), AllocError>
-    requires { HasRoom stage.old 1 }
-    ensures { OnOk result (Emits stage.old stage.new events.old.items events.new.items (events_of stage.old (kinds_of (option_map (handing_over member) (slice_get stage.old.facts.members candidate.number)))) 1) }
-{
-    let candidate = member_at(stage.members(), candidate);
-    stage.happen_if(handing_over(member, candidate), events)
+    let noted = agent_noting(stage.members(), member, note);
+    stage.happen(noted, events)
 }
 
 /// The agent of a member answers an operator, where it has something to say.

@@ -43,26 +43,11 @@ returns-in-Fed c = on_ok_weaker c.tell_feeding.result (carried _ _ _ _ c.args.me
 pub returns-in-Disarmed : goal.returns-in-Disarmed
 returns-in-Disarmed c = on_ok_weaker c.tell_disarming.result (carried _ _ _ _ c.args.member c.args.heard c.args.output _ 1 c.in-Disarmed.is (omega arith)) c.tell_disarming.ensures
 
-pub returns-in-CannotArm : goal.returns-in-CannotArm
-returns-in-CannotArm c = on_ok_weaker c.tell_note.result (carried _ _ _ _ c.args.member c.args.heard c.args.output _ 1 c.in-CannotArm.is (omega arith)) c.tell_note.ensures
-
 pub returns-in-ClaimsOutsideSync : goal.returns-in-ClaimsOutsideSync
 returns-in-ClaimsOutsideSync c = on_ok_weaker c.tell_passing.result (carried _ _ _ _ c.args.member c.args.heard c.args.output _ 1 c.in-ClaimsOutsideSync.is (omega arith)) c.tell_passing.ensures
 
-pub returns-in-PostponesPromotion : goal.returns-in-PostponesPromotion
-returns-in-PostponesPromotion c = on_ok_weaker c.tell_note-in-PostponesPromotion.result (carried _ _ _ _ c.args.member c.args.heard c.args.output _ 1 c.in-PostponesPromotion.is (omega arith)) c.tell_note-in-PostponesPromotion.ensures
-
-pub returns-in-DisablesWatchdog : goal.returns-in-DisablesWatchdog
-returns-in-DisablesWatchdog c = on_ok_weaker c.tell_note-in-DisablesWatchdog.result (carried _ _ _ _ c.args.member c.args.heard c.args.output _ 1 c.in-DisablesWatchdog.is (omega arith)) c.tell_note-in-DisablesWatchdog.ensures
-
-pub returns-in-RunsWithoutKey : goal.returns-in-RunsWithoutKey
-returns-in-RunsWithoutKey c = on_ok_weaker c.tell_note-in-RunsWithoutKey.result (carried _ _ _ _ c.args.member c.args.heard c.args.output _ 1 c.in-RunsWithoutKey.is (omega arith)) c.tell_note-in-RunsWithoutKey.ensures
-
-pub returns-in-DoesNotRace : goal.returns-in-DoesNotRace
-returns-in-DoesNotRace c = on_ok_weaker c.tell_bar.result (carried _ _ _ _ c.args.member c.args.heard c.args.output _ 1 c.in-DoesNotRace.is (omega arith)) c.tell_bar.ensures
-
-pub returns-in-HandsOver : goal.returns-in-HandsOver
-returns-in-HandsOver c = on_ok_weaker c.tell_handover.result (carried _ _ _ _ c.args.member c.args.heard c.args.output _ 1 c.in-HandsOver.is (omega arith)) c.tell_handover.ensures
+pub returns-in-Note : goal.returns-in-Note
+returns-in-Note c = on_ok_weaker c.tell_note.result (carried _ _ _ _ c.args.member c.args.heard c.args.output _ 1 c.in-Note.is (omega arith)) c.tell_note.ensures
 
 pub returns-in-Told : goal.returns-in-Told
 returns-in-Told c = on_ok_weaker c.tell_answer.result (carried _ _ _ _ c.args.member c.args.heard c.args.output _ 1 c.in-Told.is (omega arith)) c.tell_answer.ensures
