@@ -6,6 +6,7 @@ ghost use Rattle.commit_book.specs.Books.{IsShown, Transition};
 ghost use Rattle.commit_actions.specs.Carried.{IsSound};
 ghost use Rattle.commit_actions.specs.Flights.{PublishStandbys, SyncRequest};
 ghost use Rattle.commit_actions.specs.Inputs.{AgentInput, IsLawful, Sending};
+ghost use Rattle.commit_actions.specs.Keys.{strict_quorum};
 ghost use Rattle.commit_actions.specs.Past.{Past, Setup, VolatileState, past_over, state_of};
 ghost use Rattle.commit_law.specs.Noted.{AreNoted};
 ghost use Rattle.commit_book.specs.Changes.{ChangeOrderOnce};
@@ -25,7 +26,7 @@ pub fn order_is_kept()
         → ChangeOrderOnce transition.events
         → front ++ back ≡ transition.events
         → IsOverlapping setup.member_count (past_over past front) }
-    ensures strict { (member_count : ℕ) (past : Past) → IsOverlapping member_count past → NamesMembers member_count 0 past.sync → IsInOrder past }
+    ensures strict { (member_count : ℕ) (past : Past) → IsOverlapping member_count past → NamesMembers member_count strict_quorum past.sync → IsInOrder past }
 {}
 
 /// A lawful input that asks to publish standbys, however many of them may lack a commit, compares the present sync key. They overlap its leader's
@@ -41,7 +42,7 @@ pub fn publications_are_confirmed()
         → sending.request.aim ≡ PublishStandbys standbys quorum
         → MayBePublished setup.member_count past leader input.agent.noted sending.request standbys quorum }
     ensures strict { (member_count : ℕ) (past : Past) (leader noted : ℕ) (request : SyncRequest) (standbys : ℕ → Bool)
-        → MayBePublished member_count past leader noted request standbys 0
+        → MayBePublished member_count past leader noted request standbys strict_quorum
         → ((standby : ℕ) → standbys standby ≡ true → standby < member_count)
         → PublishesInOrder past leader noted request standbys }
 {}

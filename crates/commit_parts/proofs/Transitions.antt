@@ -5,6 +5,7 @@ use Rattle.event_book.specs.declared.event.Event.{Event}
 use Rattle.cluster_model.specs.Cluster.{cluster_over}
 use Rattle.cluster_model.specs.State.{Cluster}
 use Rattle.commit_book.specs.Books.{AreAllowed, KeepsNow, Transition, book_of}
+use Rattle.commit_actions.specs.Keys.{strict_quorum}
 use Rattle.commit_actions.specs.Carried.{IsSound}
 use Rattle.commit_actions.specs.Past.{Past, Setup, VolatileState, past_over, state_of}
 use Rattle.commit_actions.specs.States.{State}
@@ -64,17 +65,17 @@ keeps-inside setup past volatile_states (t ∷ ts) front back all sound e = elim
 
 -- the order holds inside each transition
 order-inside-all : (setup : Setup) (past : Past) (volatile_states : ℕ → VolatileState) (transitions : List Transition) (front back : List Event) → AreAllowed setup past volatile_states transitions → EachChangesOnce transitions
-    → IsSound (state_of setup past volatile_states) → front ++ back ≡ book_of transitions → NamesMembers setup.member_count 0 (past_over past front).sync → IsInOrder (past_over past front)
+    → IsSound (state_of setup past volatile_states) → front ++ back ≡ book_of transitions → NamesMembers setup.member_count strict_quorum (past_over past front).sync → IsInOrder (past_over past front)
 order-inside-all setup past volatile_states [] front back all once sound e members =
     let none = none-left front back e in
-    subst (λ (l : List Event). IsInOrder (past_over past l)) (sym none) (order-now setup past volatile_states sound (subst (λ (l : List Event). NamesMembers setup.member_count 0 (past_over past l).sync) none members))
+    subst (λ (l : List Event). IsInOrder (past_over past l)) (sym none) (order-now setup past volatile_states sound (subst (λ (l : List Event). NamesMembers setup.member_count strict_quorum (past_over past l).sync) none members))
 order-inside-all setup past volatile_states (t ∷ ts) front back all once sound e members = elim (cuts front back t.events (book_of ts) e) [
   | inl cut ↦ order-inside setup past volatile_states t front cut.0 sound all.0 all.1 once.0 cut.1 members
   | inr cut ↦
       let same : past_over past front ≡ past_over (past_over past t.events) cut.0 = ap (past_over past) cut.1 ∙ past-append past t.events cut.0 in
       subst IsInOrder (sym same)
       (order-inside-all setup (past_over past t.events) t.volatile_states ts cut.0 back all.3 once.1 (kept-after setup past volatile_states t sound all.0 all.1) cut.2
-      (subst (λ (p : Past). NamesMembers setup.member_count 0 p.sync) same members))
+      (subst (λ (p : Past). NamesMembers setup.member_count strict_quorum p.sync) same members))
 ]
 
 -- ---- of a run
@@ -122,7 +123,7 @@ pub upheld-by : (head : HeadText) (book : List Event) (cluster : Cluster) (trans
     → EachChangesOnce transitions
     → volatile_last (volatile_of cluster) transitions ≡ volatile_of (cluster_over cluster (book_of transitions))
     → IsKept head book cluster (book_of transitions)
-    → ((front back : List Event) → front ++ back ≡ book_of transitions → NamesMembers (member_count head) 0 (past_over (past_of head book) front).sync)
+    → ((front back : List Event) → front ++ back ≡ book_of transitions → NamesMembers (member_count head) strict_quorum (past_over (past_of head book) front).sync)
     → AllInOrder (past_of head book) cluster (book_of transitions)
     → FitsBehind head book cluster (book_of transitions)
     → Upholds (kept_commits head) book cluster (book_of transitions)

@@ -28,6 +28,7 @@ use Rattle.lease_law.proofs.Tools.{none-some, some-is}
 use Rattle.cluster_model.specs.Cluster.{cluster_after, cluster_over}
 use Rattle.cluster_model.specs.Starting.{cluster_of}
 use Rattle.cluster_model.specs.State.{Cluster}
+use Rattle.commit_actions.specs.Stored.{key_seen}
 use Rattle.commit_actions.specs.Carried.{IsLed, NamesMember as NamesOne}
 use Rattle.commit_actions.specs.Keys.{SyncKey}
 use Rattle.commit_actions.specs.Past.{Past, confirmers_of, past_after, past_over, position_in, position_of, publish_request, revision_in}
@@ -87,17 +88,14 @@ module _ (head : HeadText) (book : List Event) where
       let of = entry-holds (find key_cmp keys.Sync Store.pairs) key (sym same.sync ∙ is) in
       record { held = of.held; is = record { stored = of.stored; is = of.is; value = of.value; written = of.revision }; leader = of.leader; standbys = of.standbys }
 
-  abbrev read : StoredSync → ℕ → SyncKey
-  read key revision = record { leader = key.leader.number; standbys = set_members key.standbys; quorum = 0; revision = revision }
-
-  reads : (key : StoredSync) (revision : ℕ) → HoldsSync Store key revision → P.sync ≡ Some (read key revision)
+  reads : (key : StoredSync) (revision : ℕ) → HoldsSync Store key revision → P.sync ≡ Some (key_seen key revision)
   reads key revision holds =
-      same.sync ∙ ap sync_key_of holds.is ∙ ap (λ (v : Value). sync_value v holds.stored.revision) holds.value ∙ ap (λ (r : ℕ). Some (read key r)) holds.written
+      same.sync ∙ ap sync_key_of holds.is ∙ ap (λ (v : Value). sync_value v holds.stored.revision) holds.value ∙ ap (λ (r : ℕ). Some (key_seen key r)) holds.written
 
   pub leader-by : (server : ℕ) → IsLed P.sync server → IsLeader Store server
   leader-by server led = let h = holds led.key led.is in record { key = h.held; revision = led.key.revision; is = h.is; leader = h.leader ∙ led.leader }
 
-  named-as : (sync : Option SyncKey) (n : ℕ) (key : StoredSync) (revision : ℕ) → sync ≡ Some (read key revision) → NamesOne sync n → (key.leader.number ≡ n) ⊎ (has key.standbys n ≡ true)
+  named-as : (sync : Option SyncKey) (n : ℕ) (key : StoredSync) (revision : ℕ) → sync ≡ Some (key_seen key revision) → NamesOne sync n → (key.leader.number ≡ n) ⊎ (has key.standbys n ≡ true)
   named-as sync n key revision is named = subst (λ (o : Option SyncKey). NamesOne o n) is named
 
   pub named-by : (n : ℕ) → NamesOne P.sync n → IsNamed Store n
@@ -130,7 +128,7 @@ ordered-by head book seen = record {
   awaited = λ server writes key revision holds standby named.
       subst (λ (r : Option Required). Awaits r standby) (required-same head book server)
       (awaits-by (slice_get (past_of head book).required server) standby
-      (seen.awaited server (read head book key revision) (book-writes head book server ∙ writes) (reads head book key revision holds) standby named));
+      (seen.awaited server (key_seen key revision) (book-writes head book server ∙ writes) (reads head book key revision holds) standby named));
 }
 
 publishes-by : (head : HeadText) (book : List Event) (member incarnation sequence leader noted : ℕ) (sync : Expected) (standbys : MemberSet)
