@@ -11,18 +11,18 @@ use Rattle.commit_actions.specs.Past.{Past, Setup, VolatileState, confirmers_in,
 use Rattle.commit_actions.specs.States.{Reaches, State}
 use Rattle.commit_actions.proofs.Counting.{meets-sub, none-of}
 use Rattle.commit_law.specs.Noted.{AreNoted}
-use Rattle.commit_book.specs.Order.{Awaits}
-use Rattle.commit_book.specs.Requests.{MayBePublished, PublishesInOrder}
+use Rattle.commit_book.specs.Order.{IsConfirmer}
+use Rattle.commit_book.specs.Requests.{MayBePublished, PublishesAwaited}
 use Rattle.commit_book.proofs.Inside.{awaits}
 
 -- ---- each standby that it adds has confirmed
 -- whom commits wait for has it, where they wait for each
-meets-in : (member_count : ℕ) (required : Required) (X : ℕ → Type 0) (standby : ℕ) → Awaits (confirmers_in required) standby → Meets member_count (confirmers_in required) X → X standby
+meets-in : (member_count : ℕ) (required : Required) (X : ℕ → Type 0) (standby : ℕ) → IsConfirmer (confirmers_in required) standby → Meets member_count (confirmers_in required) X → X standby
 meets-in member_count requireds.Nobody X standby awaited met = absurd awaited
 meets-in member_count requireds.AnyOne X standby awaited met = absurd awaited
 meets-in member_count (requireds.All members) X standby awaited met = met standby awaited
 
-meets-one : (member_count : ℕ) (required : Option Required) (X : ℕ → Type 0) (standby : ℕ) → Awaits (confirmers_of required) standby → Meets member_count (confirmers_of required) X → X standby
+meets-one : (member_count : ℕ) (required : Option Required) (X : ℕ → Type 0) (standby : ℕ) → IsConfirmer (confirmers_of required) standby → Meets member_count (confirmers_of required) X → X standby
 meets-one member_count None X standby awaited met = absurd awaited
 meets-one member_count (Some required) X standby awaited met = meets-in member_count required X standby awaited met
 
@@ -38,7 +38,7 @@ none-added member_count quorum new old standby small is added sum =
     zero a b sum = omega (arith, sum)
 
 added-has : (member_count quorum : ℕ) (old new : ℕ → Bool) (required : Option Required) (X : ℕ → Type 0) (standby : ℕ) → MayPublish member_count old quorum new strict_quorum (confirmers_of required) X
-    → standby < member_count → new standby ≡ true → old standby ≡ false → Awaits (confirmers_of required) standby → X standby
+    → standby < member_count → new standby ≡ true → old standby ≡ false → IsConfirmer (confirmers_of required) standby → X standby
 added-has member_count quorum old new required X standby (Added each fewer) small is added awaited = elim (each standby is) [
   | inl there ↦ absurd (was-there (old standby) there added)
   | inr has ↦ has
@@ -139,7 +139,7 @@ publication setup past volatile_states leader input sending standbys quorum soun
 
 -- where none may
 pub strict-publication : (member_count : ℕ) (past : Past) (leader noted : ℕ) (request : SyncRequest) (standbys : ℕ → Bool) → MayBePublished member_count past leader noted request standbys strict_quorum
-    → ((standby : ℕ) → standbys standby ≡ true → standby < member_count) → PublishesInOrder past leader noted request standbys
+    → ((standby : ℕ) → standbys standby ≡ true → standby < member_count) → PublishesAwaited past leader noted request standbys
 strict-publication member_count past leader noted request standbys may small =
     let list : Option Required = slice_get past.required leader in
     let awaited = λ (standby : ℕ) (is : standbys standby ≡ true). awaits member_count strict_quorum standbys standby list refl (small standby is) is may.overlaps in

@@ -10,8 +10,8 @@ ghost use Rattle.commit_actions.specs.Keys.{strict_quorum};
 ghost use Rattle.commit_actions.specs.Past.{Past, Setup, VolatileState, past_over, state_of};
 ghost use Rattle.commit_law.specs.Noted.{AreNoted};
 ghost use Rattle.commit_book.specs.Changes.{ChangeOrderOnce};
-ghost use Rattle.commit_book.specs.Order.{IsInOrder, IsOverlapping, NamesMembers};
-ghost use Rattle.commit_book.specs.Requests.{MayBePublished, PublishesInOrder};
+ghost use Rattle.commit_book.specs.Order.{IsAwaiting, IsOverlapping, NamesMembers};
+ghost use Rattle.commit_book.specs.Requests.{MayBePublished, PublishesAwaited};
 
 /// Where what commits rest on is sound, the sync key names who accepts writes as the leader, and its required list overlaps the standbys in it:
 /// between two actions, and at each moment inside an allowed one that changes the order at most once. So its commits wait for each standby there,
@@ -26,7 +26,7 @@ pub fn order_is_kept()
         → ChangeOrderOnce transition.events
         → front ++ back ≡ transition.events
         → IsOverlapping setup.member_count (past_over past front) }
-    ensures strict { (member_count : ℕ) (past : Past) → IsOverlapping member_count past → NamesMembers member_count strict_quorum past.sync → IsInOrder past }
+    ensures strict { (member_count : ℕ) (past : Past) → IsOverlapping member_count past → NamesMembers member_count strict_quorum past.sync → IsAwaiting past }
 {}
 
 /// A lawful input that asks to publish standbys, however many of them may lack a commit, compares the present sync key. They overlap its leader's
@@ -44,5 +44,5 @@ pub fn publications_are_confirmed()
     ensures strict { (member_count : ℕ) (past : Past) (leader noted : ℕ) (request : SyncRequest) (standbys : ℕ → Bool)
         → MayBePublished member_count past leader noted request standbys strict_quorum
         → ((standby : ℕ) → standbys standby ≡ true → standby < member_count)
-        → PublishesInOrder past leader noted request standbys }
+        → PublishesAwaited past leader noted request standbys }
 {}

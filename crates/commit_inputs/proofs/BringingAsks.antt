@@ -57,8 +57,8 @@ use Rattle.lease_parts.specs.Bridged.{KnowsItself}
 use Rattle.run_promise.specs.Members.{member_count}
 use Rattle.run_promise.proofs.Upholding.{over-append}
 use Rattle.commit_book.specs.Changes.{AllLeaveOrder}
-use Rattle.commit_book.specs.Order.{Awaits}
-use Rattle.commit_book.specs.Requests.{MayBePublished, PublishesInOrder}
+use Rattle.commit_book.specs.Order.{IsConfirmer}
+use Rattle.commit_book.specs.Requests.{MayBePublished, PublishesAwaited}
 use Rattle.commit_book.proofs.Asides.{leave-then, once-none}
 use Rattle.commit_book.proofs.Inside.{Seen, all-aside, seen_of}
 use Rattle.commit_book.proofs.Publishing.{publication, strict-publication}
@@ -272,7 +272,7 @@ module _ (head : HeadText) (book : List Event) (cluster : Cluster) (good : Commi
   seen-same = all-aside P Upto (front-aside head book cluster good a front all of_table)
 
   publishes-as : has_one is_claim_outside_sync Outs ≡ false → (revision : ℕ) (sync : Expected) (standbys : MemberSet) → bodies.Request (txns.SetSync revision sync standbys) ≡ body
-      → PublishesInOrder P M (noted_position (After head book cluster good a).knows.noted) (publish_request M a.agent.knows.incarnation sequence revision sync standbys) (set_members standbys)
+      → PublishesAwaited P M (noted_position (After head book cluster good a).knows.noted) (publish_request M a.agent.knows.incarnation sequence revision sync standbys) (set_members standbys)
   publishes-as inside revision sync standbys is =
       let written : ℕ = quorum_written (txns.SetSync revision sync standbys) in
       let noted : ℕ = noted_position (After head book cluster good a).knows.noted in
@@ -293,7 +293,7 @@ module _ (head : HeadText) (book : List Event) (cluster : Cluster) (good : Commi
         is = ap (λ (seen : Seen). seen.sync) seen-same ∙ at-first.is;
         compares = at-first.compares;
         awaited = λ standby named.
-            subst (λ (required : List Required). Awaits (confirmers_of (slice_get required M)) standby) (sym (ap (λ (seen : Seen). seen.required) seen-same)) (at-first.awaited standby named);
+            subst (λ (required : List Required). IsConfirmer (confirmers_of (slice_get required M)) standby) (sym (ap (λ (seen : Seen). seen.required) seen-same)) (at-first.awaited standby named);
         confirmed = λ standby named added.
             subst (λ (noted : ℕ). Reaches noted (position_of (slice_get (past_over P Upto).confirmed M) standby)) (sym (ap noted_by here-behind))
             (subst (λ (told : Told). Reaches (noted_position (After head book cluster good a).knows.noted) (position_of (slice_get told.confirmed M) standby)) (sym (front-told head book cluster good a front all of_table))

@@ -87,7 +87,7 @@ use Rattle.commit_parts.proofs.Transitions.{order-behind, past-more, state_behin
 use Rattle.commit_parts.specs.Ordered.{AllInOrder}
 use Rattle.commit_parts.proofs.Ordering.{order-front}
 use Rattle.commit_book.specs.Changes.{AllLeaveOrder}
-use Rattle.commit_book.specs.Order.{IsInOrder, NamesMembers}
+use Rattle.commit_book.specs.Order.{IsAwaiting, NamesMembers}
 use Rattle.commit_book.proofs.Inside.{Seen, all-aside, aside-front as order-aside-front, order-as, seen_of}
 use Rattle.commit_inputs.proofs.Quietly.{AsksQuietly, covered-quietly, quietly-ordered, unasking-quietly}
 use Rattle.commit_outputs.proofs.Covering.{IsCarried, carried}
@@ -103,14 +103,14 @@ upheld-aside head book cluster events good leave leave_order ordered upheld = re
     kept = subst (λ (p : Past). KeepsNow p) (sym (past-more head book front))
         (keeps-aside (past_of head book) front (aside-front front rest events e leave) (keeps-now (setup_of head) (past_of head book) (volatile_of cluster) good.sound));
     order = record {
-      now = subst IsInOrder (sym (past-more head book front)) (order-aside head book cluster front good (order-aside-front front rest events e leave_order));
+      now = subst IsAwaiting (sym (past-more head book front)) (order-aside head book cluster front good (order-aside-front front rest events e leave_order));
       each = order-behind head book cluster front good (order-front (past_of head book) cluster front rest (subst (λ (l : List Event). AllInOrder (past_of head book) cluster l) (sym e) ordered));
     };
   };
   behind = λ meets. (upheld meets).behind meets;
 }
   where
-    order-aside : (head : HeadText) (book : List Event) (cluster : Cluster) (front : List Event) → CommitsBridged head book cluster → AllLeaveOrder front → IsInOrder (past_over (past_of head book) front)
+    order-aside : (head : HeadText) (book : List Event) (cluster : Cluster) (front : List Event) → CommitsBridged head book cluster → AllLeaveOrder front → IsAwaiting (past_over (past_of head book) front)
     order-aside head book cluster front good leave =
         let same : seen_of (past_over (past_of head book) front) ≡ seen_of (past_of head book) = all-aside (past_of head book) front leave in
         order-as (setup_of head) (past_over (past_of head book) front) (past_of head book) (volatile_of cluster) same good.sound

@@ -21,7 +21,7 @@ use Rattle.summary_model.specs.Claims.{KeepMode}
 use Rattle.commit_parts.specs.Agents.{AreAgentsSynchronous, AreSynchronous, AsksAreNumbered, TellsMembers}
 use Rattle.commit_book.specs.Order.{NamesMembers}
 use Rattle.commit_parts.specs.Modes.{IsSynchronous}
-use Rattle.commit_parts.specs.Ordered.{AllInOrder, KeepsOrder}
+use Rattle.commit_parts.specs.Ordered.{AllInOrder, StaysInOrder}
 use Rattle.commit_parts.specs.Reading.{past_of, state_of_run, volatile_of}
 
 -- what commits and the law of one writer read of a book fits a cluster of so many members, in whose sync key at most so many standbys may lack
@@ -57,7 +57,7 @@ pub record MeetsMode (head : HeadText) (book : List Event) : Type 0 where
 -- what is promised of each moment: each server that accepts writes holds each acknowledged commit, and required lists and sync key are in order
 pub record KeepsInOrder (head : HeadText) (book : List Event) : Type 0 where
   pub kept : KeepsNow (past_of head book)
-  pub order : KeepsOrder head book
+  pub order : StaysInOrder head book
 
 -- that holds of each moment as long as the premises are met
 abbrev pub kept_commits : HeadText → Promise
