@@ -3,6 +3,7 @@ use Rattle.std.proofs.Common.{◌≡◌, ◌⊎◌, ℕ, ◌+◌, ◌≤◌, Boo
 use Rattle.pat_base.specs.declared.member_set.MemberSet.{MemberSet}
 use Rattle.pat_base.specs.declared.ticks.Ticks.{Ticks}
 use Rattle.lease_store.specs.declared.granted.Granted.{Granted}
+use Rattle.lease_store.specs.declared.txn.Txn.{Txn}
 use Rattle.lease_store.specs.declared.txn.Txn.TheVariants as txns
 use Rattle.wal_model.specs.Log.{end_of}
 use Rattle.pg_model.specs.Facts.{entries_of}
@@ -12,6 +13,7 @@ use Rattle.event_book.specs.Functions.{set_members}
 use Rattle.sync_state.specs.Published.{published_in}
 use Rattle.sync_state.specs.Standbys.{required_members, noted_position}
 use Rattle.commit_actions.specs.Keys.{SyncKey, Confirmers, Overlaps, Added, Narrows}
+use Rattle.commit_actions.specs.Stored.{quorum_written}
 use Rattle.commit_actions.specs.Flights.{SyncRequest}
 use Rattle.commit_actions.specs.States.{Agent, State}
 use Rattle.commit_actions.specs.Inputs.{AgentInput, ChangingRequired, Publishing, SettlingRequired, sync_revision_of}
@@ -40,18 +42,18 @@ use Rattle.agent_roles.proofs.Living.{no-way}
 use Rattle.agent_model.proofs.Rows.{led_on}
 
 -- what a granted request is heard on, with what stands after what comes before it
-pub record Ground (s : State) (m : ℕ) (o b : Outcome) : Type 0 where
+pub record Ground (s : State) (m quorum : ℕ) (o b : Outcome) : Type 0 where
   pub sound : IsSound s
-  pub stands : StandsToCommit s m o
+  pub stands : StandsToCommit s m quorum o
   pub behind : IsBehind o b
   pub quiet : All StandsAlone o.outputs
 
 -- what is made of it is lawful, where the agent goes on
-abbrev pub Lawful : Ticks → ℕ → Granted → SnapshotFacts → State → ℕ → AgentInput → Outcome → Outcome → Type 0
-Lawful now sequence grant snapshot s m input o x = Onward (Some snapshot) o x → IsCommitInputOf s m o x input → IsLawfulAs now (HeardGranted sequence grant snapshot) o s m input
+abbrev pub Lawful : ℕ → Ticks → ℕ → Granted → SnapshotFacts → State → ℕ → AgentInput → Outcome → Outcome → Type 0
+Lawful quorum now sequence grant snapshot s m input o x = Onward (Some snapshot) o x → IsCommitInputOf s m o x input → IsLawfulAs now (HeardGranted sequence grant snapshot) quorum o s m input
 
 -- a row that leaves what commits depend on
-pub rests : (now : Ticks) (sequence : ℕ) (grant : Granted) (snapshot : SnapshotFacts) (s : State) (m : ℕ) (input : AgentInput) (o b x : Outcome) → Ground s m o b → Idle None b x → Lawful now sequence grant snapshot s m input o x
+pub rests : {quorum : ℕ} (now : Ticks) (sequence : ℕ) (grant : Granted) (snapshot : SnapshotFacts) (s : State) (m : ℕ) (input : AgentInput) (o b x : Outcome) → Ground s m quorum o b → Idle None b x → Lawful quorum now sequence grant snapshot s m input o x
 rests now sequence grant snapshot s m input o b x ground idle onward is =
     idle-lawful now (HeardGranted sequence grant snapshot) None (Some snapshot) s m input o x ground.stands is onward (idle-then None o b x ground.behind.idle idle ground.behind.last) ground.quiet (λ told e. absurd (none-told told e))
   where
@@ -84,16 +86,15 @@ notes-shown s m input o x is changes = elim changes.notes [
   | inr narrows ↦ inr (subst (Narrows (s.members m).required) (sym is.required) narrows.0, keeps-noted s m input o x is narrows.1)
 ]
 
-overlaps-shown : (s : State) (m : ℕ) (input : AgentInput) (o x : Outcome) (key : SyncKey) (standbys : ℕ → Bool) → IsCommitInputOf s m o x input → key.quorum ≡ 0 → key.standbys ≡ standbys → Overlaps s.member_count standbys 0 (confirmers_in x.machine.replication.required)
+overlaps-shown : (s : State) (m : ℕ) (input : AgentInput) (o x : Outcome) (key : SyncKey) (standbys : ℕ → Bool) → IsCommitInputOf s m o x input → key.standbys ≡ standbys → Overlaps s.member_count standbys key.quorum (confirmers_in x.machine.replication.required)
     → Overlaps s.member_count key.standbys key.quorum input.required
-overlaps-shown s m input o x key standbys is quorum same over =
+overlaps-shown s m input o x key standbys is same over =
     subst (λ (n : Confirmers). Overlaps s.member_count key.standbys key.quorum n) (sym is.required)
-    (subst (λ (q : ℕ). Overlaps s.member_count key.standbys q (confirmers_in x.machine.replication.required)) (sym quorum)
-    (subst (λ (set : ℕ → Bool). Overlaps s.member_count set 0 (confirmers_in x.machine.replication.required)) (sym same) over))
+    (subst (λ (set : ℕ → Bool). Overlaps s.member_count set key.quorum (confirmers_in x.machine.replication.required)) (sym same) over)
 
 -- in a turn
-pub changes-lawful : (now : Ticks) (sequence : ℕ) (grant : Granted) (snapshot : SnapshotFacts) (s : State) (m : ℕ) (input : AgentInput) (o b x : Outcome) → Ground s m o b → Leased s m sequence grant snapshot input o → IsLedBy s m snapshot o → is_leader b.role ≡ true → Changes s m o x
-    → Overlaps s.member_count (set_members (published_in snapshot)) 0 (confirmers_in x.machine.replication.required) → GrowsByConnected o (s.members m).required (confirmers_in x.machine.replication.required) → Lawful now sequence grant snapshot s m input o x
+pub changes-lawful : {quorum : ℕ} (now : Ticks) (sequence : ℕ) (grant : Granted) (snapshot : SnapshotFacts) (s : State) (m : ℕ) (input : AgentInput) (o b x : Outcome) → Ground s m quorum o b → Leased s m sequence grant snapshot input o → (led : IsLedBy s m quorum snapshot o) → is_leader b.role ≡ true → Changes s m o x
+    → Overlaps s.member_count (set_members (published_in snapshot)) led.key.quorum (confirmers_in x.machine.replication.required) → GrowsByConnected o (s.members m).required (confirmers_in x.machine.replication.required) → Lawful quorum now sequence grant snapshot s m input o x
 changes-lawful now sequence grant snapshot s m input o b x ground leased led leads changes over grows onward is =
     lawful-as now (HeardGranted sequence grant snapshot) (Some snapshot) s m input o x ground.stands is onward (waits-nothing o x changes.waited)
     (ChangingRequired (record {
@@ -106,14 +107,14 @@ changes-lawful now sequence grant snapshot s m input o b x ground leased led lea
       turn = keeps-turn s m input o x is changes.turn;
       key = led.key;
       key_is = led.seen;
-      overlaps = overlaps-shown s m input o x led.key (set_members (published_in snapshot)) is led.quorum led.standbys over;
+      overlaps = overlaps-shown s m input o x led.key (set_members (published_in snapshot)) is led.standbys over;
       notes = notes-shown s m input o x is changes;
     })) (subst (GrowsByConnected o (s.members m).required) (sym is.required) grows)
 
 -- on a granted write of the sync key
-pub settles-lawful : (now : Ticks) (sequence : ℕ) (grant : Granted) (snapshot : SnapshotFacts) (s : State) (m : ℕ) (input : AgentInput) (o b x : Outcome) → Ground s m o b → (awaited : IsAwaitedWrite sequence grant o.knows) → (hears : HearsWrite s m input.heard sequence awaited.waited.question o.knows)
-    → is_leader b.role ≡ true → Changes s m o x → hears.key.quorum ≡ 0 → Overlaps s.member_count hears.key.standbys 0 (confirmers_in x.machine.replication.required) → GrowsByConnected o (s.members m).required (confirmers_in x.machine.replication.required) → Lawful now sequence grant snapshot s m input o x
-settles-lawful now sequence grant snapshot s m input o b x ground awaited hears leads changes quorum over grows onward is =
+pub settles-lawful : {quorum : ℕ} (now : Ticks) (sequence : ℕ) (grant : Granted) (snapshot : SnapshotFacts) (s : State) (m : ℕ) (input : AgentInput) (o b x : Outcome) → Ground s m quorum o b → (awaited : IsAwaitedWrite sequence grant o.knows) → (hears : HearsWrite s m input.heard sequence awaited.waited.question o.knows)
+    → is_leader b.role ≡ true → Changes s m o x → Overlaps s.member_count hears.key.standbys hears.key.quorum (confirmers_in x.machine.replication.required) → GrowsByConnected o (s.members m).required (confirmers_in x.machine.replication.required) → Lawful quorum now sequence grant snapshot s m input o x
+settles-lawful now sequence grant snapshot s m input o b x ground awaited hears leads changes over grows onward is =
     lawful-as now (HeardGranted sequence grant snapshot) (Some snapshot) s m input o x ground.stands is onward (waits-nothing o x changes.waited)
     (SettlingRequired (record {
       sync_grant = write_granted_as m sequence hears.key o;
@@ -123,19 +124,22 @@ settles-lawful now sequence grant snapshot s m input o b x ground awaited hears 
       ready = keeps-ready s m input o x is (λ e. absurd (no-way (sym changes.ready ∙ e)));
       leads = λ _. ground.behind.idle.leads leads;
       turn = keeps-turn s m input o x is changes.turn;
-      overlaps = overlaps-shown s m input o x hears.key hears.key.standbys is quorum refl over;
+      overlaps = overlaps-shown s m input o x hears.key hears.key.standbys is refl over;
       notes = notes-shown s m input o x is changes;
     })) (subst (GrowsByConnected o (s.members m).required) (sym is.required) grows)
 
--- a leader that asks for standbys that are required, and are published already or have confirmed the noted position
-pub publishes-lawful : (now ttl : Ticks) (sequence : ℕ) (grant : Granted) (snapshot : SnapshotFacts) (s : State) (m : ℕ) (input : AgentInput) (o b : Outcome) → Ground s m o b → Leased s m sequence grant snapshot input o → IsLedBy s m snapshot o → is_leader b.role ≡ true → (settling : Settling) (set : MemberSet)
+-- a leader that asks for standbys that are required, and are published already or have confirmed the noted position, of which no fewer may lack a
+-- commit than before
+pub publishes-lawful : {quorum : ℕ} (now ttl : Ticks) (sequence : ℕ) (grant : Granted) (snapshot : SnapshotFacts) (s : State) (m : ℕ) (input : AgentInput) (o b : Outcome) → Ground s m quorum o b → Leased s m sequence grant snapshot input o → (led : IsLedBy s m quorum snapshot o) → is_leader b.role ≡ true → (settling : Settling) (set : MemberSet)
     → IsWithin (set_members set) (set_members (required_members o.machine.replication.required)) → ((n : ℕ) → set_members set n ≡ true → (set_members (published_in snapshot) n ≡ true) ⊎ HasReached o.machine.replication.confirmed_positions (noted_position o.knows.noted) n)
-    → Lawful now sequence grant snapshot s m input o (naming now grant.revision settling set (led_on now ttl grant.revision (Told snapshot b)))
-publishes-lawful now ttl sequence grant snapshot s m input o b ground leased led leads settling set required each onward is =
+    → led.key.quorum ≤ quorum_written (txns.SetSync grant.revision (expected_of (sync_read_in snapshot)) set)
+    → Lawful quorum now sequence grant snapshot s m input o (naming now grant.revision settling set (led_on now ttl grant.revision (Told snapshot b)))
+publishes-lawful now ttl sequence grant snapshot s m input o b ground leased led leads settling set required each fewer onward is =
     let fed : Outcome = led_on now ttl grant.revision (Told snapshot b) in
     let x : Outcome = naming now grant.revision settling set fed in
     let fed-quiet : All StandsAlone fed.outputs = quiet-fed (deadline_after now ttl b.machine.watchdog) b.outputs (ground.behind.idle.quiet ground.quiet) in
-    let output : Output = outputs.Send targets.Store (b.knows.sequence + 1) (bodies.Request (txns.SetSync grant.revision (expected_of (sync_read_in snapshot)) set)) in
+    let txn : Txn = txns.SetSync grant.revision (expected_of (sync_read_in snapshot)) set in
+    let output : Output = outputs.Send targets.Store (b.knows.sequence + 1) (bodies.Request txn) in
     let request : SyncRequest = publish_request m o.knows.incarnation (b.knows.sequence + 1) grant.revision (expected_of (sync_read_in snapshot)) set in
     let lives : (s.members m).live ≡ true = leads-live s m o b ground.stands ground.behind leads in
     let was-published : (n : ℕ) → set_members (published_in snapshot) n ≡ true → led.key.standbys n ≡ true = λ n e. ap (λ (f : ℕ → Bool). f n) led.standbys ∙ e in
@@ -156,9 +160,9 @@ publishes-lawful now ttl sequence grant snapshot s m input o b ground leased led
       leader = refl;
       sync = compared-as (sync_read_in snapshot) ∙ ap sync_revision_of led.seen;
       standbys = set_members set;
-      quorum = 0;
+      quorum = quorum_written txn;
       aim = refl;
-      overlaps = subst (λ (n : Confirmers). Overlaps s.member_count (set_members set) 0 n) (sym ground.stands.required) (covers-required s.member_count (set_members set) o.machine.replication.required required);
+      overlaps = subst (λ (n : Confirmers). Overlaps s.member_count (set_members set) (quorum_written txn) n) (sym ground.stands.required) (covers-required s.member_count (quorum_written txn) (set_members set) o.machine.replication.required required);
       connected = λ n e. elim (each n e) [
         | inl was ↦ inl (was-published n was)
         | inr reached ↦ inr (confirmed-any s m (noted_position o.knows.noted) n (has-confirmed s m o (noted_position o.knows.noted) n ground.stands reached))
@@ -166,5 +170,5 @@ publishes-lawful now ttl sequence grant snapshot s m input o b ground leased led
       may = Added (λ n e. elim (each n e) [
         | inl was ↦ inl (was-published n was)
         | inr reached ↦ inr (has-confirmed s m o (noted_position o.knows.noted) n ground.stands reached)
-      ]) (subst (λ (q : ℕ). q ≤ 0) (sym led.quorum) (omega arith));
+      ]) fewer;
     })) tt

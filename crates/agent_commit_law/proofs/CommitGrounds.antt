@@ -21,7 +21,8 @@ use Rattle.event_book.specs.Functions.{set_members}
 use Rattle.sync_state.specs.Published.{standbys_of, published_in}
 use Rattle.sync_state.specs.Standbys.{required_members, noted_position}
 use Rattle.commit_actions.proofs.Tools.{or-cases}
-use Rattle.commit_actions.specs.Keys.{SyncKey, Confirmers, Overlaps, IsOfQuorum}
+use Rattle.commit_actions.specs.Keys.{SyncKey, Confirmers, Overlaps, IsOfQuorum, strict_quorum}
+use Rattle.commit_actions.specs.Stored.{key_seen, quorum_of}
 use Rattle.commit_actions.specs.Flights.{LeaseGrant, SyncGrant}
 use Rattle.commit_actions.specs.States.{State, Reaches, Waits}
 use Rattle.commit_actions.specs.Inputs.{AgentInput, HearsLeaseGrant, HearsSyncGrant, WinsByName, HasConfirmed, sync_revision_of}
@@ -157,7 +158,7 @@ hears-write s m sequence grant input o awaited hears = record {
   waits = write-number sequence grant o.knows awaited;
 }
 
-waits-for : (s : State) (m sequence : ℕ) (o : Outcome) → StandsToCommit s m o → number_waited o.knows.waited ≡ Some sequence → Waits (s.members m) o.knows.incarnation sequence
+waits-for : {quorum : ℕ} (s : State) (m sequence : ℕ) (o : Outcome) → StandsToCommit s m quorum o → number_waited o.knows.waited ≡ Some sequence → Waits (s.members m) o.knows.incarnation sequence
 waits-for s m sequence o stands number = record { agent = was_of o; is = stands.agent; run_is = refl; waits = number }
 
 leader-lives : (role : RoleFacts) (lives : Bool) → is_leader role ≡ true → Fits role lives → lives ≡ true
@@ -165,43 +166,42 @@ leader-lives (Leader held) lives leads fits = fits
 leader-lives _ lives leads fits = absurd (no-way leads)
 
 -- who leads behind what comes before an input has a live server, and led before it
-pub leads-live : (s : State) (m : ℕ) (o b : Outcome) → StandsToCommit s m o → IsBehind o b → is_leader b.role ≡ true → (s.members m).live ≡ true
+pub leads-live : {quorum : ℕ} (s : State) (m : ℕ) (o b : Outcome) → StandsToCommit s m quorum o → IsBehind o b → is_leader b.role ≡ true → (s.members m).live ≡ true
 leads-live s m o b stands behind leads = stands.live ∙ (sym (ap (λ (x : ServerStatus). live x.state) behind.server) ∙ leader-lives b.role (live b.machine.server.state) leads behind.fits)
 
 -- what the key that is seen in a snapshot has of the one that is there
 seen-stored : (revision : ℕ) (stored : Option StoredKey) (key : SyncKey) → sync_seen (sync_read_by revision stored) ≡ Some key
-    → (there : StoredKey) × (stored ≡ Some there) × (key ≡ record { leader = there.leader.number; standbys = set_members there.standbys; quorum = 0; revision = revision })
+    → (there : StoredKey) × (stored ≡ Some there) × (key ≡ key_seen there revision)
 seen-stored revision None key e = absurd (none-some key e)
-seen-stored revision (Some there) key e = (there, refl, sym (some-is (record { leader = there.leader.number; standbys = set_members there.standbys; quorum = 0; revision = revision }) key e))
+seen-stored revision (Some there) key e = (there, refl, sym (some-is (key_seen there revision) key e))
 
 seen-entry : (found : Option KeyEntry) (key : SyncKey) → sync_seen (sync_read_of_entry found) ≡ Some key
-    → (there : StoredKey) × (sync_of_entry found ≡ Some there) × (key.leader ≡ there.leader.number) × (key.standbys ≡ set_members there.standbys) × (key.quorum ≡ 0)
+    → (there : StoredKey) × (sync_of_entry found ≡ Some there) × (key.leader ≡ there.leader.number) × (key.standbys ≡ set_members there.standbys)
 seen-entry None key e = absurd (none-some key e)
 seen-entry (Some found) key e = let stored = seen-stored found.revision (sync_by found.value) key e in
-    (stored.0, stored.1, ap (λ (k : SyncKey). k.leader) stored.2, ap (λ (k : SyncKey). k.standbys) stored.2, ap (λ (k : SyncKey). k.quorum) stored.2)
+    (stored.0, stored.1, ap (λ (k : SyncKey). k.leader) stored.2, ap (λ (k : SyncKey). k.standbys) stored.2)
 
--- the sync key of a live leader that hears a grant of its lease: it is that of the snapshot, names this member, and its standbys are
--- required
-pub record IsLedBy (s : State) (m : ℕ) (snapshot : SnapshotFacts) (o : Outcome) : Type 0 where
+-- the sync key of a live leader that hears a grant of its lease: it is the present one and that of the snapshot, and names this member
+pub record IsLedBy (s : State) (m quorum : ℕ) (snapshot : SnapshotFacts) (o : Outcome) : Type 0 where
   pub key : SyncKey
+  pub present : s.sync ≡ Some key
   pub seen : sync_seen (sync_read_in snapshot) ≡ Some key
-  pub quorum : key.quorum ≡ 0
+  pub few : key.quorum ≤ quorum
   pub standbys : key.standbys ≡ set_members (published_in snapshot)
   pub named : IsForeign o.knows.who.me.number (sync_in snapshot) → ⊥
-  pub covers : IsWithin (set_members (published_in snapshot)) (set_members (required_members o.machine.replication.required))
 
 same-true : (a b : ℕ) → a ≡ b → a == b ≡ true
 same-true a b e = grind (arith, nat_tests)
 
--- the required list covers the standbys of the present key
-pub key-covers : (s : State) (m : ℕ) (o : Outcome) (key : SyncKey) → IsSound s → StandsToCommit s m o → (s.members m).live ≡ true → s.sync ≡ Some key → IsWithin key.standbys (set_members (required_members o.machine.replication.required))
-key-covers s m o key sound stands lives sync = let strict : IsOfQuorum s.member_count 0 key = stands.strict key sync in
+-- where no standby may lack a commit, the required list covers the standbys of the present key
+pub key-covers : (s : State) (m : ℕ) (o : Outcome) (key : SyncKey) → IsSound s → StandsToCommit s m strict_quorum o → (s.members m).live ≡ true → s.sync ≡ Some key → IsWithin key.standbys (set_members (required_members o.machine.replication.required))
+key-covers s m o key sound stands lives sync = let strict : IsOfQuorum s.member_count strict_quorum key = stands.strict key sync in
     required-covers s.member_count key.standbys o.machine.replication.required strict.members
     (subst (λ (q : ℕ). Overlaps s.member_count key.standbys q (confirmers_in o.machine.replication.required)) (none-less key.quorum strict.few)
     (subst (λ (n : Confirmers). Overlaps s.member_count key.standbys key.quorum n) stands.required (sound.servers.overlaps m key lives sync)))
 
-pub led-by : (s : State) (m sequence : ℕ) (grant : Granted) (snapshot : SnapshotFacts) (input : AgentInput) (o : Outcome) → IsSound s → StandsToCommit s m o → HearsLease s m input.heard sequence grant.revision snapshot o.knows → IsAwaitedLease sequence grant o.knows
-    → (s.members m).live ≡ true → IsLedBy s m snapshot o
+pub led-by : {quorum : ℕ} (s : State) (m sequence : ℕ) (grant : Granted) (snapshot : SnapshotFacts) (input : AgentInput) (o : Outcome) → IsSound s → StandsToCommit s m quorum o → HearsLease s m input.heard sequence grant.revision snapshot o.knows → IsAwaitedLease sequence grant o.knows
+    → (s.members m).live ≡ true → IsLedBy s m quorum snapshot o
 led-by s m sequence grant snapshot input o sound stands hears awaited lives =
     let current : s.sync ≡ sync_seen (sync_read_in snapshot) = (sound.leased hears.number (lease_granted_as m sequence grant.revision snapshot o) hears.is).current (waits-for s m sequence o stands (lease-number sequence grant o.knows awaited)) (inl lives) in
     let led : IsLed s.sync m = sound.servers.led m lives in
@@ -209,15 +209,21 @@ led-by s m sequence grant snapshot input o sound stands hears awaited lives =
     let entry = seen-entry (entry_in keys.Sync snapshot) led.key seen in
     let standbys : led.key.standbys ≡ set_members (published_in snapshot) = entry.3 ∙ ap (λ (k : Option StoredKey). set_members (standbys_of k)) (sym entry.1) in record {
       key = led.key;
+      present = led.is;
       seen = seen;
-      quorum = entry.4;
+      few = (stands.strict led.key led.is).few;
       standbys = standbys;
       named = λ foreign. foreign entry.0 entry.1 (same-true entry.0.leader.number o.knows.who.me.number (sym entry.2 ∙ (led.leader ∙ sym stands.me)));
-      covers = subst (λ (set : ℕ → Bool). IsWithin set (set_members (required_members o.machine.replication.required))) standbys (key-covers s m o led.key sound stands lives led.is);
     }
 
+-- and so it covers those of the snapshot
+pub led-covers : (s : State) (m : ℕ) (snapshot : SnapshotFacts) (o : Outcome) → IsSound s → StandsToCommit s m strict_quorum o → (s.members m).live ≡ true → IsLedBy s m strict_quorum snapshot o
+    → IsWithin (set_members (published_in snapshot)) (set_members (required_members o.machine.replication.required))
+led-covers s m snapshot o sound stands lives led =
+    subst (λ (set : ℕ → Bool). IsWithin set (set_members (required_members o.machine.replication.required))) led.standbys (key-covers s m o led.key sound stands lives led.present)
+
 -- the key of a granted write is the present one, for a live leader that waits for the grant
-pub written : (s : State) (m sequence : ℕ) (grant : Granted) (input : AgentInput) (o : Outcome) (awaited : IsAwaitedWrite sequence grant o.knows) → (hears : HearsWrite s m input.heard sequence awaited.waited.question o.knows) → IsSound s → StandsToCommit s m o
+pub written : {quorum : ℕ} (s : State) (m sequence : ℕ) (grant : Granted) (input : AgentInput) (o : Outcome) (awaited : IsAwaitedWrite sequence grant o.knows) → (hears : HearsWrite s m input.heard sequence awaited.waited.question o.knows) → IsSound s → StandsToCommit s m quorum o
     → (s.members m).live ≡ true → s.sync ≡ Some hears.key
 written s m sequence grant input o awaited hears sound stands lives =
     (sound.synced hears.number (write_granted_as m sequence hears.key o) hears.is).current (waits-for s m sequence o stands (write-number sequence grant o.knows awaited)) (inl lives)
@@ -227,16 +233,16 @@ pub compared-as : (read : Option SyncRead) → revision_in (expected_of read) �
 compared-as None = refl
 compared-as (Some read) = refl
 
--- whom the key names that its turn read wins without a race
-pub wins-named : (me : MemberId) (m : ℕ) (read : Option SyncRead) → me.number ≡ m → is_named_if me read ≡ true → WinsByName (sync_seen read) m
-wins-named me m None is named = tt
-wins-named me m (Some read) is named = elim (or-cases (read.key.leader.number == me.number) (is_standby me read.key) named) [
+-- whom the key names that its turn read wins without a race, where no standby may lack a commit
+pub wins-named : (me : MemberId) (m : ℕ) (read : Option SyncRead) → ((key : SyncKey) → sync_seen read ≡ Some key → key.quorum ≤ strict_quorum) → me.number ≡ m → is_named_if me read ≡ true → WinsByName (sync_seen read) m
+wins-named me m None few is named = tt
+wins-named me m (Some read) few is named = elim (or-cases (read.key.leader.number == me.number) (is_standby me read.key) named) [
   | inl leads ↦ inl (eq-from read.key.leader.number me.number leads ∙ is)
-  | inr standby ↦ inr (subst (λ (n : ℕ). set_members read.key.standbys n ≡ true) is standby, refl)
+  | inr standby ↦ inr (subst (λ (n : ℕ). set_members read.key.standbys n ≡ true) is standby, none-less (quorum_of read.key) (few (key_seen read.key read.revision) refl))
 ]
 
 -- a connected member that reached a position has confirmed it, to a server that accepts writes
-pub has-confirmed : (s : State) (m : ℕ) (o : Outcome) (position n : ℕ) → StandsToCommit s m o → HasReached o.machine.replication.confirmed_positions position n → HasConfirmed (s.members m) position n
+pub has-confirmed : {quorum : ℕ} (s : State) (m : ℕ) (o : Outcome) (position n : ℕ) → StandsToCommit s m quorum o → HasReached o.machine.replication.confirmed_positions position n → HasConfirmed (s.members m) position n
 has-confirmed s m o position n stands reached = let connected : IsConnected s m n reached.end = stands.connected n reached.end reached.is in
     (connected.writes, subst (λ (p : Option ℕ). Reaches position p) (sym connected.confirmed) reached.reached)
 
@@ -254,7 +260,7 @@ end-is (Some end) None is = absurd is
 end-is (Some end) (Some log) is = is
 
 -- the end of the server's log, once it is noted
-pub noted-end : (s : State) (m : ℕ) (o b : Outcome) → StandsToCommit s m o → IsBehind o b → noted_position b.machine.server.end ≡ end_of (entries_of (s.members m).log)
+pub noted-end : {quorum : ℕ} (s : State) (m : ℕ) (o b : Outcome) → StandsToCommit s m quorum o → IsBehind o b → noted_position b.machine.server.end ≡ end_of (entries_of (s.members m).log)
 noted-end s m o b stands behind = ap (λ (x : ServerStatus). noted_position x.end) behind.server ∙ end-is o.machine.server.end (s.members m).log stands.end
 
 -- who may take the leader key wasn't about to begin

@@ -1,5 +1,5 @@
 -- Each input of the table is lawful for kept commits, and leaves the synchronous mode on.
-use Rattle.std.proofs.Common.{◌≡◌, ℕ, ◌+◌, ◌<◌, Bool, true, ◌∷◌, slice_get, List, [], Option, Some, None, All, refl, sym, subst, ap, ◌∙◌, false, arith, inl, inr}
+use Rattle.std.proofs.Common.{◌≡◌, ℕ, ◌+◌, ◌<◌, ◌≤◌, Bool, true, ◌∷◌, slice_get, List, [], Option, Some, None, All, refl, sym, subst, ap, ◌∙◌, false, arith, inl, inr}
 use Rattle.std.proofs.lemmas.List.Elements.{All-nil, All-push}
 use Rattle.std.proofs.lemmas.List.{append_assoc}
 use Rattle.pat_base.specs.declared.member_set.MemberSet.{MemberSet}
@@ -8,6 +8,7 @@ use Rattle.pat_base.specs.declared.server_state.Required.TheVariants as required
 use Rattle.pat_base.specs.declared.ticks.Ticks.{Ticks}
 use Rattle.lease_store.specs.declared.granted.Granted.{Granted}
 use Rattle.lease_store.specs.declared.txn.Expected.{Expected}
+use Rattle.lease_store.specs.declared.txn.Txn.{Txn}
 use Rattle.lease_store.specs.declared.txn.Txn.TheVariants as txns
 use Rattle.lease_store.specs.Writes.{nobody}
 use Rattle.wal_model.specs.declared.entry.HistoryPoint.{HistoryPoint}
@@ -21,6 +22,8 @@ use Rattle.event_book.specs.Functions.{set_members}
 use Rattle.lease_law.proofs.Tools.{some-is, none-some, not-false}
 use Rattle.sync_state.specs.Published.{published_in}
 use Rattle.sync_state.specs.Sets.{both, either}
+use Rattle.commit_actions.specs.Keys.{strict_quorum}
+use Rattle.commit_actions.specs.Stored.{quorum_written}
 use Rattle.commit_actions.specs.Actions.{fresh_agent}
 use Rattle.commit_actions.specs.States.{Agent, State}
 use Rattle.commit_actions.specs.Inputs.{AgentInput, HearsSnapshot, Does, Idling, Racing, HearingAnswer, WinningRace, CreatingLeader, Arming, TakingOver, ChangingRequired, Publishing, Promoting, SettlingRequired, ArmsAlone, IsGivenByLease}
@@ -91,29 +94,29 @@ before-covered now o all = before-by (λ (x : Outcome). All IsCovered x.outputs)
     ended-covered Lost held = disarms
 
 -- behind quiet outputs the mode stays on
-quiet-stays : (heard : Heard) (o x : Outcome) → AsksInSynchronousMode x.knows → All StandsAlone x.outputs → StaysInSynchronousMode heard o x
-quiet-stays heard o x asks quiet = record {
+quiet-stays : (quorum : ℕ) (heard : Heard) (o x : Outcome) → AsksInSynchronousMode x.knows → All StandsAlone x.outputs → StaysInSynchronousMode quorum heard o x
+quiet-stays quorum heard o x asks quiet = record {
   asks = asks;
   one = quiet-one o.knows.who.me.number o.knows.incarnation x.outputs quiet;
-  sends = λ count below. keeps-mode count x.outputs (unasking x.outputs quiet);
+  sends = λ count below. keeps-mode count quorum x.outputs (unasking x.outputs quiet);
   form = Ordered [] NoMore x.outputs (All-nil IsCovered) quiet refl;
   begins = λ e. absurd (not-false (has_one is_begin x.outputs) (quiet-unbegun x.outputs quiet) e);
 }
 
 -- with one more output behind those that send no other request
-last-stays : (heard : Heard) (o x : Outcome) (outs : List Output) (output : Output) → AsksInSynchronousMode x.knows → x.outputs ≡ with_output output outs → is_begin output ≡ false → All IsUnasking outs → HasForm x.outputs → ((count : ℕ) → KnowsBelow count heard o → IsSynchronousOutput count output) → StaysInSynchronousMode heard o x
-last-stays heard o x outs output asks is unbegun still form sends =
+last-stays : (quorum : ℕ) (heard : Heard) (o x : Outcome) (outs : List Output) (output : Output) → AsksInSynchronousMode x.knows → x.outputs ≡ with_output output outs → is_begin output ≡ false → All IsUnasking outs → HasForm x.outputs → ((count : ℕ) → KnowsBelow count heard o → IsSynchronousOutput count quorum output) → StaysInSynchronousMode quorum heard o x
+last-stays quorum heard o x outs output asks is unbegun still form sends =
     record {
       asks = asks;
       one = subst (λ (l : List Output). IsOneAtMost (requests_of o.knows.who.me.number o.knows.incarnation l)) (sym is) (last-one o.knows.who.me.number o.knows.incarnation outs output still);
-      sends = λ count below. subst (λ (l : List Output). All (IsSynchronousOutput count) l) (sym is) (All-push (IsSynchronousOutput count) outs output (keeps-mode count outs still) (sends count below));
+      sends = λ count below. subst (λ (l : List Output). All (IsSynchronousOutput count quorum) l) (sym is) (All-push (IsSynchronousOutput count quorum) outs output (keeps-mode count quorum outs still) (sends count below));
       form = form;
       begins = λ e. absurd (not-false (has_one is_begin x.outputs) (ap (has_one is_begin) is ∙ last-unbegun outs output still unbegun) e);
     }
 
 -- a question to the key store is the last output
-asks-stays : (heard : Heard) (o x : Outcome) (outs : List Output) (sequence : ℕ) (body : Body) → AsksInSynchronousMode x.knows → x.outputs ≡ with_output (outputs.Send targets.Store sequence body) outs → All IsCovered outs → ((count : ℕ) → KnowsBelow count heard o → IsSynchronousBody count body) → StaysInSynchronousMode heard o x
-asks-stays heard o x outs sequence body asks is all sends = last-stays heard o x outs (outputs.Send targets.Store sequence body) asks is refl (unasking outs (covered outs all)) (Ordered outs (Asks sequence body) [] all refl (sym is)) sends
+asks-stays : (quorum : ℕ) (heard : Heard) (o x : Outcome) (outs : List Output) (sequence : ℕ) (body : Body) → AsksInSynchronousMode x.knows → x.outputs ≡ with_output (outputs.Send targets.Store sequence body) outs → All IsCovered outs → ((count : ℕ) → KnowsBelow count heard o → IsSynchronousBody count quorum body) → StaysInSynchronousMode quorum heard o x
+asks-stays quorum heard o x outs sequence body asks is all sends = last-stays quorum heard o x outs (outputs.Send targets.Store sequence body) asks is refl (unasking outs (covered outs all)) (Ordered outs (Asks sequence body) [] all refl (sym is)) sends
 
 -- so is a claim, behind the note that the sync key doesn't name the member, if that is so
 claims-form : (o : Outcome) (sequence revision : ℕ) (sync : Expected) → All IsCovered o.outputs → HasForm (with_output (outputs.Send targets.Store sequence (bodies.Request (txns.Claim revision sync))) (passing o).outputs)
@@ -128,17 +131,25 @@ rest knows none waited is = absurd (none-some waited (sym none ∙ is))
 asks-this : (knows : Knowledge) (asked : PendingQuestion) → knows.waited ≡ Some asked → FollowsSynchronousMode knows.turn_settings.synchronous_mode asked.question → AsksInSynchronousMode knows
 asks-this knows asked is follows waited waits = subst (λ (w : PendingQuestion). FollowsSynchronousMode knows.turn_settings.synchronous_mode w.question) (some-is asked waited (sym is ∙ waits)) follows
 
-requires-stays : (heard : Heard) (o y : Outcome) (required : Required) → y.knows.waited ≡ None → All IsCovered y.outputs → StaysInSynchronousMode heard o (requiring required y)
-requires-stays heard o y required none all =
-    last-stays heard o (requiring required y) y.outputs (outputs.Require required) (rest y.knows none) refl refl (unasking y.outputs (covered y.outputs all)) (Ordered y.outputs (Requires required) [] all (inl refl) refl) (λ count below. tt)
+requires-stays : (quorum : ℕ) (heard : Heard) (o y : Outcome) (required : Required) → y.knows.waited ≡ None → All IsCovered y.outputs → StaysInSynchronousMode quorum heard o (requiring required y)
+requires-stays quorum heard o y required none all =
+    last-stays quorum heard o (requiring required y) y.outputs (outputs.Require required) (rest y.knows none) refl refl (unasking y.outputs (covered y.outputs all)) (Ordered y.outputs (Requires required) [] all (inl refl) refl) (λ count below. tt)
+
+-- no transaction says a number, so none of the standbys that it writes may lack a commit
+none-written : (txn : Txn) (quorum : ℕ) → quorum_written txn ≤ quorum
+unfolding quorum_written
+none-written txn quorum = none-below quorum
+  where
+    none-below : (n : ℕ) → 0 ≤ n
+    none-below n = omega arith
 
 -- the rows of a grant, on what comes before it
-module _ (now : Ticks) (sequence : ℕ) (grant : Granted) (snapshot : SnapshotFacts) (o b : Outcome) (behind : IsBehind o b) (all : All IsCovered b.outputs) where
+module _ (quorum : ℕ) (now : Ticks) (sequence : ℕ) (grant : Granted) (snapshot : SnapshotFacts) (o b : Outcome) (behind : IsBehind o b) (all : All IsCovered b.outputs) where
   abbrev Hears : Heard
   Hears = HeardGranted sequence grant snapshot
 
   abbrev Stays : Outcome → Type 0
-  Stays x = StaysInSynchronousMode Hears o x
+  Stays x = StaysInSynchronousMode quorum Hears o x
 
   quiet : All StandsAlone b.outputs
   quiet = covered b.outputs all
@@ -149,8 +160,8 @@ module _ (now : Ticks) (sequence : ℕ) (grant : Granted) (snapshot : SnapshotFa
   names-stays ttl settling set follows below =
       let fed : Outcome = led_on now ttl grant.revision (Told snapshot b) in
       let x : Outcome = naming now grant.revision settling set fed in
-      asks-stays Hears o x fed.outputs (b.knows.sequence + 1) (bodies.Request (txns.SetSync grant.revision (expected_of (sync_read_in snapshot)) set))
-      (asks-this x.knows _ refl (follows b.knows.turn_settings.synchronous_mode)) refl (all-fed IsCovered b.outputs all (deadline_after now ttl b.machine.watchdog) (λ until. tt)) below
+      asks-stays quorum Hears o x fed.outputs (b.knows.sequence + 1) (bodies.Request (txns.SetSync grant.revision (expected_of (sync_read_in snapshot)) set))
+      (asks-this x.knows _ refl (follows b.knows.turn_settings.synchronous_mode)) refl (all-fed IsCovered b.outputs all (deadline_after now ttl b.machine.watchdog) (λ until. tt)) (λ count knows. (below count knows, none-written (txns.SetSync grant.revision (expected_of (sync_read_in snapshot)) set) quorum))
 
   nobody-below : (count n : ℕ) → set_members nobody n ≡ true → n < count
   nobody-below count n is = absurd (not-false (set_members nobody n) (no-members nobody refl n) is)
@@ -160,14 +171,14 @@ module _ (now : Ticks) (sequence : ℕ) (grant : Granted) (snapshot : SnapshotFa
       let fed : Outcome = led_on now ttl grant.revision (Told snapshot b) in
       let still : All IsCovered fed.outputs = all-fed IsCovered b.outputs all (deadline_after now ttl b.machine.watchdog) (λ until. tt) in
       let published : MemberSet = published_in snapshot in let wanted : MemberSet = wanted_at now snapshot fed in record {
-        kept = quiet-stays Hears o fed (rest fed.knows refl) (covered fed.outputs still);
+        kept = quiet-stays quorum Hears o fed (rest fed.knows refl) (covered fed.outputs still);
         mark = λ _. names-stays ttl (NamesStandbys nobody) nobody (λ on. tt) (λ count _. nobody-below count);
         withdraws = names-stays ttl (NamesStandbys (both published wanted)) (both published wanted) (λ on. tt) (λ count below n is. below.published n (both-first published wanted n is));
-        adds = requires-stays Hears o (noting fed) (requireds.All (either (required_at fed) wanted)) refl still;
+        adds = requires-stays quorum Hears o (noting fed) (requireds.All (either (required_at fed) wanted)) refl still;
         publishes = λ _ confirmed. names-stays ttl settlings.KeepsList wanted (λ on. tt) (λ count below n is.
             let reached = confirmed-reached (leader_view now fed.knows fed.machine) n (within-set wanted (confirmed_at now fed) confirmed n is) in
             below.connected n reached.end (subst (λ (r : Replication). slice_get r.confirmed_positions n ≡ Some (Some reached.end)) behind.replication reached.is));
-        drops = λ _. requires-stays Hears o fed (waiting_for fed.knows.settings (either published wanted)) refl still;
+        drops = λ _. requires-stays quorum Hears o fed (waiting_for fed.knows.settings (either published wanted)) refl still;
       }
 
   -- what it does under a failover key
@@ -177,7 +188,7 @@ module _ (now : Ticks) (sequence : ℕ) (grant : Granted) (snapshot : SnapshotFa
       let u : Outcome = unheard fed in
       let w : Outcome = waiting_no_more u in
       let idle : FailoverRows (Idle None b) now grant.revision fed = failover-idle None now grant.revision b fed (led-idle now ttl grant.revision snapshot b leads) (omega arith) in
-      let still : (x : Outcome) → Idle None b x → AsksInSynchronousMode x.knows → Stays x = λ x after asks. quiet-stays Hears o x asks (after.quiet quiet) in
+      let still : (x : Outcome) → Idle None b x → AsksInSynchronousMode x.knows → Stays x = λ x after asks. quiet-stays quorum Hears o x asks (after.quiet quiet) in
       record {
         kept = still fed idle.kept (rest fed.knows refl);
         clears = λ compared. still (dropping compared fed) (idle.clears compared) (rest (dropping compared fed).knows refl);
@@ -203,15 +214,15 @@ module _ (now : Ticks) (sequence : ℕ) (grant : Granted) (snapshot : SnapshotFa
       let refused-it : Outcome = gives_back revision (record told { outputs = with_output (outputs.Note agent_notes.CannotArm) b.outputs }) in
       let claimed : Outcome = claims now revision (passing arm) in
       let read : Expected = expected_of b.knows.turn_sync in record {
-        other = quiet-stays Hears o told (rest told.knows refl) quiet;
-        ends = quiet-stays Hears o ended (rest ended.knows refl) (quietly fed.outputs (outputs.Stop StartTooLong) (quiet-fed (deadline_after now ttl b.machine.watchdog) b.outputs quiet) tt);
+        other = quiet-stays quorum Hears o told (rest told.knows refl) quiet;
+        ends = quiet-stays quorum Hears o ended (rest ended.knows refl) (quietly fed.outputs (outputs.Stop StartTooLong) (quiet-fed (deadline_after now ttl b.machine.watchdog) b.outputs quiet) tt);
         plans = λ held _. plan-stays ttl;
         fails_over = λ held is. failover-stays ttl (rw is refl);
-        stops = λ _. quiet-stays Hears o stopped (rest stopped.knows refl) (quietly b.outputs (outputs.Stop WatchdogNotArmed) quiet tt);
-        takes_over = λ _. quiet-stays Hears o over (rest over.knows refl) (covered arm.outputs armed);
-        returns = quiet-stays Hears o back (rest back.knows refl) (quietly b.outputs _ quiet tt);
-        refuses = quiet-stays Hears o refused-it (rest refused-it.knows refl) (quietly (with_output (outputs.Note agent_notes.CannotArm) b.outputs) _ (quietly b.outputs (outputs.Note agent_notes.CannotArm) quiet tt) tt);
-        claims = λ _. last-stays Hears o claimed (passing arm).outputs (outputs.Send targets.Store (b.knows.sequence + 1) (bodies.Request (txns.Claim revision read))) (asks-this claimed.knows _ refl tt) refl refl
+        stops = λ _. quiet-stays quorum Hears o stopped (rest stopped.knows refl) (quietly b.outputs (outputs.Stop WatchdogNotArmed) quiet tt);
+        takes_over = λ _. quiet-stays quorum Hears o over (rest over.knows refl) (covered arm.outputs armed);
+        returns = quiet-stays quorum Hears o back (rest back.knows refl) (quietly b.outputs _ quiet tt);
+        refuses = quiet-stays quorum Hears o refused-it (rest refused-it.knows refl) (quietly (with_output (outputs.Note agent_notes.CannotArm) b.outputs) _ (quietly b.outputs (outputs.Note agent_notes.CannotArm) quiet tt) tt);
+        claims = λ _. last-stays quorum Hears o claimed (passing arm).outputs (outputs.Send targets.Store (b.knows.sequence + 1) (bodies.Request (txns.Claim revision read))) (asks-this claimed.knows _ refl tt) refl refl
             (passing-unasked arm (covered arm.outputs armed)) (claims-form arm (b.knows.sequence + 1) revision read armed) (λ count below. tt);
       }
 
@@ -224,7 +235,7 @@ module _ (now : Ticks) (sequence : ℕ) (grant : Granted) (snapshot : SnapshotFa
       record {
         asks = rest x.knows refl;
         one = last-one o.knows.who.me.number o.knows.incarnation (with_output required b.outputs) outputs.Begin asking-none;
-        sends = λ count below. All-push (IsSynchronousOutput count) (with_output required b.outputs) outputs.Begin (keeps-mode count (with_output required b.outputs) asking-none) tt;
+        sends = λ count below. All-push (IsSynchronousOutput count quorum) (with_output required b.outputs) outputs.Begin (keeps-mode count quorum (with_output required b.outputs) asking-none) tt;
         form = Ordered b.outputs (Requires list) (outputs.Begin ∷ []) all (inr refl) (sym (append_assoc b.outputs (required ∷ []) (outputs.Begin ∷ [])));
         begins = λ _. subst (λ (server : ServerStatus). can_begin_on_claim server.was_primary server.state ≡ true) behind.server can;
       }
@@ -232,17 +243,17 @@ module _ (now : Ticks) (sequence : ℕ) (grant : Granted) (snapshot : SnapshotFa
   write-stays : (question : Question) → WriteSteps Stays now question snapshot b
   write-stays question =
       let told : Outcome = Told snapshot b in record {
-        other = quiet-stays Hears o told (rest told.knows refl) quiet;
+        other = quiet-stays quorum Hears o told (rest told.knows refl) quiet;
         begins = λ revision _ _ can. begins-stays revision can;
-        postpones = λ revision. let x : Outcome = postpones revision told in quiet-stays Hears o x (rest x.knows refl) ((postpones-idle None revision told).quiet quiet);
-        lists = λ set _ _. requires-stays Hears o told (waiting_for told.knows.settings set) refl all;
-        empties = λ _. requires-stays Hears o told requireds.Nobody refl all;
+        postpones = λ revision. let x : Outcome = postpones revision told in quiet-stays quorum Hears o x (rest x.knows refl) ((postpones-idle None revision told).quiet quiet);
+        lists = λ set _ _. requires-stays quorum Hears o told (waiting_for told.knows.settings set) refl all;
+        empties = λ _. requires-stays quorum Hears o told requireds.Nobody refl all;
       }
 
   grant-stays : is_paused (informed snapshot b.knows) ≡ false → AsksInSynchronousMode b.knows → IsSynchronousSnapshot snapshot → Stays (granted now sequence grant snapshot b)
   grant-stays unpaused asks on = granted-steps Stays now sequence grant snapshot b on (record {
-    kept = quiet-stays Hears o b asks quiet;
-    quiet = quiet-stays Hears o (waiting_no_more b) (rest (waiting_no_more b).knows refl) quiet;
+    kept = quiet-stays quorum Hears o b asks quiet;
+    quiet = quiet-stays quorum Hears o (waiting_no_more b) (rest (waiting_no_more b).knows refl) quiet;
     unpaused = unpaused;
     mode = λ awaited. leases-on sequence grant b.knows asks awaited;
     leases = λ awaited. lease-stays awaited.waited.ttl;
@@ -253,7 +264,7 @@ module _ (now : Ticks) (sequence : ℕ) (grant : Granted) (snapshot : SnapshotFa
 rests : (now : Ticks) (heard : Heard) (told onto : Option SnapshotFacts) (o x : Outcome) → All StandsAlone o.outputs → Onward onto o x → Idle told o x → (AsksInSynchronousMode o.knows → HearsSynchronousMode heard → AsksInSynchronousMode x.knows)
     → ((s : State) (m : ℕ) (input : AgentInput) → HearsToCommit s m input heard o → (snapshot : SnapshotFacts) → told ≡ Some snapshot → HearsSnapshot s input (sync_seen (sync_read_in snapshot))) → CommitsFrom now heard o x
 rests now heard told onto o x quiet onward idle asks hears = record {
-  stays = λ _ on hears-on. quiet-stays heard o x (asks on hears-on) (idle.quiet quiet);
+  stays = λ _ on hears-on. quiet-stays strict_quorum heard o x (asks on hears-on) (idle.quiet quiet);
   lawful = λ _ on hears-on s m input sound stands heard-it is. idle-lawful now heard told onto s m input o x stands is onward idle quiet (hears s m input heard-it);
 }
 
@@ -286,7 +297,7 @@ step-commits now points (HeardGranted sequence grant snapshot) o all = let told 
     (idle-then None o b x (before-idle None now o) (operator-granted-idle None snapshot b.knows.operating b) (before-onward None now o).last)
     (λ on _. operator-granted-asks snapshot b.knows.operating b (before-asks now o on)) (λ s m input _ other e. absurd (none-told other e)))
     (λ _ _. record {
-      stays = λ was on is. grant-stays now sequence grant snapshot o b (before-behind now o) (before-covered now o all) (stays-unpaused now snapshot o was is.unpaused) (before-asks now o on) is;
+      stays = λ was on is. grant-stays strict_quorum now sequence grant snapshot o b (before-behind now o) (before-covered now o all) (stays-unpaused now snapshot o was is.unpaused) (before-asks now o on) is;
       lawful = λ was on is s m input sound stands hears input-is. grant-commits now sequence grant snapshot s m input o sound stands (covered o.outputs all) was on is hears input-is;
     })
     (onward-then told o b (granted_any now sequence grant snapshot b) (before-onward told now o) (any-granted-onward now sequence grant snapshot b))
@@ -314,7 +325,7 @@ pub fresh-seen : (who : Who) (first : Ticks) (incarnation : ℕ) → committer_s
 fresh-seen who first incarnation = refl
 
 -- what the timed lease gives to an input: to one that arms, that it hears the present leader key and that nobody else acts
-pub given-by-lease : (now : Ticks) (heard : Heard) (o : Outcome) (s : State) (m : ℕ) (input : AgentInput) (was : Agent) (does : Does s m input was) → DoesAs now heard o s m input was does
+pub given-by-lease : (now : Ticks) (heard : Heard) (o : Outcome) (s : State) (m : ℕ) (input : AgentInput) (was : Agent) (does : Does s m input was) → DoesAs now heard strict_quorum o s m input was does
     → ((revision : ℕ) → ArmsOn now heard o revision → (s.members m).live ≡ false → input.agent.ready ≡ true → ArmsAlone s m revision) → IsGivenByLease s m input was does
 given-by-lease now heard o s m input was (Racing races) as-it gives = absurd as-it
 given-by-lease now heard o s m input was (HearingAnswer answer) as-it gives = absurd as-it

@@ -40,8 +40,8 @@ number-waits was (Some waited) last sequence waits e = elim (waits waited refl) 
 ]
 
 -- what is lawful of an input, whatever it does
-pub lawful-as : (now : Ticks) (heard : Heard) (told : Option SnapshotFacts) (s : State) (m : ℕ) (input : AgentInput) (o after : Outcome) → StandsToCommit s m o → IsCommitInputOf s m o after input → Onward told o after → WaitsOn o after
-    → (does : Does s m input (was_of o)) → DoesAs now heard o s m input (was_of o) does → IsLawfulAs now heard o s m input
+pub lawful-as : {quorum : ℕ} (now : Ticks) (heard : Heard) (told : Option SnapshotFacts) (s : State) (m : ℕ) (input : AgentInput) (o after : Outcome) → StandsToCommit s m quorum o → IsCommitInputOf s m o after input → Onward told o after → WaitsOn o after
+    → (does : Does s m input (was_of o)) → DoesAs now heard quorum o s m input (was_of o) does → IsLawfulAs now heard quorum o s m input
 lawful-as now heard told s m input o after stands is onward waits does as-it = record {
   lawful = record {
     was = was_of o;
@@ -75,11 +75,11 @@ unbegun-live true after before-it e = absurd (no-way (sym e))
 unbegun-live false after before-it e = refl
 
 -- the server stays where nobody begins
-pub keeps-live : (s : State) (m : ℕ) (input : AgentInput) (o after : Outcome) → StandsToCommit s m o → IsCommitInputOf s m o after input → has_one is_begin after.outputs ≡ false → input.live ≡ (s.members m).live
+pub keeps-live : {quorum : ℕ} (s : State) (m : ℕ) (input : AgentInput) (o after : Outcome) → StandsToCommit s m quorum o → IsCommitInputOf s m o after input → has_one is_begin after.outputs ≡ false → input.live ≡ (s.members m).live
 keeps-live s m input o after stands is begun =
     is.live ∙ (unbegun-live (has_one is_begin after.outputs) (live after.machine.server.state) (live o.machine.server.state) begun ∙ sym stands.live)
 
-pub keeps-server : (s : State) (m : ℕ) (input : AgentInput) (o after : Outcome) → StandsToCommit s m o → IsCommitInputOf s m o after input → has_one is_begin after.outputs ≡ false → after.machine.replication.required ≡ o.machine.replication.required → KeepsServer s m input
+pub keeps-server : {quorum : ℕ} (s : State) (m : ℕ) (input : AgentInput) (o after : Outcome) → StandsToCommit s m quorum o → IsCommitInputOf s m o after input → has_one is_begin after.outputs ≡ false → after.machine.replication.required ≡ o.machine.replication.required → KeepsServer s m input
 keeps-server s m input o after stands is begun required = record {
   live = keeps-live s m input o after stands is begun;
   required = is.required ∙ (ap (λ (r : Required). confirmers_in r) required ∙ sym stands.required);
@@ -113,8 +113,8 @@ sends-one s m input o after request is one member incarnation later counted wait
     }
 
 -- an input that leaves what commits depend on is lawful
-pub idle-lawful : (now : Ticks) (heard : Heard) (told onto : Option SnapshotFacts) (s : State) (m : ℕ) (input : AgentInput) (o after : Outcome) → StandsToCommit s m o → IsCommitInputOf s m o after input → Onward onto o after → Idle told o after → All StandsAlone o.outputs
-    → ((snapshot : SnapshotFacts) → told ≡ Some snapshot → HearsSnapshot s input (sync_seen (sync_read_in snapshot))) → IsLawfulAs now heard o s m input
+pub idle-lawful : {quorum : ℕ} (now : Ticks) (heard : Heard) (told onto : Option SnapshotFacts) (s : State) (m : ℕ) (input : AgentInput) (o after : Outcome) → StandsToCommit s m quorum o → IsCommitInputOf s m o after input → Onward onto o after → Idle told o after → All StandsAlone o.outputs
+    → ((snapshot : SnapshotFacts) → told ≡ Some snapshot → HearsSnapshot s input (sync_seen (sync_read_in snapshot))) → IsLawfulAs now heard quorum o s m input
 idle-lawful now heard told onto s m input o after stands is onward idle quiet hears =
     let still : All StandsAlone after.outputs = idle.quiet quiet in
     lawful-as now heard onto s m input o after stands is onward idle.waits

@@ -127,31 +127,31 @@ last-unbegun (one ∷ outs) output all is =
     ap (λ (b : Bool). b || has_one is_begin (with_output output outs)) (unbegun one (All-head IsUnasking one outs all)) ∙ last-unbegun outs output (All-tail IsUnasking one outs all) is
 
 -- and each is as synchronous mode has it
-create-kept : (count : ℕ) (info : MemberInfo) (ttl : Ticks) (failsafe : Option Expected) (sync : Option Expected) → sync ≡ None → IsSynchronousTxn count (txns.Create info ttl failsafe sync)
-create-kept count info ttl failsafe None is = tt
-create-kept count info ttl failsafe (Some sync) is = absurd (none-some sync (sym is))
+create-kept : (count quorum : ℕ) (info : MemberInfo) (ttl : Ticks) (failsafe : Option Expected) (sync : Option Expected) → sync ≡ None → IsSynchronousTxn count quorum (txns.Create info ttl failsafe sync)
+create-kept count quorum info ttl failsafe None is = tt
+create-kept count quorum info ttl failsafe (Some sync) is = absurd (none-some sync (sym is))
 
-renew-kept : (count revision : ℕ) (info : MemberInfo) (ttl : Ticks) (status : Option Lsn) (row : Option HistoryRow) (failsafe : Option MemberSet) → failsafe ≡ None → IsSynchronousTxn count (txns.Renew revision info ttl status row failsafe)
-renew-kept count revision info ttl status row None is = tt
-renew-kept count revision info ttl status row (Some members) is = absurd (none-some members (sym is))
+renew-kept : (count quorum revision : ℕ) (info : MemberInfo) (ttl : Ticks) (status : Option Lsn) (row : Option HistoryRow) (failsafe : Option MemberSet) → failsafe ≡ None → IsSynchronousTxn count quorum (txns.Renew revision info ttl status row failsafe)
+renew-kept count quorum revision info ttl status row None is = tt
+renew-kept count quorum revision info ttl status row (Some members) is = absurd (none-some members (sym is))
 
-kept-txn : (count : ℕ) (txn : Txn) → IsQuietTxn txn → IsSynchronousTxn count txn
-kept-txn count (txns.Create info ttl failsafe sync) quiet = create-kept count info ttl failsafe sync quiet
-kept-txn count (txns.Renew revision info ttl status row failsafe) quiet = renew-kept count revision info ttl status row failsafe quiet
-kept-txn count (txns.SetSync revision sync standbys) quiet = absurd quiet
-kept-txn count (txns.DropSync revision sync) quiet = quiet
-kept-txn count _ quiet = tt
+kept-txn : (count quorum : ℕ) (txn : Txn) → IsQuietTxn txn → IsSynchronousTxn count quorum txn
+kept-txn count quorum (txns.Create info ttl failsafe sync) quiet = create-kept count quorum info ttl failsafe sync quiet
+kept-txn count quorum (txns.Renew revision info ttl status row failsafe) quiet = renew-kept count quorum revision info ttl status row failsafe quiet
+kept-txn count quorum (txns.SetSync revision sync standbys) quiet = absurd quiet
+kept-txn count quorum (txns.DropSync revision sync) quiet = quiet
+kept-txn count quorum _ quiet = tt
 
-kept-body : (count : ℕ) (body : Body) → IsQuietBody body → IsSynchronousBody count body
-kept-body count (bodies.Request txn) quiet = kept-txn count txn quiet
-kept-body count _ quiet = tt
+kept-body : (count quorum : ℕ) (body : Body) → IsQuietBody body → IsSynchronousBody count quorum body
+kept-body count quorum (bodies.Request txn) quiet = kept-txn count quorum txn quiet
+kept-body count quorum _ quiet = tt
 
-kept-output : (count : ℕ) (output : Output) → IsUnasking output → IsSynchronousOutput count output
-kept-output count (outputs.Send to sequence body) all = kept-body count body all
-kept-output count _ all = tt
+kept-output : (count quorum : ℕ) (output : Output) → IsUnasking output → IsSynchronousOutput count quorum output
+kept-output count quorum (outputs.Send to sequence body) all = kept-body count quorum body all
+kept-output count quorum _ all = tt
 
-pub keeps-mode : (count : ℕ) (outs : List Output) → All IsUnasking outs → All (IsSynchronousOutput count) outs
-keeps-mode count outs all = All-weaker IsUnasking (IsSynchronousOutput count) (kept-output count) outs all
+pub keeps-mode : (count quorum : ℕ) (outs : List Output) → All IsUnasking outs → All (IsSynchronousOutput count quorum) outs
+keeps-mode count quorum outs all = All-weaker IsUnasking (IsSynchronousOutput count quorum) (kept-output count quorum) outs all
 
 pub quietly : (outs : List Output) (output : Output) → All StandsAlone outs → StandsAlone output → All StandsAlone (with_output output outs)
 quietly outs output quiet more = All-push StandsAlone outs output quiet more

@@ -1,5 +1,5 @@
 -- Each granted request is lawful for kept commits: who takes the leader key, claims and begins, and all rows together.
-use Rattle.std.proofs.Common.{◌≡◌, ℕ, ◌+◌, Bool, true, false, Option, Some, None, List, All, refl, sym, subst, ap, ◌∙◌, arith, inl, inr, slice_get}
+use Rattle.std.proofs.Common.{◌≡◌, ℕ, ◌+◌, ◌≤◌, Bool, true, false, Option, Some, None, List, All, refl, sym, subst, ap, ◌∙◌, arith, inl, inr, slice_get}
 use Rattle.pat_base.specs.declared.lsn.Lsn.{Lsn}
 use Rattle.pat_base.specs.declared.member_set.MemberSet.{MemberSet}
 use Rattle.pat_base.specs.declared.server_state.Required.{Required}
@@ -10,6 +10,7 @@ use Rattle.pat_base.specs.declared.ticks.Ticks.{Ticks}
 use Rattle.pat_base.specs.ServerState.{live}
 use Rattle.lease_store.specs.declared.granted.Granted.{Granted}
 use Rattle.lease_law.proofs.Tools.{not-false}
+use Rattle.lease_store.specs.declared.txn.Txn.{Txn}
 use Rattle.lease_store.specs.declared.txn.Txn.TheVariants as txns
 use Rattle.pg_model.specs.declared.status.ServerStatus.{ServerStatus}
 use Rattle.pg_model.specs.Facts.{has_data}
@@ -22,10 +23,10 @@ use Rattle.event_book.specs.Functions.{set_members}
 use Rattle.sync_state.specs.Published.{published_in}
 use Rattle.sync_state.specs.Sets.{both, either, is_within}
 use Rattle.sync_state.specs.Standbys.{required_members, noted_position}
-use Rattle.commit_actions.specs.Keys.{Confirmers, Narrows}
+use Rattle.commit_actions.specs.Keys.{Confirmers, Narrows, SyncKey, strict_quorum}
+use Rattle.commit_actions.specs.Stored.{quorum_written}
 use Rattle.commit_actions.specs.Flights.{SyncRequest}
 use Rattle.commit_actions.specs.States.{Agent, State}
-use Rattle.commit_actions.proofs.Counting.{none-less}
 use Rattle.commit_actions.specs.Inputs.{AgentInput, WinsByName, Arming, TakingOver, Promoting, sync_revision_of}
 use Rattle.commit_actions.specs.Carried.{IsSound}
 use Rattle.commit_actions.specs.Past.{confirmers_in, claim_request}
@@ -54,7 +55,7 @@ use Rattle.agent_model.specs.Racing.{unheard}
 use Rattle.agent_model.specs.Synchronous.{expected_of, is_named_if, unnamed, waiting_for}
 use Rattle.agent_commit_law.proofs.CommitAsking.{before-asks, leases-on}
 use Rattle.agent_commit_law.proofs.CommitGrants.{Ground, Lawful, rests, Leased, unready, changes-lawful, settles-lawful, publishes-lawful}
-use Rattle.agent_commit_law.proofs.CommitGrounds.{IsBehind, before-behind, before-unready, lease-before, write-before, lease_granted_as, write_granted_as, hears-lease, hears-write, leads-live, IsLedBy, key-covers, led-by, written, compared-as, wins-named, noted-end}
+use Rattle.agent_commit_law.proofs.CommitGrounds.{IsBehind, before-behind, before-unready, lease-before, write-before, lease_granted_as, write_granted_as, hears-lease, hears-write, leads-live, IsLedBy, key-covers, led-by, led-covers, written, compared-as, wins-named, noted-end}
 use Rattle.agent_commit_law.proofs.CommitIdling.{Idle, idle-then, waits-nothing, waits-new, stays, falls, same-idle, quiet-idle, postpones-idle, failover-idle}
 use Rattle.agent_commit_law.proofs.CommitLawful.{lawful-as, keeps-turn, keeps-server, keeps-ready, sends-nothing, sends-one}
 use Rattle.agent_commit_law.proofs.CommitGrowing.{narrows-grows, required-needs, wanted-connected}
@@ -76,8 +77,8 @@ inside-named false outs claim inside = absurd (not-false (has_one is_claim_outsi
     (one-before is_claim_outside_sync (with_output outputs.ClaimsOutsideSync outs) claim (one-last is_claim_outside_sync outs outputs.ClaimsOutsideSync refl)))
 
 -- a member that takes the key claims the sync key that its turn read, which names it
-arms-lawful : (now ttl : Ticks) (sequence : ℕ) (grant : Granted) (snapshot : SnapshotFacts) (s : State) (m : ℕ) (input : AgentInput) (o b : Outcome) → Ground s m o b → Leased s m sequence grant snapshot input o → may_create b.role ≡ true → is_ready o.role ≡ false
-    → Lawful now sequence grant snapshot s m input o (claims now grant.revision (passing (arming now ttl (Told snapshot b))))
+arms-lawful : (now ttl : Ticks) (sequence : ℕ) (grant : Granted) (snapshot : SnapshotFacts) (s : State) (m : ℕ) (input : AgentInput) (o b : Outcome) → Ground s m strict_quorum o b → Leased s m sequence grant snapshot input o → may_create b.role ≡ true → is_ready o.role ≡ false
+    → Lawful strict_quorum now sequence grant snapshot s m input o (claims now grant.revision (passing (arming now ttl (Told snapshot b))))
 arms-lawful now ttl sequence grant snapshot s m input o b ground leased creates unready-before onward is =
     let behind : IsBehind o b = ground.behind in
     let arm : Outcome = arming now ttl (Told snapshot b) in
@@ -86,7 +87,9 @@ arms-lawful now ttl sequence grant snapshot s m input o b ground leased creates 
     let still : All IsUnasking noted.outputs = passing-unasked arm (quiet-armed (deadline_after now ttl b.machine.watchdog) b.outputs (behind.idle.quiet ground.quiet)) in
     let output : Output = outputs.Send targets.Store (b.knows.sequence + 1) (bodies.Request (txns.Claim grant.revision (expected_of b.knows.turn_sync))) in
     let request : SyncRequest = claim_request m o.knows.incarnation (b.knows.sequence + 1) grant.revision (expected_of b.knows.turn_sync) in
-    let named : WinsByName (sync_seen b.knows.turn_sync) m = wins-named b.knows.who.me m b.knows.turn_sync (ap (λ (w : Who). w.me.number) behind.who ∙ ground.stands.me)
+    let few : (key : SyncKey) → sync_seen b.knows.turn_sync ≡ Some key → key.quorum ≤ strict_quorum =
+    subst (λ (r : Option SyncRead). (key : SyncKey) → sync_seen r ≡ Some key → key.quorum ≤ strict_quorum) (sym behind.turn) ground.stands.turn in
+    let named : WinsByName (sync_seen b.knows.turn_sync) m = wins-named b.knows.who.me m b.knows.turn_sync few (ap (λ (w : Who). w.me.number) behind.who ∙ ground.stands.me)
     (inside-named (is_named_if b.knows.who.me b.knows.turn_sync) arm.outputs output is.inside) in
     lawful-as now (HeardGranted sequence grant snapshot) (Some snapshot) s m input o x ground.stands is onward (waits-new o x _ refl (omega (arith, behind.last)))
     (Arming (record {
@@ -105,7 +108,7 @@ arms-lawful now ttl sequence grant snapshot s m input o b ground leased creates 
     })) ((leased.awaited, refl, unready-before), ap (λ (a : Agent). a.ready) is.agent)
 
 -- a server that runs without its lease is taken over, and the end of its log is noted
-takes-over-lawful : (now ttl : Ticks) (sequence : ℕ) (grant : Granted) (snapshot : SnapshotFacts) (s : State) (m : ℕ) (input : AgentInput) (o b : Outcome) → Ground s m o b → Lawful now sequence grant snapshot s m input o (takes_over now grant.revision (arming now ttl (Told snapshot b)))
+takes-over-lawful : {quorum : ℕ} (now ttl : Ticks) (sequence : ℕ) (grant : Granted) (snapshot : SnapshotFacts) (s : State) (m : ℕ) (input : AgentInput) (o b : Outcome) → Ground s m quorum o b → Lawful quorum now sequence grant snapshot s m input o (takes_over now grant.revision (arming now ttl (Told snapshot b)))
 takes-over-lawful now ttl sequence grant snapshot s m input o b ground onward is =
     let behind : IsBehind o b = ground.behind in
     let x : Outcome = takes_over now grant.revision (arming now ttl (Told snapshot b)) in
@@ -129,8 +132,8 @@ begins-data was_primary states.Primary e = absurd (no-way e)
 begins-data was_primary (states.Stopping was at) e = absurd (no-way e)
 
 -- who was about to begin begins on the grant of its claim
-promotes-lawful : (now : Ticks) (sequence revision : ℕ) (grant : Granted) (snapshot : SnapshotFacts) (s : State) (m : ℕ) (input : AgentInput) (o b : Outcome) → Ground s m o b → (awaited : IsAwaitedWrite sequence grant o.knows) → (hears : HearsWrite s m input.heard sequence awaited.waited.question o.knows)
-    → awaited.waited.question ≡ Claiming → b.role ≡ Ready revision → can_begin_on_claim b.machine.server.was_primary b.machine.server.state ≡ true → Lawful now sequence grant snapshot s m input o (begins now revision (Told snapshot b))
+promotes-lawful : {quorum : ℕ} (now : Ticks) (sequence revision : ℕ) (grant : Granted) (snapshot : SnapshotFacts) (s : State) (m : ℕ) (input : AgentInput) (o b : Outcome) → Ground s m quorum o b → (awaited : IsAwaitedWrite sequence grant o.knows) → (hears : HearsWrite s m input.heard sequence awaited.waited.question o.knows)
+    → awaited.waited.question ≡ Claiming → b.role ≡ Ready revision → can_begin_on_claim b.machine.server.was_primary b.machine.server.state ≡ true → Lawful quorum now sequence grant snapshot s m input o (begins now revision (Told snapshot b))
 promotes-lawful now sequence revision grant snapshot s m input o b ground awaited hears question role can onward is =
     let behind : IsBehind o b = ground.behind in
     let x : Outcome = begins now revision (Told snapshot b) in
@@ -151,8 +154,8 @@ promotes-lawful now sequence revision grant snapshot s m input o b ground awaite
     })) tt
 
 -- a withdrawal is granted: the required list shrinks to the standbys that it left
-withdrawn-lawful : (now : Ticks) (sequence : ℕ) (grant : Granted) (snapshot : SnapshotFacts) (s : State) (m : ℕ) (input : AgentInput) (o b : Outcome) → Ground s m o b → (awaited : IsAwaitedWrite sequence grant o.knows) → (hears : HearsWrite s m input.heard sequence awaited.waited.question o.knows)
-    → (set : MemberSet) → awaited.waited.question ≡ Syncing (NamesStandbys set) → is_leader b.role ≡ true → Lawful now sequence grant snapshot s m input o (requiring (waiting_for (Told snapshot b).knows.settings set) (Told snapshot b))
+withdrawn-lawful : (now : Ticks) (sequence : ℕ) (grant : Granted) (snapshot : SnapshotFacts) (s : State) (m : ℕ) (input : AgentInput) (o b : Outcome) → Ground s m strict_quorum o b → (awaited : IsAwaitedWrite sequence grant o.knows) → (hears : HearsWrite s m input.heard sequence awaited.waited.question o.knows)
+    → (set : MemberSet) → awaited.waited.question ≡ Syncing (NamesStandbys set) → is_leader b.role ≡ true → Lawful strict_quorum now sequence grant snapshot s m input o (requiring (waiting_for (Told snapshot b).knows.settings set) (Told snapshot b))
 withdrawn-lawful now sequence grant snapshot s m input o b ground awaited hears set question leads =
     let behind : IsBehind o b = ground.behind in
     let required : Required = waiting_for (Told snapshot b).knows.settings set in
@@ -169,7 +172,7 @@ withdrawn-lawful now sequence grant snapshot s m input o b ground awaited hears 
       waited = refl;
       unasking = unasked b.outputs required (behind.idle.quiet ground.quiet);
       notes = inr (narrows, behind.idle.noted);
-    }) (none-less hears.key.quorum (ground.stands.strict hears.key sync).few) (waiting-covers s.member_count hears.key.standbys (Told snapshot b).knows.settings set (λ n e. sym (asked n) ∙ e)) (narrows-grows o (s.members m).required (confirmers_in required) narrows)
+    }) (waiting-covers s.member_count hears.key.quorum hears.key.standbys (Told snapshot b).knows.settings set (λ n e. sym (asked n) ∙ e)) (narrows-grows o (s.members m).required (confirmers_in required) narrows)
 
 -- a renewed leader without a step
 pub led-idle : (now ttl : Ticks) (revision : ℕ) (snapshot : SnapshotFacts) (b : Outcome) → is_leader b.role ≡ true → Idle None b (led_on now ttl revision (Told snapshot b))
@@ -194,14 +197,21 @@ reached-before : (o b : Outcome) (n : ℕ) → IsBehind o b → HasReached b.mac
 reached-before o b n behind reached = subst (λ (r : Replication). HasReached r.confirmed_positions (noted_position o.knows.noted) n) behind.replication
     (subst (λ (l : Option Lsn). HasReached b.machine.replication.confirmed_positions (noted_position l) n) behind.idle.noted reached)
 
+-- where none may lack a commit, any number may be published in place
+none-above : (few more : ℕ) → few ≤ strict_quorum → few ≤ more
+none-above few more none = omega (arith, none)
+
 -- a leader's step with its standbys
-plan-lawful : (now ttl : Ticks) (sequence : ℕ) (grant : Granted) (snapshot : SnapshotFacts) (s : State) (m : ℕ) (input : AgentInput) (o b : Outcome) → Ground s m o b → Leased s m sequence grant snapshot input o → is_leader b.role ≡ true
-    → PlanSteps (Lawful now sequence grant snapshot s m input o) now grant.revision snapshot (led_on now ttl grant.revision (Told snapshot b))
+plan-lawful : (now ttl : Ticks) (sequence : ℕ) (grant : Granted) (snapshot : SnapshotFacts) (s : State) (m : ℕ) (input : AgentInput) (o b : Outcome) → Ground s m strict_quorum o b → Leased s m sequence grant snapshot input o → is_leader b.role ≡ true
+    → PlanSteps (Lawful strict_quorum now sequence grant snapshot s m input o) now grant.revision snapshot (led_on now ttl grant.revision (Told snapshot b))
 plan-lawful now ttl sequence grant snapshot s m input o b ground leased leads =
     let behind : IsBehind o b = ground.behind in
     let fed : Outcome = led_on now ttl grant.revision (Told snapshot b) in
     let quiet : All StandsAlone fed.outputs = quiet-fed (deadline_after now ttl b.machine.watchdog) b.outputs (behind.idle.quiet ground.quiet) in
-    let led : IsLedBy s m snapshot o = led-by s m sequence grant snapshot input o ground.sound ground.stands leased.hears leased.awaited (leads-live s m o b ground.stands behind leads) in
+    let lives : (s.members m).live ≡ true = leads-live s m o b ground.stands behind leads in
+    let led : IsLedBy s m strict_quorum snapshot o = led-by s m sequence grant snapshot input o ground.sound ground.stands leased.hears leased.awaited lives in
+    let covers : IsWithin (set_members (published_in snapshot)) (set_members (required_at o)) = led-covers s m snapshot o ground.sound ground.stands lives led in
+    let fewer : (txn : Txn) → led.key.quorum ≤ quorum_written txn = λ txn. none-above led.key.quorum (quorum_written txn) led.few in
     let published : MemberSet = published_in snapshot in
     let wanted : MemberSet = wanted_at now snapshot fed in
     let required : ℕ → Bool = set_members (required_at o) in
@@ -210,7 +220,7 @@ plan-lawful now ttl sequence grant snapshot s m input o b ground leased leads =
       kept = rests now sequence grant snapshot s m input o b fed ground (led-idle now ttl grant.revision snapshot b leads);
       mark = λ foreign. absurd (led.named (subst (λ (w : Who). IsForeign w.me.number (sync_in snapshot)) behind.who foreign));
       withdraws = publishes-lawful now ttl sequence grant snapshot s m input o b ground leased led leads (NamesStandbys (both published wanted)) (both published wanted)
-          (λ n e. led.covers n (both-first published wanted n e)) (λ n e. inl (both-first published wanted n e));
+          (λ n e. covers n (both-first published wanted n e)) (λ n e. inl (both-first published wanted n e)) (fewer _);
       adds = let set : MemberSet = either (required_at b) wanted in
           changes-lawful now sequence grant snapshot s m input o b (requiring (requireds.All set) (noting fed)) ground leased led leads (record {
             ready = refl;
@@ -218,34 +228,34 @@ plan-lawful now ttl sequence grant snapshot s m input o b ground leased leads =
             waited = refl;
             unasking = unasked fed.outputs (requireds.All set) quiet;
             notes = inl (noted-end s m o b ground.stands behind);
-          }) (λ n e. either-first (required_at b) wanted n (subst (λ (f : ℕ → Bool). f n ≡ true) (sym (required-before o b behind)) (led.covers n e)))
+          }) (λ n e. either-first (required_at b) wanted n (subst (λ (f : ℕ → Bool). f n ≡ true) (sym (required-before o b behind)) (covers n e)))
           (λ n e. elim (either-one (required_at b) wanted n e) [
             | inl before-it ↦ inl (subst (λ (confirmers : Confirmers). ListsMember confirmers n) (sym ground.stands.required) (required-needs o.machine.replication.required n (subst (λ (f : ℕ → Bool). f n ≡ true) (required-before o b behind) before-it)))
             | inr new ↦ let there = wanted-connected (leader_view now fed.knows fed.machine) snapshot n new in inr (there.0, subst (λ (r : Replication). slice_get r.confirmed_positions n ≡ Some (Some there.0)) behind.replication there.1)
           ]);
       publishes = λ covered confirmed. publishes-lawful now ttl sequence grant snapshot s m input o b ground leased led leads KeepsList wanted (within covered)
-          (λ n e. inr (reached-before o b n behind (confirmed-reached (leader_view now fed.knows fed.machine) n (within-set wanted (confirmed_at now fed) confirmed n e))));
+          (λ n e. inr (reached-before o b n behind (confirmed-reached (leader_view now fed.knows fed.machine) n (within-set wanted (confirmed_at now fed) confirmed n e)))) (fewer _);
       drops = λ covered. let set : MemberSet = either published wanted in let list : Required = waiting_for fed.knows.settings set in
           let narrows : Narrows (s.members m).required (confirmers_in list) =
-          subst (λ (n : Confirmers). Narrows n (confirmers_in list)) (sym ground.stands.required) (waiting-narrows o.machine.replication.required fed.knows.settings set (either-within published wanted required led.covers (within covered))) in
+          subst (λ (n : Confirmers). Narrows n (confirmers_in list)) (sym ground.stands.required) (waiting-narrows o.machine.replication.required fed.knows.settings set (either-within published wanted required covers (within covered))) in
           changes-lawful now sequence grant snapshot s m input o b (requiring list fed) ground leased led leads (record {
             ready = refl;
             turn = behind.turn;
             waited = refl;
             unasking = unasked fed.outputs list quiet;
             notes = inr (narrows, behind.idle.noted);
-          }) (waiting-covers s.member_count (set_members published) fed.knows.settings set (either-first published wanted)) (narrows-grows o (s.members m).required (confirmers_in list) narrows);
+          }) (waiting-covers s.member_count led.key.quorum (set_members published) fed.knows.settings set (either-first published wanted)) (narrows-grows o (s.members m).required (confirmers_in list) narrows);
     }
 
 -- what it does under a failover key leaves what commits depend on
-failover-lawful : (now ttl : Ticks) (sequence : ℕ) (grant : Granted) (snapshot : SnapshotFacts) (s : State) (m : ℕ) (input : AgentInput) (o b : Outcome) → Ground s m o b → is_leader b.role ≡ true
-    → FailoverRows (Lawful now sequence grant snapshot s m input o) now grant.revision (led_on now ttl grant.revision (Told snapshot b))
-failover-lawful now ttl sequence grant snapshot s m input o b ground leads =
+failover-lawful : {quorum : ℕ} (now ttl : Ticks) (sequence : ℕ) (grant : Granted) (snapshot : SnapshotFacts) (s : State) (m : ℕ) (input : AgentInput) (o b : Outcome) → Ground s m quorum o b → is_leader b.role ≡ true
+    → FailoverRows (Lawful quorum now sequence grant snapshot s m input o) now grant.revision (led_on now ttl grant.revision (Told snapshot b))
+failover-lawful {quorum = quorum} now ttl sequence grant snapshot s m input o b ground leads =
     let led : Outcome = led_on now ttl grant.revision (Told snapshot b) in
     let u : Outcome = unheard led in
     let w : Outcome = waiting_no_more u in
     let idle : FailoverRows (Idle None b) now grant.revision led = failover-idle None now grant.revision b led (led-idle now ttl grant.revision snapshot b leads) (omega arith) in
-    let still : (x : Outcome) → Idle None b x → Lawful now sequence grant snapshot s m input o x = λ x after. rests now sequence grant snapshot s m input o b x ground after in
+    let still : (x : Outcome) → Idle None b x → Lawful quorum now sequence grant snapshot s m input o x = λ x after. rests now sequence grant snapshot s m input o b x ground after in
     record {
       kept = still led idle.kept;
       clears = λ compared. still (dropping compared led) (idle.clears compared);
@@ -258,8 +268,8 @@ failover-lawful now ttl sequence grant snapshot s m input o b ground leads =
     }
 
 -- what each role does with a lease
-lease-lawful : (now ttl : Ticks) (sequence : ℕ) (grant : Granted) (snapshot : SnapshotFacts) (s : State) (m : ℕ) (input : AgentInput) (o b : Outcome) → Ground s m o b → Leased s m sequence grant snapshot input o → (may_create b.role ≡ true → is_ready o.role ≡ false)
-    → LeaseSteps (Lawful now sequence grant snapshot s m input o) now ttl grant.revision snapshot b
+lease-lawful : (now ttl : Ticks) (sequence : ℕ) (grant : Granted) (snapshot : SnapshotFacts) (s : State) (m : ℕ) (input : AgentInput) (o b : Outcome) → Ground s m strict_quorum o b → Leased s m sequence grant snapshot input o → (may_create b.role ≡ true → is_ready o.role ≡ false)
+    → LeaseSteps (Lawful strict_quorum now sequence grant snapshot s m input o) now ttl grant.revision snapshot b
 lease-lawful now ttl sequence grant snapshot s m input o b ground leased unready-before =
     let told : Outcome = Told snapshot b in
     let fed : Outcome = led_on now ttl grant.revision told in
@@ -267,7 +277,7 @@ lease-lawful now ttl sequence grant snapshot s m input o b ground leased unready
     let stopped : Outcome = ending_server now WatchdogNotArmed told in
     let back : Outcome = gives_back grant.revision told in
     let refused : Outcome = gives_back grant.revision (record told { outputs = with_output (outputs.Note agent_notes.CannotArm) b.outputs }) in
-    let still : (x : Outcome) → Idle None b x → Lawful now sequence grant snapshot s m input o x = λ x idle. rests now sequence grant snapshot s m input o b x ground idle in
+    let still : (x : Outcome) → Idle None b x → Lawful strict_quorum now sequence grant snapshot s m input o x = λ x idle. rests now sequence grant snapshot s m input o b x ground idle in
     record {
       other = still told (told-idle snapshot b);
       ends = still ended (falls None b ended refl refl refl refl refl (waits-nothing b ended refl) (λ q. quietly fed.outputs (outputs.Stop StartTooLong) (quiet-fed (deadline_after now ttl b.machine.watchdog) b.outputs q) tt));
@@ -281,8 +291,8 @@ lease-lawful now ttl sequence grant snapshot s m input o b ground leased unready
     }
 
 -- what a granted write of the sync key comes to
-write-lawful : (now : Ticks) (sequence : ℕ) (grant : Granted) (snapshot : SnapshotFacts) (s : State) (m : ℕ) (input : AgentInput) (o b : Outcome) → Ground s m o b → (awaited : IsAwaitedWrite sequence grant o.knows) → HearsWrite s m input.heard sequence awaited.waited.question o.knows
-    → FollowsSynchronousMode o.knows.turn_settings.synchronous_mode awaited.waited.question → WriteSteps (Lawful now sequence grant snapshot s m input o) now awaited.waited.question snapshot b
+write-lawful : (now : Ticks) (sequence : ℕ) (grant : Granted) (snapshot : SnapshotFacts) (s : State) (m : ℕ) (input : AgentInput) (o b : Outcome) → Ground s m strict_quorum o b → (awaited : IsAwaitedWrite sequence grant o.knows) → HearsWrite s m input.heard sequence awaited.waited.question o.knows
+    → FollowsSynchronousMode o.knows.turn_settings.synchronous_mode awaited.waited.question → WriteSteps (Lawful strict_quorum now sequence grant snapshot s m input o) now awaited.waited.question snapshot b
 write-lawful now sequence grant snapshot s m input o b ground awaited hears follows =
     let told : Outcome = Told snapshot b in record {
       other = rests now sequence grant snapshot s m input o b told ground (told-idle snapshot b);
@@ -293,14 +303,14 @@ write-lawful now sequence grant snapshot s m input o b ground awaited hears foll
     }
 
 -- a granted request
-pub grant-commits : (now : Ticks) (sequence : ℕ) (grant : Granted) (snapshot : SnapshotFacts) (s : State) (m : ℕ) (input : AgentInput) (o : Outcome) → IsSound s → StandsToCommit s m o → All StandsAlone o.outputs → is_paused o.knows ≡ false → AsksInSynchronousMode o.knows → IsSynchronousSnapshot snapshot → HearsGranted s m input.heard sequence grant snapshot o.knows
-    → IsCommitInputOf s m o (granted now sequence grant snapshot (reconciled now o)) input → IsLawfulAs now (HeardGranted sequence grant snapshot) o s m input
+pub grant-commits : (now : Ticks) (sequence : ℕ) (grant : Granted) (snapshot : SnapshotFacts) (s : State) (m : ℕ) (input : AgentInput) (o : Outcome) → IsSound s → StandsToCommit s m strict_quorum o → All StandsAlone o.outputs → is_paused o.knows ≡ false → AsksInSynchronousMode o.knows → IsSynchronousSnapshot snapshot → HearsGranted s m input.heard sequence grant snapshot o.knows
+    → IsCommitInputOf s m o (granted now sequence grant snapshot (reconciled now o)) input → IsLawfulAs now (HeardGranted sequence grant snapshot) strict_quorum o s m input
 grant-commits now sequence grant snapshot s m input o sound stands quiet was asks on hears is =
     let b : Outcome = reconciled now o in
     let behind : IsBehind o b = before-behind now o in
-    let ground : Ground s m o b = record { sound = sound; stands = stands; behind = behind; quiet = quiet } in
+    let ground : Ground s m strict_quorum o b = record { sound = sound; stands = stands; behind = behind; quiet = quiet } in
     let mode : IsAwaitedLease sequence grant b.knows → b.knows.turn_settings.synchronous_mode ≡ true = λ awaited. leases-on sequence grant b.knows (before-asks now o asks) awaited in
-    granted-steps (Lawful now sequence grant snapshot s m input o) now sequence grant snapshot b on (record {
+    granted-steps (Lawful strict_quorum now sequence grant snapshot s m input o) now sequence grant snapshot b on (record {
       kept = rests now sequence grant snapshot s m input o b b ground (same-idle None b);
       quiet = rests now sequence grant snapshot s m input o b (waiting_no_more b) ground (quiet-idle None b);
       unpaused = stays-unpaused now snapshot o was on.unpaused;

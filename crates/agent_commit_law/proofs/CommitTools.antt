@@ -19,7 +19,7 @@ use Rattle.event_book.specs.Functions.{set_members}
 use Rattle.sync_state.specs.Sets.{nobody, both, either, is_within, set_of}
 use Rattle.sync_state.specs.Standbys.{required_members, noted_position, has_confirmed, confirmed_in}
 use Rattle.sync_state.proofs.SetBits.{bit_where, bit-set_of}
-use Rattle.commit_actions.specs.Keys.{Confirmers, Nobody, All, count, Overlaps, Narrows}
+use Rattle.commit_actions.specs.Keys.{Confirmers, Nobody, All, count, Overlaps, Narrows, strict_quorum}
 use Rattle.commit_actions.specs.Past.{confirmers_in}
 use Rattle.commit_actions.proofs.Counting.{none-of, count-empty}
 use Rattle.agent_model.specs.Synchronous.{is_strict, unnamed, waiting_for}
@@ -95,20 +95,20 @@ no-bits set none = same_from_bits set.bits 0 (λ n. out-zero (bit_at set.bits n)
 within-nobody : (set : ℕ → Bool) → IsWithin set (set_members nobody) → (n : ℕ) → set n ≡ false
 within-nobody set within n = false_from_ne_true (set n) (λ is. not-false (set_members nobody n) (no-members nobody refl n) (within n is))
 
--- published standbys, each a member of the cluster, that a required list covers by the law are required
-pub required-covers : (member_count : ℕ) (published : ℕ → Bool) (required : Required) → ((n : ℕ) → published n ≡ true → n < member_count) → Overlaps member_count published 0 (confirmers_in required) → IsWithin published (set_members (required_members required))
+-- published standbys, each a member of the cluster, that a required list covers by the law are required, where none may lack a commit
+pub required-covers : (member_count : ℕ) (published : ℕ → Bool) (required : Required) → ((n : ℕ) → published n ≡ true → n < member_count) → Overlaps member_count published strict_quorum (confirmers_in required) → IsWithin published (set_members (required_members required))
 required-covers member_count published requireds.Nobody range over n is = absurd (not-false (published n) (none-of member_count published (omega (arith, over)) n (range n is)) is)
 required-covers member_count published requireds.AnyOne range over n is = absurd (not-false (published n) (none-of member_count published (omega (arith, over)) n (range n is)) is)
 required-covers member_count published (requireds.All members) range over n is = over n is
 
-count-no : (member_count : ℕ) (set : ℕ → Bool) → ((n : ℕ) → set n ≡ false) → count member_count set ≤ 0
-count-no member_count set none = omega (arith, count-empty member_count set none)
+count-no : (member_count quorum : ℕ) (set : ℕ → Bool) → ((n : ℕ) → set n ≡ false) → count member_count set ≤ quorum
+count-no member_count quorum set none = omega (arith, count-empty member_count set none)
 
--- and the other way round
-pub covers-required : (member_count : ℕ) (published : ℕ → Bool) (required : Required) → IsWithin published (set_members (required_members required)) → Overlaps member_count published 0 (confirmers_in required)
-covers-required member_count published requireds.Nobody within = count-no member_count published (within-nobody published within)
-covers-required member_count published requireds.AnyOne within = count-no member_count published (within-nobody published within)
-covers-required member_count published (requireds.All members) within = within
+-- and the other way round, however many may
+pub covers-required : (member_count quorum : ℕ) (published : ℕ → Bool) (required : Required) → IsWithin published (set_members (required_members required)) → Overlaps member_count published quorum (confirmers_in required)
+covers-required member_count quorum published requireds.Nobody within = count-no member_count quorum published (within-nobody published within)
+covers-required member_count quorum published requireds.AnyOne within = count-no member_count quorum published (within-nobody published within)
+covers-required member_count quorum published (requireds.All members) within = within
 
 -- where nobody is named, the law has commits wait for nobody
 pub unnamed-confirmers : (settings : Config) → confirmers_in (unnamed settings) ≡ Nobody
@@ -119,9 +119,9 @@ waiting-by : (P : Confirmers → Type 0) (settings : Config) (set : MemberSet) �
 waiting-by P settings set none some = if-cases (λ (r : Required). P (confirmers_in r)) (set.bits == 0) (unnamed settings) (requireds.All set)
     (λ e. subst P (sym (unnamed-confirmers settings)) (none (same-numbers set.bits 0 e))) (λ e. some e)
 
-pub waiting-covers : (member_count : ℕ) (published : ℕ → Bool) (settings : Config) (set : MemberSet) → IsWithin published (set_members set) → Overlaps member_count published 0 (confirmers_in (waiting_for settings set))
-waiting-covers member_count published settings set within = waiting-by (Overlaps member_count published 0) settings set
-    (λ none. count-no member_count published (λ n. false_from_ne_true (published n) (λ is. not-false (set_members set n) (no-members set none n) (within n is))))
+pub waiting-covers : (member_count quorum : ℕ) (published : ℕ → Bool) (settings : Config) (set : MemberSet) → IsWithin published (set_members set) → Overlaps member_count published quorum (confirmers_in (waiting_for settings set))
+waiting-covers member_count quorum published settings set within = waiting-by (Overlaps member_count published quorum) settings set
+    (λ none. count-no member_count quorum published (λ n. false_from_ne_true (published n) (λ is. not-false (set_members set n) (no-members set none n) (within n is))))
     (λ _. within)
 
 some-bits : (n : ℕ) → (n == 0) ≡ false → n ≡ 0 → ⊥

@@ -1,5 +1,5 @@
 -- Which inputs of the law of kept commits an input of the table stands for, and that they are lawful while the synchronous mode is on.
-use Rattle.std.specs.Prelude.{ℕ, ◌≡◌, ◌⊎◌, ◌<◌, ◌++◌, ◌||◌, if◌then◌else◌, Bool, true, false, List, [], ◌∷◌, Option, Some, None, All, slice_get}
+use Rattle.std.specs.Prelude.{ℕ, zero, suc, ◌≡◌, ◌⊎◌, ◌<◌, ◌≤◌, ◌++◌, ◌||◌, if◌then◌else◌, Bool, true, false, List, [], ◌∷◌, Option, Some, None, All, slice_get}
 use Rattle.std.specs.List.{filter_map}
 use Rattle.std.specs.Option.{ForSome}
 use Rattle.pat_base.specs.declared.lsn.Lsn.{Lsn}
@@ -20,7 +20,8 @@ use Rattle.event_book.specs.declared.message.Body.TheVariants as bodies
 use Rattle.event_book.specs.Functions.{set_members}
 use Rattle.sync_state.specs.Published.{published_in}
 use Rattle.sync_state.specs.Standbys.{noted_position}
-use Rattle.commit_actions.specs.Keys.{IsOfQuorum, SyncKey, Confirmers, Nobody, All as AllOf, AtLeast}
+use Rattle.commit_actions.specs.Keys.{IsOfQuorum, SyncKey, Confirmers, Nobody, All as AllOf, AtLeast, strict_quorum}
+use Rattle.commit_actions.specs.Stored.{key_seen, quorum_written}
 use Rattle.commit_actions.specs.Flights.{SyncRequest, LeaseGranted, SyncGranted}
 use Rattle.commit_actions.specs.States.{Agent, State, HasLog}
 use Rattle.commit_actions.specs.Inputs.{Sending, AgentInput, HearsSnapshot, IsLawful, Does, Racing, HearingAnswer, WinningRace, CreatingLeader, Arming, ChangingRequired, SettlingRequired}
@@ -45,10 +46,10 @@ use Rattle.agent_model.specs.Pausing.{is_paused}
 use Rattle.agent_roles.specs.Powers.{IsAwaitedLease}
 use Rattle.agent_model.specs.Synchronous.{sync_read_in}
 
--- what the law sees of a sync key that was read: none of its standbys may lack an acknowledged commit
+-- what the law sees of a sync key that was read
 abbrev pub sync_seen : Option SyncRead → Option SyncKey
 sync_seen None = None
-sync_seen (Some read) = Some (record { leader = read.key.leader.number; standbys = set_members read.key.standbys; quorum = 0; revision = read.revision })
+sync_seen (Some read) = Some (key_seen read.key read.revision)
 
 -- the number of what is waited for, if that is a create, a renewal or a write of the sync key
 abbrev pub number_waited : Option PendingQuestion → Option ℕ
@@ -80,8 +81,8 @@ IsEndOf None None = Unit {0}
 IsEndOf (Some end) (Some log) = end.position ≡ end_of log
 IsEndOf _ _ = ⊥
 
--- the state of the law in which this agent stands
-pub record StandsToCommit (s : State) (m : ℕ) (o : Outcome) : Type 0 where
+-- the state of the law in which this agent stands, where at most so many standbys may lack an acknowledged commit
+pub record StandsToCommit (s : State) (m quorum : ℕ) (o : Outcome) : Type 0 where
   pub agent : (s.members m).agent ≡ Some (committer_seen o.role o.knows)
   pub live : (s.members m).live ≡ live o.machine.server.state
   pub required : (s.members m).required ≡ confirmers_in o.machine.replication.required
@@ -90,7 +91,9 @@ pub record StandsToCommit (s : State) (m : ℕ) (o : Outcome) : Type 0 where
   pub connected : (n : ℕ) (end : Lsn) → slice_get o.machine.replication.confirmed_positions n ≡ Some (Some end) → IsConnected s m n end
   pub me : o.knows.who.me.number ≡ m
   pub counts : m < s.member_count
-  pub strict : (key : SyncKey) → s.sync ≡ Some key → IsOfQuorum s.member_count 0 key
+  pub strict : (key : SyncKey) → s.sync ≡ Some key → IsOfQuorum s.member_count quorum key
+  -- so it is of the sync key that its turn read
+  pub turn : (key : SyncKey) → sync_seen o.knows.turn_sync ≡ Some key → key.quorum ≤ quorum
 
 -- the answer of this number grants this member the write of the sync key that it waits for
 pub record IsAwaitedWrite (sequence : ℕ) (grant : Granted) (knows : Knowledge) : Type 0 where
@@ -185,24 +188,24 @@ IsSent [] sends = sends ≡ None
 IsSent (request ∷ []) sends = (number : ℕ) × (sends ≡ Some (record { number = number; request = request }))
 IsSent (request ∷ other ∷ more) sends = ⊥
 
--- a request as synchronous mode has it, among so many members: a create compares no sync key, no renewal lists members for failsafe mode,
--- nobody removes the sync key, and whom it comes to name are members
-abbrev pub IsSynchronousTxn : ℕ → Txn → Type 0
-IsSynchronousTxn count (txns.Create info ttl failsafe (Some sync)) = ⊥
-IsSynchronousTxn count (txns.Renew revision info ttl status row (Some members)) = ⊥
-IsSynchronousTxn count (txns.DropSync revision sync) = ⊥
-IsSynchronousTxn count (txns.SetSync revision sync standbys) = (n : ℕ) → set_members standbys n ≡ true → n < count
-IsSynchronousTxn count _ = Unit {0}
+-- a request as synchronous mode has it, among so many members, of which so many standbys may lack a commit: a create compares no sync key, no
+-- renewal lists members for failsafe mode, nobody removes the sync key, and whom it comes to name are members, of which at most so many may
+abbrev pub IsSynchronousTxn : ℕ → ℕ → Txn → Type 0
+IsSynchronousTxn count quorum (txns.Create info ttl failsafe (Some sync)) = ⊥
+IsSynchronousTxn count quorum (txns.Renew revision info ttl status row (Some members)) = ⊥
+IsSynchronousTxn count quorum (txns.DropSync revision sync) = ⊥
+IsSynchronousTxn count quorum (txns.SetSync revision sync standbys) = ((n : ℕ) → set_members standbys n ≡ true → n < count) × (quorum_written (txns.SetSync revision sync standbys) ≤ quorum)
+IsSynchronousTxn count quorum _ = Unit {0}
 
 -- the same of what a message says
-abbrev pub IsSynchronousBody : ℕ → Body → Type 0
-IsSynchronousBody count (bodies.Request txn) = IsSynchronousTxn count txn
-IsSynchronousBody count _ = Unit {0}
+abbrev pub IsSynchronousBody : ℕ → ℕ → Body → Type 0
+IsSynchronousBody count quorum (bodies.Request txn) = IsSynchronousTxn count quorum txn
+IsSynchronousBody count quorum _ = Unit {0}
 
 -- the same of an output
-abbrev pub IsSynchronousOutput : ℕ → Output → Type 0
-IsSynchronousOutput count (outputs.Send to sequence body) = IsSynchronousBody count body
-IsSynchronousOutput count _ = Unit {0}
+abbrev pub IsSynchronousOutput : ℕ → ℕ → Output → Type 0
+IsSynchronousOutput count quorum (outputs.Send to sequence body) = IsSynchronousBody count quorum body
+IsSynchronousOutput count quorum _ = Unit {0}
 
 -- the standbys that the sync key of a snapshot names have numbers below this one
 abbrev pub PublishesBelow : ℕ → SnapshotFacts → Type 0
@@ -322,34 +325,40 @@ IsConnectedTo o n = (end : Lsn) × (slice_get o.machine.replication.confirmed_po
 abbrev pub GrowsByConnected : Outcome → Confirmers → Confirmers → Type 0
 GrowsByConnected o before after = (n : ℕ) → ListsMember after n → ListsMember before n ⊎ IsConnectedTo o n
 
--- what an input does, so far as the law leaves open what the table settles: no race counts, no create compares the sync key, an agent claims
--- on the lease that it waits for, and a required list grows by connected members
-abbrev pub DoesAs : Ticks → Heard → Outcome → (s : State) (m : ℕ) (input : AgentInput) (was : Agent) → Does s m input was → Type 0
-DoesAs now heard o s m input was (Racing races) = ⊥
-DoesAs now heard o s m input was (HearingAnswer answer) = ⊥
-DoesAs now heard o s m input was (WinningRace wins) = ⊥
-DoesAs now heard o s m input was (CreatingLeader creates) = ⊥
-DoesAs now heard o s m input was (Arming arms) = ArmsOn now heard o arms.grant.revision × (input.agent.ready ≡ true)
-DoesAs now heard o s m input was (ChangingRequired changes) = GrowsByConnected o (s.members m).required input.required
-DoesAs now heard o s m input was (SettlingRequired settles) = GrowsByConnected o (s.members m).required input.required
-DoesAs now heard o s m input was _ = Unit {0}
+-- races count, and creates compare the sync key, only where some standby may lack a commit
+abbrev pub MayRace : ℕ → Type 0
+MayRace zero = ⊥
+MayRace (suc quorum) = Unit {0}
+
+-- what an input does, so far as the law leaves open what the table settles, where so many standbys may lack a commit: no race counts and no
+-- create compares the sync key where none may, an agent claims on the lease that it waits for, and a required list grows by connected members
+abbrev pub DoesAs : Ticks → Heard → ℕ → Outcome → (s : State) (m : ℕ) (input : AgentInput) (was : Agent) → Does s m input was → Type 0
+DoesAs now heard quorum o s m input was (Racing races) = MayRace quorum
+DoesAs now heard quorum o s m input was (HearingAnswer answer) = MayRace quorum
+DoesAs now heard quorum o s m input was (WinningRace wins) = MayRace quorum
+DoesAs now heard quorum o s m input was (CreatingLeader creates) = MayRace quorum
+DoesAs now heard quorum o s m input was (Arming arms) = ArmsOn now heard o arms.grant.revision × (input.agent.ready ≡ true)
+DoesAs now heard quorum o s m input was (ChangingRequired changes) = GrowsByConnected o (s.members m).required input.required
+DoesAs now heard quorum o s m input was (SettlingRequired settles) = GrowsByConnected o (s.members m).required input.required
+DoesAs now heard quorum o s m input was _ = Unit {0}
 
 -- an input of the law is lawful, and does what it may
-pub record IsLawfulAs (now : Ticks) (heard : Heard) (o : Outcome) (s : State) (m : ℕ) (input : AgentInput) : Type 0 where
+pub record IsLawfulAs (now : Ticks) (heard : Heard) (quorum : ℕ) (o : Outcome) (s : State) (m : ℕ) (input : AgentInput) : Type 0 where
   pub lawful : IsLawful s m input
-  pub does : DoesAs now heard o s m input lawful.was lawful.does
+  pub does : DoesAs now heard quorum o s m input lawful.was lawful.does
 
 -- an input leaves the synchronous mode on: what it waits for it asked with the mode on; it sends one request at most that compares the
--- sync key; what it sends is as the mode has it, among members of whom it knows; its outputs have one of the forms; and the server begins
--- only where it can
-pub record StaysInSynchronousMode (heard : Heard) (o after : Outcome) : Type 0 where
+-- sync key; what it sends is as the mode has it, among members of whom it knows, and of which at most so many may lack a commit; its outputs
+-- have one of the forms; and the server begins only where it can
+pub record StaysInSynchronousMode (quorum : ℕ) (heard : Heard) (o after : Outcome) : Type 0 where
   pub asks : AsksInSynchronousMode after.knows
   pub one : IsOneAtMost (requests_of o.knows.who.me.number o.knows.incarnation after.outputs)
-  pub sends : (count : ℕ) → KnowsBelow count heard o → All (IsSynchronousOutput count) after.outputs
+  pub sends : (count : ℕ) → KnowsBelow count heard o → All (IsSynchronousOutput count quorum) after.outputs
   pub form : HasForm after.outputs
   pub begins : has_one is_begin after.outputs ≡ true → can_begin_on_claim o.machine.server.was_primary o.machine.server.state ≡ true
 
--- while the synchronous mode is on, and no pause, whatever input of the law stands for this one of the table is lawful
+-- while the synchronous mode is on, and no pause, whatever input of the law stands for this one of the table is lawful. No standby may lack a
+-- commit: an agent has no quorum mode
 pub record CommitsFrom (now : Ticks) (heard : Heard) (o after : Outcome) : Type 0 where
-  pub stays : is_paused o.knows ≡ false → AsksInSynchronousMode o.knows → HearsSynchronousMode heard → StaysInSynchronousMode heard o after
-  pub lawful : is_paused o.knows ≡ false → AsksInSynchronousMode o.knows → HearsSynchronousMode heard → (s : State) (m : ℕ) (input : AgentInput) → IsSound s → StandsToCommit s m o → HearsToCommit s m input heard o → IsCommitInputOf s m o after input → IsLawfulAs now heard o s m input
+  pub stays : is_paused o.knows ≡ false → AsksInSynchronousMode o.knows → HearsSynchronousMode heard → StaysInSynchronousMode strict_quorum heard o after
+  pub lawful : is_paused o.knows ≡ false → AsksInSynchronousMode o.knows → HearsSynchronousMode heard → (s : State) (m : ℕ) (input : AgentInput) → IsSound s → StandsToCommit s m strict_quorum o → HearsToCommit s m input heard o → IsCommitInputOf s m o after input → IsLawfulAs now heard strict_quorum o s m input

@@ -4,7 +4,7 @@ use Rattle.wal_model.specs.declared.entry.Entry.{Entry}
 use Rattle.wal_model.specs.Log.{IsPrefixOf, end_of, common_of, received}
 use Rattle.event_book.specs.Functions.{put_at}
 use Rattle.commit_actions.specs.Functions.{forget}
-use Rattle.commit_actions.specs.Keys.{SyncKey, Confirmers, Nobody, Meets}
+use Rattle.commit_actions.specs.Keys.{SyncKey, Confirmers, Nobody, Meets, strict_quorum}
 use Rattle.commit_actions.specs.Flights.{Aim, ClaimSync, PublishStandbys, SyncRequest, LeaseGrant, SyncGrant, Flying, Requested, LeaseGranted, SyncGranted, SnapshotSent, RaceAnswered, CreateLeader}
 use Rattle.pg_model.specs.Facts.{entries_of}
 use Rattle.commit_actions.specs.States.{Agent, Machine, State, Reaches, HasLog, HasEntryOf, Acts, is_ready}
@@ -87,10 +87,10 @@ is_leader_as_read leader _ r = at_revision leader r
 abbrev pub is_granted : Option ℕ → Option SyncKey → SyncRequest → Bool
 is_granted leader sync request = is_leader_as_read leader request.aim request.leader && is_as_read sync request.sync
 
--- the sync key that a request writes under this revision, which names its sender as leader
+-- the sync key that a request writes under this revision, which names its sender as leader. A claim names no standby
 abbrev pub sync_key_by : ℕ → ℕ → Aim → SyncKey
-sync_key_by m r ClaimSync = record { leader = m; standbys = λ n. false; quorum = 0; revision = r }
-sync_key_by m r CreateLeader = record { leader = m; standbys = λ n. false; quorum = 0; revision = r }
+sync_key_by m r ClaimSync = record { leader = m; standbys = λ n. false; quorum = strict_quorum; revision = r }
+sync_key_by m r CreateLeader = record { leader = m; standbys = λ n. false; quorum = strict_quorum; revision = r }
 sync_key_by m r (PublishStandbys standbys quorum) = record { leader = m; standbys = standbys; quorum = quorum; revision = r }
 
 -- the grant of such a request

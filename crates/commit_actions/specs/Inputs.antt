@@ -1,7 +1,7 @@
 -- Which inputs of an agent are lawful, and what the timed lease gives to them.
 use Rattle.std.specs.Prelude.{ℕ, ◌≡◌, ◌⊎◌, ◌≤◌, ◌<◌, Bool, true, false, Option, Some, None}
 use Rattle.wal_model.specs.Log.{end_of}
-use Rattle.commit_actions.specs.Keys.{SyncKey, Confirmers, Nobody, count, Overlaps, MayPublish, Narrows}
+use Rattle.commit_actions.specs.Keys.{SyncKey, Confirmers, Nobody, count, Overlaps, MayPublish, Narrows, strict_quorum}
 use Rattle.commit_actions.specs.Flights.{ClaimSync, PublishStandbys, SyncRequest, LeaseGrant, SyncGrant, RaceAnswer, Flying, LeaseGranted, SyncGranted, SnapshotSent, RaceAnswered, CreateLeader}
 use Rattle.pg_model.specs.Facts.{entries_of}
 use Rattle.commit_actions.specs.States.{Race, Agent, Machine, State, Acts, Reaches, HasLog, Waits}
@@ -78,7 +78,7 @@ pub record IsUnled (flight : ℕ → Option Flying) (members : ℕ → Machine) 
 -- where no standby may lack an acknowledged commit
 abbrev pub WinsByName : Option SyncKey → ℕ → Type 0
 WinsByName None m = Unit {0}
-WinsByName (Some key) m = (key.leader ≡ m) ⊎ ((key.standbys m ≡ true) × (key.quorum ≡ 0))
+WinsByName (Some key) m = (key.leader ≡ m) ⊎ ((key.standbys m ≡ true) × (key.quorum ≡ strict_quorum))
 
 -- server and required list stay
 pub record KeepsServer (s : State) (m : ℕ) (input : AgentInput) : Type 0 where

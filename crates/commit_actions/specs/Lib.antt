@@ -1,5 +1,6 @@
 pub mod Functions
 pub mod Keys
+pub mod Stored
 pub mod Flights
 pub mod States
 pub mod Inputs

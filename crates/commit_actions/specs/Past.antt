@@ -34,7 +34,8 @@ use Rattle.lease_law.specs.Past.{leader_after, failsafe_after, revision_after}
 use Rattle.commit_actions.specs.Keys.{SyncKey, Confirmers, Nobody, All}
 use Rattle.commit_actions.specs.Flights.{Aim, ClaimSync, PublishStandbys, CreateLeader, SyncRequest, Flying, Requested, LeaseGranted, SyncGranted, SnapshotSent, RaceAnswered}
 use Rattle.commit_actions.specs.States.{Agent, Machine, State}
-use Rattle.commit_actions.specs.Actions.{fresh_agent, longer_log}
+use Rattle.commit_actions.specs.Stored.{quorum_written}
+use Rattle.commit_actions.specs.Actions.{fresh_agent, longer_log, sync_key_by}
 
 -- what a compare expects: a revision, or absence
 abbrev pub revision_in : Expected → Option ℕ
@@ -53,9 +54,13 @@ pub data Query : Type 0 where
 abbrev pub claim_request : ℕ → ℕ → ℕ → ℕ → Expected → SyncRequest
 claim_request member incarnation sequence revision sync = record { member = member; incarnation = incarnation; sequence = sequence; leader = revision; sync = revision_in sync; aim = ClaimSync }
 
--- a write of the sync key that publishes these standbys
+-- what a write of the sync key that publishes these standbys aims at
+abbrev pub published_aim : ℕ → Expected → MemberSet → Aim
+published_aim revision sync standbys = PublishStandbys (set_members standbys) (quorum_written (txns.SetSync revision sync standbys))
+
+-- such a write
 abbrev pub publish_request : ℕ → ℕ → ℕ → ℕ → Expected → MemberSet → SyncRequest
-publish_request member incarnation sequence revision sync standbys = record { member = member; incarnation = incarnation; sequence = sequence; leader = revision; sync = revision_in sync; aim = PublishStandbys (set_members standbys) 0 }
+publish_request member incarnation sequence revision sync standbys = record { member = member; incarnation = incarnation; sequence = sequence; leader = revision; sync = revision_in sync; aim = published_aim revision sync standbys }
 
 -- a create that compares the sync key
 abbrev pub create_request : ℕ → ℕ → ℕ → Expected → SyncRequest
@@ -104,8 +109,8 @@ pub record Past : Type 0 where
 
 -- the sync key after a granted transaction of this member, under this revision
 abbrev pub sync_after_grant : ℕ → ℕ → Option SyncKey → Txn → Option SyncKey
-sync_after_grant by revision sync (txns.Claim leader expected) = Some (record { leader = by; standbys = λ n. false; quorum = 0; revision = revision })
-sync_after_grant by revision sync (txns.SetSync leader expected standbys) = Some (record { leader = by; standbys = set_members standbys; quorum = 0; revision = revision })
+sync_after_grant by revision sync (txns.Claim leader expected) = Some (sync_key_by by revision ClaimSync)
+sync_after_grant by revision sync (txns.SetSync leader expected standbys) = Some (sync_key_by by revision (published_aim leader expected standbys))
 sync_after_grant by revision sync (txns.DropSync leader expected) = None
 sync_after_grant by revision sync _ = sync
 

@@ -18,30 +18,30 @@ use Rattle.lease_law.proofs.Tools.{both}
 use Rattle.commit_actions.specs.Actions.{IsAllowed}
 use Rattle.commit_book.specs.Books.{IsShown, Transition}
 use Rattle.commit_actions.specs.Carried.{IsSound}
-use Rattle.commit_actions.specs.Keys.{Nobody, All, Overlaps, SyncKey, count}
+use Rattle.commit_actions.specs.Keys.{Nobody, All, Overlaps, SyncKey, count, strict_quorum}
 use Rattle.commit_actions.specs.Past.{Past, Setup, VolatileState, confirmers_in, confirmers_of, past_after, past_over, state_of, sync_after}
 use Rattle.commit_actions.proofs.Counting.{none-less, none-of}
 use Rattle.commit_book.proofs.Fronts.{kept-after}
 use Rattle.commit_book.specs.Changes.{AllLeaveOrder, ChangeOrderOnce, LeavesOrder}
-use Rattle.commit_book.specs.Order.{AreOverlapping, Awaits, IsInOrder, IsOverlapping, NamesMembers}
+use Rattle.commit_book.specs.Order.{AreOverlapping, IsConfirmer, IsAwaiting, IsOverlapping, NamesMembers}
 
 -- ---- between two actions
 -- whom commits wait for has a list that covers standbys: they wait for each
-none-counted : (member_count quorum : ℕ) (standbys : ℕ → Bool) (standby : ℕ) → quorum ≡ 0 → standby < member_count → standbys standby ≡ true → count member_count standbys ≤ quorum → ⊥
+none-counted : (member_count quorum : ℕ) (standbys : ℕ → Bool) (standby : ℕ) → quorum ≡ strict_quorum → standby < member_count → standbys standby ≡ true → count member_count standbys ≤ quorum → ⊥
 none-counted member_count quorum standbys standby none small is few =
     both (sym (none-of member_count standbys (zero-of (count member_count standbys) quorum few none) standby small) ∙ is)
   where
-    zero-of : (a b : ℕ) → a ≤ b → b ≡ 0 → a ≡ 0
+    zero-of : (a b : ℕ) → a ≤ b → b ≡ strict_quorum → a ≡ 0
     zero-of a b less none = omega (arith, less, none)
 
-confirmers-awaits : (member_count quorum : ℕ) (standbys : ℕ → Bool) (standby : ℕ) (required : Required) → quorum ≡ 0 → standby < member_count → standbys standby ≡ true
-    → Overlaps member_count standbys quorum (confirmers_in required) → Awaits (confirmers_in required) standby
+confirmers-awaits : (member_count quorum : ℕ) (standbys : ℕ → Bool) (standby : ℕ) (required : Required) → quorum ≡ strict_quorum → standby < member_count → standbys standby ≡ true
+    → Overlaps member_count standbys quorum (confirmers_in required) → IsConfirmer (confirmers_in required) standby
 confirmers-awaits member_count quorum standbys standby requireds.Nobody none small is overlaps = absurd (none-counted member_count quorum standbys standby none small is overlaps)
 confirmers-awaits member_count quorum standbys standby requireds.AnyOne none small is overlaps = absurd (none-counted member_count quorum standbys standby none small is overlaps)
 confirmers-awaits member_count quorum standbys standby (requireds.All members) none small is overlaps = overlaps standby is
 
-pub awaits : (member_count quorum : ℕ) (standbys : ℕ → Bool) (standby : ℕ) (required : Option Required) → quorum ≡ 0 → standby < member_count → standbys standby ≡ true
-    → Overlaps member_count standbys quorum (confirmers_of required) → Awaits (confirmers_of required) standby
+pub awaits : (member_count quorum : ℕ) (standbys : ℕ → Bool) (standby : ℕ) (required : Option Required) → quorum ≡ strict_quorum → standby < member_count → standbys standby ≡ true
+    → Overlaps member_count standbys quorum (confirmers_of required) → IsConfirmer (confirmers_of required) standby
 awaits member_count quorum standbys standby None none small is overlaps = absurd (none-counted member_count quorum standbys standby none small is overlaps)
 awaits member_count quorum standbys standby (Some required) none small is overlaps = confirmers-awaits member_count quorum standbys standby required none small is overlaps
 
@@ -52,7 +52,7 @@ overlaps-now setup past volatile_states sound = record {
 }
 
 -- where no standby may lack a commit
-pub strict-order : (member_count : ℕ) (past : Past) → IsOverlapping member_count past → NamesMembers member_count 0 past.sync → IsInOrder past
+pub strict-order : (member_count : ℕ) (past : Past) → IsOverlapping member_count past → NamesMembers member_count strict_quorum past.sync → IsAwaiting past
 strict-order member_count past overlapping members = record {
   led = overlapping.led;
   awaited = λ server key writes is standby named.
@@ -60,7 +60,7 @@ strict-order member_count past overlapping members = record {
       awaits member_count key.quorum key.standbys standby (slice_get past.required server) (none-less key.quorum strict.few) (strict.members standby named) named (overlapping.overlaps server key writes is);
 }
 
-pub order-now : (setup : Setup) (past : Past) (volatile_states : ℕ → VolatileState) → IsSound (state_of setup past volatile_states) → NamesMembers setup.member_count 0 past.sync → IsInOrder past
+pub order-now : (setup : Setup) (past : Past) (volatile_states : ℕ → VolatileState) → IsSound (state_of setup past volatile_states) → NamesMembers setup.member_count strict_quorum past.sync → IsAwaiting past
 order-now setup past volatile_states sound members = strict-order setup.member_count past (overlaps-now setup past volatile_states sound) members
 
 -- ---- inside one
@@ -140,7 +140,7 @@ Overlapping member_count seen = AreOverlapping member_count seen.writes seen.req
 overlaps-as : (setup : Setup) (past end : Past) (volatile_states : ℕ → VolatileState) → seen_of past ≡ seen_of end → IsSound (state_of setup end volatile_states) → IsOverlapping setup.member_count past
 overlaps-as setup past end volatile_states same sound = subst (Overlapping setup.member_count) (sym same) (overlaps-now setup end volatile_states sound)
 
-pub order-as : (setup : Setup) (past end : Past) (volatile_states : ℕ → VolatileState) → seen_of past ≡ seen_of end → IsSound (state_of setup end volatile_states) → NamesMembers setup.member_count 0 past.sync → IsInOrder past
+pub order-as : (setup : Setup) (past end : Past) (volatile_states : ℕ → VolatileState) → seen_of past ≡ seen_of end → IsSound (state_of setup end volatile_states) → NamesMembers setup.member_count strict_quorum past.sync → IsAwaiting past
 order-as setup past end volatile_states same sound members = strict-order setup.member_count past (overlaps-as setup past end volatile_states same sound) members
 
 pub overlaps-inside : (setup : Setup) (past : Past) (volatile_states : ℕ → VolatileState) (transition : Transition) (front back : List Event) → IsSound (state_of setup past volatile_states) → IsAllowed (state_of setup past volatile_states) transition.action
@@ -152,6 +152,6 @@ overlaps-inside setup past volatile_states transition front back sound allowed s
     ]
 
 pub order-inside : (setup : Setup) (past : Past) (volatile_states : ℕ → VolatileState) (transition : Transition) (front back : List Event) → IsSound (state_of setup past volatile_states) → IsAllowed (state_of setup past volatile_states) transition.action
-    → IsShown setup past volatile_states transition → ChangeOrderOnce transition.events → front ++ back ≡ transition.events → NamesMembers setup.member_count 0 (past_over past front).sync → IsInOrder (past_over past front)
+    → IsShown setup past volatile_states transition → ChangeOrderOnce transition.events → front ++ back ≡ transition.events → NamesMembers setup.member_count strict_quorum (past_over past front).sync → IsAwaiting (past_over past front)
 order-inside setup past volatile_states transition front back sound allowed shown once e members =
     strict-order setup.member_count (past_over past front) (overlaps-inside setup past volatile_states transition front back sound allowed shown once e) members

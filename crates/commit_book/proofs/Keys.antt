@@ -26,7 +26,8 @@ use Rattle.event_book.specs.Logs.{Logs}
 use Rattle.event_book.specs.Functions.{set_members}
 use Rattle.lease_law.specs.Stores.{IsEndless, IsSameStore, IsSpanned}
 use Rattle.lease_law.proofs.SameStore.{present-endless, same-by, same-first}
-use Rattle.commit_actions.specs.Keys.{SyncKey}
+use Rattle.commit_actions.specs.Keys.{SyncKey, strict_quorum}
+use Rattle.commit_actions.specs.Stored.{quorum_of, quorum_written}
 use Rattle.commit_actions.specs.Past.{Past, first_past, past_after, sync_after_grant}
 use Rattle.commit_book.specs.Keys.{sync_key_of, lease_keys, IsSameKeys}
 
@@ -47,8 +48,10 @@ lease-by past facts kind span same =
 nobody-is : ◌≡◌ {A = ℕ → Bool} (λ n. false) (set_members nobody)
 nobody-is = fun_ext (λ n. sym (ap (λ (x : ℕ). x == 1) (bit_at-zero n)))
 
+-- and what a granted transaction says of its number the stored key says
 pub granted-sync : (revision : ℕ) (by : MemberId) (txn : Txn) (found : Option KeyEntry) → sync_after_grant by.number revision (sync_key_of found) txn ≡ sync_key_of (one_key.sync_after revision by txn found)
-granted-sync revision by (txns.Claim compared sync) found = ap (λ (s : ℕ → Bool). Some (record { leader = by.number; standbys = s; quorum = 0; revision = revision })) nobody-is
+unfolding quorum_of quorum_written
+granted-sync revision by (txns.Claim compared sync) found = ap (λ (s : ℕ → Bool). Some (record { leader = by.number; standbys = s; quorum = strict_quorum; revision = revision })) nobody-is
 granted-sync revision by (txns.SetSync compared sync standbys) found = refl
 granted-sync revision by (txns.DropSync compared sync) found = refl
 granted-sync revision by _ found = refl

@@ -6,23 +6,23 @@ use Rattle.lease_law.proofs.Tools.{both, none-some, some-is}
 use Rattle.commit_actions.specs.Carried.{IsSound}
 use Rattle.commit_actions.specs.Flights.{Aim, ClaimSync, CreateLeader, PublishStandbys, SyncRequest}
 use Rattle.commit_actions.specs.Inputs.{AgentInput, Does, HasConfirmed, IsLawful, Publishes, Sending, Idling, Racing, HearingAnswer, WinningRace, CreatingLeader, Arming, TakingOver, ChangingRequired, Publishing, Promoting, SettlingRequired}
-use Rattle.commit_actions.specs.Keys.{Confirmers, MayPublish, Added, Counted, Confirmed, Meets, Overlaps, SyncKey, count}
+use Rattle.commit_actions.specs.Keys.{Confirmers, MayPublish, Added, Counted, Confirmed, Meets, Overlaps, SyncKey, count, strict_quorum}
 use Rattle.commit_actions.specs.Past.{Past, Setup, VolatileState, confirmers_in, confirmers_of, position_of, state_of}
 use Rattle.commit_actions.specs.States.{Reaches, State}
 use Rattle.commit_actions.proofs.Counting.{meets-sub, none-of}
 use Rattle.commit_law.specs.Noted.{AreNoted}
-use Rattle.commit_book.specs.Order.{Awaits}
-use Rattle.commit_book.specs.Requests.{MayBePublished, PublishesInOrder}
+use Rattle.commit_book.specs.Order.{IsConfirmer}
+use Rattle.commit_book.specs.Requests.{MayBePublished, PublishesAwaited}
 use Rattle.commit_book.proofs.Inside.{awaits}
 
 -- ---- each standby that it adds has confirmed
 -- whom commits wait for has it, where they wait for each
-meets-in : (member_count : ℕ) (required : Required) (X : ℕ → Type 0) (standby : ℕ) → Awaits (confirmers_in required) standby → Meets member_count (confirmers_in required) X → X standby
+meets-in : (member_count : ℕ) (required : Required) (X : ℕ → Type 0) (standby : ℕ) → IsConfirmer (confirmers_in required) standby → Meets member_count (confirmers_in required) X → X standby
 meets-in member_count requireds.Nobody X standby awaited met = absurd awaited
 meets-in member_count requireds.AnyOne X standby awaited met = absurd awaited
 meets-in member_count (requireds.All members) X standby awaited met = met standby awaited
 
-meets-one : (member_count : ℕ) (required : Option Required) (X : ℕ → Type 0) (standby : ℕ) → Awaits (confirmers_of required) standby → Meets member_count (confirmers_of required) X → X standby
+meets-one : (member_count : ℕ) (required : Option Required) (X : ℕ → Type 0) (standby : ℕ) → IsConfirmer (confirmers_of required) standby → Meets member_count (confirmers_of required) X → X standby
 meets-one member_count None X standby awaited met = absurd awaited
 meets-one member_count (Some required) X standby awaited met = meets-in member_count required X standby awaited met
 
@@ -30,15 +30,15 @@ meets-one member_count (Some required) X standby awaited met = meets-in member_c
 was-there : (old : Bool) → old ≡ true → old ≡ false → ⊥
 was-there old is new = both (sym new ∙ is)
 
-none-added : (member_count quorum : ℕ) (new old : ℕ → Bool) (standby : ℕ) → standby < member_count → new standby ≡ true → old standby ≡ false → count member_count (λ m. new m && not (old m)) + quorum ≤ 0 → ⊥
+none-added : (member_count quorum : ℕ) (new old : ℕ → Bool) (standby : ℕ) → standby < member_count → new standby ≡ true → old standby ≡ false → count member_count (λ m. new m && not (old m)) + quorum ≤ strict_quorum → ⊥
 none-added member_count quorum new old standby small is added sum =
     both (sym (none-of member_count (λ m. new m && not (old m)) (zero (count member_count (λ m. new m && not (old m))) quorum sum) standby small) ∙ ap (λ (b : Bool). b && not (old standby)) is ∙ ap not added)
   where
-    zero : (a b : ℕ) → a + b ≤ 0 → a ≡ 0
+    zero : (a b : ℕ) → a + b ≤ strict_quorum → a ≡ 0
     zero a b sum = omega (arith, sum)
 
-added-has : (member_count quorum : ℕ) (old new : ℕ → Bool) (required : Option Required) (X : ℕ → Type 0) (standby : ℕ) → MayPublish member_count old quorum new 0 (confirmers_of required) X
-    → standby < member_count → new standby ≡ true → old standby ≡ false → Awaits (confirmers_of required) standby → X standby
+added-has : (member_count quorum : ℕ) (old new : ℕ → Bool) (required : Option Required) (X : ℕ → Type 0) (standby : ℕ) → MayPublish member_count old quorum new strict_quorum (confirmers_of required) X
+    → standby < member_count → new standby ≡ true → old standby ≡ false → IsConfirmer (confirmers_of required) standby → X standby
 added-has member_count quorum old new required X standby (Added each fewer) small is added awaited = elim (each standby is) [
   | inl there ↦ absurd (was-there (old standby) there added)
   | inr has ↦ has
@@ -138,11 +138,11 @@ publication setup past volatile_states leader input sending standbys quorum soun
     allowed setup past volatile_states leader input sending standbys quorum sound law sends aim noted (publishes setup past volatile_states leader input sending standbys quorum sound law sends aim noted law.does)
 
 -- where none may
-pub strict-publication : (member_count : ℕ) (past : Past) (leader noted : ℕ) (request : SyncRequest) (standbys : ℕ → Bool) → MayBePublished member_count past leader noted request standbys 0
-    → ((standby : ℕ) → standbys standby ≡ true → standby < member_count) → PublishesInOrder past leader noted request standbys
+pub strict-publication : (member_count : ℕ) (past : Past) (leader noted : ℕ) (request : SyncRequest) (standbys : ℕ → Bool) → MayBePublished member_count past leader noted request standbys strict_quorum
+    → ((standby : ℕ) → standbys standby ≡ true → standby < member_count) → PublishesAwaited past leader noted request standbys
 strict-publication member_count past leader noted request standbys may small =
     let list : Option Required = slice_get past.required leader in
-    let awaited = λ (standby : ℕ) (is : standbys standby ≡ true). awaits member_count 0 standbys standby list refl (small standby is) is may.overlaps in
+    let awaited = λ (standby : ℕ) (is : standbys standby ≡ true). awaits member_count strict_quorum standbys standby list refl (small standby is) is may.overlaps in
     record {
       key = may.key;
       is = may.is;

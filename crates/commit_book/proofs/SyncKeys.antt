@@ -24,6 +24,7 @@ use Rattle.event_book.specs.Functions.{set_members}
 use Rattle.lease_law.proofs.SameStore.{present-endless}
 use Rattle.lease_law.proofs.Tools.{none-some, some-is}
 use Rattle.commit_actions.specs.Keys.{SyncKey}
+use Rattle.commit_actions.specs.Stored.{key_seen}
 use Rattle.commit_actions.specs.Past.{Past, past_after, past_over, sync_after_grant}
 use Rattle.commit_book.specs.Keys.{sync_key_of, sync_value}
 use Rattle.commit_book.proofs.Keys.{granted-endless, granted-sync}
@@ -81,7 +82,7 @@ pub record IsOfEntry (found : Option KeyEntry) (key : SyncKey) : Type 0 where
   pub revision : stored.revision ≡ key.revision
 
 value-holds : (revision : ℕ) (value : Value) (key : SyncKey) → sync_value value revision ≡ Some key
-    → (held : StoredSync) × (value ≡ values.Sync held) × (record { leader = held.leader.number; standbys = set_members held.standbys; quorum = 0; revision = revision } ≡ key)
+    → (held : StoredSync) × (value ≡ values.Sync held) × (key_seen held revision ≡ key)
 value-holds revision (values.Sync held) key e = (held, refl, some-is _ key e)
 value-holds revision _ key e = absurd (none-some key e)
 

@@ -12,6 +12,7 @@ use Rattle.event_book.specs.declared.member.Member.{Member}
 use Rattle.event_book.specs.declared.message.Body.TheVariants as bodies
 use Rattle.lease_law.specs.Showing.{granted_events}
 use Rattle.lease_book.specs.Example.{asked_and_granted}
+use Rattle.commit_actions.specs.Keys.{strict_quorum}
 use Rattle.commit_actions.specs.Flights.{SyncGrant}
 
 -- a claim of who holds the leader key of revision 2, where there is no sync key
@@ -31,5 +32,5 @@ claim_flying by = record {
   member = by.id.number;
   incarnation = 1;
   sequence = 2;
-  key = record { leader = by.id.number; standbys = λ n. false; quorum = 0; revision = 3 };
+  key = record { leader = by.id.number; standbys = λ n. false; quorum = strict_quorum; revision = 3 };
 }

@@ -8,14 +8,14 @@ use Rattle.lease_store.specs.declared.value.Value.TheVariants as values
 use Rattle.lease_store.specs.KeyOrder.{key_cmp}
 use Rattle.event_book.specs.Facts.{Facts}
 use Rattle.lease_law.specs.Past as lease_past
-use Rattle.event_book.specs.Functions.{set_members}
 use Rattle.lease_law.specs.Stores.{IsEndless, IsSameStore}
 use Rattle.commit_actions.specs.Keys.{SyncKey}
+use Rattle.commit_actions.specs.Stored.{key_seen}
 use Rattle.commit_actions.specs.Past.{Past}
 
--- the sync key with this value and revision, if the value is one of a sync key. None of its standbys may lack an acknowledged commit
+-- the sync key with this value and revision, if the value is one of a sync key
 abbrev pub sync_value : Value → ℕ → Option SyncKey
-sync_value (values.Sync key) revision = Some (record { leader = key.leader.number; standbys = set_members key.standbys; quorum = 0; revision = revision })
+sync_value (values.Sync key) revision = Some (key_seen key revision)
 sync_value _ revision = None
 
 -- the sync key as the key store has it

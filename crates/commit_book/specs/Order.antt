@@ -20,20 +20,20 @@ IsOverlapping member_count past = AreOverlapping member_count past.writes past.r
 
 -- ---- in synchronous mode
 -- commits wait for this member
-abbrev pub Awaits : Confirmers → ℕ → Type 0
-Awaits (All members) n = members n ≡ true
-Awaits _ n = ⊥
+abbrev pub IsConfirmer : Confirmers → ℕ → Type 0
+IsConfirmer (All members) n = members n ≡ true
+IsConfirmer _ n = ⊥
 
 -- what who accepts writes, with these required lists, has to do with a sync key of which no standby may lack a commit
-pub record AreInOrder (writes : ℕ → Bool) (required : List Required) (sync : Option SyncKey) : Type 0 where
+pub record AreAwaiting (writes : ℕ → Bool) (required : List Required) (sync : Option SyncKey) : Type 0 where
   -- the sync key names it as the leader
   pub led : (server : ℕ) → writes server ≡ true → IsLed sync server
   -- its commits wait for each standby in the sync key
-  pub awaited : (server : ℕ) (key : SyncKey) → writes server ≡ true → sync ≡ Some key → (standby : ℕ) → key.standbys standby ≡ true → Awaits (confirmers_of (slice_get required server)) standby
+  pub awaited : (server : ℕ) (key : SyncKey) → writes server ≡ true → sync ≡ Some key → (standby : ℕ) → key.standbys standby ≡ true → IsConfirmer (confirmers_of (slice_get required server)) standby
 
 -- the same of what a book determines
-abbrev pub IsInOrder : Past → Type 0
-IsInOrder past = AreInOrder past.writes past.required past.sync
+abbrev pub IsAwaiting : Past → Type 0
+IsAwaiting past = AreAwaiting past.writes past.required past.sync
 
 -- the sync key, where there is one, names members alone, of which at most so many may lack a commit: none in synchronous mode
 abbrev pub NamesMembers : ℕ → ℕ → Option SyncKey → Type 0

@@ -4,7 +4,7 @@ use Rattle.commit_actions.specs.Flights.{SyncRequest}
 use Rattle.commit_actions.specs.Keys.{MayPublish, Overlaps, SyncKey}
 use Rattle.commit_actions.specs.Past.{Past, confirmers_of, position_of}
 use Rattle.commit_actions.specs.States.{Reaches}
-use Rattle.commit_book.specs.Order.{Awaits}
+use Rattle.commit_book.specs.Order.{IsConfirmer}
 
 -- the request compares the present sync key, whose standbys these may be published in place of, so many of which may lack a commit: they overlap
 -- the leader's required list; and by who has confirmed the position that the leader noted, and so by who has confirmed the end that its log
@@ -20,10 +20,10 @@ pub record MayBePublished (member_count : ℕ) (past : Past) (leader noted : ℕ
 -- ---- in synchronous mode
 -- the request compares the present sync key; and each standby that it adds to that is one that the leader's commits wait for already, and has
 -- confirmed the position that the leader noted, and the end that its log had when its required list last grew
-pub record PublishesInOrder (past : Past) (leader noted : ℕ) (request : SyncRequest) (standbys : ℕ → Bool) : Type 0 where
+pub record PublishesAwaited (past : Past) (leader noted : ℕ) (request : SyncRequest) (standbys : ℕ → Bool) : Type 0 where
   pub key : SyncKey
   pub is : past.sync ≡ Some key
   pub compares : request.sync ≡ Some key.revision
-  pub awaited : (standby : ℕ) → standbys standby ≡ true → Awaits (confirmers_of (slice_get past.required leader)) standby
+  pub awaited : (standby : ℕ) → standbys standby ≡ true → IsConfirmer (confirmers_of (slice_get past.required leader)) standby
   pub confirmed : (standby : ℕ) → standbys standby ≡ true → key.standbys standby ≡ false → Reaches noted (position_of (slice_get past.confirmed leader) standby)
   pub since : (standby : ℕ) → standbys standby ≡ true → key.standbys standby ≡ false → Reaches (past.grown leader) (position_of (slice_get past.confirmed leader) standby)

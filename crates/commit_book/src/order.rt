@@ -6,11 +6,12 @@ ghost use Rattle.commit_book.specs.Books.{IsShown, Transition};
 ghost use Rattle.commit_actions.specs.Carried.{IsSound};
 ghost use Rattle.commit_actions.specs.Flights.{PublishStandbys, SyncRequest};
 ghost use Rattle.commit_actions.specs.Inputs.{AgentInput, IsLawful, Sending};
+ghost use Rattle.commit_actions.specs.Keys.{strict_quorum};
 ghost use Rattle.commit_actions.specs.Past.{Past, Setup, VolatileState, past_over, state_of};
 ghost use Rattle.commit_law.specs.Noted.{AreNoted};
 ghost use Rattle.commit_book.specs.Changes.{ChangeOrderOnce};
-ghost use Rattle.commit_book.specs.Order.{IsInOrder, IsOverlapping, NamesMembers};
-ghost use Rattle.commit_book.specs.Requests.{MayBePublished, PublishesInOrder};
+ghost use Rattle.commit_book.specs.Order.{IsAwaiting, IsOverlapping, NamesMembers};
+ghost use Rattle.commit_book.specs.Requests.{MayBePublished, PublishesAwaited};
 
 /// Where what commits rest on is sound, the sync key names who accepts writes as the leader, and its required list overlaps the standbys in it:
 /// between two actions, and at each moment inside an allowed one that changes the order at most once. So its commits wait for each standby there,
@@ -25,7 +26,7 @@ pub fn order_is_kept()
         → ChangeOrderOnce transition.events
         → front ++ back ≡ transition.events
         → IsOverlapping setup.member_count (past_over past front) }
-    ensures strict { (member_count : ℕ) (past : Past) → IsOverlapping member_count past → NamesMembers member_count 0 past.sync → IsInOrder past }
+    ensures strict { (member_count : ℕ) (past : Past) → IsOverlapping member_count past → NamesMembers member_count strict_quorum past.sync → IsAwaiting past }
 {}
 
 /// A lawful input that asks to publish standbys, however many of them may lack a commit, compares the present sync key. They overlap its leader's
@@ -41,7 +42,7 @@ pub fn publications_are_confirmed()
         → sending.request.aim ≡ PublishStandbys standbys quorum
         → MayBePublished setup.member_count past leader input.agent.noted sending.request standbys quorum }
     ensures strict { (member_count : ℕ) (past : Past) (leader noted : ℕ) (request : SyncRequest) (standbys : ℕ → Bool)
-        → MayBePublished member_count past leader noted request standbys 0
+        → MayBePublished member_count past leader noted request standbys strict_quorum
         → ((standby : ℕ) → standbys standby ≡ true → standby < member_count)
-        → PublishesInOrder past leader noted request standbys }
+        → PublishesAwaited past leader noted request standbys }
 {}

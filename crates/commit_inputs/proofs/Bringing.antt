@@ -17,6 +17,7 @@ use Rattle.cluster_model.specs.Inputs.{moment_of}
 use Rattle.cluster_model.specs.Orders.{require_of}
 use Rattle.cluster_model.specs.Parts.{each, events_of}
 use Rattle.cluster_model.specs.State.{Cluster}
+use Rattle.commit_actions.specs.Keys.{strict_quorum}
 use Rattle.commit_actions.specs.Flights.{Flying, SyncRequest}
 use Rattle.commit_actions.specs.Inputs.{IsGivenByLease, Sending}
 use Rattle.commit_actions.specs.Past.{Past, Setup, VolatileState, confirmers_in, confirmers_of, past_over}
@@ -99,7 +100,7 @@ module _ (head : HeadText) (book : List Event) (cluster : Cluster) (good : Commi
   abbrev Of : List Event → Option Sending → Type 0
   Of events sends = PageOf head book cluster good a events sends
 
-  abbrev pub Lawful : (sends : Option Sending) → SendsInside head book cluster good a sends → IsLawfulAs (moment_of cluster) a.heard (Before head book cluster good a) (state_of_run head book cluster) M (Theirs head book cluster good a sends)
+  abbrev pub Lawful : (sends : Option Sending) → SendsInside head book cluster good a sends → IsLawfulAs (moment_of cluster) a.heard strict_quorum (Before head book cluster good a) (state_of_run head book cluster) M (Theirs head book cluster good a sends)
   Lawful = lawful-as head book cluster good a
 
   -- nothing is given where no claim is sent

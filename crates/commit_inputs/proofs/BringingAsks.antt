@@ -39,6 +39,9 @@ use Rattle.cluster_model.specs.Parts.{each, event_of, events_of}
 use Rattle.cluster_model.specs.State.{Cluster}
 use Rattle.lease_law.specs.Leases.{LeaderKey}
 use Rattle.lease_law.proofs.Tools.{put-all, put-here, put-there}
+use Rattle.commit_actions.proofs.Counting.{none-less}
+use Rattle.commit_actions.specs.Stored.{quorum_written}
+use Rattle.commit_actions.specs.Keys.{strict_quorum}
 use Rattle.commit_actions.specs.Actions.{send}
 use Rattle.commit_book.specs.Books.{AllLeaveCommits}
 use Rattle.commit_actions.specs.Flights.{Flying, Requested, SyncRequest}
@@ -54,8 +57,8 @@ use Rattle.lease_parts.specs.Bridged.{KnowsItself}
 use Rattle.run_promise.specs.Members.{member_count}
 use Rattle.run_promise.proofs.Upholding.{over-append}
 use Rattle.commit_book.specs.Changes.{AllLeaveOrder}
-use Rattle.commit_book.specs.Order.{Awaits}
-use Rattle.commit_book.specs.Requests.{PublishesInOrder}
+use Rattle.commit_book.specs.Order.{IsConfirmer}
+use Rattle.commit_book.specs.Requests.{MayBePublished, PublishesAwaited}
 use Rattle.commit_book.proofs.Asides.{leave-then, once-none}
 use Rattle.commit_book.proofs.Inside.{Seen, all-aside, seen_of}
 use Rattle.commit_book.proofs.Publishing.{publication, strict-publication}
@@ -86,18 +89,18 @@ body-flying member incarnation sequence (bodies.Request txn) = query-flying (que
 body-flying member incarnation sequence _ = refl
 
 -- no renewal in synchronous mode carries a set for the failsafe key
-live-renew : (was : Bool) (leader : Option LeaderKey) (m count revision : ℕ) (info : MemberInfo) (ttl : Ticks) (status : Option Lsn) (row : Option HistoryRow) (failsafe : Option MemberSet)
-    → IsSynchronousTxn count (txns.Renew revision info ttl status row failsafe) → was_live_by_txn was leader m (txns.Renew revision info ttl status row failsafe) ≡ was
-live-renew was leader m count revision info ttl status row None on = refl
-live-renew was leader m count revision info ttl status row (Some members) on = absurd on
+live-renew : (was : Bool) (leader : Option LeaderKey) (m count quorum revision : ℕ) (info : MemberInfo) (ttl : Ticks) (status : Option Lsn) (row : Option HistoryRow) (failsafe : Option MemberSet)
+    → IsSynchronousTxn count quorum (txns.Renew revision info ttl status row failsafe) → was_live_by_txn was leader m (txns.Renew revision info ttl status row failsafe) ≡ was
+live-renew was leader m count quorum revision info ttl status row None on = refl
+live-renew was leader m count quorum revision info ttl status row (Some members) on = absurd on
 
-live-txn : (was : Bool) (leader : Option LeaderKey) (m count : ℕ) (txn : Txn) → IsSynchronousTxn count txn → was_live_by_txn was leader m txn ≡ was
-live-txn was leader m count (txns.Renew revision info ttl status row failsafe) on = live-renew was leader m count revision info ttl status row failsafe on
-live-txn was leader m count _ on = refl
+live-txn : (was : Bool) (leader : Option LeaderKey) (m count quorum : ℕ) (txn : Txn) → IsSynchronousTxn count quorum txn → was_live_by_txn was leader m txn ≡ was
+live-txn was leader m count quorum (txns.Renew revision info ttl status row failsafe) on = live-renew was leader m count quorum revision info ttl status row failsafe on
+live-txn was leader m count quorum _ on = refl
 
-live-body : (was : Bool) (leader : Option LeaderKey) (by : Member) (count : ℕ) (body : Body) → IsSynchronousBody count body → was_live_by_message was leader (ends.Member by) body ≡ was
-live-body was leader by count (bodies.Request txn) on = live-txn was leader by.id.number count txn on
-live-body was leader by count _ on = refl
+live-body : (was : Bool) (leader : Option LeaderKey) (by : Member) (count quorum : ℕ) (body : Body) → IsSynchronousBody count quorum body → was_live_by_message was leader (ends.Member by) body ≡ was
+live-body was leader by count quorum (bodies.Request txn) on = live-txn was leader by.id.number count quorum txn on
+live-body was leader by count quorum _ on = refl
 
 -- what is sent under a number, if it is a request that the law knows
 abbrev sending_under : ℕ → Option SyncRequest → Option Sending
@@ -193,8 +196,8 @@ module _ (head : HeadText) (book : List Event) (cluster : Cluster) (good : Commi
   below : KnowsBelow (member_count head) a.heard (record { role = a.agent.role; knows = a.agent.knows; machine = a.machine; outputs = [] })
   below = record { published = a.below; connected = connected-member head book cluster good few a.member a.machine a.machine_is }
 
-  synchronous : IsSynchronousBody (member_count head) body
-  synchronous = last-of (IsSynchronousOutput (member_count head)) front Question (subst (λ (l : List Output). All (IsSynchronousOutput (member_count head)) l) (sym whole) ((stays-on head book cluster good a).sends (member_count head) below))
+  synchronous : IsSynchronousBody (member_count head) strict_quorum body
+  synchronous = last-of (IsSynchronousOutput (member_count head) strict_quorum) front Question (subst (λ (l : List Output). All (IsSynchronousOutput (member_count head) strict_quorum) l) (sym whole) ((stays-on head book cluster good a).sends (member_count head) below))
 
   abbrev Request : Option SyncRequest
   Request = request_of_body M a.agent.knows.incarnation sequence body
@@ -242,7 +245,7 @@ module _ (head : HeadText) (book : List Event) (cluster : Cluster) (good : Commi
     leaves = asked-leaves;
     once = once-none Covered asked-aside;
     flight = λ i. ap (λ (p : Past). p.flight i) past-both ∙ flight-now i;
-    live = ap (λ (p : Past). p.holder_was_live) past-both ∙ live-body (past_over P Upto).holder_was_live (past_over P Upto).leader a.member (member_count head) body synchronous ∙ front-live head book cluster good a front all of_table;
+    live = ap (λ (p : Past). p.holder_was_live) past-both ∙ live-body (past_over P Upto).holder_was_live (past_over P Upto).leader a.member (member_count head) strict_quorum body synchronous ∙ front-live head book cluster good a front all of_table;
     needs = ap (λ (p : Past). confirmers_of (slice_get p.required M)) past-both ∙ front-needs head book cluster good a front all of_table requires-none;
     acted = ap (λ (c : Cluster). c.agents) reached-both ∙ front-acted head book cluster good a front all of_table;
     lives = λ n. ap (λ (c : Cluster). live_in c.facts.servers n) reached-both ∙ front-lives head book cluster good a front all of_table n;
@@ -269,13 +272,18 @@ module _ (head : HeadText) (book : List Event) (cluster : Cluster) (good : Commi
   seen-same = all-aside P Upto (front-aside head book cluster good a front all of_table)
 
   publishes-as : has_one is_claim_outside_sync Outs ≡ false → (revision : ℕ) (sync : Expected) (standbys : MemberSet) → bodies.Request (txns.SetSync revision sync standbys) ≡ body
-      → PublishesInOrder P M (noted_position (After head book cluster good a).knows.noted) (publish_request M a.agent.knows.incarnation sequence revision sync standbys) (set_members standbys)
+      → PublishesAwaited P M (noted_position (After head book cluster good a).knows.noted) (publish_request M a.agent.knows.incarnation sequence revision sync standbys) (set_members standbys)
   publishes-as inside revision sync standbys is =
-      strict-publication (member_count head) P M (noted_position (After head book cluster good a).knows.noted) (publish_request M a.agent.knows.incarnation sequence revision sync standbys) (set_members standbys)
-      (publication (setup_of head) P (volatile_of cluster) M (Theirs head book cluster good a Sends) (record { number = Number; request = publish_request M a.agent.knows.incarnation sequence revision sync standbys }) (set_members standbys) 0
+      let written : ℕ = quorum_written (txns.SetSync revision sync standbys) in
+      let noted : ℕ = noted_position (After head book cluster good a).knows.noted in
+      let request : SyncRequest = publish_request M a.agent.knows.incarnation sequence revision sync standbys in
+      let on : IsSynchronousTxn (member_count head) strict_quorum (txns.SetSync revision sync standbys) = subst (λ (b : Body). IsSynchronousBody (member_count head) strict_quorum b) (sym is) synchronous in
+      strict-publication (member_count head) P M noted request (set_members standbys)
+      (subst (λ (quorum : ℕ). MayBePublished (member_count head) P M noted request (set_members standbys) quorum) (none-less written on.1)
+      (publication (setup_of head) P (volatile_of cluster) M (Theirs head book cluster good a Sends) (record { number = Number; request = request }) (set_members standbys) written
       good.sound good.noted (Lawful head book cluster good few a Sends (page inside).sent).lawful
-      (ap (λ (b : Body). sending_under Number (request_of_body M a.agent.knows.incarnation sequence b)) (sym is)) refl)
-      (subst (λ (b : Body). IsSynchronousBody (member_count head) b) (sym is) synchronous)
+      (ap (λ (b : Body). sending_under Number (request_of_body M a.agent.knows.incarnation sequence b)) (sym is)) refl))
+      on.0
 
   asked-ordered : has_one is_claim_outside_sync Outs ≡ false → (b : Body) → b ≡ body → AsksInOrder (past_over P Upto) Reached (ends.Member a.member) a.agent.knows.incarnation sequence b
   asked-ordered inside (bodies.Request (txns.SetSync revision sync standbys)) is =
@@ -285,7 +293,7 @@ module _ (head : HeadText) (book : List Event) (cluster : Cluster) (good : Commi
         is = ap (λ (seen : Seen). seen.sync) seen-same ∙ at-first.is;
         compares = at-first.compares;
         awaited = λ standby named.
-            subst (λ (required : List Required). Awaits (confirmers_of (slice_get required M)) standby) (sym (ap (λ (seen : Seen). seen.required) seen-same)) (at-first.awaited standby named);
+            subst (λ (required : List Required). IsConfirmer (confirmers_of (slice_get required M)) standby) (sym (ap (λ (seen : Seen). seen.required) seen-same)) (at-first.awaited standby named);
         confirmed = λ standby named added.
             subst (λ (noted : ℕ). Reaches noted (position_of (slice_get (past_over P Upto).confirmed M) standby)) (sym (ap noted_by here-behind))
             (subst (λ (told : Told). Reaches (noted_position (After head book cluster good a).knows.noted) (position_of (slice_get told.confirmed M) standby)) (sym (front-told head book cluster good a front all of_table))

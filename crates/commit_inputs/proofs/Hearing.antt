@@ -46,7 +46,7 @@ use Rattle.lease_book.proofs.Hearing.{heard-granted}
 use Rattle.commit_actions.specs.Actions.{sync_key_by}
 use Rattle.commit_actions.specs.Flights.{Flying, LeaseGranted, SnapshotSent, SyncGranted, SyncRequest}
 use Rattle.commit_actions.specs.Inputs.{AgentInput, HearsSnapshot}
-use Rattle.commit_actions.specs.Keys.{SyncKey}
+use Rattle.commit_actions.specs.Keys.{SyncKey, strict_quorum}
 use Rattle.commit_actions.specs.Past.{Past, Query, SyncQuery, failsafe_revision_of, is_keyless, is_leaderless}
 use Rattle.commit_actions.specs.States.{State}
 use Rattle.commit_book.specs.Flights.{Answers, IsNamed, past_at_sending}
@@ -239,5 +239,5 @@ module _ (head : HeadText) (book : List Event) (cluster : Cluster) (good : Commi
   -- and its sync key names members
   pub hears-below : (heard : Heard) → heard_from cluster carried ≡ Some heard → HearsBelow (member_count head) heard
   hears-below heard is =
-      let below = below-is (member_count head) 0 (find key_cmp keys.Sync carried.snapshot) (good.fits.told number carried there) in
+      let below = below-is (member_count head) strict_quorum (find key_cmp keys.Sync carried.snapshot) (good.fits.told number carried there) in
       heard-all cluster carried (HearsBelow (member_count head)) (λ body. below) (λ request leased grant body given. below) (λ key expected. tt) (λ from. tt) (λ answer. tt) carried.message.body refl heard is

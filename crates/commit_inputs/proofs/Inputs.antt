@@ -38,7 +38,7 @@ use Rattle.commit_actions.specs.Actions.{Input, send}
 use Rattle.commit_book.specs.Books.{AllLeaveCommits, ChangeOnce, IsShown}
 use Rattle.commit_actions.specs.Functions.{forget}
 use Rattle.commit_actions.specs.Inputs.{AgentInput, Arming, ChangingRequired, CreatingLeader, Does, HearingAnswer, Idling, IsGivenByLease, Promoting, Publishing, Racing, Sending, SettlingRequired, TakingOver, WinningRace}
-use Rattle.commit_actions.specs.Keys.{Confirmers, Nobody}
+use Rattle.commit_actions.specs.Keys.{Confirmers, Nobody, strict_quorum}
 use Rattle.commit_actions.specs.Past.{Past, VolatileState, confirmers_in, confirmers_of, past_after, past_over}
 use Rattle.commit_book.specs.Showing.{AreOwn}
 use Rattle.commit_actions.specs.States.{Agent, State}
@@ -62,7 +62,7 @@ use Rattle.commit_inputs.proofs.Opening.{Opens, opened-none, opening-aside, open
 use Rattle.commit_parts.proofs.Standing.{agent-stands}
 
 -- ---- what the timed lease gives is asked only by who sends a claim
-pub given-unless : (now : Ticks) (heard : Heard) (o : Outcome) (s : State) (m : ℕ) (input : AgentInput) (was : Agent) (does : Does s m input was) → input.sends ≡ None → DoesAs now heard o s m input was does → IsGivenByLease s m input was does
+pub given-unless : (now : Ticks) (heard : Heard) (o : Outcome) (s : State) (m : ℕ) (input : AgentInput) (was : Agent) (does : Does s m input was) → input.sends ≡ None → DoesAs now heard strict_quorum o s m input was does → IsGivenByLease s m input was does
 given-unless now heard o s m input was (Racing races) none as-it = absurd as-it
 given-unless now heard o s m input was (Arming arms) none as-it = absurd (none-some _ (sym none ∙ arms.sends.is))
 given-unless now heard o s m input was (Idling idles) none as-it = tt
@@ -82,7 +82,7 @@ same-grows o before after same n needs = inl (subst (λ (confirmers : Confirmers
 nobody-grows : (o : Outcome) (before after : Confirmers) → after ≡ Nobody → GrowsByConnected o before after
 nobody-grows o before after none n needs = absurd (subst (λ (confirmers : Confirmers). ListsMember confirmers n) none needs)
 
-pub grows-by : (now : Ticks) (heard : Heard) (o : Outcome) (s : State) (m : ℕ) (input : AgentInput) (was : Agent) (does : Does s m input was) → DoesAs now heard o s m input was does → GrowsByConnected o (s.members m).required input.required
+pub grows-by : (now : Ticks) (heard : Heard) (o : Outcome) (s : State) (m : ℕ) (input : AgentInput) (was : Agent) (does : Does s m input was) → DoesAs now heard strict_quorum o s m input was does → GrowsByConnected o (s.members m).required input.required
 grows-by now heard o s m input was (Idling idles) as-it = same-grows o (s.members m).required input.required idles.keeps.server.required
 grows-by now heard o s m input was (Racing races) as-it = absurd as-it
 grows-by now heard o s m input was (HearingAnswer answer) as-it = absurd as-it
@@ -191,7 +191,7 @@ module _ (head : HeadText) (book : List Event) (cluster : Cluster) (good : Commi
   pub small : M < member_count head
   small = subst (λ (n : ℕ). M < n) good.lease.matched.agents_sized (slice_get_within cluster.agents M (Some a.agent) a.here)
 
-  pub stands : StandsToCommit S M Before
+  pub stands : StandsToCommit S M strict_quorum Before
   stands = agent-stands head book cluster good a.member a.agent a.here small a.machine a.machine_is
 
   commits : CommitsFrom Now a.heard Before After
@@ -203,7 +203,7 @@ module _ (head : HeadText) (book : List Event) (cluster : Cluster) (good : Commi
   unpaused : is_paused a.agent.knows ≡ false
   unpaused = (good.lease.matched.agents M a.agent a.here).unpaused
 
-  pub stays-on : StaysInSynchronousMode a.heard Before After
+  pub stays-on : StaysInSynchronousMode strict_quorum a.heard Before After
   stays-on = commits.stays unpaused asks-on a.on
 
   -- what it hears tells of no pause
@@ -222,7 +222,7 @@ module _ (head : HeadText) (book : List Event) (cluster : Cluster) (good : Commi
     pub sent : IsSent (requests_of M a.agent.knows.incarnation After.outputs) sends
     pub inside : has_one is_claim_outside_sync After.outputs ≡ false
 
-  pub lawful-as : (sends : Option Sending) → SendsInside sends → IsLawfulAs Now a.heard Before S M (Theirs sends)
+  pub lawful-as : (sends : Option Sending) → SendsInside sends → IsLawfulAs Now a.heard strict_quorum Before S M (Theirs sends)
   lawful-as sends is = commits.lawful unpaused asks-on a.on S M (Theirs sends) good.sound stands (a.hears (Theirs sends) refl) (record { agent = refl; live = refl; required = refl; sends = is.sent; holder_was_live = refl; inside = is.inside })
 
   -- the events that it covers

@@ -44,6 +44,7 @@ use Rattle.cluster_model.specs.Messages.{output_events}
 use Rattle.event_book.specs.Kinds.{AllAre}
 use Rattle.lease_law.proofs.Tools.{some-is}
 use Rattle.lease_book.specs.Groups.{IsOfMembers}
+use Rattle.commit_actions.specs.Keys.{strict_quorum}
 use Rattle.commit_actions.specs.Actions.{IsNumbered}
 use Rattle.commit_book.specs.Books.{AllLeaveCommits, KeepsNow}
 use Rattle.commit_actions.specs.Past.{Past, past_after, past_over, runs_after}
@@ -86,7 +87,7 @@ use Rattle.commit_parts.proofs.Transitions.{order-behind, past-more, state_behin
 use Rattle.commit_parts.specs.Ordered.{AllInOrder}
 use Rattle.commit_parts.proofs.Ordering.{order-front}
 use Rattle.commit_book.specs.Changes.{AllLeaveOrder}
-use Rattle.commit_book.specs.Order.{IsInOrder, NamesMembers}
+use Rattle.commit_book.specs.Order.{IsAwaiting, NamesMembers}
 use Rattle.commit_book.proofs.Inside.{Seen, all-aside, aside-front as order-aside-front, order-as, seen_of}
 use Rattle.commit_inputs.proofs.Quietly.{AsksQuietly, covered-quietly, quietly-ordered, unasking-quietly}
 use Rattle.commit_outputs.proofs.Covering.{IsCarried, carried}
@@ -102,18 +103,18 @@ upheld-aside head book cluster events good leave leave_order ordered upheld = re
     kept = subst (λ (p : Past). KeepsNow p) (sym (past-more head book front))
         (keeps-aside (past_of head book) front (aside-front front rest events e leave) (keeps-now (setup_of head) (past_of head book) (volatile_of cluster) good.sound));
     order = record {
-      now = subst IsInOrder (sym (past-more head book front)) (order-aside head book cluster front good (order-aside-front front rest events e leave_order));
+      now = subst IsAwaiting (sym (past-more head book front)) (order-aside head book cluster front good (order-aside-front front rest events e leave_order));
       each = order-behind head book cluster front good (order-front (past_of head book) cluster front rest (subst (λ (l : List Event). AllInOrder (past_of head book) cluster l) (sym e) ordered));
     };
   };
   behind = λ meets. (upheld meets).behind meets;
 }
   where
-    order-aside : (head : HeadText) (book : List Event) (cluster : Cluster) (front : List Event) → CommitsBridged head book cluster → AllLeaveOrder front → IsInOrder (past_over (past_of head book) front)
+    order-aside : (head : HeadText) (book : List Event) (cluster : Cluster) (front : List Event) → CommitsBridged head book cluster → AllLeaveOrder front → IsAwaiting (past_over (past_of head book) front)
     order-aside head book cluster front good leave =
         let same : seen_of (past_over (past_of head book) front) ≡ seen_of (past_of head book) = all-aside (past_of head book) front leave in
         order-as (setup_of head) (past_over (past_of head book) front) (past_of head book) (volatile_of cluster) same good.sound
-        (subst (λ (seen : Seen). NamesMembers (member_count head) 0 seen.sync) (sym same) good.fits.strict)
+        (subst (λ (seen : Seen). NamesMembers (member_count head) strict_quorum seen.sync) (sym same) good.fits.strict)
 
 -- ---- who is asked answers, and nobody else does
 answer-none : (heard : Heard) → ((from : MemberId) (incarnation sequence : ℕ) → heard ≡ heards.Asked from incarnation sequence → ⊥) → (output : Output) → RepliesTo heard output → AnswersNone output
@@ -160,11 +161,11 @@ opening-runs heard past (kinds.Agent (agents.Operated by action)) is = refl
 opening-runs heard past (kinds.Message (Delivered number)) is = refl
 opening-runs heard past _ is = absurd is
 
-opening-asks : (s : State) (count : ℕ) (heard : Option ℕ) (kind : EventKind) → IsOpening heard kind → AsksSynchronously s count kind
-opening-asks s count heard (kinds.Agent (agents.Woken by)) is = tt
-opening-asks s count heard (kinds.Agent (agents.Operated by action)) is = tt
-opening-asks s count heard (kinds.Message (Delivered number)) is = tt
-opening-asks s count heard _ is = absurd is
+opening-asks : (s : State) (count quorum : ℕ) (heard : Option ℕ) (kind : EventKind) → IsOpening heard kind → AsksSynchronously s count quorum kind
+opening-asks s count quorum heard (kinds.Agent (agents.Woken by)) is = tt
+opening-asks s count quorum heard (kinds.Agent (agents.Operated by action)) is = tt
+opening-asks s count quorum heard (kinds.Message (Delivered number)) is = tt
+opening-asks s count quorum heard _ is = absurd is
 
 -- a question to the key store asks no member
 question-numbered : (s : State) (by : Member) (incarnation sequence : ℕ) (body : Body) → IsQuestion body → IsAskNumbered s (ends.Member by) incarnation sequence body
@@ -223,8 +224,8 @@ module _ (head : HeadText) (book : List Event) (cluster : Cluster) (good : Commi
   below : KnowsBelow (member_count head) a.heard (Before head book cluster good a)
   below = record { published = a.below; connected = connected-member head book cluster good few a.member a.machine a.machine_is }
 
-  sent-on : (out : Output) → Contains Outs out → IsSynchronousOutput (member_count head) out
-  sent-on out among = All-contains (IsSynchronousOutput (member_count head)) Outs out ((stays-on head book cluster good a).sends (member_count head) below) among
+  sent-on : (out : Output) → Contains Outs out → IsSynchronousOutput (member_count head) strict_quorum out
+  sent-on out among = All-contains (IsSynchronousOutput (member_count head) strict_quorum) Outs out ((stays-on head book cluster good a).sends (member_count head) below) among
 
   acted : Later.agents ≡ with_changed cluster.agents M (agent_after (Some (After head book cluster good a)))
   acted = agents-are head book cluster good.lease a.member a.agent a.machine (found-of cluster a.member a.machine a.machine_is) a.here a.heard a.number a.message a.opening a.opening_is a.numbered a.low a.acts
@@ -244,25 +245,25 @@ module _ (head : HeadText) (book : List Event) (cluster : Cluster) (good : Commi
     sequence_old = λ agent is in_run. subst (λ (x : Agent). sequence ≤ x.last) (some-is _ agent (sym agent-behind ∙ is)) counted;
   }
 
-  message-on : (message : Message) → IsMessageOf a.member a.agent.knows.incarnation Q message → IsSynchronousBody (member_count head) message.body × IsAskNumbered Behind message.from message.incarnation message.sequence message.body
-  message-on message (Asks question) = subst (λ (x : Message). IsSynchronousBody (member_count head) x.body × IsAskNumbered Behind x.from x.incarnation x.sequence x.body) (sym question.is)
+  message-on : (message : Message) → IsMessageOf a.member a.agent.knows.incarnation Q message → IsSynchronousBody (member_count head) strict_quorum message.body × IsAskNumbered Behind message.from message.incarnation message.sequence message.body
+  message-on message (Asks question) = subst (λ (x : Message). IsSynchronousBody (member_count head) strict_quorum x.body × IsAskNumbered Behind x.from x.incarnation x.sequence x.body) (sym question.is)
       (sent-on (outputs.Send targets.Store question.sequence question.body) question.from.0, question-numbered Behind a.member a.agent.knows.incarnation question.sequence question.body question.from.1.2)
-  message-on message (AsksPeer peer id sequence is from) = subst (λ (x : Message). IsSynchronousBody (member_count head) x.body × IsAskNumbered Behind x.from x.incarnation x.sequence x.body) (sym is) (tt, ask-numbered sequence from.1.1)
-  message-on message (AnswersPeer peer id asked sequence answer is from) = subst (λ (x : Message). IsSynchronousBody (member_count head) x.body × IsAskNumbered Behind x.from x.incarnation x.sequence x.body) (sym is) (tt, tt)
+  message-on message (AsksPeer peer id sequence is from) = subst (λ (x : Message). IsSynchronousBody (member_count head) strict_quorum x.body × IsAskNumbered Behind x.from x.incarnation x.sequence x.body) (sym is) (tt, ask-numbered sequence from.1.1)
+  message-on message (AnswersPeer peer id asked sequence answer is from) = subst (λ (x : Message). IsSynchronousBody (member_count head) strict_quorum x.body × IsAskNumbered Behind x.from x.incarnation x.sequence x.body) (sym is) (tt, tt)
 
-  kind-on : (kind : EventKind) → IsOfInput a.member a.agent.knows.incarnation a.message.number Q kind → AsksSynchronously Behind (member_count head) kind
+  kind-on : (kind : EventKind) → IsOfInput a.member a.agent.knows.incarnation a.message.number Q kind → AsksSynchronously Behind (member_count head) strict_quorum kind
   kind-on (kinds.Message (Sent number message)) is = message-on message is
   kind-on (kinds.Message (Delivered number)) is = absurd is
   kind-on (kinds.Message (Lost number)) is = tt
   kind-on (kinds.Store happening) is = absurd is
   kind-on _ is = tt
 
-  all-on : (events : List Event) → AllAre (IsOfInput a.member a.agent.knows.incarnation a.message.number Q) events → AskSynchronously Behind (member_count head) events
+  all-on : (events : List Event) → AllAre (IsOfInput a.member a.agent.knows.incarnation a.message.number Q) events → AskSynchronously Behind (member_count head) strict_quorum events
   all-on [] all = tt
   all-on (event ∷ events) all = (kind-on event.kind all.0, all-on events all.1)
 
-  asks : AskSynchronously Behind (member_count head) All_
-  asks = (opening-asks Behind (member_count head) a.number a.opening a.opening_is, all-on Rest all-mine)
+  asks : AskSynchronously Behind (member_count head) strict_quorum All_
+  asks = (opening-asks Behind (member_count head) strict_quorum a.number a.opening a.opening_is, all-on Rest all-mine)
 
   -- ---- it happens in order
   ordered-by : All AsksQuietly Outs → AllInOrder P cluster All_

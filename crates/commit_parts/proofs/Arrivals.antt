@@ -32,6 +32,7 @@ use Rattle.lease_law.specs.Showing.{granted_events, read_events, refused_events}
 use Rattle.lease_law.specs.Stores.{IsSpannedTxn, is_granted as is_grant}
 use Rattle.lease_law.proofs.Tools.{put-there}
 use Rattle.agent_commit_law.specs.Committing.{IsSynchronousBody, IsSynchronousTxn}
+use Rattle.commit_actions.specs.Keys.{strict_quorum}
 use Rattle.commit_actions.specs.Actions.{Action, IsNumbered}
 use Rattle.commit_book.specs.Books.{Transition}
 use Rattle.commit_actions.specs.Past.{claim_request, OtherQuery, Past, Setup, VolatileState, past_after, past_over}
@@ -74,19 +75,19 @@ same-volatile before later agents servers =
     ∙ ap (λ (known : List ServerFacts). λ (m : ℕ). let state : VolatileState = record { live = live_in known m; agent = agent_now (slice_get later.agents m) } in state) (sym servers)
 
 -- what a delivery leaves as it was, and what it asks
-record LeavesAsked (count : ℕ) (named : lease_past.Past) (past : Past) (cluster : Cluster) (number : ℕ) (events : List Event) (transitions : List Transition) : Type 0 where
+record LeavesAsked (count quorum : ℕ) (named : lease_past.Past) (past : Past) (cluster : Cluster) (number : ℕ) (events : List Event) (transitions : List Transition) : Type 0 where
   agents : (cluster_over cluster events).agents ≡ cluster.agents
   servers : (cluster_over cluster events).facts.servers ≡ cluster.facts.servers
   named_same : (lease_past.past_over named events).asked ≡ named.asked
   asked : (i : ℕ) → i < number → (past_over past events).asked i ≡ past.asked i
   asides : AllAre IsAside events
-  asks : (s : State) → AskSynchronously s count events
+  asks : (s : State) → AskSynchronously s count quorum events
   ordered : AllInOrder past cluster events
   once : EachChangesOnce transitions
 
 goes-delivery : (setup : Setup) (named : lease_past.Past) (past : Past) (cluster : Cluster) (number : ℕ) (events : List Event) (transitions : List Transition) → Fits past cluster.facts (volatile_of cluster)
     → IsDelivered setup past cluster.facts (volatile_of cluster) events transitions → volatile_last (volatile_of cluster) transitions ≡ volatile_of cluster
-    → ((i : ℕ) (question : Question) → named.asked i ≡ Some question → i < number) → AreCausal past cluster.facts events → LeavesAsked setup.member_count named past cluster number events transitions
+    → ((i : ℕ) (question : Question) → named.asked i ≡ Some question → i < number) → AreCausal past cluster.facts events → LeavesAsked setup.member_count strict_quorum named past cluster number events transitions
     → Goes setup named past cluster events
 goes-delivery setup named past cluster number events transitions fits delivered last before causal leaves =
     let later : Cluster = cluster_over cluster events in
@@ -137,31 +138,31 @@ once-granted : (states : ℕ → VolatileState) (told : Bool) (tick : Ticks) (nu
 once-granted states true tick number answer by incarnation sequence txn standbys action = (inl (tt, inr (tt, tt)), tt)
 once-granted states false tick number answer by incarnation sequence txn standbys action = (inl (tt, inr tt), (inr tt, tt))
 
-compares-none : (count : ℕ) (txn : Txn) → IsSynchronousTxn count txn → ComparesNoSync txn
-compares-none count (txns.Create info ttl failsafe None) is = tt
-compares-none count (txns.Create info ttl failsafe (Some sync)) is = absurd is
-compares-none count (txns.Touch info ttl) is = tt
-compares-none count (txns.Renew revision info ttl status row failsafe) is = tt
-compares-none count (txns.Release revision) is = tt
-compares-none count (txns.Claim revision sync) is = tt
-compares-none count (txns.SetSync revision sync standbys) is = tt
-compares-none count (txns.DropSync revision sync) is = tt
-compares-none count (txns.SetFailover failover ttl) is = tt
-compares-none count (txns.DropFailover revision) is = tt
-compares-none count (txns.SetConfig revision config) is = tt
+compares-none : (count quorum : ℕ) (txn : Txn) → IsSynchronousTxn count quorum txn → ComparesNoSync txn
+compares-none count quorum (txns.Create info ttl failsafe None) is = tt
+compares-none count quorum (txns.Create info ttl failsafe (Some sync)) is = absurd is
+compares-none count quorum (txns.Touch info ttl) is = tt
+compares-none count quorum (txns.Renew revision info ttl status row failsafe) is = tt
+compares-none count quorum (txns.Release revision) is = tt
+compares-none count quorum (txns.Claim revision sync) is = tt
+compares-none count quorum (txns.SetSync revision sync standbys) is = tt
+compares-none count quorum (txns.DropSync revision sync) is = tt
+compares-none count quorum (txns.SetFailover failover ttl) is = tt
+compares-none count quorum (txns.DropFailover revision) is = tt
+compares-none count quorum (txns.SetConfig revision config) is = tt
 
-granted-may : (count : ℕ) (s : State) (m incarnation sequence : ℕ) (txn : Txn) → IsSynchronousTxn count txn → IsNumbered (s.members m) incarnation sequence → MayBeGranted s m incarnation sequence txn
-granted-may count s m incarnation sequence (txns.Create info ttl failsafe None) is numbered = numbered
-granted-may count s m incarnation sequence (txns.Create info ttl failsafe (Some sync)) is numbered = absurd is
-granted-may count s m incarnation sequence (txns.Renew revision info ttl status row failsafe) is numbered = numbered
-granted-may count s m incarnation sequence (txns.DropSync revision sync) is numbered = absurd is
-granted-may count s m incarnation sequence (txns.Touch info ttl) is numbered = tt
-granted-may count s m incarnation sequence (txns.Release revision) is numbered = tt
-granted-may count s m incarnation sequence (txns.Claim revision sync) is numbered = tt
-granted-may count s m incarnation sequence (txns.SetSync revision sync standbys) is numbered = tt
-granted-may count s m incarnation sequence (txns.SetFailover failover ttl) is numbered = tt
-granted-may count s m incarnation sequence (txns.DropFailover revision) is numbered = tt
-granted-may count s m incarnation sequence (txns.SetConfig revision config) is numbered = tt
+granted-may : (count quorum : ℕ) (s : State) (m incarnation sequence : ℕ) (txn : Txn) → IsSynchronousTxn count quorum txn → IsNumbered (s.members m) incarnation sequence → MayBeGranted s m incarnation sequence txn
+granted-may count quorum s m incarnation sequence (txns.Create info ttl failsafe None) is numbered = numbered
+granted-may count quorum s m incarnation sequence (txns.Create info ttl failsafe (Some sync)) is numbered = absurd is
+granted-may count quorum s m incarnation sequence (txns.Renew revision info ttl status row failsafe) is numbered = numbered
+granted-may count quorum s m incarnation sequence (txns.DropSync revision sync) is numbered = absurd is
+granted-may count quorum s m incarnation sequence (txns.Touch info ttl) is numbered = tt
+granted-may count quorum s m incarnation sequence (txns.Release revision) is numbered = tt
+granted-may count quorum s m incarnation sequence (txns.Claim revision sync) is numbered = tt
+granted-may count quorum s m incarnation sequence (txns.SetSync revision sync standbys) is numbered = tt
+granted-may count quorum s m incarnation sequence (txns.SetFailover failover ttl) is numbered = tt
+granted-may count quorum s m incarnation sequence (txns.DropFailover revision) is numbered = tt
+granted-may count quorum s m incarnation sequence (txns.SetConfig revision config) is numbered = tt
 
 module _ (head : HeadText) (book : List Event) (cluster : Cluster) (number : ℕ) (message : InFlightFacts) (good : CommitsBridged head book cluster)
     (found : in_flight cluster.facts.flight number ≡ Some message) (by : Member) (incarnation sequence : ℕ) where
@@ -218,7 +219,7 @@ module _ (head : HeadText) (book : List Event) (cluster : Cluster) (number : ℕ
       (read-causal (past_of head book) cluster.facts Moment number Answer by incarnation sequence above)
       (record { agents = reached bodies.Read is; servers = refl; named_same = refl; asked = not-asked; asides = (tt, (tt, tt)); asks = λ s. (tt, ((tt, tt), tt)); ordered = (tt, (tt, tt)); once = (inl (tt, inr tt), tt) })) kept
 
-  decision-upheld : (txn : Txn) (decision : Decision) → message.message ≡ Says (bodies.Request txn) → IsSpannedTxn txn → IsSynchronousTxn (member_count head) txn → decision_on cluster.facts.keys cluster.facts.clock txn ≡ decision
+  decision-upheld : (txn : Txn) (decision : Decision) → message.message ≡ Says (bodies.Request txn) → IsSpannedTxn txn → IsSynchronousTxn (member_count head) strict_quorum txn → decision_on cluster.facts.keys cluster.facts.clock txn ≡ decision
       → IsKept head book cluster (event_of cluster (kinds.Message (Delivered number)) ++ decision_events Later number (Says (bodies.Request txn)) txn decision (ends.Member by))
       → Upholds (kept_commits head) book cluster (event_of cluster (kinds.Message (Delivered number)) ++ decision_events Later number (Says (bodies.Request txn)) txn decision (ends.Member by))
   decision-upheld txn Grant is span on decides kept =
@@ -228,7 +229,7 @@ module _ (head : HeadText) (book : List Event) (cluster : Cluster) (number : ℕ
       answered (bodies.Request txn) events
       (goes-delivery (setup_of head) (lease_past.past_of book) (past_of head book) cluster Answer events _ good.fits.servers
       (granted-delivery (setup_of head) (past_of head book) cluster.facts (volatile_of cluster) Moment number Answer message by incarnation sequence txn names refl good.fits.store found is above span decides
-      (granted-may (member_count head) (state_of_run head book cluster) by.id.number incarnation sequence txn on (numbered-request head book cluster good number message by incarnation sequence txn found is)))
+      (granted-may (member_count head) strict_quorum (state_of_run head book cluster) by.id.number incarnation sequence txn on (numbered-request head book cluster good number message by incarnation sequence txn found is)))
       (last-granted (volatile_of cluster) (is_told txn) Moment number Answer by incarnation sequence txn names _) before
       (granted-causal (past_of head book) cluster.facts Moment number Answer message by incarnation sequence txn names good.fits.store found is above span decides)
       (record { agents = reached (bodies.Request txn) is; servers = refl; named_same = refl; asked = not-asked; asides = (tt, (tt, (tt, tt))); asks = λ s. (tt, (on, ((tt, tt), tt))); ordered = (tt, (grant-ordered txn is decides, (tt, tt))); once = once-granted (volatile_of cluster) (is_told txn) Moment number Answer by incarnation sequence txn names _ })) kept
@@ -237,13 +238,13 @@ module _ (head : HeadText) (book : List Event) (cluster : Cluster) (number : ℕ
       let above = more-sent cluster.facts.sent in
       answered (bodies.Request txn) events
       (goes-delivery (setup_of head) (lease_past.past_of book) (past_of head book) cluster Answer events _ good.fits.servers
-      (refused-delivery (setup_of head) (past_of head book) cluster.facts (volatile_of cluster) Moment number Answer message by incarnation sequence txn (txn_kind_of txn) key expected good.fits.store found is above decides (compares-none (member_count head) txn on)) refl before
+      (refused-delivery (setup_of head) (past_of head book) cluster.facts (volatile_of cluster) Moment number Answer message by incarnation sequence txn (txn_kind_of txn) key expected good.fits.store found is above decides (compares-none (member_count head) strict_quorum txn on)) refl before
       (refused-causal (past_of head book) cluster.facts Moment number Answer by incarnation sequence (txn_kind_of txn) key expected above)
       (record { agents = reached (bodies.Request txn) is; servers = refl; named_same = refl; asked = not-asked; asides = (tt, (tt, (tt, tt))); asks = λ s. (tt, (tt, ((tt, tt), tt))); ordered = (tt, (tt, (tt, tt))); once = (inr (tt, (tt, tt)), tt) })) kept
 
 -- by whom it comes, and what it says
 store-by : (head : HeadText) (book : List Event) (cluster : Cluster) (number : ℕ) (message : InFlightFacts) (from : LinkEnd) (incarnation sequence : ℕ) (body : Body) → CommitsBridged head book cluster
-    → in_flight cluster.facts.flight number ≡ Some message → message.message ≡ record { from = from; to = ends.Store; incarnation = incarnation; sequence = sequence; body = body } → IsAddressed from ends.Store body → IsSynchronousBody (member_count head) body
+    → in_flight cluster.facts.flight number ≡ Some message → message.message ≡ record { from = from; to = ends.Store; incarnation = incarnation; sequence = sequence; body = body } → IsAddressed from ends.Store body → IsSynchronousBody (member_count head) strict_quorum body
     → IsKept head book cluster (event_of cluster (kinds.Message (Delivered number)) ++ answer_events (cluster_after cluster (kinds.Message (Delivered number))) number (record { from = from; to = ends.Store; incarnation = incarnation; sequence = sequence; body = body }))
     → Upholds (kept_commits head) book cluster (event_of cluster (kinds.Message (Delivered number)) ++ answer_events (cluster_after cluster (kinds.Message (Delivered number))) number (record { from = from; to = ends.Store; incarnation = incarnation; sequence = sequence; body = body }))
 store-by head book cluster number message ends.Store incarnation sequence body good found is addressed on kept = absurd addressed

@@ -7,6 +7,7 @@ use Rattle.cluster_model.specs.State.{Cluster}
 use Rattle.lease_law.specs.Past as lease_past
 use Rattle.event_book.specs.Kinds.{AllAre}
 use Rattle.lease_law.proofs.Showing.{past-append as lease-append}
+use Rattle.commit_actions.specs.Keys.{strict_quorum}
 use Rattle.commit_actions.specs.Past.{Past, Setup, past_after, past_over}
 use Rattle.commit_book.proofs.Fronts.{past-append}
 use Rattle.commit_actions.specs.States.{State}
@@ -30,7 +31,7 @@ use Rattle.commit_parts.proofs.Transitions.{state_behind}
 -- these events are allowed actions which they show, nobody comes in them, and nothing is asked
 pub record Goes (setup : Setup) (named : lease_past.Past) (past : Past) (cluster : Cluster) (events : List Event) : Type 0 where
   pub moves : Moves setup past cluster events
-  pub left : LeaveAgents setup.member_count named past cluster events
+  pub left : LeaveAgents setup.member_count strict_quorum named past cluster events
 
 -- whatever both laws read of a book whose servers fit
 abbrev pub GoesFrom : Setup → Cluster → List Event → Type 0
@@ -40,9 +41,9 @@ causal-then : (past : Past) (cluster : Cluster) (xs ys : List Event) → AreCaus
 causal-then past cluster [] ys first second = second
 causal-then past cluster (x ∷ xs) ys first second = (first.0, (first.1.0, causal-then (past_after past x.kind) (cluster_after cluster x.kind) xs ys first.1.1 second))
 
-asks-then : (s : State) (count : ℕ) (xs ys : List Event) → AskSynchronously s count xs → AskSynchronously s count ys → AskSynchronously s count (xs ++ ys)
-asks-then s count [] ys first second = second
-asks-then s count (x ∷ xs) ys first second = (first.0, asks-then s count xs ys first.1 second)
+asks-then : (s : State) (count quorum : ℕ) (xs ys : List Event) → AskSynchronously s count quorum xs → AskSynchronously s count quorum ys → AskSynchronously s count quorum (xs ++ ys)
+asks-then s count quorum [] ys first second = second
+asks-then s count quorum (x ∷ xs) ys first second = (first.0, asks-then s count quorum xs ys first.1 second)
 
 module _ (setup : Setup) where
   pub goes-none : (cluster : Cluster) → GoesFrom setup cluster []
@@ -62,7 +63,7 @@ module _ (setup : Setup) where
               (subst (λ (c : Cluster). OnlyLeave named past cluster (lease_past.past_over (lease_past.past_over named xs) ys) (past_over (past_over past xs) ys) c) (sym (over-append cluster xs ys))
               (leave-then _ _ _ _ _ _ _ _ _ one.left.leave other.left.leave)));
           causal = causal-then past cluster xs ys one.left.causal other.left.causal;
-          asks = λ s. asks-then s setup.member_count xs ys (one.left.asks s) (other.left.asks s);
+          asks = λ s. asks-then s setup.member_count strict_quorum xs ys (one.left.asks s) (other.left.asks s);
           ordered = order-then past cluster xs ys one.left.ordered other.left.ordered;
         };
       }
@@ -71,7 +72,7 @@ module _ (setup : Setup) where
   goes-then cluster xs ys first second named past fits = goes-after named past cluster xs ys (first named past fits) second
 
   pub goes-follow : (cluster : Cluster) (events : List Event) → AllAre IsStill events → MayFollow cluster.facts events → GoesFrom setup cluster events
-  goes-follow cluster events still may named past fits = record { moves = moves-follow setup past cluster events fits still may; left = leave-follow setup.member_count named past cluster events still may }
+  goes-follow cluster events still may named past fits = record { moves = moves-follow setup past cluster events fits still may; left = leave-follow setup.member_count strict_quorum named past cluster events still may }
 
 -- such events uphold commits, where they keep the law of one writer
 pub upheld-gone : (head : HeadText) (book : List Event) (cluster : Cluster) (events : List Event) → CommitsBridged head book cluster

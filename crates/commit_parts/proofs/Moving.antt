@@ -12,6 +12,7 @@ use Rattle.lease_law.specs.Leases.{Question as Asked}
 use Rattle.lease_law.specs.Past as lease_past
 use Rattle.lease_law.proofs.Runs.{assoc}
 use Rattle.lease_law.proofs.Showing.{past-append as lease-append}
+use Rattle.commit_actions.specs.Keys.{strict_quorum}
 use Rattle.commit_actions.specs.Actions.{Action, IsAllowed}
 use Rattle.commit_book.specs.Books.{AreAllowed, IsShown, Transition, book_of}
 use Rattle.commit_actions.specs.Past.{Past, Setup, VolatileState, past_over, state_of}
@@ -139,7 +140,7 @@ agents-leave count named past cluster named' past' cluster' leave all = record {
 -- such events uphold commits, where they keep the law of one writer, and agents know behind them what they wait for
 pub upheld-moves : (head : HeadText) (book : List Event) (cluster : Cluster) (events : List Event) → CommitsBridged head book cluster
     → Moves (setup_of head) (past_of head book) cluster events → IsKept head book cluster events
-    → AreCausal (past_of head book) cluster.facts events → AskSynchronously (state_behind head book cluster events) (member_count head) events
+    → AreCausal (past_of head book) cluster.facts events → AskSynchronously (state_behind head book cluster events) (member_count head) strict_quorum events
     → AllInOrder (past_of head book) cluster events
     → AreAgentsSynchronous (member_count head) (lease_past.past_over (lease_past.past_of book) events).asked (past_over (past_of head book) events).asked (cluster_over cluster events).agents
     → Upholds (kept_commits head) book cluster events
@@ -147,7 +148,7 @@ upheld-moves head book cluster events good moves kept causal asks ordered agents
     subst (λ (l : List Event). Upholds (kept_commits head) book cluster l) moves.whole
     (upheld-by head book cluster moves.transitions good moves.allowed moves.once (moves.last ∙ ap (λ (l : List Event). volatile_of (cluster_over cluster l)) (sym moves.whole))
     (subst (λ (l : List Event). IsKept head book cluster l) (sym moves.whole) kept)
-    (λ front back e. strict-front (state_behind head book cluster events) (member_count head) 0 (past_of head book) front back events (e ∙ moves.whole) asks good.fits.strict)
+    (λ front back e. strict-front (state_behind head book cluster events) (member_count head) strict_quorum (past_of head book) front back events (e ∙ moves.whole) asks good.fits.strict)
     (subst (λ (l : List Event). AllInOrder (past_of head book) cluster l) (sym moves.whole) ordered)
     (subst (λ (l : List Event). FitsBehind head book cluster l) (sym moves.whole) fits))
   where
@@ -161,7 +162,7 @@ upheld-moves head book cluster events good moves kept causal asks ordered agents
         (subst (λ (l : List Event). StayNumbered (state_of_run head book cluster).members (state_of (setup_of head) (past_over (past_of head book) l) (volatile_last (volatile_of cluster) moves.transitions)).members) moves.whole
         (numbered-last (setup_of head) (past_of head book) (volatile_of cluster) moves.transitions moves.allowed))
 
-    begins : StoreFits (state_behind head book cluster events) (member_count head) 0 (past_of head book) cluster
+    begins : StoreFits (state_behind head book cluster events) (member_count head) strict_quorum (past_of head book) cluster
     begins = record {
       store = good.fits.store;
       mode = good.fits.mode;
@@ -173,8 +174,8 @@ upheld-moves head book cluster events good moves kept causal asks ordered agents
 
     fits : FitsBehind head book cluster events
     fits mode lease =
-        let store = store-over later (member_count head) 0 (past_of head book) cluster events causal mode asks begins in
-        let all : FitsBy (member_count head) 0 (past_over (past_of head book) events) (lease_past.past_over (lease_past.past_of book) events) (cluster_over cluster events) = record {
+        let store = store-over later (member_count head) strict_quorum (past_of head book) cluster events causal mode asks begins in
+        let all : FitsBy (member_count head) strict_quorum (past_over (past_of head book) events) (lease_past.past_over (lease_past.past_of book) events) (cluster_over cluster events) = record {
           store = store.store;
           servers = moves.fits;
           mode = store.mode;
@@ -183,6 +184,6 @@ upheld-moves head book cluster events good moves kept causal asks ordered agents
           requests = store.requests;
           agents = agents;
         } in
-        let named : FitsBy (member_count head) 0 (past_over (past_of head book) events) (lease_past.past_of (book ++ events)) (cluster_over cluster events) =
-        subst (λ (n : lease_past.Past). FitsBy (member_count head) 0 (past_over (past_of head book) events) n (cluster_over cluster events)) (sym (lease-append lease_past.first_past book events)) all in
-        (subst (λ (p : Past). FitsBy (member_count head) 0 p (lease_past.past_of (book ++ events)) (cluster_over cluster events)) (sym (past-more head book events)) named, store.asks)
+        let named : FitsBy (member_count head) strict_quorum (past_over (past_of head book) events) (lease_past.past_of (book ++ events)) (cluster_over cluster events) =
+        subst (λ (n : lease_past.Past). FitsBy (member_count head) strict_quorum (past_over (past_of head book) events) n (cluster_over cluster events)) (sym (lease-append lease_past.first_past book events)) all in
+        (subst (λ (p : Past). FitsBy (member_count head) strict_quorum p (lease_past.past_of (book ++ events)) (cluster_over cluster events)) (sym (past-more head book events)) named, store.asks)

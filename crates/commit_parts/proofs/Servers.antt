@@ -23,6 +23,7 @@ use Rattle.cluster_model.specs.State.{Cluster}
 use Rattle.cluster_model.specs.Streaming.{confirm_of, source_of}
 use Rattle.lease_law.specs.Past as lease_past
 use Rattle.event_book.specs.Kinds.{AllAre}
+use Rattle.commit_actions.specs.Keys.{strict_quorum}
 use Rattle.commit_actions.specs.Past.{Past, Setup, past_after, past_over}
 use Rattle.commit_actions.specs.States.{State}
 use Rattle.commit_book.specs.Flights.{AreCausal}
@@ -59,21 +60,21 @@ module _ (setup : Setup) where
       (λ later. moves-follow (past_after past event.kind) (cluster_after cluster event.kind) events later still.1 may.1)
 
 -- what such events leave as it was
-pub record LeaveAgents (count : ℕ) (named : lease_past.Past) (past : Past) (cluster : Cluster) (events : List Event) : Type 0 where
+pub record LeaveAgents (count quorum : ℕ) (named : lease_past.Past) (past : Past) (cluster : Cluster) (events : List Event) : Type 0 where
   pub leave : OnlyLeave named past cluster (lease_past.past_over named events) (past_over past events) (cluster_over cluster events)
   pub causal : AreCausal past cluster.facts events
-  pub asks : (s : State) → AskSynchronously s count events
+  pub asks : (s : State) → AskSynchronously s count quorum events
   pub ordered : AllInOrder past cluster events
 
-pub leave-follow : (count : ℕ) (named : lease_past.Past) (past : Past) (cluster : Cluster) (events : List Event) → AllAre IsStill events → MayFollow cluster.facts events → LeaveAgents count named past cluster events
-leave-follow count named past cluster [] still may = record { leave = record { agents = λ m agent is. is; asked = λ i question is. (is, refl) }; causal = tt; asks = λ s. tt; ordered = tt }
-leave-follow count named past cluster (event ∷ events) still may =
+pub leave-follow : (count quorum : ℕ) (named : lease_past.Past) (past : Past) (cluster : Cluster) (events : List Event) → AllAre IsStill events → MayFollow cluster.facts events → LeaveAgents count quorum named past cluster events
+leave-follow count quorum named past cluster [] still may = record { leave = record { agents = λ m agent is. is; asked = λ i question is. (is, refl) }; causal = tt; asks = λ s. tt; ordered = tt }
+leave-follow count quorum named past cluster (event ∷ events) still may =
     let first = leaves-still named past cluster event.kind still.0 may.0 in
-    let rest = leave-follow count (lease_past.past_after named event.kind) (past_after past event.kind) (cluster_after cluster event.kind) events still.1 may.1 in
+    let rest = leave-follow count quorum (lease_past.past_after named event.kind) (past_after past event.kind) (cluster_after cluster event.kind) events still.1 may.1 in
     record {
       leave = leave-then _ _ _ _ _ _ _ _ _ first.leave rest.leave;
       causal = (first.causal.0, (first.causal.1.0, rest.causal));
-      asks = λ s. ((first.asks s count).0, rest.asks s);
+      asks = λ s. ((first.asks s count quorum).0, rest.asks s);
       ordered = (first.ordered.0, rest.ordered);
     }
 
@@ -81,7 +82,7 @@ leave-follow count named past cluster (event ∷ events) still may =
 pub upheld-follow : (head : HeadText) (book : List Event) (cluster : Cluster) (events : List Event) → CommitsBridged head book cluster → AllAre IsStill events → MayFollow cluster.facts events
     → IsKept head book cluster events → Upholds (kept_commits head) book cluster events
 upheld-follow head book cluster events good still may kept =
-    let left = leave-follow (member_count head) (lease_past.past_of book) (past_of head book) cluster events still may in
+    let left = leave-follow (member_count head) strict_quorum (lease_past.past_of book) (past_of head book) cluster events still may in
     upheld-moves head book cluster events good (moves-follow (setup_of head) (past_of head book) cluster events good.fits.servers still may) kept left.causal (left.asks (state_behind head book cluster events)) left.ordered
     (agents-leave (member_count head) (lease_past.past_of book) (past_of head book) cluster (lease_past.past_over (lease_past.past_of book) events) (past_over (past_of head book) events) (cluster_over cluster events) left.leave good.fits.agents)
 

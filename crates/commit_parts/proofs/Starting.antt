@@ -26,6 +26,7 @@ use Rattle.lease_law.specs.Past as lease_past
 use Rattle.event_book.specs.Premises as lease_premises
 use Rattle.event_book.specs.Kinds.{AllAre}
 use Rattle.lease_law.proofs.Tools.{none-some, some-is}
+use Rattle.commit_actions.specs.Keys.{strict_quorum}
 use Rattle.commit_actions.specs.Actions.{Start, fresh_agent}
 use Rattle.commit_actions.specs.Past.{Past, Setup, VolatileState, past_after, past_over, runs_after}
 use Rattle.commit_actions.specs.States.{Agent}
@@ -142,7 +143,7 @@ module _ (head : HeadText) (book : List Event) (cluster : Cluster) (member : Mem
       let parts = disarm-still started found is in
       let named : lease_past.Past = lease_past.past_after (lease_past.past_of book) kind in
       let past : Past = past_after (past_of head book) kind in
-      let left = leave-follow (member_count head) named past started rest parts.0 parts.1 in
+      let left = leave-follow (member_count head) strict_quorum named past started rest parts.0 parts.1 in
       upheld-moves head book cluster (event_of cluster kind ++ rest) good
       (moves-then (setup_of head) (past_of head book) cluster (event_of cluster kind) rest
       (moves-start cluster member incarnation (setup_of head) (past_of head book) (next ∙ ap (λ (r : ℕ). r + 1) (sym (runs-now head book cluster good member.id.number)))

@@ -44,7 +44,7 @@ pub record LeavesAgents (named : lease_past.Past) (past : Past) (cluster : Clust
   pub agents : agent_facts_after cluster kind ≡ cluster.agents
   pub leave : OnlyLeave named past cluster (lease_past.past_after named kind) (past_after past kind) (cluster_after cluster kind)
   pub causal : AreCausal past cluster.facts (event_of cluster kind)
-  pub asks : (s : State) (count : ℕ) → AskSynchronously s count (event_of cluster kind)
+  pub asks : (s : State) (count quorum : ℕ) → AskSynchronously s count quorum (event_of cluster kind)
   pub ordered : AllInOrder past cluster (event_of cluster kind)
 
 pub leaves-still : (named : lease_past.Past) (past : Past) (cluster : Cluster) (kind : EventKind) → IsStill kind → MayHappen cluster.facts kind → LeavesAgents named past cluster kind
@@ -57,7 +57,7 @@ leaves-still named past cluster (kinds.Agent (agents.Operated agent action)) sti
 leaves-still named past cluster (kinds.Agent (agents.Started agent incarnation)) still may = absurd still
 leaves-still named past cluster (kinds.Agent (agents.Killed agent)) still may = absurd still
 leaves-still named past cluster _ still may =
-    record { agents = refl; leave = record { agents = λ m agent is. is; asked = λ i question is. (is, refl) }; causal = (tt, (tt, tt)); asks = λ s count. (tt, tt); ordered = (tt, tt) }
+    record { agents = refl; leave = record { agents = λ m agent is. is; asked = λ i question is. (is, refl) }; causal = (tt, (tt, tt)); asks = λ s count quorum. (tt, tt); ordered = (tt, tt) }
 
 down-agent : (volatile_states : ℕ → VolatileState) (k m : ℕ) (here : Bool) → (m == k) ≡ here
     → (cond here (record (volatile_states k) { live = false }) (volatile_states m)).agent ≡ (volatile_states m).agent

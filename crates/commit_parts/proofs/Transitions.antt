@@ -5,6 +5,7 @@ use Rattle.event_book.specs.declared.event.Event.{Event}
 use Rattle.cluster_model.specs.Cluster.{cluster_over}
 use Rattle.cluster_model.specs.State.{Cluster}
 use Rattle.commit_book.specs.Books.{AreAllowed, KeepsNow, Transition, book_of}
+use Rattle.commit_actions.specs.Keys.{strict_quorum}
 use Rattle.commit_actions.specs.Carried.{IsSound}
 use Rattle.commit_actions.specs.Past.{Past, Setup, VolatileState, past_over, state_of}
 use Rattle.commit_actions.specs.States.{State}
@@ -24,7 +25,7 @@ use Rattle.commit_parts.specs.Ordered.{AllInOrder}
 use Rattle.commit_parts.specs.Reading.{past_of, setup_of, volatile_of}
 use Rattle.commit_parts.proofs.Ordering.{order-front, order-then}
 use Rattle.commit_book.specs.Changes.{EachChangesOnce}
-use Rattle.commit_book.specs.Order.{IsInOrder, NamesMembers}
+use Rattle.commit_book.specs.Order.{IsAwaiting, NamesMembers}
 use Rattle.commit_book.proofs.Inside.{order-inside, order-now}
 use Rattle.cluster_model.specs.Starting.{cluster_of}
 use Rattle.run_promise.specs.Members.{member_count}
@@ -64,17 +65,17 @@ keeps-inside setup past volatile_states (t ∷ ts) front back all sound e = elim
 
 -- the order holds inside each transition
 order-inside-all : (setup : Setup) (past : Past) (volatile_states : ℕ → VolatileState) (transitions : List Transition) (front back : List Event) → AreAllowed setup past volatile_states transitions → EachChangesOnce transitions
-    → IsSound (state_of setup past volatile_states) → front ++ back ≡ book_of transitions → NamesMembers setup.member_count 0 (past_over past front).sync → IsInOrder (past_over past front)
+    → IsSound (state_of setup past volatile_states) → front ++ back ≡ book_of transitions → NamesMembers setup.member_count strict_quorum (past_over past front).sync → IsAwaiting (past_over past front)
 order-inside-all setup past volatile_states [] front back all once sound e members =
     let none = none-left front back e in
-    subst (λ (l : List Event). IsInOrder (past_over past l)) (sym none) (order-now setup past volatile_states sound (subst (λ (l : List Event). NamesMembers setup.member_count 0 (past_over past l).sync) none members))
+    subst (λ (l : List Event). IsAwaiting (past_over past l)) (sym none) (order-now setup past volatile_states sound (subst (λ (l : List Event). NamesMembers setup.member_count strict_quorum (past_over past l).sync) none members))
 order-inside-all setup past volatile_states (t ∷ ts) front back all once sound e members = elim (cuts front back t.events (book_of ts) e) [
   | inl cut ↦ order-inside setup past volatile_states t front cut.0 sound all.0 all.1 once.0 cut.1 members
   | inr cut ↦
       let same : past_over past front ≡ past_over (past_over past t.events) cut.0 = ap (past_over past) cut.1 ∙ past-append past t.events cut.0 in
-      subst IsInOrder (sym same)
+      subst IsAwaiting (sym same)
       (order-inside-all setup (past_over past t.events) t.volatile_states ts cut.0 back all.3 once.1 (kept-after setup past volatile_states t sound all.0 all.1) cut.2
-      (subst (λ (p : Past). NamesMembers setup.member_count 0 p.sync) same members))
+      (subst (λ (p : Past). NamesMembers setup.member_count strict_quorum p.sync) same members))
 ]
 
 -- ---- of a run
@@ -122,7 +123,7 @@ pub upheld-by : (head : HeadText) (book : List Event) (cluster : Cluster) (trans
     → EachChangesOnce transitions
     → volatile_last (volatile_of cluster) transitions ≡ volatile_of (cluster_over cluster (book_of transitions))
     → IsKept head book cluster (book_of transitions)
-    → ((front back : List Event) → front ++ back ≡ book_of transitions → NamesMembers (member_count head) 0 (past_over (past_of head book) front).sync)
+    → ((front back : List Event) → front ++ back ≡ book_of transitions → NamesMembers (member_count head) strict_quorum (past_over (past_of head book) front).sync)
     → AllInOrder (past_of head book) cluster (book_of transitions)
     → FitsBehind head book cluster (book_of transitions)
     → Upholds (kept_commits head) book cluster (book_of transitions)
@@ -130,7 +131,7 @@ upheld-by head book cluster transitions good allowed once same kept members orde
   inside = λ front rest e meets. record {
     kept = subst KeepsNow (sym (past-more head book front)) (keeps-inside (setup_of head) (past_of head book) (volatile_of cluster) transitions front rest allowed good.sound e);
     order = record {
-      now = subst IsInOrder (sym (past-more head book front))
+      now = subst IsAwaiting (sym (past-more head book front))
           (order-inside-all (setup_of head) (past_of head book) (volatile_of cluster) transitions front rest allowed once good.sound e (members front rest e));
       each = order-behind head book cluster front good (order-front (past_of head book) cluster front rest (subst (λ (l : List Event). AllInOrder (past_of head book) cluster l) (sym e) ordered));
     };

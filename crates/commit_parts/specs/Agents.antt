@@ -23,9 +23,9 @@ use Rattle.commit_book.specs.Flights.{is_creating}
 use Rattle.commit_book.specs.Keys.{sync_key_of}
 use Rattle.commit_book.specs.Order.{NamesMembers}
 
--- each request in flight is as synchronous mode has it, among so many members
-abbrev pub AreSynchronous : ℕ → Flight → Type 0
-AreSynchronous count flight = (i : ℕ) (carried : InFlightFacts) → in_flight flight i ≡ Some carried → IsSynchronousBody count carried.message.body
+-- each request in flight is as synchronous mode has it, among so many members, of which so many may lack a commit
+abbrev pub AreSynchronous : ℕ → ℕ → Flight → Type 0
+AreSynchronous count quorum flight = (i : ℕ) (carried : InFlightFacts) → in_flight flight i ≡ Some carried → IsSynchronousBody count quorum carried.message.body
 
 -- this request that compares the sync key asks for what the question says, whatever its revision comes to be
 pub record IsWriteOf (question : Question) (request : SyncRequest) : Type 0 where

@@ -8,6 +8,7 @@ use Rattle.cluster_model.specs.State.{Cluster}
 use Rattle.lease_law.specs.Past as lease_past
 use Rattle.commit_law.specs.Noted.{AreNoted}
 use Rattle.commit_book.specs.Books.{KeepsNow}
+use Rattle.commit_actions.specs.Keys.{strict_quorum}
 use Rattle.commit_actions.specs.Carried.{IsSound}
 use Rattle.commit_actions.specs.Past.{Past}
 use Rattle.commit_book.specs.Flights.{IsSameBook}
@@ -20,7 +21,7 @@ use Rattle.summary_model.specs.Claims.{KeepMode}
 use Rattle.commit_parts.specs.Agents.{AreAgentsSynchronous, AreSynchronous, AsksAreNumbered, TellsMembers}
 use Rattle.commit_book.specs.Order.{NamesMembers}
 use Rattle.commit_parts.specs.Modes.{IsSynchronous}
-use Rattle.commit_parts.specs.Ordered.{AllInOrder, KeepsOrder}
+use Rattle.commit_parts.specs.Ordered.{AllInOrder, StaysInOrder}
 use Rattle.commit_parts.specs.Reading.{past_of, state_of_run, volatile_of}
 
 -- what commits and the law of one writer read of a book fits a cluster of so many members, in whose sync key at most so many standbys may lack
@@ -31,12 +32,12 @@ pub record FitsBy (count quorum : ℕ) (past : Past) (named : lease_past.Past) (
   pub mode : IsSynchronous cluster.facts
   pub strict : NamesMembers count quorum past.sync
   pub told : TellsMembers count quorum cluster.facts.flight
-  pub requests : AreSynchronous count cluster.facts.flight
+  pub requests : AreSynchronous count quorum cluster.facts.flight
   pub agents : AreAgentsSynchronous count named.asked past.asked cluster.agents
 
--- a book fits a cluster of this head
+-- a book fits a cluster of this head, of whose standbys none may lack a commit
 abbrev pub FitsCommits : HeadText → List Event → Cluster → Type 0
-FitsCommits head book cluster = FitsBy (member_count head) 0 (past_of head book) (lease_past.past_of book) cluster
+FitsCommits head book cluster = FitsBy (member_count head) strict_quorum (past_of head book) (lease_past.past_of book) cluster
 
 -- a book and a cluster that it leaves, between two actions: what both laws carry holds of them
 pub record CommitsBridged (head : HeadText) (book : List Event) (cluster : Cluster) : Type 0 where
@@ -56,7 +57,7 @@ pub record MeetsMode (head : HeadText) (book : List Event) : Type 0 where
 -- what is promised of each moment: each server that accepts writes holds each acknowledged commit, and required lists and sync key are in order
 pub record KeepsInOrder (head : HeadText) (book : List Event) : Type 0 where
   pub kept : KeepsNow (past_of head book)
-  pub order : KeepsOrder head book
+  pub order : StaysInOrder head book
 
 -- that holds of each moment as long as the premises are met
 abbrev pub kept_commits : HeadText → Promise

@@ -19,8 +19,8 @@ use Rattle.cluster_model.specs.State.{Cluster}
 use Rattle.event_book.specs.Functions.{set_members}
 use Rattle.commit_actions.specs.Carried.{NamesMember}
 use Rattle.commit_actions.specs.Past.{Past, past_after, publish_request}
-use Rattle.commit_book.specs.Order.{IsInOrder}
-use Rattle.commit_book.specs.Requests.{PublishesInOrder}
+use Rattle.commit_book.specs.Order.{IsAwaiting}
+use Rattle.commit_book.specs.Requests.{PublishesAwaited}
 use Rattle.commit_parts.specs.Reading.{past_of}
 
 -- the log position that an agent noted, 0 where it noted none or isn't there: a standby must confirm it before it is published
@@ -31,7 +31,7 @@ noted_by _ = 0
 -- a member that asks to publish standbys does so in order: each that it adds is awaited, and has confirmed what it noted
 abbrev pub AsksInOrder : Past → Cluster → LinkEnd → ℕ → ℕ → Body → Type 0
 AsksInOrder past cluster (ends.Member by) incarnation sequence (bodies.Request (txns.SetSync leader sync standbys)) =
-    PublishesInOrder past by.id.number (noted_by (slice_get cluster.agents by.id.number)) (publish_request by.id.number incarnation sequence leader sync standbys) (set_members standbys)
+    PublishesAwaited past by.id.number (noted_by (slice_get cluster.agents by.id.number)) (publish_request by.id.number incarnation sequence leader sync standbys) (set_members standbys)
 AsksInOrder past cluster from incarnation sequence body = Unit {0}
 
 -- a claim that is granted found no sync key, or one that names its sender as leader or standby; and who asks to publish does so in order
@@ -46,6 +46,6 @@ AllInOrder past cluster [] = Unit {0}
 AllInOrder past cluster (event ∷ events) = HappensInOrder past cluster event.kind × AllInOrder (past_after past event.kind) (cluster_after cluster event.kind) events
 
 -- at the end of this book of a cluster of this head the order is kept, and it was at each of its events
-pub record KeepsOrder (head : HeadText) (book : List Event) : Type 0 where
-  pub now : IsInOrder (past_of head book)
+pub record StaysInOrder (head : HeadText) (book : List Event) : Type 0 where
+  pub now : IsAwaiting (past_of head book)
   pub each : AllInOrder (past_of head []) (cluster_of head) book

@@ -28,15 +28,16 @@ use Rattle.lease_law.proofs.Tools.{none-some, some-is}
 use Rattle.cluster_model.specs.Cluster.{cluster_after, cluster_over}
 use Rattle.cluster_model.specs.Starting.{cluster_of}
 use Rattle.cluster_model.specs.State.{Cluster}
+use Rattle.commit_actions.specs.Stored.{key_seen}
 use Rattle.commit_actions.specs.Carried.{IsLed, NamesMember as NamesOne}
 use Rattle.commit_actions.specs.Keys.{SyncKey}
 use Rattle.commit_actions.specs.Past.{Past, confirmers_of, past_after, past_over, position_in, position_of, publish_request, revision_in}
 use Rattle.commit_actions.specs.States.{Reaches as ReachesSeen}
 use Rattle.commit_book.specs.Keys.{sync_key_of, sync_value}
-use Rattle.commit_book.specs.Order.{Awaits as AwaitsSeen, IsInOrder as IsInOrderSeen}
-use Rattle.commit_book.specs.Requests.{PublishesInOrder as PublishesSeen}
+use Rattle.commit_book.specs.Order.{IsAwaiting, IsConfirmer}
+use Rattle.commit_book.specs.Requests.{PublishesAwaited}
 use Rattle.commit_book.proofs.SyncKeys.{IsSameSync, entry-holds, sync-over}
-use Rattle.commit_parts.specs.Ordered.{AllInOrder, HappensInOrder, KeepsOrder as KeepsSeen, noted_by}
+use Rattle.commit_parts.specs.Ordered.{AllInOrder, HappensInOrder, StaysInOrder, noted_by}
 use Rattle.commit_parts.specs.Reading.{past_of}
 use Rattle.commit_runs.specs.Runs.{noted_in, start_in}
 use Rattle.commit_runs.proofs.Holding.{book-writes}
@@ -87,24 +88,21 @@ module _ (head : HeadText) (book : List Event) where
       let of = entry-holds (find key_cmp keys.Sync Store.pairs) key (sym same.sync ∙ is) in
       record { held = of.held; is = record { stored = of.stored; is = of.is; value = of.value; written = of.revision }; leader = of.leader; standbys = of.standbys }
 
-  abbrev read : StoredSync → ℕ → SyncKey
-  read key revision = record { leader = key.leader.number; standbys = set_members key.standbys; quorum = 0; revision = revision }
-
-  reads : (key : StoredSync) (revision : ℕ) → HoldsSync Store key revision → P.sync ≡ Some (read key revision)
+  reads : (key : StoredSync) (revision : ℕ) → HoldsSync Store key revision → P.sync ≡ Some (key_seen key revision)
   reads key revision holds =
-      same.sync ∙ ap sync_key_of holds.is ∙ ap (λ (v : Value). sync_value v holds.stored.revision) holds.value ∙ ap (λ (r : ℕ). Some (read key r)) holds.written
+      same.sync ∙ ap sync_key_of holds.is ∙ ap (λ (v : Value). sync_value v holds.stored.revision) holds.value ∙ ap (λ (r : ℕ). Some (key_seen key r)) holds.written
 
   pub leader-by : (server : ℕ) → IsLed P.sync server → IsLeader Store server
   leader-by server led = let h = holds led.key led.is in record { key = h.held; revision = led.key.revision; is = h.is; leader = h.leader ∙ led.leader }
 
-  named-as : (sync : Option SyncKey) (n : ℕ) (key : StoredSync) (revision : ℕ) → sync ≡ Some (read key revision) → NamesOne sync n → (key.leader.number ≡ n) ⊎ (has key.standbys n ≡ true)
+  named-as : (sync : Option SyncKey) (n : ℕ) (key : StoredSync) (revision : ℕ) → sync ≡ Some (key_seen key revision) → NamesOne sync n → (key.leader.number ≡ n) ⊎ (has key.standbys n ≡ true)
   named-as sync n key revision is named = subst (λ (o : Option SyncKey). NamesOne o n) is named
 
   pub named-by : (n : ℕ) → NamesOne P.sync n → IsNamed Store n
   named-by n named key revision holds = named-as P.sync n key revision (reads key revision holds) named
 
 -- ---- what is awaited, and confirmed
-awaits-by : (required : Option Required) (n : ℕ) → AwaitsSeen (confirmers_of required) n → Awaits required n
+awaits-by : (required : Option Required) (n : ℕ) → IsConfirmer (confirmers_of required) n → Awaits required n
 awaits-by None n awaited = awaited
 awaits-by (Some requireds.Nobody) n awaited = awaited
 awaits-by (Some requireds.AnyOne) n awaited = awaited
@@ -124,17 +122,17 @@ compares-by Absent revision e = absurd (none-some revision e)
 compares-by (Revision r) revision e = ap (λ (n : ℕ). Revision n) (some-is r revision e)
 
 -- ---- at the end of a book, and at its events
-ordered-by : (head : HeadText) (book : List Event) → IsInOrderSeen (past_of head book) → IsInOrder (start_in head) book
+ordered-by : (head : HeadText) (book : List Event) → IsAwaiting (past_of head book) → IsInOrder (start_in head) book
 ordered-by head book seen = record {
   led = λ server writes. leader-by head book server (seen.led server (book-writes head book server ∙ writes));
   awaited = λ server writes key revision holds standby named.
       subst (λ (r : Option Required). Awaits r standby) (required-same head book server)
       (awaits-by (slice_get (past_of head book).required server) standby
-      (seen.awaited server (read head book key revision) (book-writes head book server ∙ writes) (reads head book key revision holds) standby named));
+      (seen.awaited server (key_seen key revision) (book-writes head book server ∙ writes) (reads head book key revision holds) standby named));
 }
 
 publishes-by : (head : HeadText) (book : List Event) (member incarnation sequence leader noted : ℕ) (sync : Expected) (standbys : MemberSet)
-    → PublishesSeen (past_of head book) member noted (publish_request member incarnation sequence leader sync standbys) (set_members standbys) → PublishesInOrder (start_in head) book member noted sync standbys
+    → PublishesAwaited (past_of head book) member noted (publish_request member incarnation sequence leader sync standbys) (set_members standbys) → PublishesInOrder (start_in head) book member noted sync standbys
 publishes-by head book member incarnation sequence leader noted sync standbys seen =
     let held = holds head book seen.key seen.is in
     let new = λ (standby : ℕ) (added : has held.held.standbys standby ≡ false). ap (λ (f : ℕ → Bool). f standby) (sym held.standbys) ∙ added in
@@ -158,12 +156,12 @@ happens-at : (past : Past) (cluster : Cluster) (front back : List Event) (event 
 happens-at past cluster [] back event all = all.0
 happens-at past cluster (x ∷ front) back event all = happens-at (past_after past x.kind) (cluster_after cluster x.kind) front back event all.1
 
-at-event : (head : HeadText) (book : List Event) → KeepsSeen head book → (front back : List Event) (event : Event) → front ++ event ∷ back ≡ book
+at-event : (head : HeadText) (book : List Event) → StaysInOrder head book → (front back : List Event) (event : Event) → front ++ event ∷ back ≡ book
     → HappensInOrder (past_of head front) (cluster_over (cluster_of head) front) event.kind
 at-event head book seen front back event whole =
     happens-at (past_of head []) (cluster_of head) front back event (subst (λ (l : List Event). AllInOrder (past_of head []) (cluster_of head) l) (sym whole) seen.each)
 
-pub order-by-book : (head : HeadText) (book : List Event) → KeepsSeen head book → KeepsOrder (start_in head) (noted_in head) book
+pub order-by-book : (head : HeadText) (book : List Event) → StaysInOrder head book → KeepsOrder (start_in head) (noted_in head) book
 order-by-book head book seen = record {
   at_end = ordered-by head book seen.now;
   claims = λ front back tick number leader by sync names whole.
