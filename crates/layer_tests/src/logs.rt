@@ -58,3 +58,37 @@ fn two_logs(rt: HostRuntime) -> Result<(), Fail> {
     assert_eq!(rt; (has_serial(&other, 3), lacking), (true, [false, true]));
     Ok(())
 }
+
+/// What is cut off a log in pieces is gone from it alone, wherever the cut lies.
+#[test]
+fn pieces_of_a_log(rt: HostRuntime) -> Result<(), Fail> {
+    let mut log = Wal::new(rt.alloc());
+    for serial in 0..600 {
+        log.append(entry(serial, 1))?;
+    }
+    let copy = log.try_clone()?;
+    let found = [log.get(255), log.get(256), log.get(599), log.get(600)];
+    let wanted = [
+        Some(entry(255, 1)),
+        Some(entry(256, 1)),
+        Some(entry(599, 1)),
+        None,
+    ];
+    assert_eq!(rt; found, wanted);
+    if log.len() >= 257 {
+        log.truncate(257);
+    }
+    assert_eq!(rt; log.end().position, 257);
+    if log.len() >= 256 {
+        log.truncate(256);
+    }
+    assert_eq!(rt;
+        (log.end().position, log.get(255), log.get(256)),
+        (256, Some(entry(255, 1)), None)
+    );
+    assert_eq!(rt;
+        (copy.end().position, copy.get(599)),
+        (600, Some(entry(599, 1)))
+    );
+    Ok(())
+}
