@@ -1,4 +1,5 @@
 //! Logs and histories.
+use crate::log_pair::{LogPair, Random};
 use pat_base::Lsn;
 use std::test::Fail;
 use wal_model::{Entry, History, HistoryPoint, Wal, WalFault, has_serial, lacks};
@@ -90,5 +91,27 @@ fn pieces_of_a_log(rt: HostRuntime) -> Result<(), Fail> {
         (copy.end().position, copy.get(599)),
         (600, Some(entry(599, 1)))
     );
+    Ok(())
+}
+
+/// Random calls of two logs in pieces, and the same calls of plain ones.
+#[test]
+fn logs_in_pieces_and_plain_ones(rt: HostRuntime) -> Result<(), Fail> {
+    let mut random = Random::new(20);
+    let mut first = LogPair::new(rt.alloc());
+    let mut second = LogPair::new(rt.alloc());
+    for timeline in 0..400 {
+        match random.below(8) {
+            0 | 1 => first.append(random.below(90), timeline)?,
+            2 => first.cut(random.below(200)),
+            3 => second.copy(&first)?,
+            4 => second.append(random.below(40), timeline)?,
+            5 => first.receive(&second, random.below(300))?,
+            _ => second.receive(&first, random.below(300))?,
+        }
+        let place = random.below(first.len());
+        assert!(rt; first.agrees(place) && second.agrees(place));
+        assert!(rt; first.agrees_with(&second) && second.agrees_with(&first));
+    }
     Ok(())
 }
