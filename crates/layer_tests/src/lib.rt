@@ -3,7 +3,11 @@
 #![tactic(auto)]
 
 #[cfg(test)]
+mod log_pair;
+#[cfg(test)]
 mod logs;
+#[cfg(test)]
+mod plain_log;
 #[cfg(test)]
 mod scripts;
 #[cfg(test)]

@@ -113,5 +113,6 @@ common-end x y whole at (inr past) e =
 pub end_of-drop-le : (at : ℕ) (x : List Entry) → end_of (take (length x - at) (drop at x)) ≤ end_of x
 end_of-drop-le at x = rw (take_rest x at) (omega (arith, sum_by-take-drop (λ entry. entry.bytes) x at))
 
-pub end_of-cut : (at : ℕ) (x : List Entry) → end_of x - end_of (take (length x - at) (drop at x)) ≡ end_of (take at x)
-end_of-cut at x = rw (take_rest x at) (omega (arith, sum_by-take-drop (λ entry. entry.bytes) x at))
+-- its end from a place on
+pub end_of-rest : (at : ℕ) (x : List Entry) → end_of (take (length x - at) (drop at x)) ≡ end_of (drop at x)
+end_of-rest at x = ap end_of (take_rest x at)

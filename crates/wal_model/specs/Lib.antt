@@ -1,3 +1,5 @@
 pub mod History
 pub mod Lacking
 pub mod Log
+pub mod Pieces
+pub mod Sealed

@@ -5,6 +5,10 @@ mod entry;
 mod history;
 mod lacking;
 mod laws;
+mod piece;
+mod pieces;
+mod placed;
+mod run;
 mod wal;
 
 pub use entry::{Entry, HistoryPoint};

@@ -1,6 +1,6 @@
 use Rattle.std.proofs.Common.{arith, ◌≡◌, ℕ, ◌≤◌, ◌⊎◌, min, length}
 use Rattle.wal_model.proofs.Entries.{common-end}
-use Rattle.wal_model.proofs.wal.common_len.Goals as goal
+use Rattle.wal_model.proofs.run.common_len.Goals as goal
 
 ends : (m n k : ℕ) → k ≡ min m n → (m ≤ k) ⊎ (n ≤ k)
 ends m n k e = grind arith
