@@ -4,6 +4,7 @@ use Rattle.std.specs.Prelude.{slice_get}
 use Rattle.std.proofs.lemmas.List.{take-append-drop, take_more, take_all, take-take, take-append-le, drop_more, drop_all, set_split, length-take-le}
 use Rattle.std.proofs.lemmas.Option.{slice_get_within, get_or_from_slice_get}
 use Rattle.std.proofs.Math.Seq.{take-append-add}
+use Rattle.std.specs.List.Sorted.{IsNonDecreasingBy}
 use Rattle.std.proofs.lemmas.List.Sums.{sum_by-append}
 use Rattle.wal_model.specs.declared.entry.Entry.{Entry}
 use Rattle.wal_model.specs.declared.placed.Placed.{Placed}
@@ -62,6 +63,12 @@ split-at xs k d h = ap (λ t. take k xs ++ t) (sym (drop_more xs k d h)) ∙ tak
 
 pub among-at : (xs : List Placed) (k : ℕ) (d : Placed) → Follow 0 0 xs → k < length xs → IsAmong (get_or xs k d) (take k xs) (drop (k + 1) xs)
 among-at xs k d f h = among (take k xs) (get_or xs k d) (drop (k + 1) xs) (subst (Follow 0 0) (sym (split-at xs k d h)) f)
+
+-- each piece begins where the ones before it end, so none before those
+pub rising : (ps : List Placed) → AreChained ps → IsNonDecreasingBy (λ (p : Placed). p.before) ps
+rising ps chained i j d le lt =
+    let split : take i ps ++ drop i (take j ps) ≡ take j ps = ap (λ t. t ++ drop i (take j ps)) (sym (take-take i j ps le)) ∙ take-append-drop i (take j ps) in
+    omega (arith, (among-at ps i d chained.follow (omega (arith, le, lt))).before, (among-at ps j d chained.follow lt).before, ap (λ t. length (joined t)) split, ap length (joined-append (take i ps) (drop i (take j ps))), length-append (joined (take i ps)) (joined (drop i (take j ps))))
 
 -- the entries of the first pieces, one piece more
 pub joined-more : (xs : List Placed) (k : ℕ) (d : Placed) → k < length xs → joined (take (k + 1) xs) ≡ joined (take k xs) ++ (get_or xs k d).piece

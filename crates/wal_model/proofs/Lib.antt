@@ -1,7 +1,6 @@
 pub mod Chains
 pub mod Entries
 pub mod Growth
-pub mod Halves
 pub mod Points
 pub mod Runs
 pub mod Serials

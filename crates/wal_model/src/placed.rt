@@ -2,6 +2,7 @@
 ghost use Rattle.std.specs.Prelude.{ℕ, ◌≡◌, ◌≤◌, ◌<◌, ◌+◌, ◌-◌, length, take, drop, slice_index_or, IfOk};
 ghost use Rattle.wal_model.specs.Log.{end_of};
 ghost use Rattle.wal_model.specs.declared.placed.Placed.{Placed};
+ghost use Rattle.wal_model.specs.Pieces.{AreChained};
 
 use crate::piece::Piece;
 use crate::run::bytes_of;
@@ -55,21 +56,12 @@ impl Placed {
     }
 }
 
-/// How many pieces begin before so many entries. It is sought by halves.
+/// How many pieces of a log begin before so many entries.
 pub(crate) fn pieces_before(placed: &[Placed], entries: usize) -> usize
+    requires { AreChained placed.now }
     ensures within { result ≤ length placed.now }
     ensures before { (d : Placed) → 0 < result → (slice_index_or placed.now (result - 1) d).before < entries }
     ensures behind { (d : Placed) → result < length placed.now → entries ≤ (slice_index_or placed.now result d).before }
 {
-    let mut low = 0;
-    let mut high = placed.len();
-    while low < high {
-        let middle = low + (high - low) / 2;
-        if placed[middle].before < entries {
-            low = middle + 1;
-        } else {
-            high = middle;
-        }
-    }
-    low
+    placed.partition_point(|each| each.before < entries)
 }
