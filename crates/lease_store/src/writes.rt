@@ -9,7 +9,7 @@ ghost use Rattle.pat_base.specs.Moments.{latest};
 
 use crate::entries::{Entries, delete, entry_of, put_all};
 use crate::leases::Leases;
-use crate::{HistoryRow, Key, KeyEntry, SyncKey, Txn, Value};
+use crate::{ConfigValue, HistoryRow, Key, KeyEntry, MemberInfo, SyncKey, Txn, Value};
 use pat_base::{Lsn, MemberId, MemberSet, Ticks};
 use std::alloc::{AllocError, Global};
 
@@ -88,24 +88,10 @@ fn puts_of(
 {
     let mut puts = Vec::with_capacity(alloc, MOST)?;
     match txn {
-        Txn::Touch { info, ttl } => {
-            lease(
-                &mut puts,
-                stamp,
-                Key::Member(by),
-                Value::Member(*info),
-                *ttl,
-            )?;
-        }
+        Txn::Touch { info, ttl } => tell(&mut puts, stamp, by, *info, *ttl)?,
         Txn::Create { info, ttl, .. } => {
             lease(&mut puts, stamp, Key::Leader, Value::Leader(by), *ttl)?;
-            lease(
-                &mut puts,
-                stamp,
-                Key::Member(by),
-                Value::Member(*info),
-                *ttl,
-            )?;
+            tell(&mut puts, stamp, by, *info, *ttl)?;
         }
         Txn::Renew {
             info,
@@ -116,43 +102,46 @@ fn puts_of(
             ..
         } => {
             renew(&mut puts, entries, stamp, *ttl)?;
-            lease(
-                &mut puts,
-                stamp,
-                Key::Member(by),
-                Value::Member(*info),
-                *ttl,
-            )?;
+            tell(&mut puts, stamp, by, *info, *ttl)?;
             set_status(&mut puts, stamp, *status)?;
             set_row(&mut puts, stamp, *row)?;
             set_failsafe(&mut puts, stamp, *failsafe)?;
         }
-        Txn::Claim { .. } => {
-            set_sync(&mut puts, stamp, by, MemberSet::empty())?;
-        }
-        Txn::SetSync { standbys, .. } => {
-            set_sync(&mut puts, stamp, by, *standbys)?;
-        }
+        Txn::Claim { .. } => set_sync(&mut puts, stamp, by, MemberSet::empty())?,
+        Txn::SetSync { standbys, .. } => set_sync(&mut puts, stamp, by, *standbys)?,
         Txn::SetFailover { failover, ttl } => {
-            lease(
-                &mut puts,
-                stamp,
-                Key::Failover,
-                Value::Failover(*failover),
-                *ttl,
-            )?;
+            let value = Value::Failover(*failover);
+            lease(&mut puts, stamp, Key::Failover, value, *ttl)?;
         }
-        Txn::SetConfig { config, .. } => {
-            set(
-                &mut puts,
-                stamp,
-                Key::Config,
-                Value::Config(config.try_clone()?),
-            )?;
-        }
+        Txn::SetConfig { config, .. } => set_config(&mut puts, stamp, config)?,
         Txn::Release { .. } | Txn::DropSync { .. } | Txn::DropFailover { .. } => {}
     }
     Ok(puts)
+}
+
+/// Adds what a member tells of itself.
+fn tell(
+    puts: &mut Vec<(Key, KeyEntry)>,
+    stamp: Stamp,
+    by: MemberId,
+    info: MemberInfo,
+    ttl: Ticks,
+) -> Result<(), AllocError>
+    requires { stamp.at.0 + ttl.0 < 2 ^ 64 }
+    ensures { OnOk result (puts.new.items ≡ puts.old.items ++ puts_of stamp.revision stamp.at.0 [] (LeasesKey (Key.Member by) (Value.Member info) ttl)) }
+{
+    lease(puts, stamp, Key::Member(by), Value::Member(info), ttl)
+}
+
+fn set_config(
+    puts: &mut Vec<(Key, KeyEntry)>,
+    stamp: Stamp,
+    config: &ConfigValue,
+) -> Result<(), AllocError>
+    ensures { OnOk result (puts.new.items ≡ puts.old.items ++ puts_of stamp.revision stamp.at.0 [] (Sets Key.Config (Value.Config config.now))) }
+{
+    let config = config.try_clone()?;
+    set(puts, stamp, Key::Config, Value::Config(config))
 }
 
 /// Adds a key with a lease of this span.
