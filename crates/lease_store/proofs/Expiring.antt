@@ -1,45 +1,35 @@
--- Before the first expiry no key is absent.
-use Rattle.std.proofs.Common.{◌≡◌, ◌≢◌, ℕ, ◌≤◌, ◌<◌, nat_lt, not, Bool, true, false, cond, inl, inr, List, [], ◌∷◌, map, filter, Option, Some, None, arith, refl, ap, sym, subst, ◌∙◌}
-use Rattle.std.proofs.lemmas.Bool.{cases_lt}
+-- Before the first lease ends no key is absent.
+use Rattle.std.proofs.Common.{◌≡◌, ◌≢◌, ℕ, ◌≤◌, ◌<◌, nat_lt, not, Bool, true, false, cond, List, [], ◌∷◌, map, filter, Option, Some, None, arith, refl, ap, sym, ◌∙◌, IsTrue}
 use Rattle.std.proofs.lemmas.Bool.Decides.{nat_tests}
+use Rattle.std.specs.BTreeSet.{BTreeSet, contains}
+use Rattle.std.specs.FinMap.{find, is_sorted}
 use Rattle.pat_base.specs.declared.ticks.Ticks.{Ticks}
 use Rattle.lease_store.specs.declared.key.Key.{Key}
 use Rattle.lease_store.specs.declared.value.KeyEntry.{KeyEntry}
-use Rattle.lease_store.specs.Answers.{absent_keys}
-use Rattle.lease_store.specs.Expiries.{first_expiry, sooner_expiry}
-use Rattle.lease_store.specs.Keys.{is_present}
+use Rattle.lease_store.specs.Answers.{absent_keys, present_pairs}
+use Rattle.lease_store.specs.Indexed.{lease_cmp, IsIndexed}
+use Rattle.lease_store.specs.KeyOrder.{key_cmp}
+use Rattle.lease_store.specs.Keys.{is_present, present}
+use Rattle.lease_store.proofs.Keeping.{find_present}
+use Rattle.lease_store.proofs.Leasing.{all-present, ended-entry, none-some}
 
 abbrev pub Pairs : Type 0
 Pairs = List (Key × KeyEntry)
 
-sooner-most : (most : ℕ) (expiry : Option Ticks) → sooner_expiry most expiry ≤ most
-sooner-most most None = omega arith
-sooner-most most (Some expiry) = grind (arith, nat_tests)
-
-pub first-most : (most : ℕ) (pairs : Pairs) → first_expiry most pairs ≤ most
-first-most most [] = omega arith
-first-most most (pair ∷ pairs) = omega (arith, first-most (sooner_expiry most pair.1.expiry) pairs, sooner-most most pair.1.expiry)
-
-present-before : (most now : ℕ) (expiry : Option Ticks) → now < sooner_expiry most expiry → is_present now expiry ≡ true
-present-before most now None h = refl
-present-before most now (Some expiry) h = grind (arith, nat_tests)
-
-abbrev kept : ℕ → Pairs → Pairs
-kept now pairs = filter (λ pair. not (is_present now pair.1.expiry)) pairs
+abbrev gone : ℕ → Pairs → Pairs
+gone now pairs = filter (λ pair. not (is_present now pair.1.expiry)) pairs
 
 abbrev keys_of_pairs : Pairs → List Key
 keys_of_pairs pairs = map (λ pair. pair.0) pairs
 
--- a key that is present isn't among those that are absent
-passed-by : (now : ℕ) (pair : Key × KeyEntry) (pairs : Pairs) → is_present now pair.1.expiry ≡ true → absent_keys now (pair ∷ pairs) ≡ absent_keys now pairs
-passed-by now pair pairs is = ap (λ (b : Bool). keys_of_pairs (cond (not b) (pair ∷ kept now pairs) (kept now pairs))) is
+none-cased : (now : ℕ) (pair : Key × KeyEntry) (pairs : Pairs) (b : Bool) → is_present now pair.1.expiry ≡ b → absent_keys now pairs ≡ [] → absent_keys now (cond b (pair ∷ pairs) pairs) ≡ []
+none-cased now pair pairs true is none = ap (λ (b : Bool). keys_of_pairs (cond (not b) (pair ∷ gone now pairs) (gone now pairs))) is ∙ none
+none-cased now pair pairs false is none = none
 
-pub first-before : (most : ℕ) (pairs : Pairs) (now : ℕ) → now < first_expiry most pairs → absent_keys now pairs ≡ []
-first-before most [] now h = refl
-first-before most (pair ∷ pairs) now h =
-    let soon = sooner_expiry most pair.1.expiry in
-    let below : now < soon = omega (arith, h, first-most soon pairs) in
-    passed-by now pair pairs (present-before most now pair.1.expiry below) ∙ first-before soon pairs now h
+-- none of those that are present is absent
+none-absent : (now : ℕ) (pairs : Pairs) → absent_keys now (present_pairs now pairs) ≡ []
+none-absent now [] = refl
+none-absent now (pair ∷ pairs) = none-cased now pair (present_pairs now pairs) (is_present now pair.1.expiry) refl (none-absent now pairs)
 
 clash : {X : Type 0} (key : Key) (keys : List Key) → key ∷ keys ≡ [] → X
 clash key keys e = absurd (no-key e)
@@ -47,41 +37,33 @@ clash key keys e = absurd (no-key e)
     no-key : key ∷ keys ≡ [] → ⊥
     no-key e = cc
 
-still-none : (pair : Key × KeyEntry) (rest : Pairs) (present : Bool) → keys_of_pairs (cond (not present) (pair ∷ rest) rest) ≡ [] → keys_of_pairs rest ≡ []
-still-none pair rest true e = e
-still-none pair rest false e = clash pair.0 (keys_of_pairs rest) e
+kept-cased : (now : ℕ) (pair : Key × KeyEntry) (pairs : Pairs) (b : Bool) → keys_of_pairs (cond (not b) (pair ∷ gone now pairs) (gone now pairs)) ≡ [] → (absent_keys now pairs ≡ [] → present_pairs now pairs ≡ pairs) → cond b (pair ∷ present_pairs now pairs) (present_pairs now pairs) ≡ pair ∷ pairs
+kept-cased now pair pairs true none more = ap (λ (es : Pairs). pair ∷ es) (more none)
+kept-cased now pair pairs false none more = clash pair.0 (keys_of_pairs (gone now pairs)) none
 
-listed : (pair : Key × KeyEntry) (rest : Pairs) (present : Bool) → present ≡ false → keys_of_pairs (cond (not present) (pair ∷ rest) rest) ≡ [] → ⊥
-listed pair rest true is e = no-way is
-  where
-    no-way : true ≡ false → ⊥
-    no-way e = cc
-listed pair rest false is e = clash pair.0 (keys_of_pairs rest) e
+-- where none is absent all are present
+all-kept : (now : ℕ) (pairs : Pairs) → absent_keys now pairs ≡ [] → present_pairs now pairs ≡ pairs
+all-kept now [] none = refl
+all-kept now (pair ∷ pairs) none = kept-cased now pair pairs (is_present now pair.1.expiry) none (all-kept now pairs)
 
-absent-at : (most : ℕ) (expiry : Option Ticks) → sooner_expiry most expiry < most → is_present (sooner_expiry most expiry) expiry ≡ false
-absent-at most None h = absurd (omega (arith, h))
-absent-at most (Some expiry) h = grind (arith, nat_tests)
+earlier : (now at later : ℕ) → now < at → at ≤ later → nat_lt now later ≡ true
+earlier now at later h le = grind (arith, nat_tests)
 
-listed-at : (most at : ℕ) (pair : Key × KeyEntry) (pairs : Pairs) → at ≡ sooner_expiry most pair.1.expiry → at < most → absent_keys at (pair ∷ pairs) ≢ []
-listed-at most at pair pairs is h e =
-    let soon : sooner_expiry most pair.1.expiry < most = omega (arith, h, is) in
-    listed pair (kept at pairs) (is_present at pair.1.expiry) (ap (λ (n : ℕ). is_present n pair.1.expiry) is ∙ absent-at most pair.1.expiry soon) e
+ended-at : (at : ℕ) → nat_lt at at ≡ false
+ended-at at = grind (arith, nat_tests)
 
-pub first-least : (most : ℕ) (pairs : Pairs) → first_expiry most pairs < most → absent_keys (first_expiry most pairs) pairs ≢ []
-first-least most [] h = absurd (omega (arith, h))
-first-least most (pair ∷ pairs) h =
-    let soon = sooner_expiry most pair.1.expiry in
-    let at = first_expiry soon pairs in
-    elim (cases_lt at soon) [
-      | inl earlier ↦ (λ e. first-least soon pairs earlier (still-none pair (kept at pairs) (is_present at pair.1.expiry) e))
-      | inr later ↦ listed-at most at pair pairs (omega (arith, later, first-most soon pairs)) h
-    ]
+pub none-before : (at : Ticks) (pairs : Pairs) (leases : BTreeSet (Ticks × Key)) → IsTrue (is_sorted key_cmp pairs) → IsIndexed pairs leases → ((lease : Ticks × Key) → contains lease_cmp leases lease ≡ true → at.0 ≤ lease.0.0) → (now : ℕ) → now < at.0 → absent_keys now pairs ≡ []
+none-before at pairs leases order indexed first now h =
+    ap (absent_keys now) (sym (all-present now pairs leases order indexed (λ lease there. earlier now at.0 lease.0.0 h (first lease there))))
+    ∙ none-absent now pairs
 
--- a moment that is the first expiry, or the most
-pub record IsNext (most at : ℕ) (pairs : Pairs) : Type 0 where
-  pub within : at ≤ most
-  pub before : (now : ℕ) → now < at → absent_keys now pairs ≡ []
-  pub least : at < most → absent_keys at pairs ≢ []
+absent-found : (now : ℕ) (key : Key) (pairs : Pairs) (stored : KeyEntry) → IsTrue (is_sorted key_cmp pairs) → find key_cmp key pairs ≡ Some stored → is_present now stored.expiry ≡ false → absent_keys now pairs ≢ []
+absent-found now key pairs stored order found ended none =
+    none-some stored
+    (sym (ap (λ b. cond b (Some stored) None) ended) ∙ sym (ap (present now) found) ∙ sym (find_present now key pairs order)
+    ∙ ap (find key_cmp key) (all-kept now pairs none) ∙ found)
 
-pub next-is : (most at : ℕ) (pairs : Pairs) → at ≡ first_expiry most pairs → IsNext most at pairs
-next-is most at pairs is = subst (λ (n : ℕ). IsNext most n pairs) (sym is) (record { within = first-most most pairs; before = first-before most pairs; least = first-least most pairs })
+pub some-at : (at : Ticks) (pairs : Pairs) (leases : BTreeSet (Ticks × Key)) → IsTrue (is_sorted key_cmp pairs) → IsIndexed pairs leases → (key : Key) × (contains lease_cmp leases (at, key) ≡ true) → absent_keys at.0 pairs ≢ []
+some-at at pairs leases order indexed first =
+    let found = ended-entry at.0 pairs leases (at, first.0) indexed first.1 (ended-at at.0) in
+    absent-found at.0 first.0 pairs found.0 order found.1 found.2

@@ -25,7 +25,7 @@ use Rattle.lease_store.specs.Writes.{Write, Sets, Leases, Extends, Deletes, stat
 use Rattle.lease_store.specs.Answers.{present_pairs}
 use Rattle.lease_store.proofs.KeyLaws.{keys_total, keys_exact}
 
-to-T : (b : Bool) → IsTrue b → T b
+pub to-T : (b : Bool) → IsTrue b → T b
 to-T true h = tt
 to-T false h = cc
 
@@ -77,7 +77,7 @@ kinds-put key stored [] is k = (is, tt)
 kinds-put key stored (e ∷ es) is k = kinds-placed key stored e es (key_cmp key e.0) refl is k (kinds-put key stored es is k.1)
 
 -- ---- what is found
-equal-from : (o : Ordering) → is_eq o ≡ true → o ≡ Equal
+pub equal-from : (o : Ordering) → is_eq o ≡ true → o ≡ Equal
 equal-from Less h = cc
 equal-from Equal h = refl
 equal-from Greater h = cc

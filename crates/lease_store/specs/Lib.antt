@@ -1,10 +1,10 @@
 pub mod Answers
 pub mod Decision
 pub mod Defaults
-pub mod Expiries
 pub mod Fencing
 pub mod Kept
 pub mod KeyOrder
+pub mod Indexed
 pub mod InKeyOrder
 pub mod Keys
 pub mod Kinds

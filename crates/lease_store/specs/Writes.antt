@@ -106,3 +106,27 @@ keys_after_grant store now by txn = record {
   revision = store.revision + 1;
   pairs = pairs_over (store.revision + 1) now store.pairs (writes_of by txn);
 }
+
+-- the key that a transaction takes out, if it takes one out
+abbrev pub deleted_key : Txn → Option Key
+deleted_key (txns.Release revision) = Some keys.Leader
+deleted_key (txns.DropSync revision sync) = Some keys.Sync
+deleted_key (txns.DropFailover revision) = Some keys.Failover
+deleted_key _ = None
+
+-- an entry whose lease is extended until a moment, where there is one
+abbrev pub extended_put : ℕ → ℕ → Key → Option KeyEntry → List (Key × KeyEntry)
+extended_put revision until key None = []
+extended_put revision until key (Some stored) = (key, record stored { revision = revision; expiry = extended_expiry until stored.expiry }) ∷ []
+
+-- what a write of this revision at a moment puts among the pairs
+abbrev pub puts_of : ℕ → ℕ → List (Key × KeyEntry) → Write → List (Key × KeyEntry)
+puts_of revision now pairs (Sets key value) = (key, record { value = value; revision = revision; expiry = None }) ∷ []
+puts_of revision now pairs (Leases key value ttl) = (key, record { value = value; revision = revision; expiry = Some (record { 0 = now + ttl.0 }) }) ∷ []
+puts_of revision now pairs (Extends key ttl) = extended_put revision (now + ttl.0) key (find key_cmp key pairs)
+puts_of revision now pairs (Deletes key) = []
+
+-- what these writes put among the pairs
+abbrev pub puts_of_all : ℕ → ℕ → List (Key × KeyEntry) → List Write → List (Key × KeyEntry)
+puts_of_all revision now pairs [] = []
+puts_of_all revision now pairs (write ∷ writes) = puts_of revision now pairs write ++ puts_of_all revision now pairs writes

@@ -6,6 +6,7 @@ ghost use Rattle.lease_store.specs.Keys.{is_present, key_in};
 ghost use Rattle.lease_store.specs.Decision.{found_in, compare_if, decision_by, compares_of};
 ghost use Rattle.lease_store.specs.Answers.{check_result_of};
 
+use crate::entries::{Entries, entry_of};
 use crate::order::compare;
 use crate::{Expected, Key, KeyEntry, StoreRefusal, Txn};
 use pat_base::Ticks;
@@ -35,10 +36,10 @@ pub fn key_entry_at(pairs: &[(Key, KeyEntry)], key: Key) -> Option<&KeyEntry>
 }
 
 /// The entry of a key that is present.
-pub fn present_at(pairs: &[(Key, KeyEntry)], now: Ticks, key: Key) -> Option<&KeyEntry>
-    ensures { option_copied result ≡ key_in pairs.now now.0 key }
+pub fn present_at(entries: &Entries, now: Ticks, key: Key) -> Option<&KeyEntry>
+    ensures { option_copied result ≡ key_in entries.now.entries now.0 key }
 {
-    let stored = key_entry_at(pairs, key)?;
+    let stored = entry_of(entries, key)?;
     if is_present(now, stored.expiry) {
         Some(stored)
     } else {
@@ -47,10 +48,10 @@ pub fn present_at(pairs: &[(Key, KeyEntry)], now: Ticks, key: Key) -> Option<&Ke
 }
 
 /// What a compare of a key finds.
-fn found(pairs: &[(Key, KeyEntry)], now: Ticks, key: Key) -> Expected
-    ensures { result ≡ found_in (key_in pairs.now now.0 key) }
+fn found(entries: &Entries, now: Ticks, key: Key) -> Expected
+    ensures { result ≡ found_in (key_in entries.now.entries now.0 key) }
 {
-    match present_at(pairs, now, key) {
+    match present_at(entries, now, key) {
         None => Expected::Absent,
         Some(stored) => Expected::Revision(stored.revision),
     }
@@ -58,14 +59,14 @@ fn found(pairs: &[(Key, KeyEntry)], now: Ticks, key: Key) -> Expected
 
 /// Refuses a key that isn't as it is expected.
 fn compare_key(
-    pairs: &[(Key, KeyEntry)],
+    entries: &Entries,
     now: Ticks,
     key: Key,
     expected: Expected,
 ) -> Result<(), StoreRefusal>
-    ensures { result ≡ check_result_of (decision_by pairs.now now.0 ((key, expected) ∷ [])) }
+    ensures { result ≡ check_result_of (decision_by entries.now.entries now.0 ((key, expected) ∷ [])) }
 {
-    let found = found(pairs, now, key);
+    let found = found(entries, now, key);
     if found == expected {
         Ok(())
     } else {
@@ -75,64 +76,64 @@ fn compare_key(
 
 /// Refuses a leader key that isn't of this revision, and then a sync key that isn't as it is expected.
 fn compare_sync(
-    pairs: &[(Key, KeyEntry)],
+    entries: &Entries,
     now: Ticks,
     revision: u64,
     sync: Expected,
 ) -> Result<(), StoreRefusal>
-    ensures { result ≡ check_result_of (decision_by pairs.now now.0 ((Key.Leader, Expected.Revision revision) ∷ (Key.Sync, sync) ∷ [])) }
+    ensures { result ≡ check_result_of (decision_by entries.now.entries now.0 ((Key.Leader, Expected.Revision revision) ∷ (Key.Sync, sync) ∷ [])) }
 {
-    compare_key(pairs, now, Key::Leader, Expected::Revision(revision))?;
-    compare_key(pairs, now, Key::Sync, sync)
+    compare_key(entries, now, Key::Leader, Expected::Revision(revision))?;
+    compare_key(entries, now, Key::Sync, sync)
 }
 
 /// Refuses a key that isn't as it was read, where it was.
 fn compare_read(
-    pairs: &[(Key, KeyEntry)],
+    entries: &Entries,
     now: Ticks,
     key: Key,
     read: Option<Expected>,
 ) -> Result<(), StoreRefusal>
-    ensures { result ≡ check_result_of (decision_by pairs.now now.0 (compare_if key read)) }
+    ensures { result ≡ check_result_of (decision_by entries.now.entries now.0 (compare_if key read)) }
 {
     match read {
         None => Ok(()),
-        Some(expected) => compare_key(pairs, now, key, expected),
+        Some(expected) => compare_key(entries, now, key, expected),
     }
 }
 
 /// Refuses a leader key that is present, then a failsafe key and then a sync key that isn't as it was read.
 fn compare_absent(
-    pairs: &[(Key, KeyEntry)],
+    entries: &Entries,
     now: Ticks,
     failsafe: Option<Expected>,
     sync: Option<Expected>,
 ) -> Result<(), StoreRefusal>
-    ensures { result ≡ check_result_of (decision_by pairs.now now.0 ((Key.Leader, Expected.Absent) ∷ (compare_if Key.Failsafe failsafe ++ compare_if Key.Sync sync))) }
+    ensures { result ≡ check_result_of (decision_by entries.now.entries now.0 ((Key.Leader, Expected.Absent) ∷ (compare_if Key.Failsafe failsafe ++ compare_if Key.Sync sync))) }
 {
-    compare_key(pairs, now, Key::Leader, Expected::Absent)?;
-    compare_read(pairs, now, Key::Failsafe, failsafe)?;
-    compare_read(pairs, now, Key::Sync, sync)
+    compare_key(entries, now, Key::Leader, Expected::Absent)?;
+    compare_read(entries, now, Key::Failsafe, failsafe)?;
+    compare_read(entries, now, Key::Sync, sync)
 }
 
 /// Refuses a transaction by the first key that isn't as it expects.
-pub fn check(pairs: &[(Key, KeyEntry)], now: Ticks, txn: &Txn) -> Result<(), StoreRefusal>
-    ensures { result ≡ check_result_of (decision_by pairs.now now.0 (compares_of txn.now)) }
+pub fn check(entries: &Entries, now: Ticks, txn: &Txn) -> Result<(), StoreRefusal>
+    ensures { result ≡ check_result_of (decision_by entries.now.entries now.0 (compares_of txn.now)) }
 {
     match txn {
         Txn::Touch { .. } => Ok(()),
-        Txn::Create { failsafe, sync, .. } => compare_absent(pairs, now, *failsafe, *sync),
+        Txn::Create { failsafe, sync, .. } => compare_absent(entries, now, *failsafe, *sync),
         Txn::Renew { revision, .. } | Txn::Release { revision } | Txn::DropFailover { revision } =>
-            { compare_key(pairs, now, Key::Leader, Expected::Revision(*revision)) }
+            { compare_key(entries, now, Key::Leader, Expected::Revision(*revision)) }
         Txn::Claim { revision, sync } | Txn::SetSync { revision, sync, .. } => {
-            compare_sync(pairs, now, *revision, *sync)
+            compare_sync(entries, now, *revision, *sync)
         }
         Txn::DropSync { revision, sync } => {
-            compare_sync(pairs, now, *revision, Expected::Revision(*sync))
+            compare_sync(entries, now, *revision, Expected::Revision(*sync))
         }
-        Txn::SetFailover { .. } => compare_key(pairs, now, Key::Failover, Expected::Absent),
+        Txn::SetFailover { .. } => compare_key(entries, now, Key::Failover, Expected::Absent),
         Txn::SetConfig { revision, .. } => {
-            compare_key(pairs, now, Key::Config, Expected::Revision(*revision))
+            compare_key(entries, now, Key::Config, Expected::Revision(*revision))
         }
     }
 }

@@ -4,7 +4,7 @@ use std::fmt;
 
 /// A key of the store, in the order in which the store lists its keys. Patroni keeps them as paths under that of the
 /// cluster, as `/leader` and `/members/NAME`.
-#[derive(Clone, Copy, Debug, PartialEq, Eq)]
+#[derive(Clone, Copy, Debug, PartialEq, Eq, PartialOrd, Ord)]
 pub enum Key {
     /// Which member leads: `/leader`, with a lease that its holder renews.
     Leader,

@@ -11,13 +11,15 @@ ghost use Rattle.lease_store.specs.Kinds.{IsOfKind};
 ghost use Rattle.lease_store.specs.Writes.{keys_after_grant, is_lease, ttl_of};
 ghost use Rattle.pat_base.specs.Moments.{latest};
 
-use crate::compares::{check, is_present, key_entry_at, present_at};
-use crate::expiries::first_expiry;
-use crate::pairs::{absent_keys, copies_of_present, drop_absent};
-use crate::writes::{MOST, Stamp, grant, is_lease};
+use crate::compares::{check, is_present, present_at};
+use crate::entries::{Entries, drop_absent, entry_of};
+use crate::leases::{Leases, first_expiry};
+use crate::walks::{absent_keys, copies_of_present};
+use crate::writes::{Stamp, grant, is_lease};
 use crate::{ConfigValue, Granted, Key, KeyEntry, StoreRefusal, Txn, Value};
 use pat_base::{MemberId, Ticks};
 use std::alloc::{AllocError, Global};
+use std::collections::{BTreeMap, BTreeSet};
 use std::marker::Model;
 
 /// The key store that a cluster shares, as Patroni's distributed configuration store (DCS): what it holds at each key, and
@@ -26,19 +28,22 @@ use std::marker::Model;
 /// A key with a lease is absent from its expiry on, by the clock of whoever calls.
 #[derive(Debug, Drop)]
 pub struct Store {
-    pairs: Vec<(Key, KeyEntry)>,
+    alloc: Global,
+    entries: Entries,
+    leases: Leases,
     revision: u64,
 }
 
 impl Model for Store {
     ghost use Rattle.lease_store.specs.Keys.{Keys};
+    ghost use Rattle.lease_store.specs.Indexed.{IsIndexed};
     ghost use Rattle.lease_store.specs.Kept.{IsKept};
 
     ghost Value = { Keys };
 
-    ghost view = { λ s. record { revision = s.revision; pairs = s.pairs.items } };
+    ghost view = { λ s. record { revision = s.revision; pairs = s.entries.entries } };
 
-    ghost invariant = { λ s. IsKept s.pairs.items };
+    ghost invariant = { λ s. IsKept s.entries.entries × IsIndexed s.entries.entries s.leases };
 }
 
 impl Store {
@@ -46,14 +51,19 @@ impl Store {
     pub fn new(alloc: Global, config: ConfigValue) -> Result<Store, AllocError>
         ensures { IfOk result (λ store. store ≡ first_keys config) }
     {
-        let mut pairs = Vec::with_capacity(alloc, MOST)?;
+        let mut entries = BTreeMap::new(alloc);
         let stored = KeyEntry {
             value: Value::Config(config),
             revision: 1,
             expiry: None,
         };
-        pairs.push((Key::Config, stored))?;
-        Ok(Store { pairs, revision: 1 })
+        entries.insert(Key::Config, stored)?;
+        Ok(Store {
+            alloc,
+            entries,
+            leases: BTreeSet::new(alloc),
+            revision: 1,
+        })
     }
 
     /// The last granted revision.
@@ -68,7 +78,7 @@ impl Store {
         ensures value { option_copied result ≡ key_at self.now now.0 key }
         ensures kind { IfSome result (λ stored. IsOfKind key stored.now.value) }
     {
-        present_at(&self.pairs, now, key)
+        present_at(&self.entries, now, key)
     }
 
     /// Decides at a moment on a request of a member, and writes what it writes where it is granted, all under the next
@@ -87,13 +97,19 @@ impl Store {
         ensures refused { (key : Key) (found : Expected) → (result ≡ Err (StoreRefusal.Mismatch key found)) ↔ (decision_on self.old now.0 txn.now ≡ Refusal key found) }
         ensures err { OnErr result (self.new ≡ self.old) }
     {
-        check(&self.pairs, now, txn)?;
-        self.pairs.reserve(MOST)?;
+        check(&self.entries, now, txn)?;
         let stamp = Stamp {
             revision: self.revision + 1,
             at: now,
         };
-        grant(&mut self.pairs, stamp, by, txn)?;
+        grant(
+            self.alloc,
+            &mut self.entries,
+            &mut self.leases,
+            stamp,
+            by,
+            txn,
+        )?;
         self.revision += 1;
         Ok(Granted::of(self.revision, by, is_lease(txn)))
     }
@@ -102,7 +118,7 @@ impl Store {
     pub fn expired(&self, now: Ticks) -> Result<Vec<Key>, AllocError>
         ensures { IfOk result (λ keys. keys.items ≡ expired_keys self.now now.0) }
     {
-        absent_keys(*self.pairs.allocator(), &self.pairs, now)
+        absent_keys(self.alloc, &self.entries, now)
     }
 
     /// When the next key expires, but at most a given moment: no key that has an entry is absent before it, and where it is less than the
@@ -112,14 +128,14 @@ impl Store {
         ensures before { (now : ℕ) → now < result.0 → expired_keys self.now now ≡ [] }
         ensures least { result.0 < most.0 → expired_keys self.now result.0 ≢ [] }
     {
-        first_expiry(&self.pairs, most)
+        first_expiry(&self.leases, most)
     }
 
     /// The holder of the leader key, where that key has an entry and is absent at this moment.
     pub fn expired_holder(&self, now: Ticks) -> Option<MemberId>
         ensures { result ≡ expired_holder self.now now.0 }
     {
-        expired_holder(&self.pairs, now)
+        expired_holder(&self.entries, now)
     }
 
     /// Drops every key that is absent at this moment, which changes nothing of what is present from then on. Answers the
@@ -130,8 +146,8 @@ impl Store {
         ensures dropped { IsSome result ↔ (IsSome (find key_cmp Key.Leader self.old.pairs) × IsNone (key_at self.old now.0 Key.Leader)) }
         ensures same { (later : ℕ) (key : Key) → now.0 ≤ later → key_at self.new later key ≡ key_at self.old later key }
     {
-        let holder = expired_holder(&self.pairs, now);
-        drop_absent(&mut self.pairs, now);
+        let holder = expired_holder(&self.entries, now);
+        drop_absent(&mut self.entries, &mut self.leases, now);
         holder
     }
 
@@ -144,15 +160,15 @@ impl Store {
         ensures kinds { IfOk result (λ entries. AreOfKind entries.items) }
         ensures config { IfOk result (λ entries. IsSome (find key_cmp Key.Config entries.items)) }
     {
-        copies_of_present(*self.pairs.allocator(), &self.pairs, now)
+        copies_of_present(self.alloc, &self.entries, now)
     }
 }
 
 /// The holder of the leader key, where that key has an entry and is absent.
-fn expired_holder(pairs: &[(Key, KeyEntry)], now: Ticks) -> Option<MemberId>
-    ensures { result ≡ holder_lost now.0 (find key_cmp Key.Leader pairs.now) }
+fn expired_holder(entries: &Entries, now: Ticks) -> Option<MemberId>
+    ensures { result ≡ holder_lost now.0 (find key_cmp Key.Leader entries.now.entries) }
 {
-    let stored = key_entry_at(pairs, Key::Leader)?;
+    let stored = entry_of(entries, Key::Leader)?;
     if is_present(now, stored.expiry) {
         return None;
     }

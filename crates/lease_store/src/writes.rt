@@ -1,18 +1,20 @@
 //! What granted transactions write.
-ghost use Rattle.std.specs.Prelude.{◌≡◌, ◌≤◌, ◌<◌, ◌+◌, ◌++◌, ◌^◌, Some, None, IsTrue, vec_len, vec_capacity, OnOk, OnErr};
-ghost use Rattle.std.specs.FinMap.{put, is_sorted};
+ghost use Rattle.std.specs.Prelude.{◌≡◌, ◌≤◌, ◌<◌, ◌+◌, ◌++◌, ◌∷◌, [], ◌^◌, Some, None, IsTrue, IfOk, OnOk, OnErr};
+ghost use Rattle.std.specs.FinMap.{find};
+ghost use Rattle.lease_store.specs.Indexed.{IsIndexed};
 ghost use Rattle.lease_store.specs.Kept.{IsKept};
 ghost use Rattle.lease_store.specs.KeyOrder.{key_cmp};
-ghost use Rattle.lease_store.specs.Writes.{Leases, Extends, Sets, writes_of, pairs_after, pairs_over, ttl_of, is_lease, status_writes, row_writes, failsafe_writes, sync_value};
+ghost use Rattle.lease_store.specs.Writes.{Leases as LeasesKey, Extends, Sets, writes_of, pairs_over, puts_of, puts_of_all, deleted_key, extended_expiry, ttl_of, is_lease, status_writes, row_writes, failsafe_writes, sync_value};
 ghost use Rattle.pat_base.specs.Moments.{latest};
 
-use crate::pairs::{delete, extend, put};
-use crate::{HistoryRow, Key, KeyEntry, SyncKey, Txn, Value};
+use crate::entries::{Entries, delete, entry_of, put_all};
+use crate::leases::Leases;
+use crate::{ConfigValue, HistoryRow, Key, KeyEntry, MemberInfo, SyncKey, Txn, Value};
 use pat_base::{Lsn, MemberId, MemberSet, Ticks};
-use std::alloc::AllocError;
+use std::alloc::{AllocError, Global};
 
 /// The most keys that one transaction writes.
-pub const MOST: usize = 5;
+const MOST: usize = 5;
 
 /// What a grant gives to all its writes: its revision, and its moment.
 #[derive(Clone, Copy)]
@@ -28,47 +30,68 @@ pub fn is_lease(txn: &Txn) -> bool
     matches!(txn, Txn::Create { .. } | Txn::Renew { .. })
 }
 
-/// Writes what a transaction of a member writes, and keeps what holds of the pairs of every store. There is room for it.
-/// It fails only for want of memory for the text of a configuration, and then changes nothing.
-pub fn grant(
-    pairs: &mut Vec<(Key, KeyEntry)>,
-    stamp: Stamp,
-    by: MemberId,
-    txn: &Txn,
-) -> Result<(), AllocError>
-    requires room { vec_len pairs.old + 5 ≤ vec_capacity pairs.old }
-    requires kept { IsKept pairs.old.items }
-    requires moment { stamp.at.0 ≤ latest }
-    requires span { ttl_of txn.now ≤ 2 ^ 40 }
-    ensures pairs { OnOk result (pairs.new.items ≡ pairs_over stamp.revision stamp.at.0 pairs.old.items (writes_of by txn.now)) }
-    ensures kept { IsKept pairs.new.items }
-    ensures err { OnErr result (pairs.new.items ≡ pairs.old.items) }
-{
-    write(pairs, stamp, by, txn)?;
-    Ok(())
-}
-
-/// Writes what a transaction of a member writes. There is room for it. A failure changes nothing.
-fn write(
-    pairs: &mut Vec<(Key, KeyEntry)>,
-    stamp: Stamp,
-    by: MemberId,
-    txn: &Txn,
-) -> Result<(), AllocError>
-    requires room { vec_len pairs.old + 5 ≤ vec_capacity pairs.old }
-    requires order { IsTrue (is_sorted key_cmp pairs.old.items) }
-    requires moment { stamp.at.0 ≤ latest }
-    requires span { ttl_of txn.now ≤ 2 ^ 40 }
-    ensures pairs { OnOk result (pairs.new.items ≡ pairs_over stamp.revision stamp.at.0 pairs.old.items (writes_of by txn.now)) }
-    ensures err { OnErr result (pairs.new.items ≡ pairs.old.items) }
+/// The key that a transaction takes out, if it takes one out.
+fn deleted_key(txn: &Txn) -> Option<Key>
+    ensures { result ≡ deleted_key txn.now }
 {
     match txn {
-        Txn::Touch { info, ttl } => {
-            lease(pairs, stamp, Key::Member(by), Value::Member(*info), *ttl);
+        Txn::Release { .. } => Some(Key::Leader),
+        Txn::DropSync { .. } => Some(Key::Sync),
+        Txn::DropFailover { .. } => Some(Key::Failover),
+        _ => None,
+    }
+}
+
+/// Writes what a transaction of a member writes, and keeps what holds of the pairs of every store. It fails only for want
+/// of memory, and then changes nothing.
+pub fn grant(
+    alloc: Global,
+    entries: &mut Entries,
+    leases: &mut Leases,
+    stamp: Stamp,
+    by: MemberId,
+    txn: &Txn,
+) -> Result<(), AllocError>
+    requires kept { IsKept entries.old.entries }
+    requires indexed { IsIndexed entries.old.entries leases.old }
+    requires moment { stamp.at.0 ≤ latest }
+    requires span { ttl_of txn.now ≤ 2 ^ 40 }
+    ensures entries { OnOk result (entries.new.entries ≡ pairs_over stamp.revision stamp.at.0 entries.old.entries (writes_of by txn.now)) }
+    ensures kept { IsKept entries.new.entries }
+    ensures indexed { IsIndexed entries.new.entries leases.new }
+    ensures err { OnErr result (entries.new.entries ≡ entries.old.entries) }
+{
+    match deleted_key(txn) {
+        Some(key) => {
+            delete(entries, leases, key);
+            Ok(())
         }
+        None => {
+            let puts = puts_of(alloc, entries, stamp, by, txn)?;
+            put_all(entries, leases, puts)?;
+            Ok(())
+        }
+    }
+}
+
+/// What a transaction of a member puts at the keys that it writes. It fails only for want of memory.
+fn puts_of(
+    alloc: Global,
+    entries: &Entries,
+    stamp: Stamp,
+    by: MemberId,
+    txn: &Txn,
+) -> Result<Vec<(Key, KeyEntry)>, AllocError>
+    requires moment { stamp.at.0 ≤ latest }
+    requires span { ttl_of txn.now ≤ 2 ^ 40 }
+    ensures { IfOk result (λ puts. puts.items ≡ puts_of_all stamp.revision stamp.at.0 entries.now.entries (writes_of by txn.now)) }
+{
+    let mut puts = Vec::with_capacity(alloc, MOST)?;
+    match txn {
+        Txn::Touch { info, ttl } => tell(&mut puts, stamp, by, *info, *ttl)?,
         Txn::Create { info, ttl, .. } => {
-            lease(pairs, stamp, Key::Leader, Value::Leader(by), *ttl);
-            lease(pairs, stamp, Key::Member(by), Value::Member(*info), *ttl);
+            lease(&mut puts, stamp, Key::Leader, Value::Leader(by), *ttl)?;
+            tell(&mut puts, stamp, by, *info, *ttl)?;
         }
         Txn::Renew {
             info,
@@ -78,125 +101,181 @@ fn write(
             failsafe,
             ..
         } => {
-            renew(pairs, stamp, *ttl);
-            lease(pairs, stamp, Key::Member(by), Value::Member(*info), *ttl);
-            set_status(pairs, stamp, *status);
-            set_row(pairs, stamp, *row);
-            set_failsafe(pairs, stamp, *failsafe);
+            renew(&mut puts, entries, stamp, *ttl)?;
+            tell(&mut puts, stamp, by, *info, *ttl)?;
+            set_status(&mut puts, stamp, *status)?;
+            set_row(&mut puts, stamp, *row)?;
+            set_failsafe(&mut puts, stamp, *failsafe)?;
         }
-        Txn::Release { .. } => delete(pairs, Key::Leader),
-        Txn::Claim { .. } => set_sync(pairs, stamp, by, MemberSet::empty()),
-        Txn::SetSync { standbys, .. } => set_sync(pairs, stamp, by, *standbys),
-        Txn::DropSync { .. } => delete(pairs, Key::Sync),
+        Txn::Claim { .. } => set_sync(&mut puts, stamp, by, MemberSet::empty())?,
+        Txn::SetSync { standbys, .. } => set_sync(&mut puts, stamp, by, *standbys)?,
         Txn::SetFailover { failover, ttl } => {
             let value = Value::Failover(*failover);
-            lease(pairs, stamp, Key::Failover, value, *ttl);
+            lease(&mut puts, stamp, Key::Failover, value, *ttl)?;
         }
-        Txn::DropFailover { .. } => delete(pairs, Key::Failover),
-        Txn::SetConfig { config, .. } => {
-            let config = config.try_clone()?;
-            set(pairs, stamp, Key::Config, Value::Config(config));
-        }
+        Txn::SetConfig { config, .. } => set_config(&mut puts, stamp, config)?,
+        Txn::Release { .. } | Txn::DropSync { .. } | Txn::DropFailover { .. } => {}
     }
+    Ok(puts)
+}
+
+/// Adds what a member tells of itself.
+fn tell(
+    puts: &mut Vec<(Key, KeyEntry)>,
+    stamp: Stamp,
+    by: MemberId,
+    info: MemberInfo,
+    ttl: Ticks,
+) -> Result<(), AllocError>
+    requires { stamp.at.0 + ttl.0 < 2 ^ 64 }
+    ensures { OnOk result (puts.new.items ≡ puts.old.items ++ puts_of stamp.revision stamp.at.0 [] (LeasesKey (Key.Member by) (Value.Member info) ttl)) }
+{
+    lease(puts, stamp, Key::Member(by), Value::Member(info), ttl)
+}
+
+fn set_config(
+    puts: &mut Vec<(Key, KeyEntry)>,
+    stamp: Stamp,
+    config: &ConfigValue,
+) -> Result<(), AllocError>
+    ensures { OnOk result (puts.new.items ≡ puts.old.items ++ puts_of stamp.revision stamp.at.0 [] (Sets Key.Config (Value.Config config.now))) }
+{
+    let config = config.try_clone()?;
+    set(puts, stamp, Key::Config, Value::Config(config))
+}
+
+/// Adds a key with a lease of this span.
+fn lease(
+    puts: &mut Vec<(Key, KeyEntry)>,
+    stamp: Stamp,
+    key: Key,
+    value: Value,
+    ttl: Ticks,
+) -> Result<(), AllocError>
+    requires { stamp.at.0 + ttl.0 < 2 ^ 64 }
+    ensures { OnOk result (puts.new.items ≡ puts.old.items ++ puts_of stamp.revision stamp.at.0 [] (LeasesKey key value ttl)) }
+{
+    puts.push((
+        key,
+        KeyEntry {
+            value,
+            revision: stamp.revision,
+            expiry: Some(stamp.at + ttl),
+        },
+    ))?;
     Ok(())
 }
 
-/// Writes a key with a lease of this span.
-fn lease(pairs: &mut Vec<(Key, KeyEntry)>, stamp: Stamp, key: Key, value: Value, ttl: Ticks)
-    requires room { vec_len pairs.old + 1 ≤ vec_capacity pairs.old }
-    requires moment { stamp.at.0 + ttl.0 < 2 ^ 64 }
-    ensures pairs { pairs.new.items ≡ pairs_after stamp.revision stamp.at.0 pairs.old.items (Leases key value ttl) }
-    ensures len { vec_len pairs.new ≤ vec_len pairs.old + 1 }
-    ensures room { vec_capacity pairs.old ≤ vec_capacity pairs.new }
+/// The later of an expiry and a moment.
+fn extended_expiry(until: Ticks, expiry: Option<Ticks>) -> Option<Ticks>
+    ensures { result ≡ extended_expiry until.0 expiry }
 {
-    let expiry = Some(stamp.at + ttl);
-    put(
-        pairs,
-        key,
+    match expiry {
+        None => None,
+        Some(expiry) => Some(expiry.max(until)),
+    }
+}
+
+/// Adds the leader key with its lease extended by this span, where the key has an entry.
+fn renew(
+    puts: &mut Vec<(Key, KeyEntry)>,
+    entries: &Entries,
+    stamp: Stamp,
+    ttl: Ticks,
+) -> Result<(), AllocError>
+    requires { stamp.at.0 + ttl.0 < 2 ^ 64 }
+    ensures { OnOk result (puts.new.items ≡ puts.old.items ++ puts_of stamp.revision stamp.at.0 entries.now.entries (Extends Key.Leader ttl)) }
+{
+    let Some(stored) = entry_of(entries, Key::Leader) else {
+        return Ok(());
+    };
+    let expiry = extended_expiry(stamp.at + ttl, stored.expiry);
+    let value = stored.value.try_clone()?;
+    puts.push((
+        Key::Leader,
         KeyEntry {
             value,
             revision: stamp.revision,
             expiry,
         },
-    );
+    ))?;
+    Ok(())
 }
 
-/// Extends the lease of the leader key by this span.
-fn renew(pairs: &mut Vec<(Key, KeyEntry)>, stamp: Stamp, ttl: Ticks)
-    requires order { IsTrue (is_sorted key_cmp pairs.old.items) }
-    requires moment { stamp.at.0 + ttl.0 < 2 ^ 64 }
-    ensures pairs { pairs.new.items ≡ pairs_after stamp.revision stamp.at.0 pairs.old.items (Extends Key.Leader ttl) }
-    ensures len { vec_len pairs.new ≡ vec_len pairs.old }
-    ensures room { vec_capacity pairs.old ≤ vec_capacity pairs.new }
+/// Adds a key without a lease.
+fn set(
+    puts: &mut Vec<(Key, KeyEntry)>,
+    stamp: Stamp,
+    key: Key,
+    value: Value,
+) -> Result<(), AllocError>
+    ensures { OnOk result (puts.new.items ≡ puts.old.items ++ puts_of stamp.revision stamp.at.0 [] (Sets key value)) }
 {
-    extend(pairs, Key::Leader, stamp.revision, stamp.at + ttl);
-}
-
-/// Writes a key without a lease.
-fn set(pairs: &mut Vec<(Key, KeyEntry)>, stamp: Stamp, key: Key, value: Value)
-    requires { vec_len pairs.old + 1 ≤ vec_capacity pairs.old }
-    ensures pairs { pairs.new.items ≡ pairs_after stamp.revision stamp.at.0 pairs.old.items (Sets key value) }
-    ensures len { vec_len pairs.new ≤ vec_len pairs.old + 1 }
-    ensures room { vec_capacity pairs.old ≤ vec_capacity pairs.new }
-{
-    put(
-        pairs,
+    puts.push((
         key,
         KeyEntry {
             value,
             revision: stamp.revision,
             expiry: None,
         },
-    );
+    ))?;
+    Ok(())
 }
 
-fn set_sync(pairs: &mut Vec<(Key, KeyEntry)>, stamp: Stamp, leader: MemberId, standbys: MemberSet)
-    requires { vec_len pairs.old + 1 ≤ vec_capacity pairs.old }
-    ensures { pairs.new.items ≡ pairs_after stamp.revision stamp.at.0 pairs.old.items (Sets Key.Sync (sync_value leader standbys)) }
+fn set_sync(
+    puts: &mut Vec<(Key, KeyEntry)>,
+    stamp: Stamp,
+    leader: MemberId,
+    standbys: MemberSet,
+) -> Result<(), AllocError>
+    ensures { OnOk result (puts.new.items ≡ puts.old.items ++ puts_of stamp.revision stamp.at.0 [] (Sets Key.Sync (sync_value leader standbys))) }
 {
     set(
-        pairs,
+        puts,
         stamp,
         Key::Sync,
         Value::Sync(SyncKey { leader, standbys }),
-    );
+    )
 }
 
-/// Writes the leader's position, where there is one.
-fn set_status(pairs: &mut Vec<(Key, KeyEntry)>, stamp: Stamp, status: Option<Lsn>)
-    requires { vec_len pairs.old + 1 ≤ vec_capacity pairs.old }
-    ensures pairs { pairs.new.items ≡ pairs_over stamp.revision stamp.at.0 pairs.old.items (status_writes status) }
-    ensures len { vec_len pairs.new ≤ vec_len pairs.old + 1 }
-    ensures room { vec_capacity pairs.old ≤ vec_capacity pairs.new }
+/// Adds the leader's position, where there is one.
+fn set_status(
+    puts: &mut Vec<(Key, KeyEntry)>,
+    stamp: Stamp,
+    status: Option<Lsn>,
+) -> Result<(), AllocError>
+    ensures { OnOk result (puts.new.items ≡ puts.old.items ++ puts_of_all stamp.revision stamp.at.0 [] (status_writes status)) }
 {
-    if let Some(end) = status {
-        set(pairs, stamp, Key::Status, Value::Status(end));
+    match status {
+        None => Ok(()),
+        Some(end) => set(puts, stamp, Key::Status, Value::Status(end)),
     }
 }
 
-/// Writes a row of the history, where there is one.
-fn set_row(pairs: &mut Vec<(Key, KeyEntry)>, stamp: Stamp, row: Option<HistoryRow>)
-    requires { vec_len pairs.old + 1 ≤ vec_capacity pairs.old }
-    ensures pairs { pairs.new.items ≡ pairs_over stamp.revision stamp.at.0 pairs.old.items (row_writes row) }
-    ensures len { vec_len pairs.new ≤ vec_len pairs.old + 1 }
-    ensures room { vec_capacity pairs.old ≤ vec_capacity pairs.new }
+/// Adds a row of the history, where there is one.
+fn set_row(
+    puts: &mut Vec<(Key, KeyEntry)>,
+    stamp: Stamp,
+    row: Option<HistoryRow>,
+) -> Result<(), AllocError>
+    ensures { OnOk result (puts.new.items ≡ puts.old.items ++ puts_of_all stamp.revision stamp.at.0 [] (row_writes row)) }
 {
-    if let Some(row) = row {
-        set(
-            pairs,
-            stamp,
-            Key::History(row.timeline),
-            Value::History(row),
-        );
+    match row {
+        None => Ok(()),
+        Some(row) => set(puts, stamp, Key::History(row.timeline), Value::History(row)),
     }
 }
 
-/// Writes the members that the leader may ask, where there are any to write.
-fn set_failsafe(pairs: &mut Vec<(Key, KeyEntry)>, stamp: Stamp, failsafe: Option<MemberSet>)
-    requires { vec_len pairs.old + 1 ≤ vec_capacity pairs.old }
-    ensures { pairs.new.items ≡ pairs_over stamp.revision stamp.at.0 pairs.old.items (failsafe_writes failsafe) }
+/// Adds the members that the leader may ask, where there are any to write.
+fn set_failsafe(
+    puts: &mut Vec<(Key, KeyEntry)>,
+    stamp: Stamp,
+    failsafe: Option<MemberSet>,
+) -> Result<(), AllocError>
+    ensures { OnOk result (puts.new.items ≡ puts.old.items ++ puts_of_all stamp.revision stamp.at.0 [] (failsafe_writes failsafe)) }
 {
-    if let Some(members) = failsafe {
-        set(pairs, stamp, Key::Failsafe, Value::Failsafe(members));
+    match failsafe {
+        None => Ok(()),
+        Some(members) => set(puts, stamp, Key::Failsafe, Value::Failsafe(members)),
     }
 }

@@ -1,15 +1,15 @@
-use Rattle.std.proofs.Common.{ap}
+use Rattle.std.proofs.Common.{ap, refl}
 use Rattle.lease_store.specs.Keys.{Keys}
 use Rattle.lease_store.proofs.Answering.{kept_dropped, lost_where, same_later}
 use Rattle.lease_store.proofs.store.Store.drop_expired.Goals as goal
 
 pub invariant_of-self : goal.invariant_of-self
-invariant_of-self c = kept_dropped _ _ _ c.drop_absent.ensures c.self.invariant
+invariant_of-self c = (kept_dropped _ _ _ c.drop_absent.ensures.entries c.self.invariant.0, c.drop_absent.ensures.indexed)
 
 pub returns-clause-dropped : goal.returns-clause-dropped
 returns-clause-dropped c =
-    lost_where _ _ _ c.args.self.now _ c.deref.ensures.value (ap (λ (s : Keys). s.pairs) c.self.view_is) c.self.invariant.kinds c.expired_holder-holder.ensures
+    lost_where _ c.self.inside.entries.entries c.self.inside.entries.entries c.args.self.now _ refl (ap (λ (s : Keys). s.pairs) c.self.view_is) c.self.invariant.0.kinds c.expired_holder-holder.ensures
 
 pub returns-clause-same : goal.returns-clause-same
 returns-clause-same c later key le =
-    same_later c.args.now.0 later key c.self.inside.pairs.items _ c.args.self.now c.drop_absent.ensures c.self.invariant (ap (λ (s : Keys). s.pairs) c.self.view_is) le
+    same_later c.args.now.0 later key c.self.inside.entries.entries _ c.args.self.now c.drop_absent.ensures.entries c.self.invariant.0 (ap (λ (s : Keys). s.pairs) c.self.view_is) le

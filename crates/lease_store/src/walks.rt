@@ -1,0 +1,39 @@
+//! What takes a walk over all entries.
+ghost use Rattle.std.specs.Prelude.{◌≡◌, ◌++◌, IfOk};
+ghost use Rattle.lease_store.specs.Answers.{present_pairs, absent_keys};
+
+use crate::compares::is_present;
+use crate::entries::Entries;
+use crate::{Key, KeyEntry};
+use pat_base::Ticks;
+use std::alloc::{AllocError, Global};
+
+/// The keys that are absent at a moment. It fails only for want of memory.
+pub fn absent_keys(alloc: Global, entries: &Entries, now: Ticks) -> Result<Vec<Key>, AllocError>
+    ensures { IfOk result (λ keys. keys.items ≡ absent_keys now.0 entries.now.entries) }
+{
+    let mut keys = Vec::new(alloc);
+    for (key, stored) in entries {
+        if !is_present(now, stored.expiry) {
+            keys.push(*key)?;
+        }
+    }
+    Ok(keys)
+}
+
+/// Copies of the pairs whose keys are present at a moment. It fails only for want of memory.
+pub fn copies_of_present(
+    alloc: Global,
+    entries: &Entries,
+    now: Ticks,
+) -> Result<Vec<(Key, KeyEntry)>, AllocError>
+    ensures { IfOk result (λ copies. copies.items ≡ present_pairs now.0 entries.now.entries) }
+{
+    let mut copies = Vec::new(alloc);
+    for (key, stored) in entries {
+        if is_present(now, stored.expiry) {
+            copies.push((*key, stored.try_clone()?))?;
+        }
+    }
+    Ok(copies)
+}
