@@ -169,6 +169,15 @@ leader-lives _ lives leads fits = absurd (no-way leads)
 pub leads-live : {quorum : ℕ} (s : State) (m : ℕ) (o b : Outcome) → StandsToCommit s m quorum o → IsBehind o b → is_leader b.role ≡ true → (s.members m).live ≡ true
 leads-live s m o b stands behind leads = stands.live ∙ (sym (ap (λ (x : ServerStatus). live x.state) behind.server) ∙ leader-lives b.role (live b.machine.server.state) leads behind.fits)
 
+-- of no sync key that was read may a standby lack a commit, since none says a number
+pub none-lacks : (read : Option SyncRead) (key : SyncKey) → sync_seen read ≡ Some key → key.quorum ≤ strict_quorum
+unfolding quorum_of
+none-lacks None key is = absurd (none-some key is)
+none-lacks (Some read) key is = subst (λ (k : SyncKey). k.quorum ≤ strict_quorum) (some-is (key_seen read.key read.revision) key is) (none-below 0)
+  where
+    none-below : (n : ℕ) → 0 ≤ n
+    none-below n = omega arith
+
 -- what the key that is seen in a snapshot has of the one that is there
 seen-stored : (revision : ℕ) (stored : Option StoredKey) (key : SyncKey) → sync_seen (sync_read_by revision stored) ≡ Some key
     → (there : StoredKey) × (stored ≡ Some there) × (key ≡ key_seen there revision)

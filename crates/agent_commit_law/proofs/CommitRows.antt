@@ -23,7 +23,7 @@ use Rattle.event_book.specs.Functions.{set_members}
 use Rattle.sync_state.specs.Published.{published_in}
 use Rattle.sync_state.specs.Sets.{both, either, is_within}
 use Rattle.sync_state.specs.Standbys.{required_members, noted_position}
-use Rattle.commit_actions.specs.Keys.{Confirmers, Narrows, SyncKey, strict_quorum}
+use Rattle.commit_actions.specs.Keys.{Confirmers, Narrows, strict_quorum}
 use Rattle.commit_actions.specs.Stored.{quorum_written}
 use Rattle.commit_actions.specs.Flights.{SyncRequest}
 use Rattle.commit_actions.specs.States.{Agent, State}
@@ -55,7 +55,7 @@ use Rattle.agent_model.specs.Racing.{unheard}
 use Rattle.agent_model.specs.Synchronous.{expected_of, is_named_if, unnamed, waiting_for}
 use Rattle.agent_commit_law.proofs.CommitAsking.{before-asks, leases-on}
 use Rattle.agent_commit_law.proofs.CommitGrants.{Ground, Lawful, rests, Leased, unready, changes-lawful, settles-lawful, publishes-lawful}
-use Rattle.agent_commit_law.proofs.CommitGrounds.{IsBehind, before-behind, before-unready, lease-before, write-before, lease_granted_as, write_granted_as, hears-lease, hears-write, leads-live, IsLedBy, key-covers, led-by, led-covers, written, compared-as, wins-named, noted-end}
+use Rattle.agent_commit_law.proofs.CommitGrounds.{IsBehind, before-behind, before-unready, lease-before, write-before, lease_granted_as, write_granted_as, hears-lease, hears-write, leads-live, IsLedBy, key-covers, led-by, led-covers, written, compared-as, wins-named, noted-end, none-lacks}
 use Rattle.agent_commit_law.proofs.CommitIdling.{Idle, idle-then, waits-nothing, waits-new, stays, falls, same-idle, quiet-idle, postpones-idle, failover-idle}
 use Rattle.agent_commit_law.proofs.CommitLawful.{lawful-as, keeps-turn, keeps-server, keeps-ready, sends-nothing, sends-one}
 use Rattle.agent_commit_law.proofs.CommitGrowing.{narrows-grows, required-needs, wanted-connected}
@@ -87,9 +87,7 @@ arms-lawful now ttl sequence grant snapshot s m input o b ground leased creates 
     let still : All IsUnasking noted.outputs = passing-unasked arm (quiet-armed (deadline_after now ttl b.machine.watchdog) b.outputs (behind.idle.quiet ground.quiet)) in
     let output : Output = outputs.Send targets.Store (b.knows.sequence + 1) (bodies.Request (txns.Claim grant.revision (expected_of b.knows.turn_sync))) in
     let request : SyncRequest = claim_request m o.knows.incarnation (b.knows.sequence + 1) grant.revision (expected_of b.knows.turn_sync) in
-    let few : (key : SyncKey) → sync_seen b.knows.turn_sync ≡ Some key → key.quorum ≤ strict_quorum =
-    subst (λ (r : Option SyncRead). (key : SyncKey) → sync_seen r ≡ Some key → key.quorum ≤ strict_quorum) (sym behind.turn) ground.stands.turn in
-    let named : WinsByName (sync_seen b.knows.turn_sync) m = wins-named b.knows.who.me m b.knows.turn_sync few (ap (λ (w : Who). w.me.number) behind.who ∙ ground.stands.me)
+    let named : WinsByName (sync_seen b.knows.turn_sync) m = wins-named b.knows.who.me m b.knows.turn_sync (none-lacks b.knows.turn_sync) (ap (λ (w : Who). w.me.number) behind.who ∙ ground.stands.me)
     (inside-named (is_named_if b.knows.who.me b.knows.turn_sync) arm.outputs output is.inside) in
     lawful-as now (HeardGranted sequence grant snapshot) (Some snapshot) s m input o x ground.stands is onward (waits-new o x _ refl (omega (arith, behind.last)))
     (Arming (record {

@@ -92,8 +92,6 @@ pub record StandsToCommit (s : State) (m quorum : ℕ) (o : Outcome) : Type 0 wh
   pub me : o.knows.who.me.number ≡ m
   pub counts : m < s.member_count
   pub strict : (key : SyncKey) → s.sync ≡ Some key → IsOfQuorum s.member_count quorum key
-  -- so it is of the sync key that its turn read
-  pub turn : (key : SyncKey) → sync_seen o.knows.turn_sync ≡ Some key → key.quorum ≤ quorum
 
 -- the answer of this number grants this member the write of the sync key that it waits for
 pub record IsAwaitedWrite (sequence : ℕ) (grant : Granted) (knows : Knowledge) : Type 0 where

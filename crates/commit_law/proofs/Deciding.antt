@@ -2,7 +2,7 @@
 use Rattle.std.proofs.Common.{ℕ, ◌≡◌, Bool, true, false, Option, Some, refl}
 use Rattle.commit_actions.specs.Actions.{decide_at, with_decision, with_grant}
 use Rattle.commit_actions.specs.Flights.{Aim, ClaimSync, CreateLeader, Flying, PublishStandbys, Requested, SyncRequest}
-use Rattle.commit_actions.specs.States.{Machine, State}
+use Rattle.commit_actions.specs.States.{State}
 
 granted-members : (s : State) (i j : ℕ) (request : SyncRequest) (aim : Aim) → (with_grant s i j request aim).members ≡ s.members
 granted-members s i j request CreateLeader = refl

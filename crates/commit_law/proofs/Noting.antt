@@ -1,5 +1,5 @@
 -- Where a required list grows, its leader notes where its log ends: what it noted, and its log, reach what that ended at when the list last grew.
-use Rattle.std.proofs.Common.{arith, ℕ, ◌≡◌, ◌⊎◌, ◌≤◌, ◌+◌, ◌++◌, Bool, true, false, List, [], ◌∷◌, Option, Some, None, refl, ◌∙◌, ap, sym, subst, inl, inr}
+use Rattle.std.proofs.Common.{arith, ℕ, ◌≡◌, ◌⊎◌, ◌≤◌, ◌+◌, ◌++◌, true, false, List, [], ◌∷◌, Option, Some, refl, ◌∙◌, ap, sym, subst, inl, inr}
 use Rattle.wal_model.specs.declared.entry.Entry.{Entry}
 use Rattle.wal_model.specs.Log.{end_of}
 use Rattle.pg_model.specs.Facts.{entries_of}
@@ -7,7 +7,7 @@ use Rattle.event_book.specs.Functions.{put_at}
 use Rattle.lease_law.proofs.Tools.{both, none-some, not-false, put-all, some-is}
 use Rattle.commit_actions.specs.Keys.{Confirmers, Nobody, All, AtLeast, Narrows}
 use Rattle.commit_actions.specs.States.{Agent, Machine, State}
-use Rattle.commit_actions.specs.Inputs.{AgentInput, Does, IsLawful, KeepsRole, KeepsServer, Idling, Racing, HearingAnswer, WinningRace, CreatingLeader, Arming, TakingOver, ChangingRequired, Publishing, Promoting, SettlingRequired}
+use Rattle.commit_actions.specs.Inputs.{AgentInput, Does, IsLawful, KeepsRole, Idling, Racing, HearingAnswer, WinningRace, CreatingLeader, Arming, TakingOver, ChangingRequired, Publishing, Promoting, SettlingRequired}
 use Rattle.commit_actions.specs.Actions.{Action, Accept, Cease, Clone, Commit, Confirm, Decide, End, Input, Kill, Receive, Rewind, Start, Wipe, IsAllowed, act, fresh_agent, machine_after}
 use Rattle.commit_law.specs.Noted.{AllFollow, AreNoted, Empties, Follows, Grows, IsNoted, Shrinks, Stays, lists}
 use Rattle.commit_law.proofs.Deciding.{decided-members}

@@ -1,5 +1,5 @@
 -- Store, mode and requests of a cluster behind events.
-use Rattle.std.proofs.Common.{arith, ℕ, ◌≡◌, ◌≤◌, ◌+◌, ◌++◌, List, [], ◌∷◌, true, Option, refl, ◌∙◌, ap, sym, subst}
+use Rattle.std.proofs.Common.{arith, ℕ, ◌≡◌, ◌≤◌, ◌+◌, ◌++◌, List, [], ◌∷◌, true, Option, ◌∙◌, ap, sym, subst}
 use Rattle.std.specs.FinMap.{find}
 use Rattle.event_book.specs.declared.event.Event.{Event}
 use Rattle.event_book.specs.declared.event.EventKind.{EventKind}

@@ -14,18 +14,16 @@ use Rattle.pg_model.specs.Status.{end_in}
 use Rattle.event_book.specs.declared.event.Event.{Event}
 use Rattle.event_book.specs.declared.member.Member.{Member}
 use Rattle.event_book.specs.Links.{CutLinks}
-use Rattle.agent_model.specs.declared.knowledge.SyncRead.{SyncRead}
 use Rattle.agent_model.specs.declared.machine.Machine.{Machine}
 use Rattle.agent_model.specs.declared.machine.Replication.{Replication}
 use Rattle.agent_model.specs.Agents.{AgentFacts, outcome_from}
-use Rattle.agent_commit_law.specs.Committing.{IsEndOf, StandsToCommit, sync_seen}
+use Rattle.agent_commit_law.specs.Committing.{IsEndOf, StandsToCommit}
 use Rattle.member_options.specs.declared.member_option.MemberOptions.{MemberOptions}
 use Rattle.script_model.specs.Script.{HeadText}
 use Rattle.cluster_model.specs.Machines.{connected_end, connected_ends, is_connected, machine_from, machine_of, nothing_confirmed, replication_of}
 use Rattle.cluster_model.specs.State.{Cluster}
 use Rattle.lease_law.proofs.Tools.{none-some, some-is}
-use Rattle.commit_actions.specs.Stored.{key_seen, quorum_of}
-use Rattle.commit_actions.specs.Keys.{strict_quorum, SyncKey}
+use Rattle.commit_actions.specs.Keys.{strict_quorum}
 use Rattle.commit_actions.specs.Past.{Past, log_found, confirmers_in, confirmers_of, position_in, position_of}
 use Rattle.commit_actions.specs.States.{HasLog}
 use Rattle.commit_servers.specs.Matching.{live_now}
@@ -86,15 +84,6 @@ connected-end members servers cuts member s true n end is =
     (refl, cond-some (is_connected members servers cuts member (slice_get members n)) (slice_index_or s.confirmed n None) end (at-number (connected_end members servers cuts member s.confirmed) n end is))
 connected-end members servers cuts member s false n end is = absurd (none-confirmed 16 n end is)
 
--- of no sync key that was read may a standby lack a commit, since none says a number
-none-lacks : (read : Option SyncRead) (key : SyncKey) → sync_seen read ≡ Some key → key.quorum ≤ strict_quorum
-unfolding quorum_of
-none-lacks None key is = absurd (none-some key is)
-none-lacks (Some read) key is = subst (λ (k : SyncKey). k.quorum ≤ strict_quorum) (some-is (key_seen read.key read.revision) key is) (none-below 0)
-  where
-    none-below : (n : ℕ) → 0 ≤ n
-    none-below n = omega arith
-
 known-position : (confirmed : List (Option Lsn)) (n : ℕ) (end : Lsn) → slice_index_or confirmed n None ≡ Some end → position_in (slice_get confirmed n) ≡ Some end.position
 known-position [] n end is = absurd (none-some end is)
 known-position (one ∷ confirmed) zero end is = ap (λ (o : Option Lsn). position_in (Some o)) is
@@ -128,7 +117,6 @@ module _ (head : HeadText) (book : List Event) (cluster : Cluster) (good : Commi
         me = (good.lease.matched.agents k agent there).me;
         counts = small;
         strict = good.fits.strict;
-        turn = none-lacks agent.knows.turn_sync;
       }
 
 -- a member's agent stands to commit with the machine that it finds

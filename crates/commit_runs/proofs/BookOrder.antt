@@ -1,5 +1,5 @@
 -- Required lists and sync key that the law of commits has in order are so by the book alone.
-use Rattle.std.proofs.Common.{ℕ, ◌≡◌, ◌⊎◌, ◌++◌, Bool, true, false, List, [], ◌∷◌, Option, Some, None, slice_get, refl, ◌∙◌, ap, sym, subst, inl, inr}
+use Rattle.std.proofs.Common.{ℕ, ◌≡◌, ◌⊎◌, ◌++◌, Bool, true, false, List, [], ◌∷◌, Option, Some, None, slice_get, refl, ◌∙◌, ap, sym, subst}
 use Rattle.std.specs.FinMap.{find}
 use Rattle.pat_base.specs.declared.lsn.Lsn.{Lsn}
 use Rattle.pat_base.specs.declared.member_set.MemberSet.{MemberSet}
@@ -14,14 +14,14 @@ use Rattle.lease_store.specs.declared.txn.Txn.TheVariants as txns
 use Rattle.lease_store.specs.declared.value.SyncKey.{SyncKey as StoredSync}
 use Rattle.lease_store.specs.declared.value.Value.{Value}
 use Rattle.lease_store.proofs.Fences.{kept_first}
-use Rattle.script_model.specs.Script.{HeadText, names_of}
+use Rattle.script_model.specs.Script.{HeadText}
 use Rattle.event_book.specs.declared.event.Event.{Event}
 use Rattle.event_book.specs.declared.event.EventKind.TheVariants as kinds
 use Rattle.event_book.specs.declared.event.MessageEvent.TheVariants as messages
 use Rattle.event_book.specs.declared.event.StoreEvent.TheVariants as stores
 use Rattle.event_book.specs.declared.link.LinkEnd.TheVariants as ends
 use Rattle.event_book.specs.declared.message.Body.TheVariants as bodies
-use Rattle.event_book.specs.Facts.{Facts, facts_over, start_of}
+use Rattle.event_book.specs.Facts.{facts_over}
 use Rattle.event_book.specs.Required.{confirmed_over, required_over}
 use Rattle.event_book.specs.Functions.{set_members}
 use Rattle.lease_law.proofs.Tools.{none-some, some-is}
@@ -37,7 +37,7 @@ use Rattle.commit_book.specs.Keys.{sync_key_of, sync_value}
 use Rattle.commit_book.specs.Order.{IsAwaiting, IsConfirmer}
 use Rattle.commit_book.specs.Requests.{PublishesAwaited}
 use Rattle.commit_book.proofs.SyncKeys.{IsSameSync, entry-holds, sync-over}
-use Rattle.commit_parts.specs.Ordered.{AllInOrder, HappensInOrder, StaysInOrder, noted_by}
+use Rattle.commit_parts.specs.Ordered.{AllInOrder, HappensInOrder, StaysInOrder}
 use Rattle.commit_parts.specs.Reading.{past_of}
 use Rattle.commit_runs.specs.Runs.{noted_in, start_in}
 use Rattle.commit_runs.proofs.Holding.{book-writes}

@@ -15,19 +15,18 @@ use Rattle.event_book.specs.declared.event.EventKind.{EventKind}
 use Rattle.event_book.specs.declared.event.EventKind.TheVariants as kinds
 use Rattle.event_book.specs.declared.event.ReplicationEvent.TheVariants as replications
 use Rattle.event_book.specs.Logs.{Logs, entries_found}
-use Rattle.event_book.specs.Required.{required_after}
 use Rattle.event_book.specs.Functions.{set_members}
 use Rattle.lease_law.proofs.Tools.{both, put-all}
 use Rattle.cluster_model.proofs.Places.{get-elsewhere, get-here}
-use Rattle.sync_order.specs.Grown.{grown_after, grown_of, grown_to, is_within, listed}
-use Rattle.commit_actions.specs.Actions.{IsAllowed, act}
+use Rattle.sync_order.specs.Grown.{grown_of, is_within, listed}
+use Rattle.commit_actions.specs.Actions.{IsAllowed}
 use Rattle.commit_actions.specs.Keys.{Confirmers, Nobody, All}
 use Rattle.commit_actions.specs.Past.{Past, Setup, VolatileState, log_found, confirmers_in, confirmers_of, past_after, past_over, state_of}
 use Rattle.commit_actions.specs.States.{State}
 use Rattle.commit_law.specs.Noted.{AllFollow, AreNoted, Empties, Follows, Grows, Shrinks, Stays, lists}
 use Rattle.commit_law.proofs.Noting.{noted-by}
-use Rattle.commit_book.specs.Books.{AllLeaveCommits, ChangeOnce, IsShown, LeavesCommits, Transition}
-use Rattle.commit_book.specs.Changes.{AllLeaveOrder, ChangeOrderOnce, LeavesOrder}
+use Rattle.commit_book.specs.Books.{AllLeaveCommits, ChangeOnce, IsShown, Transition}
+use Rattle.commit_book.specs.Changes.{ChangeOrderOnce}
 use Rattle.commit_book.proofs.Fronts.{all-logs-aside, aside-logs}
 use Rattle.commit_book.proofs.Inside.{Seen, all-aside, aside-seen, seen_of}
 
