@@ -10,7 +10,11 @@ mod health;
 #[cfg(test)]
 mod operators;
 #[cfg(test)]
+mod plain_store;
+#[cfg(test)]
 mod races;
+#[cfg(test)]
+mod random_calls;
 #[cfg(test)]
 mod standbys;
 #[cfg(test)]

@@ -1,0 +1,191 @@
+//! The key store as a plain program, which the store is held against: a vector of pairs in the order of their keys.
+
+use lease_store::{Expected, Key, KeyEntry, StoreRefusal, SyncKey, Txn, Value};
+use pat_base::{MemberId, MemberSet, Ticks};
+use std::process::Abort;
+
+/// A store that is searched from its front.
+#[derive(Drop)]
+pub(crate) struct PlainStore {
+    pub(crate) pairs: Vec<(Key, KeyEntry)>,
+    pub(crate) revision: u64,
+}
+
+/// Whether an entry is present.
+pub(crate) fn is_present(now: Ticks, entry: &KeyEntry) -> bool {
+    match entry.expiry {
+        None => true,
+        Some(expiry) => now < expiry,
+    }
+}
+
+/// What a transaction compares, in this order.
+fn compares(txn: &Txn) -> [Option<(Key, Expected)>; 3] {
+    match txn {
+        Txn::Touch { .. } => [None, None, None],
+        Txn::Create { failsafe, sync, .. } => [
+            Some((Key::Leader, Expected::Absent)),
+            failsafe.map(|expected| (Key::Failsafe, expected)),
+            sync.map(|expected| (Key::Sync, expected)),
+        ],
+        Txn::Renew { revision, .. } | Txn::Release { revision } | Txn::DropFailover { revision } =>
+            {
+                [
+                    Some((Key::Leader, Expected::Revision(*revision))),
+                    None,
+                    None,
+                ]
+            }
+        Txn::Claim { revision, sync } | Txn::SetSync { revision, sync, .. } => [
+            Some((Key::Leader, Expected::Revision(*revision))),
+            Some((Key::Sync, *sync)),
+            None,
+        ],
+        Txn::DropSync { revision, sync } => [
+            Some((Key::Leader, Expected::Revision(*revision))),
+            Some((Key::Sync, Expected::Revision(*sync))),
+            None,
+        ],
+        Txn::SetFailover { .. } => [Some((Key::Failover, Expected::Absent)), None, None],
+        Txn::SetConfig { revision, .. } => {
+            [
+                Some((Key::Config, Expected::Revision(*revision))),
+                None,
+                None,
+            ]
+        }
+    }
+}
+
+impl PlainStore {
+    fn found(&self, now: Ticks, key: Key) -> Expected {
+        for (other, entry) in &self.pairs {
+            if *other == key && is_present(now, entry) {
+                return Expected::Revision(entry.revision);
+            }
+        }
+        Expected::Absent
+    }
+
+    fn check(&self, now: Ticks, txn: &Txn) -> Result<(), StoreRefusal> {
+        for compare in compares(txn) {
+            if let Some((key, expected)) = compare {
+                let found = self.found(now, key);
+                if found != expected {
+                    return Err(StoreRefusal::Mismatch { key, found });
+                }
+            }
+        }
+        Ok(())
+    }
+
+    fn put(&mut self, rt: &impl Abort, key: Key, value: Value, expiry: Option<Ticks>) {
+        self.delete(key);
+        let revision = self.revision;
+        let entry = KeyEntry {
+            value,
+            revision,
+            expiry,
+        };
+        self.pairs.push((key, entry)).expect(rt, "memory");
+        self.pairs.sort_by_key(|pair| pair.0).expect(rt, "memory");
+    }
+
+    fn delete(&mut self, key: Key) {
+        self.pairs.retain(|pair| pair.0 != key);
+    }
+
+    fn extend(&mut self, until: Ticks) {
+        for (key, entry) in &mut self.pairs {
+            if *key == Key::Leader {
+                entry.revision = self.revision;
+                entry.expiry = entry.expiry.map(|expiry| expiry.max(until));
+            }
+        }
+    }
+
+    /// What `Store::apply` does.
+    pub(crate) fn apply(
+        &mut self,
+        rt: &impl Abort,
+        now: Ticks,
+        by: MemberId,
+        txn: &Txn,
+    ) -> Result<u64, StoreRefusal> {
+        self.check(now, txn)?;
+        self.revision = self.revision.wrapping_add(1);
+        self.write(rt, now, by, txn);
+        Ok(self.revision)
+    }
+
+    fn write(&mut self, rt: &impl Abort, now: Ticks, by: MemberId, txn: &Txn) {
+        let until = |ttl: Ticks| Ticks(now.0.saturating_add(ttl.0));
+        match txn {
+            Txn::Touch { info, ttl } => {
+                self.put(rt, Key::Member(by), Value::Member(*info), Some(until(*ttl)));
+            }
+            Txn::Create { info, ttl, .. } => {
+                self.put(rt, Key::Leader, Value::Leader(by), Some(until(*ttl)));
+                self.put(rt, Key::Member(by), Value::Member(*info), Some(until(*ttl)));
+            }
+            Txn::Renew {
+                info,
+                ttl,
+                status,
+                row,
+                failsafe,
+                ..
+            } => {
+                self.extend(until(*ttl));
+                self.put(rt, Key::Member(by), Value::Member(*info), Some(until(*ttl)));
+                if let Some(end) = *status {
+                    self.put(rt, Key::Status, Value::Status(end), None);
+                }
+                if let Some(row) = *row {
+                    self.put(rt, Key::History(row.timeline), Value::History(row), None);
+                }
+                if let Some(members) = *failsafe {
+                    self.put(rt, Key::Failsafe, Value::Failsafe(members), None);
+                }
+            }
+            Txn::Release { .. } => self.delete(Key::Leader),
+            Txn::Claim { .. } => self.put_sync(rt, by, MemberSet::empty()),
+            Txn::SetSync { standbys, .. } => self.put_sync(rt, by, *standbys),
+            Txn::DropSync { .. } => self.delete(Key::Sync),
+            Txn::SetFailover { failover, ttl } => {
+                self.put(
+                    rt,
+                    Key::Failover,
+                    Value::Failover(*failover),
+                    Some(until(*ttl)),
+                );
+            }
+            Txn::DropFailover { .. } => self.delete(Key::Failover),
+            Txn::SetConfig { config, .. } => {
+                let config = config.try_clone().expect(rt, "memory");
+                self.put(rt, Key::Config, Value::Config(config), None);
+            }
+        }
+    }
+
+    fn put_sync(&mut self, rt: &impl Abort, leader: MemberId, standbys: MemberSet) {
+        self.put(
+            rt,
+            Key::Sync,
+            Value::Sync(SyncKey { leader, standbys }),
+            None,
+        );
+    }
+
+    /// What `Store::drop_expired` does.
+    pub(crate) fn drop_expired(&mut self, now: Ticks) -> Option<MemberId> {
+        let mut holder = None;
+        for (key, entry) in &self.pairs {
+            if *key == Key::Leader && !is_present(now, entry) {
+                holder = entry.value.holder();
+            }
+        }
+        self.pairs.retain(|pair| is_present(now, &pair.1));
+        holder
+    }
+}
