@@ -10,7 +10,11 @@ fn who_may_race_and_who_wins(rt: HostRuntime) {
     let store = store_of(&rt, rt.alloc(), b"{}");
     let seen = snapshot_of(&rt, rt.alloc(), &store);
     let stopped = follower(&rt, &seen, State::Stopped);
-    has_answer(&rt, &may_race(&stopped, &seen), &Err(Ineligibility::NotRunning));
+    has_answer(
+        &rt,
+        &may_race(&stopped, &seen),
+        &Err(Ineligibility::NotRunning),
+    );
     let view = follower(&rt, &seen, State::Replica);
     has_answer(&rt, &may_race(&view, &seen), &Ok(()));
     has_answer(&rt, &wins(&view, &seen, &[]), &Ok(()));
@@ -20,5 +24,9 @@ fn who_may_race_and_who_wins(rt: HostRuntime) {
         end: Lsn::new(END.position + 1),
         tags: TAGS,
     };
-    has_answer(&rt, &wins(&view, &seen, &[ahead]), &Err(Ineligibility::Ahead(C)));
+    has_answer(
+        &rt,
+        &wins(&view, &seen, &[ahead]),
+        &Err(Ineligibility::Ahead(C)),
+    );
 }
