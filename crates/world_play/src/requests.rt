@@ -14,8 +14,8 @@ use lease_store::OperatorAction;
 use rest_answer::{Answer, answer, refusal_reply};
 use rest_message::Verb;
 use std::alloc::AllocError;
+use world_agents::requests::{replying, silence};
 use world_parts::processes::may_act;
-use world_parts::requests::{replying, silence};
 use world_stage::Stage;
 
 /// What a connection brings to the agent of a member.

@@ -27,12 +27,12 @@ use rest_paths::Routes;
 use script_model::{End, Head};
 use std::alloc::{AllocError, Global};
 use std::marker::Model;
+use world_agents::places::{close_all, first_agents};
 use world_flight::flight::Flight;
 use world_flight::flight_index::FlightIndex;
 use world_parts::from_head::{hosts_of, members_of, options_of, processes_of};
 use world_parts::links::{CutLinks, link_of};
 use world_parts::members;
-use world_parts::places::{close_all, first_agents};
 
 /// A cluster at a moment: the clock, the key store, the declared members with their agents, machines and servers, the links that
 /// are cut, the messages in flight, and the commits. It can't be dropped, since an agent can't: `Stage::close` ends one. Each of its

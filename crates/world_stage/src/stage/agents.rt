@@ -25,10 +25,10 @@ use lease_store::{Key, KeyEntry, OperatorAction};
 use pat_base::{MemberId, Ticks};
 use std::alloc::AllocError;
 use std::mem;
+use world_agents::places;
 use world_flight::flight::InFlight;
 use world_parts::actions::copy_of;
 use world_parts::machines::{item_at, machine_from};
-use world_parts::places;
 use world_parts::replication::replication_of;
 use world_parts::sources::source_of;
 

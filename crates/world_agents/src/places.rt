@@ -8,16 +8,17 @@ ghost use Rattle.cluster_model.specs.Cluster.{agent_after, agent_facts_moved, ag
 ghost use Rattle.cluster_model.specs.Inputs.{agent_at, outcome_at, outputs_of, standing, starting_agent};
 ghost use Rattle.pat_base.specs.declared.member_id.TheConstants.{MOST_MEMBERS};
 ghost use Rattle.cluster_model.specs.Starting.{first_agent};
+ghost use Rattle.world_model.specs.Apart.{agents_apart};
 ghost use Rattle.world_model.specs.Room.{HasNumbers};
 
-use crate::machines::who_of;
 use agent_model::{Heard, Machine, Who};
-use event_book::{AgentEvent, Member, WatchdogEvent};
+use event_book::{AgentEvent, EventKind, Member, WatchdogEvent};
 use ha_loop::{Agent, Outputs};
 use member_options::MemberOptions;
 use pat_base::{Name, Ticks};
 use std::alloc::{AllocError, Global};
 use wal_model::History;
+use world_parts::machines::who_of;
 
 /// The agents of a cluster of this name with these members, of whom these options are declared, each in its first incarnation. It fails only for want of memory.
 pub fn first_agents(
@@ -119,8 +120,30 @@ fn put(slot: &mut Option<Agent>, agent: Agent)
     }
 }
 
+/// The agents of a cluster of this name with these members, of whom these options are declared, after a happening of this moment that is no input of one.
+pub fn change_agents(
+    agents: &mut Vec<Option<Agent>>,
+    scope: Name,
+    options: &[MemberOptions],
+    members: &[Member],
+    now: Ticks,
+    kind: &EventKind,
+)
+    requires few { length members.now ≤ MOST_MEMBERS }
+    requires moment { now.0 ≤ latest }
+    ensures { agents.new.items ≡ agents_apart scope options.now members.now now.0 agents.old.items kind.now }
+{
+    match kind {
+        EventKind::Agent(happening) => {
+            change_agents_by(agents, scope, options, members, now, happening)
+        }
+        EventKind::Watchdog(happening) => reset_agent(agents, happening),
+        _ => {}
+    }
+}
+
 /// The agents of a cluster of this name with these members, of whom these options are declared, at this moment, after one ended or started.
-pub fn change_agents_by(
+fn change_agents_by(
     agents: &mut Vec<Option<Agent>>,
     scope: Name,
     options: &[MemberOptions],
@@ -148,7 +171,7 @@ pub fn change_agents_by(
 }
 
 /// A reset of its machine ends an agent.
-pub fn reset_agent(agents: &mut Vec<Option<Agent>>, happening: &WatchdogEvent)
+fn reset_agent(agents: &mut Vec<Option<Agent>>, happening: &WatchdogEvent)
     ensures { agents.new.items ≡ agent_facts_by_watchdog agents.old.items happening.now }
 {
     if let WatchdogEvent::Reset { member } = happening {

@@ -1,7 +1,7 @@
 use Rattle.std.proofs.Common.{◌≡◌, ◌++◌, drop, length, map}
 use Rattle.std.specs.Prelude.{vec_capacity, vec_len}
 use Rattle.cluster_model.specs.Starting.{first_agent}
-use Rattle.world_parts.proofs.places.first_agents.Given as goal
+use Rattle.world_agents.proofs.places.first_agents.Given as goal
 
 -- the agents of the members from this place on are still to start, and there is a place for each
 abbrev pub invariant-loop-member : goal.invariant-loop-member

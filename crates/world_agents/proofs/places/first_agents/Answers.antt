@@ -3,7 +3,7 @@ use Rattle.agent_model.specs.Agents.{AgentFacts}
 use Rattle.event_book.specs.declared.member.Member.{Member}
 use Rattle.cluster_model.specs.Starting.{first_agent}
 use Rattle.world_model.proofs.Starting.{mapped-end, mapped-more}
-use Rattle.world_parts.proofs.places.first_agents.Goals as goal
+use Rattle.world_agents.proofs.places.first_agents.Goals as goal
 
 pub push_reserved-requires : goal.push_reserved-requires
 push_reserved-requires c = omega (arith, c.loop-member.invariant.len, c.loop-member.invariant.capacity, c.loop-member-test.true)
