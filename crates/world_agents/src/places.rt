@@ -1,7 +1,9 @@
 //! The agents of members, each at the place of its member. An agent can't be dropped: one that ends is wrecked.
-ghost use Rattle.std.specs.Prelude.{ℕ, ◌≡◌, ◌≤◌, ◌<◌, ◌+◌, [], List, Option, Some, None, All, IfSome, IfOk, length, map, option_copied};
+ghost use Rattle.std.specs.Prelude.{ℕ, ◌≡◌, ◌≤◌, ◌<◌, ◌+◌, [], List, Option, Some, None, All, IfSome, IfOk, length, map, option_and_then, option_copied, option_map};
 ghost use Rattle.pat_base.specs.Changes.{with_changed};
-ghost use Rattle.agent_model.specs.Agents.{AgentFacts, IsWithin, most_messages};
+ghost use Rattle.cluster_config.specs.declared.view.AgentView.{AgentView};
+ghost use Rattle.agent_model.specs.Agents.{AgentFacts, IsWithin, most_messages, word_of};
+ghost use Rattle.agent_model.specs.Views.{view_of};
 ghost use Rattle.pat_base.specs.Moments.{latest};
 ghost use Rattle.agent_model.specs.Outputs.{most_outputs};
 ghost use Rattle.cluster_model.specs.Cluster.{agent_after, agent_facts_moved, agent_facts_by_watchdog, agent_facts_without};
@@ -12,6 +14,7 @@ ghost use Rattle.world_model.specs.Apart.{agents_apart};
 ghost use Rattle.world_model.specs.Room.{HasNumbers};
 
 use agent_model::{Heard, Machine, Who};
+use cluster_config::AgentView;
 use event_book::{AgentEvent, EventKind, Member, WatchdogEvent};
 use ha_loop::{Agent, Outputs};
 use member_options::MemberOptions;
@@ -61,6 +64,20 @@ pub fn agent_at(agents: &[Option<Agent>], place: usize) -> Option<&Agent>
     ensures { option_copied result ≡ agent_at agents.now place }
 {
     agents.get(place)?.as_ref()
+}
+
+/// What the agent at a place shows at this moment with this machine, if one is there.
+pub fn view_at<'a>(
+    agents: &'a [Option<Agent>],
+    place: usize,
+    now: Ticks,
+    machine: &Machine,
+) -> Option<AgentView<'a>>
+    ensures shows { option_map (λ (v : AgentView). record v { seen = None }) result ≡ option_map (λ agent. view_of now (word_of agent.role) agent.knows machine.now) (agent_at agents.now place) }
+    ensures seen { option_and_then (λ (v : AgentView). option_copied v.seen) result ≡ option_and_then (λ agent. agent.knows.seen) (agent_at agents.now place) }
+{
+    let agent = agent_at(agents, place)?;
+    Some(agent.view(now, machine))
 }
 
 /// The agent at a place, if there is one, acts on what it hears, with this machine and at a server with this history.

@@ -12,15 +12,15 @@ ghost use Rattle.event_book.specs.Watchdogs.{deadlines_after, holds_after};
 ghost use Rattle.pat_base.specs.Moments.{latest};
 ghost use Rattle.world_model.specs.Comes.{IsBare};
 
-use crate::links::CutLinks;
 use crate::processes::{change_process, reset_process};
-use crate::watchdogs::{change_deadline, change_hold};
 use event_book::{
     AgentProcess, EventKind, LogEvent, MessageEvent, ReplicationEvent, ServerEvent, ServerOf,
 };
 use lease_store::Store;
 use pat_base::Ticks;
 use std::alloc::AllocError;
+use world_fields::links::CutLinks;
+use world_fields::watchdogs::{change_deadline, change_hold};
 
 /// The moment after a happening.
 pub fn now_after(now: Ticks, kind: &EventKind) -> Ticks

@@ -3,12 +3,8 @@
 
 pub mod actions;
 pub mod changes;
-pub mod deliveries;
 pub mod from_head;
-pub mod links;
-pub mod losing;
 pub mod machines;
-pub mod members;
 pub mod naming;
 pub mod order_kinds;
 pub mod processes;
@@ -16,4 +12,3 @@ pub mod replication;
 pub mod server_changes;
 pub mod server_commands;
 pub mod sources;
-pub mod watchdogs;

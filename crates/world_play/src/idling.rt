@@ -7,8 +7,8 @@ ghost use Rattle.world_model.specs.Idle.{HasWorkFrom, NothingEnds, NothingIsDue,
 
 use event_book::{AgentProcess, Member};
 use pat_base::Ticks;
+use world_fields::watchdogs::first_deadline;
 use world_parts::processes::may_act;
-use world_parts::watchdogs::first_deadline;
 use world_stage::Stage;
 
 /// From when on something is due by the clock, as long as nothing else happens: something ends, or an agent has something to

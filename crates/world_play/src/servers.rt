@@ -14,7 +14,7 @@ use cluster_model::Beginning;
 use event_book::{Event, EventKind, Member, Note, Reason, ServerEvent, ServerOf};
 use pat_base::{MemberId, Required, State};
 use std::alloc::AllocError;
-use world_parts::losing::loss_of_any;
+use world_fields::losing::loss_of_any;
 use world_parts::order_kinds::{
     declared_member, following_of, member_at, require_of, stop_of, upstream_of, wipe_of,
 };

@@ -22,7 +22,7 @@ use event_book::{Event, EventKind};
 use rest_message::Verb;
 use script_model::Command;
 use std::alloc::AllocError;
-use world_parts::links::{cut_of, join_of};
+use world_fields::links::{cut_of, join_of};
 use world_parts::processes::{kill_of, resume_of, suspend_of};
 use world_parts::server_commands::{commit_of, crash_of, freezing_of, slow_of};
 use world_stage::Stage;

@@ -12,8 +12,8 @@ use cluster_model::HeardMessage;
 use event_book::{AgentProcess, Event, Member};
 use pat_base::Ticks;
 use std::alloc::AllocError;
+use world_fields::watchdogs::disarm_at_start;
 use world_parts::processes::{agent_started, may_act};
-use world_parts::watchdogs::disarm_at_start;
 use world_stage::Stage;
 
 /// No message is heard by an agent that is woken.
