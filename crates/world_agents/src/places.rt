@@ -73,7 +73,7 @@ pub fn view_at<'a>(
     now: Ticks,
     machine: &Machine,
 ) -> Option<AgentView<'a>>
-    ensures shows { option_map (λ (v : AgentView). record v { seen = None }) result ≡ option_map (λ agent. view_of now (word_of agent.role) agent.knows machine.now) (agent_at agents.now place) }
+    ensures shows { option_map (λ (v : AgentView). let unread : AgentView = record v { seen = None } in unread) result ≡ option_map (λ agent. view_of now (word_of agent.role) agent.knows machine.now) (agent_at agents.now place) }
     ensures seen { option_and_then (λ (v : AgentView). option_copied v.seen) result ≡ option_and_then (λ agent. agent.knows.seen) (agent_at agents.now place) }
 {
     let agent = agent_at(agents, place)?;
