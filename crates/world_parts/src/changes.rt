@@ -10,23 +10,17 @@ ghost use Rattle.event_book.specs.Keys.{keys_after};
 ghost use Rattle.event_book.specs.Links.{cuts_after};
 ghost use Rattle.event_book.specs.Watchdogs.{deadlines_after, holds_after};
 ghost use Rattle.pat_base.specs.Moments.{latest};
-ghost use Rattle.pat_base.specs.declared.member_id.TheConstants.{MOST_MEMBERS};
-ghost use Rattle.world_model.specs.Apart.{agents_apart};
 ghost use Rattle.world_model.specs.Comes.{IsBare};
 
-use crate::links::CutLinks;
-use crate::places::{change_agents_by, reset_agent};
 use crate::processes::{change_process, reset_process};
-use crate::watchdogs::{change_deadline, change_hold};
 use event_book::{
-    AgentProcess, EventKind, LogEvent, Member, MessageEvent, ReplicationEvent, ServerEvent,
-    ServerOf,
+    AgentProcess, EventKind, LogEvent, MessageEvent, ReplicationEvent, ServerEvent, ServerOf,
 };
-use ha_loop::Agent;
 use lease_store::Store;
-use member_options::MemberOptions;
-use pat_base::{Name, Ticks};
+use pat_base::Ticks;
 use std::alloc::AllocError;
+use world_fields::links::CutLinks;
+use world_fields::watchdogs::{change_deadline, change_hold};
 
 /// The moment after a happening.
 pub fn now_after(now: Ticks, kind: &EventKind) -> Ticks
@@ -56,28 +50,6 @@ pub fn change_processes(processes: &mut Vec<AgentProcess>, kind: &EventKind)
     match kind {
         EventKind::Agent(happening) => change_process(processes, happening),
         EventKind::Watchdog(happening) => reset_process(processes, happening),
-        _ => {}
-    }
-}
-
-/// The agents of a cluster of this name with these members, of whom these options are declared, after a happening of this moment that is no input of one.
-pub fn change_agents(
-    agents: &mut Vec<Option<Agent>>,
-    scope: Name,
-    options: &[MemberOptions],
-    members: &[Member],
-    now: Ticks,
-    kind: &EventKind,
-)
-    requires few { length members.now ≤ MOST_MEMBERS }
-    requires moment { now.0 ≤ latest }
-    ensures { agents.new.items ≡ agents_apart scope options.now members.now now.0 agents.old.items kind.now }
-{
-    match kind {
-        EventKind::Agent(happening) => {
-            change_agents_by(agents, scope, options, members, now, happening)
-        }
-        EventKind::Watchdog(happening) => reset_agent(agents, happening),
         _ => {}
     }
 }

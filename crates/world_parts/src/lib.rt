@@ -3,19 +3,12 @@
 
 pub mod actions;
 pub mod changes;
-pub mod deliveries;
 pub mod from_head;
-pub mod links;
-pub mod losing;
 pub mod machines;
-pub mod members;
 pub mod naming;
 pub mod order_kinds;
-pub mod places;
 pub mod processes;
 pub mod replication;
-pub mod requests;
 pub mod server_changes;
 pub mod server_commands;
 pub mod sources;
-pub mod watchdogs;

@@ -3,13 +3,13 @@ ghost use Rattle.std.specs.Prelude.{◌≡◌, if◌then◌else◌, option_map, 
 ghost use Rattle.pat_base.specs.ServerState.{writes};
 ghost use Rattle.cluster_model.specs.Machines.{connected_end, connected_ends, is_connected, is_source, nothing_confirmed, replication_of};
 
-use crate::links::CutLinks;
 use crate::sources::source_of;
 use agent_model::Replication;
 use event_book::Member;
 use pat_base::{Lsn, MOST_MEMBERS, MemberId};
 use pg_cluster::Servers;
 use pg_model::Server;
+use world_fields::links::CutLinks;
 
 /// Whom the commits of a member's server wait for, and how far each connected member has confirmed. `None` exactly where there is
 /// no server.

@@ -4,11 +4,11 @@ ghost use Rattle.cluster_model.specs.State.{Cluster};
 ghost use Rattle.world_model.specs.Comes.{MayCome};
 ghost use Rattle.cluster_model.specs.Streaming.{link_of_members, source_at, source_named, source_for, source_of, confirm_of, is_confirmed, unconfirmed_end};
 
-use crate::links::CutLinks;
 use event_book::{Link, LinkEnd, Member};
 use pat_base::{Lsn, ServerId, State};
 use pg_cluster::Servers;
 use pg_model::Server;
+use world_fields::links::CutLinks;
 
 /// The member from whose server that of this member receives: it is a replica whose log didn't diverge, its upstream
 /// accepts writes, and the link between the two is joined.

@@ -23,7 +23,7 @@ use Rattle.world_model.proofs.Taking.{Emits-then, found-took}
 use Rattle.world_stage.specs.Arrivals.{ArrivesAt, Comes, Landed}
 use Rattle.world_stage.specs.declared.arrival.Arrival.{Arrival}
 use Rattle.world_stage.specs.declared.arrival.Arrival.TheVariants as arrivals
-use Rattle.world_play.proofs.Waking.{AreFew, input-few}
+use Rattle.world_acts.proofs.Waking.{AreFew, input-few}
 
 -- the events of what came are those of its receiver
 arrival-is : (before after : Cluster) (had has : List Event) (number : ℕ) (message : InFlightFacts) (to : LinkEnd) → in_flight before.facts.flight number ≡ Some message → message.message.to ≡ to

@@ -1,5 +1,3 @@
-pub mod Waking
-pub mod Carried
 pub mod Changing
 pub mod Expiring
 pub mod Numbering

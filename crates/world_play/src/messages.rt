@@ -8,11 +8,12 @@ ghost use Rattle.cluster_model.specs.Parts.{event_of, each, for_some};
 ghost use Rattle.world_model.specs.Room.{HasRoom, message_cost};
 ghost use Rattle.world_model.specs.Emits.{Emits};
 
-use crate::carrying::carry_out;
 use cluster_model::Delivery;
 use event_book::{Event, EventKind, MessageEvent, Note};
 use std::alloc::AllocError;
-use world_stage::{Arrival, Stage, write_down};
+use world_acts::carrying::carry_out;
+use world_fields::writing::write_down;
+use world_stage::{Arrival, Stage};
 
 /// The messages that are in flight move, one after another. Those that are kept aren't looked at.
 pub fn pass_messages(stage: &mut Stage, events: &mut Vec<Event>) -> Result<(), AllocError>

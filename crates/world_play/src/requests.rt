@@ -6,16 +6,16 @@ ghost use Rattle.cluster_model.specs.Parts.{for_some};
 ghost use Rattle.world_model.specs.Emits.{Emits};
 ghost use Rattle.world_model.specs.Room.{HasRoom, request_cost};
 
-use crate::carrying::carry_out;
-use crate::wakes::NO_MESSAGE;
 use cluster_model::{Asker, Visit};
 use event_book::{Event, EventKind, Member, Note};
 use lease_store::OperatorAction;
 use rest_answer::{Answer, answer, refusal_reply};
 use rest_message::Verb;
 use std::alloc::AllocError;
+use world_acts::carrying::carry_out;
+use world_acts::wakes::NO_MESSAGE;
+use world_agents::requests::{replying, silence};
 use world_parts::processes::may_act;
-use world_parts::requests::{replying, silence};
 use world_stage::Stage;
 
 /// What a connection brings to the agent of a member.

@@ -5,16 +5,17 @@ ghost use Rattle.cluster_model.specs.Ticking.{completion_events, expiry_of, expi
 ghost use Rattle.world_model.specs.Emits.{Emits};
 ghost use Rattle.world_model.specs.Room.{HasRoom, beginning_cost, completions_cost, resets_cost, tick_cost};
 
-use crate::servers::begin_on;
 use cluster_model::Completion;
 use event_book::{Event, EventKind, Member, ServerEvent, ServerOf, StoreEvent};
 use lease_store::Key;
 use pat_base::Ticks;
 use std::alloc::AllocError;
+use world_acts::servers::begin_on;
+use world_fields::watchdogs::reset_of;
+use world_fields::writing::write_down;
 use world_parts::order_kinds::declared_member;
 use world_parts::server_commands::completion_of;
-use world_parts::watchdogs::reset_of;
-use world_stage::{Stage, write_down};
+use world_stage::Stage;
 
 /// The clock grows by one, starts and stops of servers that don't write are complete, and the keys that have expired are
 /// dropped. The machines whose watchdogs are due are reset, what expired is told, and starts and stops of

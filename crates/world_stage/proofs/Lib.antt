@@ -11,3 +11,4 @@ pub mod Promoting
 pub mod Still
 pub mod Landing
 pub mod Printed
+pub mod Views

@@ -1,7 +1,7 @@
 -- That servers lack commits changes nothing.
-use Rattle.std.proofs.Common.{◌≡◌, ℕ, ◌+◌, ◌≤◌, Bool, true, false, List, [], ◌∷◌, ◌++◌, drop, length, Option, Some, None, append-nil, append_assoc, arith, refl, ◌∙◌, ap, sym}
+use Rattle.std.proofs.Common.{◌≡◌, ℕ, ◌+◌, Bool, true, false, List, [], ◌∷◌, ◌++◌, Option, Some, None, append_assoc, arith, refl, ◌∙◌, ap, sym}
 use Rattle.std.specs.Prelude.{slice_get}
-use Rattle.std.proofs.lemmas.List.{drop_all, map-append}
+use Rattle.std.proofs.lemmas.List.{map-append}
 use Rattle.pg_model.specs.Facts.{ServerFacts}
 use Rattle.event_book.specs.declared.event.Event.{Event}
 use Rattle.event_book.specs.declared.event.EventKind.{EventKind}
@@ -13,7 +13,6 @@ use Rattle.cluster_model.specs.Parts.{events_at, events_of}
 use Rattle.cluster_model.specs.State.{Cluster}
 use Rattle.world_model.specs.Emits.{Emits}
 use Rattle.world_model.proofs.Rooms.{HasRoom-fewer}
-use Rattle.world_model.proofs.Starting.{drop-get}
 use Rattle.world_model.proofs.Taking.{cluster_over-append}
 
 -- these happenings, at the moment of a cluster
@@ -51,20 +50,3 @@ losses-quiet cluster commit known (member ∷ members) =
 -- they were written down
 pub quiet-took : (cluster : Cluster) (kinds : List EventKind) (had has : List Event) → IsQuiet cluster kinds → has ≡ had ++ at_once cluster kinds → Emits cluster cluster had has (at_once cluster kinds) 0
 quiet-took cluster kinds had has quiet is = record { state = sym quiet.still; event = is; room = λ more room. HasRoom-fewer cluster (0 + more) more (omega arith) room }
-
--- what one server lacks is written down, and then what the servers of the members behind it do
-pub losses-more : (cluster : Cluster) (commit : ℕ) (had longer whole : List Event) (place : ℕ) (member : Member) → slice_get cluster.facts.members place ≡ Some member
-    → longer ≡ had ++ at_once cluster (loss_of commit member (slice_get cluster.facts.servers member.id.number))
-    → had ++ at_once cluster (losses_of commit cluster.facts.servers (drop place cluster.facts.members)) ≡ whole
-    → longer ++ at_once cluster (losses_of commit cluster.facts.servers (drop (place + 1) cluster.facts.members)) ≡ whole
-losses-more cluster commit had longer whole place member is longer_is so =
-    let one = loss_of commit member (slice_get cluster.facts.servers member.id.number) in
-    let rest = losses_of commit cluster.facts.servers (drop (place + 1) cluster.facts.members) in
-    ap (λ es. es ++ at_once cluster rest) longer_is ∙ append_assoc had (at_once cluster one) (at_once cluster rest) ∙ ap (λ es. had ++ es) (sym (map-append _ one rest))
-    ∙ ap (λ (ms : List Member). had ++ at_once cluster (losses_of commit cluster.facts.servers ms)) (sym (drop-get Member cluster.facts.members place member is)) ∙ so
-
--- none is left
-pub losses-end : (cluster : Cluster) (commit : ℕ) (had whole : List Event) (place : ℕ) → length cluster.facts.members ≤ place
-    → had ++ at_once cluster (losses_of commit cluster.facts.servers (drop place cluster.facts.members)) ≡ whole → had ≡ whole
-losses-end cluster commit had whole place over so =
-    sym (append-nil had) ∙ ap (λ (ms : List Member). had ++ at_once cluster (losses_of commit cluster.facts.servers ms)) (sym (drop_all place cluster.facts.members over)) ∙ so

@@ -5,4 +5,4 @@ mod arrival;
 mod stage;
 
 pub use arrival::Arrival;
-pub use stage::{Stage, write_down};
+pub use stage::Stage;

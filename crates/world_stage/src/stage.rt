@@ -1,7 +1,6 @@
 //! The stage of a world: what a cluster has at a moment.
 ghost use Rattle.std.specs.Prelude.{◌≡◌, ◌<◌, ◌≤◌, ◌+◌, ◌^◌, ◌++◌, ◌∷◌, [], length, OnOk, IfOk, slice_get, Some};
 ghost use Rattle.script_model.specs.Script.{IsLink, IsMember};
-ghost use Rattle.event_book.specs.declared.event.Event.{Event};
 ghost use Rattle.cluster_model.specs.Commands.{link_of};
 ghost use Rattle.pat_base.specs.declared.member_id.TheConstants.{MOST_MEMBERS};
 ghost use Rattle.cluster_model.specs.Next.{declared};
@@ -17,7 +16,7 @@ mod messages;
 mod printing;
 mod restarts;
 
-use event_book::{AgentProcess, Event, EventKind, Link, Member};
+use event_book::{AgentProcess, Link, Member};
 use ha_loop::{Agent, Outputs};
 use lease_store::Store;
 use member_options::MemberOptions;
@@ -27,12 +26,12 @@ use rest_paths::Routes;
 use script_model::{End, Head};
 use std::alloc::{AllocError, Global};
 use std::marker::Model;
+use world_agents::places::{close_all, first_agents};
+use world_fields::links::{CutLinks, link_of};
+use world_fields::members;
 use world_flight::flight::Flight;
 use world_flight::flight_index::FlightIndex;
 use world_parts::from_head::{hosts_of, members_of, options_of, processes_of};
-use world_parts::links::{CutLinks, link_of};
-use world_parts::members;
-use world_parts::places::{close_all, first_agents};
 
 /// A cluster at a moment: the clock, the key store, the declared members with their agents, machines and servers, the links that
 /// are cut, the messages in flight, and the commits. It can't be dropped, since an agent can't: `Stage::close` ends one. Each of its
@@ -304,12 +303,4 @@ impl Stage {
     {
         self.clock = Ticks(self.clock.0 + ticks);
     }
-}
-
-/// Writes an event down.
-pub fn write_down(events: &mut Vec<Event>, tick: Ticks, kind: EventKind) -> Result<(), AllocError>
-    ensures { OnOk result (events.new.items ≡ events.old.items ++ record { tick = tick; kind = kind } ∷ []) }
-{
-    events.push(Event { tick, kind })?;
-    Ok(())
 }

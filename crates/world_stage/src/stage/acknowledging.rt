@@ -1,16 +1,14 @@
 //! Commits whose clients are told that they are stored, and servers that lack one.
-ghost use Rattle.std.specs.Prelude.{◌≡◌, ◌+◌, ◌++◌, OnOk, slice_get};
-ghost use Rattle.event_book.specs.declared.event.Event.{Event};
+ghost use Rattle.std.specs.Prelude.{OnOk};
 ghost use Rattle.cluster_model.specs.Acknowledging.{AreAcknowledged};
-ghost use Rattle.cluster_model.specs.Losing.{loss_of, losses_of};
 ghost use Rattle.cluster_model.specs.Next.{acknowledge_events};
-ghost use Rattle.cluster_model.specs.Parts.{each, events_at};
+ghost use Rattle.cluster_model.specs.Parts.{each};
 ghost use Rattle.world_model.specs.Emits.{Emits};
 
-use super::{Stage, write_down};
-use event_book::{Event, EventKind, Member, ReplicationEvent, ServerOf};
+use super::Stage;
+use event_book::{Event, Member, ServerOf};
 use std::alloc::AllocError;
-use world_parts::losing::loss_at;
+use world_fields::acknowledging::{tell_acknowledged, tell_losses};
 
 impl Stage {
     /// The commits of all servers are acknowledged as far as they may be, in script order. Then none is left that may be.
@@ -31,39 +29,9 @@ impl Stage {
         let server = ServerOf::of(member);
         let place = member.id.number as usize;
         while let Some(commit) = self.servers.next_acknowledged(place) {
-            self.acknowledged.push(commit)?;
-            write_down(
-                events,
-                self.clock,
-                EventKind::Replication(ReplicationEvent::Acknowledged { server, commit }),
-            )?;
-            self.note_losses(commit, events)?;
+            tell_acknowledged(&mut self.acknowledged, server, commit, self.clock, events)?;
+            tell_losses(&self.servers, &self.members, commit, self.clock, events)?;
         }
         Ok(())
-    }
-
-    /// Writes down which servers that accept writes lack this commit, in script order.
-    fn note_losses(&self, commit: u64, events: &mut Vec<Event>) -> Result<(), AllocError>
-        ensures { OnOk result (events.new.items ≡ events.old.items ++ events_at (record { 0 = self.now.facts.clock }) (losses_of commit self.now.facts.servers self.now.facts.members)) }
-    {
-        for place in 0..self.members.len() {
-            self.note_loss(self.member(place), commit, events)?;
-        }
-        Ok(())
-    }
-
-    /// That of a member does, where it is so.
-    fn note_loss(
-        &self,
-        member: Member,
-        commit: u64,
-        events: &mut Vec<Event>,
-    ) -> Result<(), AllocError>
-        ensures { OnOk result (events.new.items ≡ events.old.items ++ events_at (record { 0 = self.now.facts.clock }) (loss_of commit member (slice_get self.now.facts.servers member.id.number))) }
-    {
-        match loss_at(&self.servers, member, commit) {
-            None => Ok(()),
-            Some(loss) => write_down(events, self.clock, loss),
-        }
     }
 }

@@ -16,7 +16,7 @@ ghost use Rattle.world_model.specs.Room.{HasRoom, hearing_cost};
 ghost use Rattle.world_model.specs.Short.{IsSent};
 ghost use Rattle.world_stage.specs.AgentViews.{IsViewOf};
 
-use super::{Stage, write_down};
+use super::Stage;
 use agent_model::{Heard, Machine};
 use cluster_config::{AgentView, Snapshot};
 use event_book::{AgentEvent, AgentProcess, Body, Event, EventKind, LinkEnd, Member, Message};
@@ -25,10 +25,11 @@ use lease_store::{Key, KeyEntry, OperatorAction};
 use pat_base::{MemberId, Ticks};
 use std::alloc::AllocError;
 use std::mem;
+use world_agents::places;
+use world_fields::writing::write_down;
 use world_flight::flight::InFlight;
 use world_parts::actions::copy_of;
 use world_parts::machines::{item_at, machine_from};
-use world_parts::places;
 use world_parts::replication::replication_of;
 use world_parts::sources::source_of;
 
@@ -211,8 +212,12 @@ impl Stage {
     {
         let member = *self.members.get(id.number as usize)?;
         let machine = self.machine(member)?;
-        let agent = places::agent_at(&self.agents, member.id.number as usize)?;
-        Some(agent.view(self.clock, &machine))
+        places::view_at(
+            &self.agents,
+            member.id.number as usize,
+            self.clock,
+            &machine,
+        )
     }
 
     /// The machine of a member, as its agent finds it.

@@ -7,13 +7,15 @@ ghost use Rattle.cluster_model.specs.Parts.{events_of, event_of};
 ghost use Rattle.world_model.specs.Room.{HasRoom};
 ghost use Rattle.world_model.specs.Emits.{Emits};
 
-use super::{Stage, write_down};
+use super::Stage;
 use event_book::{Event, EventKind};
 use std::alloc::AllocError;
+use world_agents::places::change_agents;
+use world_fields::writing::write_down;
 use world_flight::flight::change_flight;
 use world_parts::changes::{
-    change_acknowledged, change_agents, change_deadlines, change_frozen, change_holds, change_keys,
-    change_links, change_processes, commits_after, now_after, sent_after,
+    change_acknowledged, change_deadlines, change_frozen, change_holds, change_keys, change_links,
+    change_processes, commits_after, now_after, sent_after,
 };
 use world_parts::server_changes::change_servers;
 

@@ -10,10 +10,11 @@ ghost use Rattle.cluster_model.specs.Next.{confirm_events, receive_events};
 ghost use Rattle.world_model.specs.Room.{HasRoom, streaming_cost};
 ghost use Rattle.world_model.specs.Emits.{Emits};
 
-use super::{Stage, write_down};
+use super::Stage;
 use event_book::{Event, EventKind, LogEvent, Member, ReplicationEvent, ServerEvent, ServerOf};
 use pg_model::Streamed;
 use std::alloc::AllocError;
+use world_fields::writing::write_down;
 use world_parts::sources::unconfirmed_end;
 
 impl Stage {

@@ -6,30 +6,31 @@ ghost use Rattle.std.specs.Ordering.{nat_cmp};
 ghost use Rattle.agent_model.specs.Outputs.{most_outputs};
 ghost use Rattle.world_flight.specs.FlightIndex.{AreNumbered};
 ghost use Rattle.world_stage.specs.Arrivals.{Landed, Reaches};
-ghost use Rattle.lease_store.specs.Answers.{present_pairs};
 ghost use Rattle.lease_store.specs.Decision.{decision_on};
 ghost use Rattle.lease_store.specs.Writes.{ttl_of};
-ghost use Rattle.event_book.specs.Flight.{in_flight, snapshot_for, grant_for};
+ghost use Rattle.event_book.specs.Flight.{in_flight, grant_for};
 ghost use Rattle.cluster_model.specs.Hearing.{heard_from};
 ghost use Rattle.cluster_model.specs.Limits.{most_in_flight};
 ghost use Rattle.cluster_model.specs.Messages.{lost_at_once, send_events, answer_message, answer_events, decision_events, message_events};
 ghost use Rattle.cluster_model.specs.Parts.{events_at};
 ghost use Rattle.world_model.specs.Room.{HasRoom, decision_cost, hearing_cost, sending_cost};
-ghost use Rattle.world_model.specs.Short.{CarriesRead, IsSent, IsShort};
+ghost use Rattle.world_model.specs.Short.{IsSent, IsShort};
 ghost use Rattle.world_model.specs.Emits.{Emits};
 ghost use Rattle.cluster_model.specs.Deliveries.{delivery_of};
 
-use super::{Stage, write_down};
+use super::Stage;
 use crate::arrival::Arrival;
 use cluster_model::{Delivery, HeardMessage};
 use event_book::{Body, Event, EventKind, LinkEnd, Member, Message, MessageEvent, StoreEvent};
 use ha_loop::Outputs;
-use lease_store::{Granted, Key, KeyEntry, StoreRefusal, Txn};
+use lease_store::{Granted, StoreRefusal, Txn};
 use pat_base::{Shared, Ticks};
 use std::alloc::AllocError;
+use world_fields::deliveries::delivery_of;
+use world_fields::snapshots::snapshot_for;
+use world_fields::writing::write_down;
 use world_flight::flight::InFlight;
 use world_flight::flight_index::message_way;
-use world_parts::deliveries::delivery_of;
 use world_parts::naming::published_names;
 
 impl Stage {
@@ -227,7 +228,7 @@ impl Stage {
         let carried = InFlight {
             message: message.try_clone()?,
             sent: self.clock,
-            snapshot: self.snapshot_for(&message.get().body)?,
+            snapshot: snapshot_for(self.alloc, &self.store, self.clock, &message.get().body)?,
             grant,
         };
         self.index.insert(number)?;
@@ -239,17 +240,6 @@ impl Stage {
             EventKind::Message(MessageEvent::Sent { number, message }),
         )?;
         tell_lost(events, self.clock, lost, number)
-    }
-
-    /// What the store holds, for an answer that tells it.
-    fn snapshot_for(&self, body: &Body) -> Result<Vec<(Key, KeyEntry)>, AllocError>
-        ensures entries { IfOk result (λ snapshot. snapshot.items ≡ snapshot_for body.now (present_pairs self.now.facts.clock self.now.facts.keys.pairs)) }
-        ensures read { IfOk result (λ snapshot. CarriesRead body.now snapshot.items) }
-    {
-        match body {
-            Body::Snapshot | Body::Granted { .. } => self.store.entries(self.clock),
-            _ => Ok(Vec::new(self.alloc)),
-        }
     }
 }
 

@@ -4,9 +4,10 @@ ghost use Rattle.cluster_model.specs.Next.{ctl_line_events};
 ghost use Rattle.cluster_model.specs.Parts.{each};
 ghost use Rattle.world_model.specs.Emits.{Emits};
 
-use super::{Stage, write_down};
+use super::Stage;
 use event_book::{Bytes, Event, EventKind, Note};
 use std::alloc::AllocError;
+use world_fields::writing::write_down;
 
 impl Stage {
     /// Writes down the lines that patronictl prints, in order.

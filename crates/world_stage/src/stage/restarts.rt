@@ -7,11 +7,12 @@ ghost use Rattle.cluster_model.specs.Orders.{server_at};
 ghost use Rattle.world_model.specs.Emits.{Emits};
 ghost use Rattle.world_model.specs.Room.{HasRoom, server_restart_cost};
 
-use super::{Stage, write_down};
+use super::Stage;
 use cluster_model::Beginning;
 use event_book::{Event, EventKind, Member, ServerEvent, ServerOf};
 use std::alloc::AllocError;
-use world_parts::losing::loss_of_any;
+use world_fields::losing::loss_of_any;
+use world_fields::writing::write_down;
 
 impl Stage {
     /// A primary ends, and begins again on its timeline at once. That it lacks an acknowledged commit then is told.

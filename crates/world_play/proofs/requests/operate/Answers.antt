@@ -8,7 +8,7 @@ use Rattle.cluster_model.specs.State.{Cluster}
 use Rattle.world_model.specs.Emits.{Emits}
 use Rattle.world_model.specs.Room.{HasRoom, request_cost, outputs_cost}
 use Rattle.agent_model.specs.Asked.{AsksShortly}
-use Rattle.world_play.proofs.Waking.{operate-took, input-few}
+use Rattle.world_acts.proofs.Waking.{operate-took, input-few}
 use Rattle.world_play.proofs.requests.operate.Goals as goal
 
 pub carry_out-requires-clause-room : goal.carry_out-requires-clause-room

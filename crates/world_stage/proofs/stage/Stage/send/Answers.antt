@@ -61,8 +61,7 @@ returns c =
     let message = c.args.message in
     let grant = c.requires.grant ∙ ap (λ (f : Cluster). grant_for message.body message.to f.facts.keys.revision) (sym c.self.view_is) in
     let shared = c.in_ok-message.ensures in
-    let known = c.args.self.now in
-    let told = c.in_ok-snapshot_for.ensures.entries ∙ ap (λ (m : Message). snapshot_for m.body (present_pairs known.facts.clock known.facts.keys.pairs)) (c.get.ensures ∙ shared) ∙ ap (λ (f : Cluster). snapshot_for message.body (present_pairs f.facts.clock f.facts.keys.pairs)) (sym c.self.view_is) in
+    let told = c.in_ok-snapshot_for.ensures.entries ∙ ap (λ (m : Message). snapshot_for m.body (present_pairs before.facts.clock before.facts.keys.pairs)) (c.get.ensures ∙ shared) in
     let loaded = loaded-is before message c.in_ok-try_clone.field-0 c.self.inside.clock c.in_ok-snapshot_for.field-0.items c.args.grant (c.in_ok-try_clone.ensures ∙ shared) refl told grant in
     let number = before.facts.sent + 1 in
     let mid = c.in_ok-write_down.ensures ∙ ap (λ (m : Message). let event : Event = record { tick = c.self.inside.clock; kind = kinds.Message (Sent number m) } in c.args.events.now.items ++ event ∷ []) shared in

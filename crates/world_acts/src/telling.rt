@@ -1,0 +1,142 @@
+//! What agents tell of their watchdogs and their holds, of the leader key, and to operators.
+ghost use Rattle.std.specs.Prelude.{OnOk, option_map, slice_get};
+ghost use Rattle.cluster_model.specs.Commands.{kinds_of};
+ghost use Rattle.cluster_model.specs.Inputs.{agent_at};
+ghost use Rattle.cluster_model.specs.Orders.{agent_noting, arming, feed_kinds, feeding, hold_taken};
+ghost use Rattle.cluster_model.specs.Parts.{event_of, events_of};
+ghost use Rattle.cluster_model.specs.Requests.{told_kind};
+ghost use Rattle.cluster_model.specs.State.{Cluster};
+ghost use Rattle.world_model.specs.Comes.{MayCome};
+ghost use Rattle.world_model.specs.Emits.{Emits};
+ghost use Rattle.world_model.specs.Room.{HasRoom, feeding_cost};
+
+use agent_model::Told;
+use cluster_model::HeardMessage;
+use event_book::{AgentEvent, AgentNote, Event, EventKind, Member, WatchdogEvent};
+use pat_base::{MemberId, Ticks};
+use std::alloc::AllocError;
+use world_agents::requests::told_kind;
+use world_parts::order_kinds::{agent_noting, arming, feeding, hold_of_request, member_at};
+use world_stage::Stage;
+
+/// The watchdog of a member got its first deadline, on the message that was heard.
+pub fn tell_arming(
+    stage: &mut Stage,
+    member: Member,
+    until: Ticks,
+    heard: HeardMessage,
+    events: &mut Vec<Event>,
+) -> Result<(), AllocError>
+    requires { HasRoom stage.old feeding_cost }
+    ensures { OnOk result (Emits stage.old stage.new events.old.items events.new.items (events_of stage.old (feed_kinds member heard (arming member until heard))) feeding_cost) }
+{
+    tell_deadline(stage, member, heard, arming(member, until, heard), events)
+}
+
+/// The watchdog of a member got a new deadline, on the message that was heard.
+pub fn tell_feeding(
+    stage: &mut Stage,
+    member: Member,
+    until: Ticks,
+    heard: HeardMessage,
+    events: &mut Vec<Event>,
+) -> Result<(), AllocError>
+    requires { HasRoom stage.old feeding_cost }
+    ensures { OnOk result (Emits stage.old stage.new events.old.items events.new.items (events_of stage.old (feed_kinds member heard (feeding member until heard))) feeding_cost) }
+{
+    tell_deadline(stage, member, heard, feeding(member, until, heard), events)
+}
+
+/// The watchdog of a member is armed or fed, on the message that was heard; that counts from its sending.
+fn tell_deadline(
+    stage: &mut Stage,
+    member: Member,
+    heard: HeardMessage,
+    feed: EventKind,
+    events: &mut Vec<Event>,
+) -> Result<(), AllocError>
+    requires room { HasRoom stage.old feeding_cost }
+    requires comes { (cluster : Cluster) → MayCome cluster feed }
+    ensures { OnOk result (Emits stage.old stage.new events.old.items events.new.items (events_of stage.old (feed_kinds member heard feed)) feeding_cost) }
+{
+    let measured = WatchdogEvent::Measured {
+        member,
+        since: heard.sent,
+    };
+    stage.happen_then(EventKind::Watchdog(measured), Some(feed), events)
+}
+
+/// The watchdog of a member has no deadline any more.
+pub fn tell_disarming(
+    stage: &mut Stage,
+    member: Member,
+    events: &mut Vec<Event>,
+) -> Result<(), AllocError>
+    requires { HasRoom stage.old 1 }
+    ensures { OnOk result (Emits stage.old stage.new events.old.items events.new.items (event_of stage.old (EventKind.Watchdog (WatchdogEvent.Disarmed member))) 1) }
+{
+    let disarmed = WatchdogEvent::Disarmed { member };
+    stage.happen(EventKind::Watchdog(disarmed), events)
+}
+
+/// A member takes the leader key though the sync key doesn't name it.
+pub fn tell_passing(
+    stage: &mut Stage,
+    member: Member,
+    events: &mut Vec<Event>,
+) -> Result<(), AllocError>
+    requires { HasRoom stage.old 1 }
+    ensures { OnOk result (Emits stage.old stage.new events.old.items events.new.items (event_of stage.old (EventKind.Agent (AgentEvent.Passed member))) 1) }
+{
+    let passed = AgentEvent::Passed { agent: member };
+    stage.happen(EventKind::Agent(passed), events)
+}
+
+/// The agent of a member notes something.
+pub fn tell_note(
+    stage: &mut Stage,
+    member: Member,
+    note: AgentNote,
+    events: &mut Vec<Event>,
+) -> Result<(), AllocError>
+    requires { HasRoom stage.old 1 }
+    ensures { OnOk result (Emits stage.old stage.new events.old.items events.new.items (event_of stage.old (agent_noting stage.old.facts.members member note)) 1) }
+{
+    let noted = agent_noting(stage.members(), member, note);
+    stage.happen(noted, events)
+}
+
+/// The agent of a member answers an operator, where it has something to say.
+pub fn tell_answer(
+    stage: &mut Stage,
+    member: Member,
+    told: Told,
+    events: &mut Vec<Event>,
+) -> Result<(), AllocError>
+    requires { HasRoom stage.old 1 }
+    ensures { OnOk result (Emits stage.old stage.new events.old.items events.new.items (events_of stage.old (kinds_of (told_kind member (agent_at stage.old.agents member.id.number) told))) 1) }
+{
+    let answer = told_kind(stage.alloc(), member, stage.agent(member), told)?;
+    stage.happen_if(answer, events)
+}
+
+/// A member promised not to take the leader key before this moment, on the failsafe request of this number of that member in this
+/// run, if there is that one.
+pub fn tell_hold(
+    stage: &mut Stage,
+    member: Member,
+    until: Ticks,
+    from: MemberId,
+    incarnation: u64,
+    sequence: u64,
+    events: &mut Vec<Event>,
+) -> Result<(), AllocError>
+    requires { HasRoom stage.old 1 }
+    ensures { OnOk result (Emits stage.old stage.new events.old.items events.new.items (events_of stage.old (kinds_of (option_map (hold_taken member until incarnation sequence) (slice_get stage.old.facts.members from.number)))) 1) }
+{
+    let from = member_at(stage.members(), from);
+    stage.happen_if(
+        hold_of_request(member, until, incarnation, sequence, from),
+        events,
+    )
+}

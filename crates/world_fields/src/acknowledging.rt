@@ -1,0 +1,62 @@
+//! What is written down of commits whose clients are told that they are stored, and of the servers that lack one.
+ghost use Rattle.std.specs.Prelude.{◌≡◌, ◌∷◌, ◌++◌, [], OnOk, slice_get};
+ghost use Rattle.event_book.specs.declared.event.Event.{Event};
+ghost use Rattle.event_book.specs.declared.event.EventKind.TheVariants as kinds;
+ghost use Rattle.event_book.specs.declared.event.ReplicationEvent.TheVariants as replications;
+ghost use Rattle.cluster_model.specs.Losing.{loss_of, losses_of};
+ghost use Rattle.cluster_model.specs.Parts.{events_at};
+
+use crate::losing::loss_at;
+use crate::writing::write_down;
+use event_book::{Event, EventKind, Member, ReplicationEvent, ServerOf};
+use pat_base::Ticks;
+use pg_cluster::Servers;
+use std::alloc::AllocError;
+
+/// A commit of this server is acknowledged: it stands behind those that were, and that is written down.
+pub fn tell_acknowledged(
+    told: &mut Vec<u64>,
+    server: ServerOf,
+    commit: u64,
+    tick: Ticks,
+    events: &mut Vec<Event>,
+) -> Result<(), AllocError>
+    ensures told { OnOk result (told.new.items ≡ told.old.items ++ commit ∷ []) }
+    ensures event { OnOk result (events.new.items ≡ events.old.items ++ record { tick = tick; kind = kinds.Replication (replications.Acknowledged server commit) } ∷ []) }
+{
+    told.push(commit)?;
+    let acknowledged = ReplicationEvent::Acknowledged { server, commit };
+    write_down(events, tick, EventKind::Replication(acknowledged))
+}
+
+/// Writes down which servers of these members that accept writes lack this commit, in script order.
+pub fn tell_losses(
+    servers: &Servers,
+    members: &[Member],
+    commit: u64,
+    tick: Ticks,
+    events: &mut Vec<Event>,
+) -> Result<(), AllocError>
+    ensures { OnOk result (events.new.items ≡ events.old.items ++ events_at tick (losses_of commit servers.now members.now)) }
+{
+    for member in members {
+        tell_loss(servers, *member, commit, tick, events)?;
+    }
+    Ok(())
+}
+
+/// That of a member does, where it is so.
+fn tell_loss(
+    servers: &Servers,
+    member: Member,
+    commit: u64,
+    tick: Ticks,
+    events: &mut Vec<Event>,
+) -> Result<(), AllocError>
+    ensures { OnOk result (events.new.items ≡ events.old.items ++ events_at tick (loss_of commit member (slice_get servers.now member.id.number))) }
+{
+    match loss_at(servers, member, commit) {
+        None => Ok(()),
+        Some(loss) => write_down(events, tick, loss),
+    }
+}
