@@ -101,7 +101,10 @@ fn clear(turn: &mut Turn)
 fn leader_revision(seen: Option<&Snapshot>) -> Option<u64>
     ensures { result ≡ leader_revision (option_copied seen.entry) }
 {
-    match seen?.leader() {
+    let Some(seen) = seen else {
+        return None;
+    };
+    match seen.leader() {
         None => None,
         Some(leader) => Some(leader.revision),
     }
@@ -232,7 +235,9 @@ fn successor_by(
 ) -> Option<MemberId>
     ensures { result ≡ successor_by failover knows.now server.now }
 {
-    let failover = failover?;
+    let Some(failover) = failover else {
+        return None;
+    };
     let mut first = None;
     for answer in knows.answers.all() {
         first = earlier(first, successor_in(knows, server, failover, answer));

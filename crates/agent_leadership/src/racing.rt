@@ -59,7 +59,9 @@ fn can_start(server: &ServerStatus) -> bool
 fn bar_of(now: Ticks, knows: &Knowledge, machine: &Machine) -> Option<Ineligibility>
     ensures { result ≡ bar_of now knows.now machine.now }
 {
-    let seen = knows.seen.as_ref()?;
+    let Some(seen) = &knows.seen else {
+        return None;
+    };
     let view = view_of(now, RoleWord::Follower, knows, machine);
     may_race(&view, seen).err()
 }
@@ -127,7 +129,9 @@ fn outcome_at(
 ) -> Option<Ineligibility>
     ensures { result ≡ outcome_by (view_of now word knows.now machine.now) knows.now.seen knows.now.answers }
 {
-    let seen = knows.seen.as_ref()?;
+    let Some(seen) = &knows.seen else {
+        return None;
+    };
     let view = view_of(now, word, knows, machine);
     wins(&view, seen, knows.answers.all()).err()
 }

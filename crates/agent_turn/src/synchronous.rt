@@ -18,7 +18,9 @@ pub fn sync_read_in(snapshot: &Snapshot) -> Option<SyncRead>
 fn sync_read_of_entry(found: Option<&KeyEntry>) -> Option<SyncRead>
     ensures { result ≡ sync_read_of_entry (option_copied found.entry) }
 {
-    let found = found?;
+    let Some(found) = found else {
+        return None;
+    };
     sync_read_by(found.revision, sync_by(&found.value))
 }
 
@@ -26,8 +28,10 @@ fn sync_read_of_entry(found: Option<&KeyEntry>) -> Option<SyncRead>
 fn sync_read_by(revision: u64, key: Option<SyncKey>) -> Option<SyncRead>
     ensures { result ≡ sync_read_by revision key }
 {
-    let key = key?;
-    Some(SyncRead { key, revision })
+    match key {
+        None => None,
+        Some(key) => Some(SyncRead { key, revision }),
+    }
 }
 
 /// The sync key by a value of it.
@@ -44,7 +48,10 @@ fn sync_by(value: &Value) -> Option<SyncKey>
 pub fn sync_read_if(seen: Option<&Snapshot>) -> Option<SyncRead>
     ensures { result ≡ sync_read_if (option_copied seen.entry) }
 {
-    sync_read_in(seen?)
+    match seen {
+        None => None,
+        Some(seen) => sync_read_in(seen),
+    }
 }
 
 /// What a request expects of a sync key that was read so.

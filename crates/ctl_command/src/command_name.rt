@@ -1,7 +1,7 @@
 //! The commands.
 
 /// A command, by its word alone.
-#[derive(Clone, Copy, Debug, PartialEq, Eq)]
+#[derive(Clone, Copy)]
 pub enum CommandName {
     List,
     History,

@@ -12,7 +12,7 @@ pub enum ValueOption {
 }
 
 /// An option.
-#[derive(Clone, Copy, Debug, PartialEq, Eq)]
+#[derive(Clone, Copy)]
 pub enum OptionName {
     /// `--force`, which takes no value: nothing is asked back.
     Force,

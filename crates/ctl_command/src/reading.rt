@@ -47,7 +47,9 @@ fn with_leader<'a>(
 ) -> Result<Said<'a>, CtlFault<'a>>
     ensures { seen_outcome result ≡ with_leader (seen_said said.entry) value.now member }
 {
-    let member = member.ok_or(CtlFault::Unknown(value))?;
+    let Some(member) = member else {
+        return Err(CtlFault::Unknown(value));
+    };
     Ok(Said {
         leader: Some(member),
         place: Place::Options,
@@ -62,7 +64,9 @@ fn with_candidate<'a>(
 ) -> Result<Said<'a>, CtlFault<'a>>
     ensures { seen_outcome result ≡ with_candidate (seen_said said.entry) value.now member }
 {
-    let member = member.ok_or(CtlFault::Unknown(value))?;
+    let Some(member) = member else {
+        return Err(CtlFault::Unknown(value));
+    };
     Ok(Said {
         candidate: Some(member),
         place: Place::Options,
@@ -77,7 +81,9 @@ fn with_setting<'a>(
 ) -> Result<Said<'a>, CtlFault<'a>>
     ensures { seen_outcome result ≡ with_setting (seen_said said.entry) value.now (option_map setting_text setting.entry) }
 {
-    let setting = setting.ok_or(CtlFault::Unknown(value))?;
+    let Some(setting) = setting else {
+        return Err(CtlFault::Unknown(value));
+    };
     Ok(Said {
         setting: Some(setting),
         place: Place::Options,
@@ -201,7 +207,9 @@ fn with_member<'a>(
 ) -> Result<Said<'a>, CtlFault<'a>>
     ensures { seen_outcome result ≡ with_member (seen_said said.entry) word.now member }
 {
-    let member = member.ok_or(CtlFault::Unknown(word))?;
+    let Some(member) = member else {
+        return Err(CtlFault::Unknown(word));
+    };
     Ok(Said {
         member: Some(member),
         ..said
@@ -343,7 +351,9 @@ fn said_in<'a>(
 fn edit_config<'a>(setting: Option<Setting<'a>>) -> Result<Command<'a>, CtlFault<'a>>
     ensures { seen_result result ≡ edit_config (option_map setting_text setting.entry) }
 {
-    let setting = setting.ok_or(CtlFault::Missing(Needed::Value(ValueOption::Set)))?;
+    let Some(setting) = setting else {
+        return Err(CtlFault::Missing(Needed::Value(ValueOption::Set)));
+    };
     Ok(Command::EditConfig(setting))
 }
 
@@ -353,28 +363,36 @@ fn switchover<'a>(
 ) -> Result<Command<'a>, CtlFault<'a>>
     ensures { seen_result result ≡ switchover leader candidate }
 {
-    let leader = leader.ok_or(CtlFault::Missing(Needed::Value(ValueOption::Leader)))?;
+    let Some(leader) = leader else {
+        return Err(CtlFault::Missing(Needed::Value(ValueOption::Leader)));
+    };
     Ok(Command::Switchover { leader, candidate })
 }
 
 fn failover<'a>(candidate: Option<MemberId>) -> Result<Command<'a>, CtlFault<'a>>
     ensures { seen_result result ≡ failover candidate }
 {
-    let candidate = candidate.ok_or(CtlFault::Missing(Needed::Value(ValueOption::Candidate)))?;
+    let Some(candidate) = candidate else {
+        return Err(CtlFault::Missing(Needed::Value(ValueOption::Candidate)));
+    };
     Ok(Command::Failover { candidate })
 }
 
 fn restart<'a>(member: Option<MemberId>) -> Result<Command<'a>, CtlFault<'a>>
     ensures { seen_result result ≡ restart member }
 {
-    let member = member.ok_or(CtlFault::Missing(Needed::Member))?;
+    let Some(member) = member else {
+        return Err(CtlFault::Missing(Needed::Member));
+    };
     Ok(Command::Restart(member))
 }
 
 fn reinit<'a>(member: Option<MemberId>) -> Result<Command<'a>, CtlFault<'a>>
     ensures { seen_result result ≡ reinit member }
 {
-    let member = member.ok_or(CtlFault::Missing(Needed::Member))?;
+    let Some(member) = member else {
+        return Err(CtlFault::Missing(Needed::Member));
+    };
     Ok(Command::Reinit(member))
 }
 

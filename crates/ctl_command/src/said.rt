@@ -3,7 +3,7 @@ use crate::{Setting, ValueOption};
 use pat_base::MemberId;
 
 /// Where the next word stands.
-#[derive(Clone, Copy, Debug, PartialEq, Eq)]
+#[derive(Clone, Copy)]
 pub enum Place {
     /// Before the first option.
     Names,
@@ -14,7 +14,7 @@ pub enum Place {
 }
 
 /// What the words behind a command said so far, with `None` or `false` for what none of them said.
-#[derive(Clone, Copy, Debug, PartialEq, Eq)]
+#[derive(Clone, Copy)]
 pub struct Said<'a> {
     /// Whether the cluster is named.
     pub cluster: bool,

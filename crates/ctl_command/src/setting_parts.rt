@@ -23,7 +23,9 @@ fn has_empty_part(key: &str) -> bool
 fn setting_by<'a>(key: &'a str, value: Option<&'a str>) -> Option<Setting<'a>>
     ensures { option_map setting_text result ≡ setting_by key.now (option_copied value.entry) }
 {
-    let value = value?;
+    let Some(value) = value else {
+        return None;
+    };
     if has_empty_part(key) {
         return None;
     }

@@ -99,6 +99,8 @@ pub fn option_named(command: CommandName, name: &str) -> Option<OptionName>
     if name == FORCE {
         return Some(OptionName::Force);
     }
-    let option = value_option_named(command, name)?;
-    Some(OptionName::Value(option))
+    match value_option_named(command, name) {
+        None => None,
+        Some(option) => Some(OptionName::Value(option)),
+    }
 }

@@ -66,7 +66,9 @@ fn paused(pause: bool, names_me: bool) -> Option<Ineligibility>
 fn other_candidate(me: MemberId, candidate: Option<MemberId>) -> Option<Ineligibility>
     ensures { result ≡ other_candidate me candidate }
 {
-    let candidate = candidate?;
+    let Some(candidate) = candidate else {
+        return None;
+    };
     bar_where(
         candidate.number != me.number,
         Ineligibility::Candidate(candidate),
@@ -80,7 +82,9 @@ fn not_sync(
 ) -> Option<Ineligibility>
     ensures { result ≡ not_sync me failover sync }
 {
-    let sync = sync?;
+    let Some(sync) = sync else {
+        return None;
+    };
     bar_where(
         !is_named(me, sync) && !is_failover_to(me, failover),
         Ineligibility::NotSync,
@@ -119,7 +123,9 @@ fn not_listed(
 ) -> Option<Ineligibility>
     ensures { result ≡ not_listed me failsafe_mode failsafe }
 {
-    let members = failsafe?;
+    let Some(members) = failsafe else {
+        return None;
+    };
     bar_where(
         failsafe_mode && !members.contains(me),
         Ineligibility::NotListed,
@@ -129,6 +135,8 @@ fn not_listed(
 fn holding(now: Ticks, hold: Option<Ticks>) -> Option<Ineligibility>
     ensures { result ≡ holding now hold }
 {
-    let until = hold?;
+    let Some(until) = hold else {
+        return None;
+    };
     bar_where(now < until, Ineligibility::Hold)
 }

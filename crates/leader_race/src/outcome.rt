@@ -46,22 +46,28 @@ fn racer_of(view: &AgentView<'_>, seen: &Snapshot) -> Racer
 fn other_writes(racer: &Racer, answers: &[PeerAnswer]) -> Option<Ineligibility>
     ensures { result ≡ other_writes racer.now answers.now }
 {
-    let member = first_of(racer, Rule::OtherWrites, answers)?;
-    Some(Ineligibility::OtherWrites(member))
+    match first_of(racer, Rule::OtherWrites, answers) {
+        None => None,
+        Some(member) => Some(Ineligibility::OtherWrites(member)),
+    }
 }
 
 fn ahead(racer: &Racer, answers: &[PeerAnswer]) -> Option<Ineligibility>
     ensures { result ≡ ahead racer.now answers.now }
 {
-    let member = first_of(racer, Rule::Ahead, answers)?;
-    Some(Ineligibility::Ahead(member))
+    match first_of(racer, Rule::Ahead, answers) {
+        None => None,
+        Some(member) => Some(Ineligibility::Ahead(member)),
+    }
 }
 
 fn priority(racer: &Racer, answers: &[PeerAnswer]) -> Option<Ineligibility>
     ensures { result ≡ priority racer.now answers.now }
 {
-    let member = first_of(racer, Rule::Priority, answers)?;
-    Some(Ineligibility::Priority(member))
+    match first_of(racer, Rule::Priority, answers) {
+        None => None,
+        Some(member) => Some(Ineligibility::Priority(member)),
+    }
 }
 
 /// A rule that doesn't apply where this is so.

@@ -4,7 +4,7 @@ use lease_store::SyncKey;
 use pat_base::{Lsn, MemberId};
 
 /// A member that races: what the answers of others are compared with.
-#[derive(Clone, Copy, Debug, PartialEq, Eq)]
+#[derive(Clone, Copy)]
 pub(crate) struct Racer {
     pub me: MemberId,
     /// Where its log ends, if it has one.
@@ -15,7 +15,7 @@ pub(crate) struct Racer {
 }
 
 /// The rules by which answers bar, in their order.
-#[derive(Clone, Copy, Debug, PartialEq, Eq)]
+#[derive(Clone, Copy)]
 pub(crate) enum Rule {
     OtherWrites,
     Ahead,

@@ -673,7 +673,7 @@ fn reaches(end: Lsn, confirmed: Option<Lsn>) -> bool
     ensures { result ≡ reaches end confirmed }
 {
     match confirmed {
-        Some(position) => end <= position,
+        Some(confirmed) => end.position <= confirmed.position,
         None => false,
     }
 }

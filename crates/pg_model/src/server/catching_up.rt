@@ -14,7 +14,7 @@ use std::alloc::AllocError;
 use wal_model::{History, Wal};
 
 /// How a replica stands to its upstream once it has looked there.
-#[derive(Clone, Copy, Debug, PartialEq, Eq)]
+#[derive(Clone, Copy)]
 pub(crate) enum Met {
     /// The upstream doesn't accept writes.
     Nothing,
