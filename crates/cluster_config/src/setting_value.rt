@@ -62,12 +62,10 @@ pub(crate) fn whole_number(value: &Value) -> Option<WholeNumber>
 fn truth_word(text: &str) -> Option<bool>
     ensures { result ≡ truth_word text.now }
 {
-    if text == "on" || text == "true" {
-        Some(true)
-    } else if text == "off" || text == "false" {
-        Some(false)
-    } else {
-        None
+    match text {
+        "on" | "true" => Some(true),
+        "off" | "false" => Some(false),
+        _ => None,
     }
 }
 

@@ -64,11 +64,14 @@ pub fn add_all(leases: &mut Leases, pairs: &[(Key, KeyEntry)]) -> Result<(), All
         return Ok(());
     };
     let is_new = add(leases, *key, stored.expiry)?;
-    let added = add_all(leases, rest);
-    if is_new && added.is_err() {
-        remove(leases, *key, stored.expiry);
+    match add_all(leases, rest) {
+        Ok(()) => Ok(()),
+        Err(error) if is_new => {
+            remove(leases, *key, stored.expiry);
+            Err(error)
+        }
+        Err(error) => Err(error),
     }
-    added
 }
 
 /// The first lease that has ended at this moment.

@@ -96,7 +96,13 @@ impl Value {
     {
         match self {
             Value::Leader(member) => Some(*member),
-            _ => None,
+            Value::Config(_)
+            | Value::Member(_)
+            | Value::Failover(_)
+            | Value::Sync(_)
+            | Value::Status(_)
+            | Value::History(_)
+            | Value::Failsafe(_) => None,
         }
     }
 

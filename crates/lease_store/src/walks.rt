@@ -29,7 +29,7 @@ pub fn copies_of_present(
 ) -> Result<Vec<(Key, KeyEntry)>, AllocError>
     ensures { IfOk result (λ copies. copies.items ≡ present_pairs now.0 entries.now.entries) }
 {
-    let mut copies = Vec::new(alloc);
+    let mut copies = Vec::with_capacity(alloc, entries.len())?;
     for (key, stored) in entries {
         if is_present(now, stored.expiry) {
             copies.push((*key, stored.try_clone()?))?;

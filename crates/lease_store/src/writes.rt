@@ -38,7 +38,13 @@ fn deleted_key(txn: &Txn) -> Option<Key>
         Txn::Release { .. } => Some(Key::Leader),
         Txn::DropSync { .. } => Some(Key::Sync),
         Txn::DropFailover { .. } => Some(Key::Failover),
-        _ => None,
+        Txn::Touch { .. }
+        | Txn::Create { .. }
+        | Txn::Renew { .. }
+        | Txn::Claim { .. }
+        | Txn::SetSync { .. }
+        | Txn::SetFailover { .. }
+        | Txn::SetConfig { .. } => None,
     }
 }
 
@@ -87,11 +93,28 @@ fn puts_of(
     ensures { IfOk result (λ puts. puts.items ≡ puts_of_all stamp.revision stamp.at.0 entries.now.entries (writes_of by txn.now)) }
 {
     let mut puts = Vec::with_capacity(alloc, MOST)?;
+    add_puts(&mut puts, entries, stamp, by, txn)?;
+    Ok(puts)
+}
+
+/// Adds what a transaction of a member puts at the keys that it writes, where nothing is put yet.
+fn add_puts(
+    puts: &mut Vec<(Key, KeyEntry)>,
+    entries: &Entries,
+    stamp: Stamp,
+    by: MemberId,
+    txn: &Txn,
+) -> Result<(), AllocError>
+    requires none { puts.old.items ≡ [] }
+    requires moment { stamp.at.0 ≤ latest }
+    requires span { ttl_of txn.now ≤ 2 ^ 40 }
+    ensures { OnOk result (puts.new.items ≡ puts_of_all stamp.revision stamp.at.0 entries.now.entries (writes_of by txn.now)) }
+{
     match txn {
-        Txn::Touch { info, ttl } => tell(&mut puts, stamp, by, *info, *ttl)?,
+        Txn::Touch { info, ttl } => tell(puts, stamp, by, *info, *ttl),
         Txn::Create { info, ttl, .. } => {
-            lease(&mut puts, stamp, Key::Leader, Value::Leader(by), *ttl)?;
-            tell(&mut puts, stamp, by, *info, *ttl)?;
+            lease(puts, stamp, Key::Leader, Value::Leader(by), *ttl)?;
+            tell(puts, stamp, by, *info, *ttl)
         }
         Txn::Renew {
             info,
@@ -101,22 +124,20 @@ fn puts_of(
             failsafe,
             ..
         } => {
-            renew(&mut puts, entries, stamp, *ttl)?;
-            tell(&mut puts, stamp, by, *info, *ttl)?;
-            set_status(&mut puts, stamp, *status)?;
-            set_row(&mut puts, stamp, *row)?;
-            set_failsafe(&mut puts, stamp, *failsafe)?;
+            renew(puts, entries, stamp, *ttl)?;
+            tell(puts, stamp, by, *info, *ttl)?;
+            set_status(puts, stamp, *status)?;
+            set_row(puts, stamp, *row)?;
+            set_failsafe(puts, stamp, *failsafe)
         }
-        Txn::Claim { .. } => set_sync(&mut puts, stamp, by, MemberSet::empty())?,
-        Txn::SetSync { standbys, .. } => set_sync(&mut puts, stamp, by, *standbys)?,
+        Txn::Claim { .. } => set_sync(puts, stamp, by, MemberSet::empty()),
+        Txn::SetSync { standbys, .. } => set_sync(puts, stamp, by, *standbys),
         Txn::SetFailover { failover, ttl } => {
-            let value = Value::Failover(*failover);
-            lease(&mut puts, stamp, Key::Failover, value, *ttl)?;
+            lease(puts, stamp, Key::Failover, Value::Failover(*failover), *ttl)
         }
-        Txn::SetConfig { config, .. } => set_config(&mut puts, stamp, config)?,
-        Txn::Release { .. } | Txn::DropSync { .. } | Txn::DropFailover { .. } => {}
+        Txn::SetConfig { config, .. } => set_config(puts, stamp, config),
+        Txn::Release { .. } | Txn::DropSync { .. } | Txn::DropFailover { .. } => Ok(()),
     }
-    Ok(puts)
 }
 
 /// Adds what a member tells of itself.

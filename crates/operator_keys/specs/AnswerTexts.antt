@@ -47,3 +47,10 @@ answer_text texts.IsLeader = codes "I am the leader"
 answer_text texts.ReinitializeStarted = codes "reinitialize started"
 answer_text texts.ConfigurationNotWritten = codes "Configuration was not written"
 answer_text (texts.BadConfiguration fault) = fault_text fault
+
+-- this holds where the text is always the same: it names no member and no fault
+abbrev pub IfFixed : Text → Type 0 → Type 0
+IfFixed (texts.SwitchedOver name) P = Unit {0}
+IfFixed (texts.FailedOver name) P = Unit {0}
+IfFixed (texts.BadConfiguration fault) P = Unit {0}
+IfFixed _ P = P

@@ -1,4 +1,7 @@
 //! What an agent answers operators.
+ghost use Rattle.std.specs.Prelude.{◌≡◌};
+ghost use Rattle.operator_keys.specs.AnswerTexts.{answer_text, IfFixed};
+
 use cluster_config::ConfigFault;
 use pat_base::Name;
 use std::fmt;
@@ -72,42 +75,46 @@ impl fmt::Display for Text {
 
     fn fmt<W: fmt::Write>(&self, f: &mut fmt::Formatter<W>) -> fmt::Result {
         match self {
-            Text::BadBody => f.write_str("Bad body"),
-            Text::NoStoreAnswer => f.write_str("No key store answer yet"),
-            Text::AnotherWaits => f.write_str("Another request is waiting"),
-            Text::LeaderNotNamed => f.write_str(
-                "Switchover could be performed only from a specific leader",
-            ),
-            Text::CandidateNotNamed => f.write_str(
-                "Failover could be performed only to a specific candidate",
-            ),
-            Text::TargetIsSource => f.write_str("Switchover target and source are the same"),
-            Text::PausedWithoutCandidate => f.write_str(
-                "Switchover is possible only to a specific candidate in a paused state",
-            ),
-            Text::ScheduledNotBuilt => f.write_str("Scheduled actions are not built"),
-            Text::OtherLeader => f.write_str("leader name does not match"),
-            Text::CandidateLeads => f.write_str("candidate is the leader"),
-            Text::AnotherUnderWay => f.write_str("Another switchover is under way"),
-            Text::NoSuchCandidate => f.write_str("candidate does not exist"),
-            Text::CandidateNotStandby => f.write_str(
-                "candidate name does not match with sync_standby",
-            ),
-            Text::CandidateMayNotFailOver => f.write_str("candidate may not fail over"),
-            Text::NoGoodCandidates => f.write_str("no good candidates have been found"),
             Text::SwitchedOver(name) => write!(f, "Successfully switched over to \"{name}\""),
             Text::FailedOver(name) => write!(f, "Successfully failed over to \"{name}\""),
-            Text::SwitchoverFailed => f.write_str("Switchover failed"),
-            Text::FailoverFailed => f.write_str("Failover failed"),
-            Text::NoResultInTime => f.write_str("No result in time"),
-            Text::NoScheduledSwitchover => f.write_str("No scheduled switchover"),
-            Text::NotRunning => f.write_str("PostgreSQL is not running"),
-            Text::Restarted => f.write_str("restarted"),
-            Text::IsLeader => f.write_str("I am the leader"),
-            Text::ReinitializeStarted => f.write_str("reinitialize started"),
-            Text::ConfigurationNotWritten => f.write_str("Configuration was not written"),
             Text::BadConfiguration(fault) => write!(f, "{}", FaultName(*fault)),
+            other => f.write_str(fixed_words(other)),
         }
+    }
+}
+
+/// The words of a text that is always the same.
+fn fixed_words(text: &Text) -> &'static str
+    ensures { IfFixed text.now (result.now ≡ answer_text text.now) }
+{
+    match text {
+        Text::BadBody => "Bad body",
+        Text::NoStoreAnswer => "No key store answer yet",
+        Text::AnotherWaits => "Another request is waiting",
+        Text::LeaderNotNamed => "Switchover could be performed only from a specific leader",
+        Text::CandidateNotNamed => "Failover could be performed only to a specific candidate",
+        Text::TargetIsSource => "Switchover target and source are the same",
+        Text::PausedWithoutCandidate => {
+            "Switchover is possible only to a specific candidate in a paused state"
+        }
+        Text::ScheduledNotBuilt => "Scheduled actions are not built",
+        Text::OtherLeader => "leader name does not match",
+        Text::CandidateLeads => "candidate is the leader",
+        Text::AnotherUnderWay => "Another switchover is under way",
+        Text::NoSuchCandidate => "candidate does not exist",
+        Text::CandidateNotStandby => "candidate name does not match with sync_standby",
+        Text::CandidateMayNotFailOver => "candidate may not fail over",
+        Text::NoGoodCandidates => "no good candidates have been found",
+        Text::SwitchoverFailed => "Switchover failed",
+        Text::FailoverFailed => "Failover failed",
+        Text::NoResultInTime => "No result in time",
+        Text::NoScheduledSwitchover => "No scheduled switchover",
+        Text::NotRunning => "PostgreSQL is not running",
+        Text::Restarted => "restarted",
+        Text::IsLeader => "I am the leader",
+        Text::ReinitializeStarted => "reinitialize started",
+        Text::ConfigurationNotWritten => "Configuration was not written",
+        Text::SwitchedOver(_) | Text::FailedOver(_) | Text::BadConfiguration(_) => "",
     }
 }
 
