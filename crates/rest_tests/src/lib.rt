@@ -4,6 +4,8 @@
 #[cfg(test)]
 mod answers;
 #[cfg(test)]
+mod checks;
+#[cfg(test)]
 mod connections;
 #[cfg(test)]
 mod facts;
@@ -15,6 +17,8 @@ mod paths;
 mod replies;
 #[cfg(test)]
 mod requests;
+#[cfg(test)]
+mod stores;
 #[cfg(test)]
 mod targets;
 #[cfg(test)]
