@@ -8,7 +8,11 @@ mod checks;
 #[cfg(test)]
 mod connections;
 #[cfg(test)]
+mod doors;
+#[cfg(test)]
 mod facts;
+#[cfg(test)]
+mod listeners;
 #[cfg(test)]
 mod pages;
 #[cfg(test)]
