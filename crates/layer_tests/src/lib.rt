@@ -3,11 +3,13 @@
 #![tactic(auto)]
 
 #[cfg(test)]
-mod log_pair;
+mod checks;
 #[cfg(test)]
 mod logs;
 #[cfg(test)]
 mod plain_log;
+#[cfg(test)]
+mod random_logs;
 #[cfg(test)]
 mod scripts;
 #[cfg(test)]

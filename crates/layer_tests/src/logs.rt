@@ -1,10 +1,13 @@
 //! Logs and histories.
-use crate::log_pair::{LogPair, Random};
+use crate::checks::has;
+use crate::plain_log::PlainLog;
+use crate::random_logs::all_told;
 use pat_base::Lsn;
-use std::test::Fail;
+use std::alloc::{AllocError, Global};
+use std::process::Abort;
 use wal_model::{Entry, History, HistoryPoint, Wal, WalFault, has_serial, lacks};
 
-const fn entry(serial: u64, bytes: u64) -> Entry {
+fn entry(serial: u64, bytes: u64) -> Entry {
     Entry {
         serial,
         timeline: 1,
@@ -12,106 +15,144 @@ const fn entry(serial: u64, bytes: u64) -> Entry {
     }
 }
 
-#[test]
-fn copies_of_logs_and_histories(rt: HostRuntime) -> Result<(), Fail> {
-    let mut log = Wal::new(rt.alloc());
-    log.append(entry(1, 7))?;
-    let copy = log.try_clone()?;
-    assert_eq!(rt; (copy.len(), copy.get(0)), (1, Some(entry(1, 7))));
-    let at = Lsn { position: 10 };
-    let mut history = History::new(rt.alloc());
-    history.reserve(2)?;
-    history.add(HistoryPoint { timeline: 1, at })?;
-    assert_eq!(rt; (history.len(), history.spare()), (1, 1));
-    let copy = history.try_clone()?;
-    let mut other = History::new(rt.alloc());
-    other.try_clone_from(&copy)?;
-    let points = [history.point(1), copy.point(1), other.point(1)];
-    assert_eq!(rt; points, [Some(at), Some(at), Some(at)]);
-    Ok(())
+fn append(log: &mut Wal, serial: u64, bytes: u64) -> Result<(), WalFault> {
+    log.append(entry(serial, bytes))
+}
+
+/// A log with so many entries of one byte.
+fn log_of(alloc: Global, entries: u64) -> Result<Wal, WalFault> {
+    let mut log = Wal::new(alloc);
+    for serial in 0..entries {
+        append(&mut log, serial, 1)?;
+    }
+    Ok(log)
+}
+
+fn cut(log: &mut Wal, entries: usize) {
+    log.truncate(entries.min(log.len()));
+}
+
+/// How many entries a log has, and where it ends.
+fn size(log: &Wal) -> (usize, u64) {
+    (log.len(), log.end().position)
+}
+
+/// The serial of the entry at a place.
+fn serial_at(log: &Wal, place: usize) -> Option<u64> {
+    Some(log.get(place)?.serial)
+}
+
+/// Whether the second of two logs begins with the first, with how many entries both begin, and where they part.
+fn stand(log: &Wal, other: &Wal) -> (bool, usize, u64) {
+    (
+        log.is_prefix(other),
+        log.common(other),
+        log.fork(other).position,
+    )
+}
+
+/// How many entries a log receives of another one that begins with it.
+fn receive(log: &mut Wal, other: &Wal, most: usize) -> Option<usize> {
+    if log.is_prefix(other) {
+        return log.receive(other, most).ok();
+    }
+    None
+}
+
+fn copied(log: &Wal) -> Result<Wal, AllocError> {
+    log.try_clone()
 }
 
 #[test]
-fn a_full_log(rt: HostRuntime) -> Result<(), Fail> {
+fn a_full_log(rt: HostRuntime) {
     let mut log = Wal::new(rt.alloc());
-    log.append(entry(0, 1 << 63))?;
-    assert_eq!(rt; log.append(entry(1, 1)), Err(WalFault::Full));
-    Ok(())
+    has(&rt, &append(&mut log, 0, 1 << 63), &Ok(()));
+    has(&rt, &append(&mut log, 1, 1), &Err(WalFault::Full));
+    assert!(rt; log.fits(0));
 }
 
 /// One log receives from another, and parts from it.
 #[test]
-fn two_logs(rt: HostRuntime) -> Result<(), Fail> {
+fn two_logs(rt: HostRuntime) {
     let mut log = Wal::new(rt.alloc());
-    log.append(entry(1, 7))?;
-    log.append(entry(2, 5))?;
+    has(&rt, &append(&mut log, 1, 7), &Ok(()));
+    has(&rt, &append(&mut log, 2, 5), &Ok(()));
     let mut other = Wal::new(rt.alloc());
-    assert!(rt; other.is_empty() && other.is_prefix(&log));
-    assert_eq!(rt; (other.receive(&log, 9)?, other.end().position), (2, 12));
-    assert!(rt; other.len() == 2 && other.fits(5));
-    other.truncate(1);
-    other.append(entry(3, 5))?;
-    assert_eq!(rt; (other.common(&log), other.fork(&log).position), (1, 7));
-    let lacking = [
-        lacks(&other, &[3, 1], rt.alloc())?,
-        lacks(&other, &[2], rt.alloc())?,
-    ];
-    assert_eq!(rt; (has_serial(&other, 3), lacking), (true, [false, true]));
-    Ok(())
+    has(
+        &rt,
+        &(other.is_empty(), stand(&other, &log)),
+        &(true, (true, 0, 0)),
+    );
+    has(&rt, &receive(&mut other, &log, 9), &Some(2));
+    has(&rt, &size(&other), &(2, 12));
+    cut(&mut other, 1);
+    has(&rt, &append(&mut other, 3, 5), &Ok(()));
+    has(&rt, &stand(&other, &log), &(false, 1, 7));
+    check_serials(&rt, rt.alloc(), &other);
+}
+
+/// Which commits a log of those with the serials 1 and 3 has.
+fn check_serials(rt: &impl Abort, alloc: Global, log: &Wal) {
+    assert!(rt; has_serial(log, 3));
+    has(rt, &lacks(log, &[3, 1], alloc), &Ok(false));
+    has(rt, &lacks(log, &[2], alloc), &Ok(true));
 }
 
 /// What is cut off a log in pieces is gone from it alone, wherever the cut lies.
 #[test]
-fn pieces_of_a_log(rt: HostRuntime) -> Result<(), Fail> {
-    let mut log = Wal::new(rt.alloc());
-    for serial in 0..600 {
-        log.append(entry(serial, 1))?;
+fn pieces_of_a_log(rt: HostRuntime) {
+    let mut log = log_of(rt.alloc(), 600).expect(&rt, "room");
+    let copy = copied(&log).expect(&rt, "memory");
+    for place in [255, 256, 599] {
+        has(&rt, &serial_at(&log, place), &Some(place as u64));
     }
-    let copy = log.try_clone()?;
-    let found = [log.get(255), log.get(256), log.get(599), log.get(600)];
-    let wanted = [
-        Some(entry(255, 1)),
-        Some(entry(256, 1)),
-        Some(entry(599, 1)),
-        None,
-    ];
-    assert_eq!(rt; found, wanted);
-    if log.len() >= 257 {
-        log.truncate(257);
+    has(&rt, &serial_at(&log, 600), &None);
+    cut(&mut log, 257);
+    has(&rt, &size(&log), &(257, 257));
+    cut(&mut log, 256);
+    has(&rt, &size(&log), &(256, 256));
+    has(&rt, &serial_at(&log, 255), &Some(255));
+    has(&rt, &serial_at(&log, 256), &None);
+    has(&rt, &size(&copy), &(600, 600));
+    has(&rt, &serial_at(&copy, 599), &Some(599));
+}
+
+/// A history with this point, and with room for one more.
+fn history_of(alloc: Global, point: HistoryPoint) -> Result<History, AllocError> {
+    let mut history = History::new(alloc);
+    history.reserve(2)?;
+    history.add(point)?;
+    Ok(history)
+}
+
+/// A history without points that becomes a copy of another one.
+fn become_copy(alloc: Global, of: &History) -> Result<History, AllocError> {
+    let mut history = History::new(alloc);
+    history.try_clone_from(of)?;
+    Ok(history)
+}
+
+fn copied_history(history: &History) -> Result<History, AllocError> {
+    history.try_clone()
+}
+
+#[test]
+fn histories(rt: HostRuntime) {
+    let at = Lsn { position: 10 };
+    let history = history_of(rt.alloc(), HistoryPoint { timeline: 1, at }).expect(&rt, "memory");
+    has(&rt, &(history.len(), history.spare()), &(1, 1));
+    let copy = copied_history(&history).expect(&rt, "memory");
+    let other = become_copy(rt.alloc(), &copy).expect(&rt, "memory");
+    for told in [&history, &copy, &other] {
+        has(&rt, &told.point(1), &Some(at));
     }
-    assert_eq!(rt; log.end().position, 257);
-    if log.len() >= 256 {
-        log.truncate(256);
-    }
-    assert_eq!(rt;
-        (log.end().position, log.get(255), log.get(256)),
-        (256, Some(entry(255, 1)), None)
-    );
-    assert_eq!(rt;
-        (copy.end().position, copy.get(599)),
-        (600, Some(entry(599, 1)))
-    );
-    Ok(())
 }
 
 /// Random calls of two logs in pieces, and the same calls of plain ones.
 #[test]
-fn logs_in_pieces_and_plain_ones(rt: HostRuntime) -> Result<(), Fail> {
-    let mut random = Random::new(20);
-    let mut first = LogPair::new(rt.alloc());
-    let mut second = LogPair::new(rt.alloc());
-    for timeline in 0..400 {
-        match random.below(8) {
-            0 | 1 => first.append(random.below(90), timeline)?,
-            2 => first.cut(random.below(200)),
-            3 => second.copy(&first)?,
-            4 => second.append(random.below(40), timeline)?,
-            5 => first.receive(&second, random.below(300))?,
-            _ => second.receive(&first, random.below(300))?,
-        }
-        let place = random.below(first.len());
-        assert!(rt; first.agrees(place) && second.agrees(place));
-        assert!(rt; first.agrees_with(&second) && second.agrees_with(&first));
-    }
-    Ok(())
+fn logs_in_pieces_and_plain_ones(rt: HostRuntime) {
+    let alloc = rt.alloc();
+    let told = all_told(alloc, Wal::new(alloc), Wal::new(alloc));
+    let wanted = all_told(alloc, PlainLog::new(alloc), PlainLog::new(alloc));
+    assert!(rt; told.is_some() && told == wanted);
 }

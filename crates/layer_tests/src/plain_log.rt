@@ -1,5 +1,6 @@
 //! A log as one list, beside which logs in pieces are tried.
-use std::alloc::{AllocError, Global};
+use crate::random_logs::TriedLog;
+use std::alloc::Global;
 use wal_model::Entry;
 
 /// A log as the list of its entries.
@@ -15,20 +16,50 @@ impl PlainLog {
             entries: Vec::new(alloc),
         }
     }
+}
 
-    /// Appends an entry.
-    pub(crate) fn append(&mut self, entry: Entry) -> Result<(), AllocError> {
-        self.entries.push(entry)?;
-        Ok(())
-    }
-
-    /// How many entries it has.
-    pub(crate) fn len(&self) -> usize {
+impl TriedLog for PlainLog {
+    fn count(&self) -> usize {
         self.entries.len()
     }
 
-    /// The sum of the bytes of its entries.
-    pub(crate) fn end(&self) -> u64 {
+    fn add(&mut self, entry: Entry) -> Option<()> {
+        self.entries.push(entry).ok()
+    }
+
+    fn keep(&mut self, entries: usize) {
+        self.entries.truncate(entries);
+    }
+
+    fn shared(&self, other: &PlainLog) -> usize {
+        for place in 0..self.entries.len() {
+            if other.entries.get(place) != self.entries.get(place) {
+                return place;
+            }
+        }
+        self.entries.len()
+    }
+
+    fn begins(&self, other: &PlainLog) -> bool {
+        other.entries.starts_with(&self.entries)
+    }
+
+    fn follow(&mut self, other: &PlainLog, most: usize) -> Option<()> {
+        for _ in 0..most {
+            let Some(entry) = other.entries.get(self.entries.len()) else {
+                return Some(());
+            };
+            self.entries.push(*entry).ok()?;
+        }
+        Some(())
+    }
+
+    fn imitate(&mut self, other: &PlainLog) -> Option<()> {
+        self.entries = other.entries.clone().ok()?;
+        Some(())
+    }
+
+    fn bytes(&self) -> u64 {
         let mut end: u64 = 0;
         for entry in &self.entries {
             end = end.wrapping_add(entry.bytes);
@@ -36,46 +67,7 @@ impl PlainLog {
         end
     }
 
-    /// The entry at a place.
-    pub(crate) fn get(&self, place: usize) -> Option<Entry> {
+    fn at(&self, place: usize) -> Option<Entry> {
         self.entries.get(place).copied()
-    }
-
-    /// Keeps the first entries, at most so many.
-    pub(crate) fn truncate(&mut self, entries: usize) {
-        self.entries.truncate(entries);
-    }
-
-    /// With how many entries both begin.
-    pub(crate) fn common(&self, other: &PlainLog) -> usize {
-        for place in 0..self.entries.len() {
-            if other.get(place) != self.get(place) {
-                return place;
-            }
-        }
-        self.entries.len()
-    }
-
-    /// Whether the other one begins with it.
-    pub(crate) fn is_prefix(&self, of: &PlainLog) -> bool {
-        of.entries.starts_with(&self.entries)
-    }
-
-    /// Appends the next entries of another one, at most so many.
-    pub(crate) fn receive(&mut self, from: &PlainLog, most: usize) -> Result<(), AllocError> {
-        let held = self.entries.len();
-        for place in held..held.saturating_add(most).min(from.len()) {
-            if let Some(entry) = from.get(place) {
-                self.append(entry)?;
-            }
-        }
-        Ok(())
-    }
-
-    /// The same log once more.
-    pub(crate) fn try_clone(&self) -> Result<PlainLog, AllocError> {
-        Ok(PlainLog {
-            entries: self.entries.clone()?,
-        })
     }
 }

@@ -1,59 +1,89 @@
 //! Scripts: one that is read, one that is refused, and the texts of faults.
+use crate::checks::{has, has_words};
 use cluster_script::{ScriptLines, limit_passed, read};
 use pat_base::{NotLsn, NotSize, ReadError, State};
 use pg_model::{CommitFault, InState, PgFault};
 use script_grammar::{Limit, ScriptFault};
 use script_words::Fault;
-use std::test::Fail;
+use std::alloc::{AllocError, Global};
+use std::process::Abort;
 use wal_model::WalFault;
 
-#[test]
-fn a_script_is_read(rt: HostRuntime) -> Result<(), Fail> {
-    let bytes = b"cluster demo\nmember a\nrest a POST /restart {}";
-    let limit = limit_passed(rt.alloc(), bytes, 0)?;
-    let script = read(rt.alloc(), bytes)?;
-    let is_copied = script.get(0).is_some_and(|line| line.try_clone().is_ok());
-    assert_eq!(rt; (limit, is_copied), (None, true));
-    Ok(())
+/// Whether these bytes are a script whose first line can be copied.
+fn is_read(alloc: Global, bytes: &[u8]) -> bool {
+    let Ok(script) = read(alloc, bytes) else {
+        return false;
+    };
+    script.get(0).is_some_and(|line| line.try_clone().is_ok())
+}
+
+/// Why these bytes are no script.
+fn refused(alloc: Global, bytes: &[u8]) -> Option<ScriptFault> {
+    let script = ScriptLines::cut(alloc, bytes).ok()?;
+    script.read(alloc).err()
+}
+
+/// Which limit these bytes pass, with so many ticks beside their lines.
+fn limit_of(alloc: Global, bytes: &[u8], ticks: u64) -> Result<Option<Limit>, AllocError> {
+    limit_passed(alloc, bytes, ticks)
+}
+
+/// The same of bytes that were cut into lines.
+fn limit_of_lines(alloc: Global, bytes: &[u8], ticks: u64) -> Result<Option<Limit>, AllocError> {
+    Ok(ScriptLines::cut(alloc, bytes)?.limit_passed(ticks))
 }
 
 #[test]
-fn a_script_is_refused(rt: HostRuntime) -> Result<(), Fail> {
-    let script = ScriptLines::cut(rt.alloc(), b"cluster demo\nmember a\nhold b\nrun 1000001")?;
-    assert_eq!(rt; script.limit_passed(0), Some(Limit::Ticks));
+fn a_script_is_read(rt: HostRuntime) {
+    let bytes = b"cluster demo\nmember a\nrest a POST /restart {}";
+    has(&rt, &limit_of(rt.alloc(), bytes, 0), &Ok(None));
+    assert!(rt; is_read(rt.alloc(), bytes));
+}
+
+#[test]
+fn a_script_is_refused(rt: HostRuntime) {
+    let bytes = b"cluster demo\nmember a\nhold b\nrun 1000001";
+    let limit = limit_of_lines(rt.alloc(), bytes, 0);
+    has(&rt, &limit, &Ok(Some(Limit::Ticks)));
     let (line, fault) = (3, Fault::UnknownName);
-    let refused = script.read(rt.alloc()).err();
-    assert_eq!(rt; refused, Some(ScriptFault::At { line, fault }));
-    Ok(())
+    let wanted = ScriptFault::At { line, fault };
+    has(&rt, &refused(rt.alloc(), bytes), &Some(wanted));
 }
 
 /// The limit of ticks is one of those in a script's lines and those beside them, together.
 #[test]
-fn ticks_beside_the_lines_count(rt: HostRuntime) -> Result<(), Fail> {
-    let script = ScriptLines::cut(rt.alloc(), b"cluster demo\nmember a\nrun 1000000")?;
-    let limits = (script.limit_passed(0), script.limit_passed(1));
-    assert_eq!(rt; limits, (None, Some(Limit::Ticks)));
-    let limit = limit_passed(rt.alloc(), b"cluster demo\nmember a", u64::MAX)?;
-    assert_eq!(rt; limit, Some(Limit::Ticks));
-    Ok(())
+fn ticks_beside_the_lines_count(rt: HostRuntime) {
+    let bytes = b"cluster demo\nmember a\nrun 1000000";
+    let within = limit_of_lines(rt.alloc(), bytes, 0);
+    has(&rt, &within, &Ok(None));
+    let passed = limit_of_lines(rt.alloc(), bytes, 1);
+    has(&rt, &passed, &Ok(Some(Limit::Ticks)));
+    let most = limit_of(rt.alloc(), b"cluster demo\nmember a", u64::MAX);
+    has(&rt, &most, &Ok(Some(Limit::Ticks)));
 }
 
 /// What is printed of faults, where no clause says it.
 #[test]
-fn texts_of_faults(rt: HostRuntime) -> Result<(), Fail> {
+fn texts_of_faults(rt: HostRuntime) {
+    let alloc = rt.alloc();
     let (line, fault) = (7, Fault::NotBuilt);
-    let script = ScriptFault::At { line, fault };
-    let log = WalFault::Full;
-    let order = InState(State::Primary);
-    let commit = CommitFault::NotPrimary;
-    let copy = PgFault::NotPrimary;
-    let read = ReadError::Fault;
-    let printed = format!(in rt.alloc();
-        "{script}; {log}; {order}; {commit}; {copy}; {read}; {NotLsn}; {NotSize}"
-    )?;
-    assert_eq!(rt;
-        printed.as_str(),
-        "line 7: not built; the log is full; the server is in another state; the server is no primary; the source is no primary; read fault; not a log position; not a size"
+    has_words(
+        &rt,
+        alloc,
+        &ScriptFault::At { line, fault },
+        "line 7: not built",
     );
-    Ok(())
+    has_words(&rt, alloc, &WalFault::Full, "the log is full");
+    let in_state = InState(State::Primary);
+    has_words(&rt, alloc, &in_state, "the server is in another state");
+    has_words(
+        &rt,
+        alloc,
+        &CommitFault::NotPrimary,
+        "the server is no primary",
+    );
+    has_words(&rt, alloc, &PgFault::NotPrimary, "the source is no primary");
+    has_words(&rt, alloc, &ReadError::Fault, "read fault");
+    has_words(&rt, alloc, &NotLsn, "not a log position");
+    has_words(&rt, alloc, &NotSize, "not a size");
 }

@@ -1,16 +1,16 @@
 //! Servers.
+use crate::checks::has;
 use pat_base::{Lsn, MemberId, MemberSet, Required, State, Ticks};
 use pg_model::{CommitFault, InState, PgFault, Server, Streamed};
 use std::alloc::{AllocError, Global};
 use std::process::Abort;
-use std::test::Fail;
 
 /// Where the log of a new server ends, and where behind a commit of 5 bytes.
 const BASE: Lsn = Lsn { position: 10 };
 
 const END: Lsn = Lsn { position: 15 };
 
-// Two calls once more, without a contract: what a test proves would grow with each of them.
+const B: MemberId = MemberId { number: 1 };
 
 fn fresh(alloc: Global, base: u32) -> Result<Server, AllocError> {
     Server::new(alloc, u64::from(base))
@@ -23,59 +23,71 @@ fn promote(server: &mut Server) -> Result<(), InState> {
     server.promote(Ticks(0))
 }
 
-#[test]
-fn server_calls(rt: HostRuntime) -> Result<(), Fail> {
-    let mut server = fresh(rt.alloc(), 10)?;
-    let before = (server.state(), server.timeline(), server.status().end);
-    assert_eq!(rt; before, (State::Replica, 1, Some(BASE)));
-    promote(&mut server)?;
-    let left = server.history().point(1);
-    assert_eq!(rt; (server.timeline(), left), (2, Some(BASE)));
-    check_acknowledgement(&rt, &mut server);
-    check_streams(&rt, rt.alloc(), &server)
+fn commit(server: &mut Server, bytes: u64) -> Result<(), CommitFault> {
+    server.commit(1, bytes)
 }
 
-fn check_acknowledgement(rt: &impl Abort, server: &mut Server) {
-    let b = MemberId { number: 1 };
-    assert_eq!(rt; server.commit(1, 5), Ok(()));
-    server.set_required(Required::All(MemberSet::empty().with(b)));
+fn rewind(server: &mut Server, to: &Server) -> Option<PgFault> {
+    server.rewind(to).err()
+}
+
+/// In which state a server is, on which timeline, and where its log ends.
+fn standing(server: &Server) -> (State, u64, Option<Lsn>) {
+    (server.state(), server.timeline(), server.status().end)
+}
+
+#[test]
+fn server_calls(rt: HostRuntime) {
+    let mut server = fresh(rt.alloc(), 10).expect(&rt, "memory");
+    has(&rt, &standing(&server), &(State::Replica, 1, Some(BASE)));
+    has(&rt, &promote(&mut server), &Ok(()));
+    has(&rt, &standing(&server), &(State::Primary, 2, Some(BASE)));
+    has(&rt, &left_at(&server), &Some(BASE));
+    has(&rt, &commit(&mut server, 5), &Ok(()));
+    has(&rt, &acknowledged(&mut server), &[None, Some(1)]);
+    has(&rt, &server.confirmed(B), &Some(END));
+    check_streams(&rt, rt.alloc(), &server);
+}
+
+/// Where a server left timeline 1.
+fn left_at(server: &Server) -> Option<Lsn> {
+    server.history().point(1)
+}
+
+/// Which commit is acknowledged next where b is waited for, and once b has confirmed all.
+fn acknowledged(server: &mut Server) -> [Option<u64>; 2] {
+    server.set_required(Required::All(MemberSet::empty().with(B)));
     let before = server.next_acknowledged();
-    server.confirm(b, END);
-    assert_eq!(rt; [before, server.next_acknowledged()], [None, Some(1)]);
-    assert_eq!(rt; server.confirmed(b), Some(END));
+    server.confirm(B, END);
+    [before, server.next_acknowledged()]
 }
 
 /// A new server, and what it gets of another one.
-fn receiver(alloc: Global, base: u32, upstream: &Server) -> Result<(Server, Streamed), Fail> {
-    let mut server = fresh(alloc, base)?;
-    let streamed = server.stream(upstream, 3)?;
-    Ok((server, streamed))
+fn receiver(rt: &impl Abort, alloc: Global, base: u32, upstream: &Server) -> (Server, Streamed) {
+    let mut server = fresh(alloc, base).expect(rt, "memory");
+    let streamed = server.stream(upstream, 3).expect(rt, "memory");
+    (server, streamed)
 }
 
-fn check_streams(rt: &impl Abort, alloc: Global, server: &Server) -> Result<(), Fail> {
-    let (replica, received) = receiver(alloc, 10, server)?;
-    let (_, unconnected) = receiver(alloc, 10, &replica)?;
-    let (_, parted) = receiver(alloc, 11, server)?;
-    let fork = Lsn { position: 0 };
-    assert_eq!(rt;
-        [received, unconnected],
-        [Streamed::Received(1), Streamed::NotConnected]
-    );
-    assert_eq!(rt; parted, Streamed::Diverged(fork));
-    Ok(())
+fn check_streams(rt: &impl Abort, alloc: Global, server: &Server) {
+    let (replica, received) = receiver(rt, alloc, 10, server);
+    has(rt, &received, &Streamed::Received(1));
+    let (_, unconnected) = receiver(rt, alloc, 10, &replica);
+    has(rt, &unconnected, &Streamed::NotConnected);
+    let (_, parted) = receiver(rt, alloc, 11, server);
+    has(rt, &parted, &Streamed::Diverged(Lsn { position: 0 }));
 }
 
 #[test]
-fn refused_calls(rt: HostRuntime) -> Result<(), Fail> {
-    let replica = fresh(rt.alloc(), 10)?;
-    let mut server = fresh(rt.alloc(), 10)?;
-    let commit = server.commit(1, 1);
-    let rewind = server.rewind(&replica);
-    assert_eq!(rt;
-        (commit, rewind),
-        (Err(CommitFault::NotPrimary), Err(PgFault::NotPrimary))
+fn refused_calls(rt: HostRuntime) {
+    let replica = fresh(rt.alloc(), 10).expect(&rt, "memory");
+    let mut server = fresh(rt.alloc(), 10).expect(&rt, "memory");
+    has(&rt, &commit(&mut server, 1), &Err(CommitFault::NotPrimary));
+    has(
+        &rt,
+        &rewind(&mut server, &replica),
+        &Some(PgFault::NotPrimary),
     );
-    promote(&mut server)?;
-    assert_eq!(rt; promote(&mut server), Err(InState(State::Primary)));
-    Ok(())
+    has(&rt, &promote(&mut server), &Ok(()));
+    has(&rt, &promote(&mut server), &Err(InState(State::Primary)));
 }

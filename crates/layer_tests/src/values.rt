@@ -1,53 +1,80 @@
 //! Plain types: positions, sizes and names as text, members and their sets.
+use crate::checks::has;
 use pat_base::{Lsn, MemberId, MemberSet, Name, ServerId, Size};
-use std::test::Fail;
+use std::alloc::Global;
+use std::process::Abort;
 
-/// Texts, and the positions that they write.
-const POSITIONS: [(&str, Option<u64>); 4] = [
-    ("16/B374D848", Some(97_500_059_720)),
-    ("0/FFFFFFFF", Some(4_294_967_295)),
-    ("0/", None),
-    ("0/123456789", None),
-];
+const A: MemberId = MemberId { number: 0 };
 
-/// Positions, and how they are printed.
-const PRINTED: [(u64, &str); 3] = [
-    (83_886_080, "0/5000000"),
-    (4_294_967_551, "1/FF"),
-    (97_500_059_720, "16/B374D848"),
-];
+const P: MemberId = MemberId { number: 15 };
+
+/// The position that a text writes.
+fn position(text: &str) -> Option<u64> {
+    Some(Lsn::read(text.as_bytes()).ok()?.position)
+}
+
+/// Holds how a position is printed against a text.
+fn is_printed(rt: &impl Abort, alloc: Global, position: u64, wanted: &str) {
+    let lsn = Lsn::new(position).expect(rt, "at most 2^63");
+    let text = lsn.print(alloc).expect(rt, "memory");
+    has(rt, &text.as_str(), &wanted);
+}
 
 #[test]
-fn positions(rt: HostRuntime) -> Result<(), Fail> {
-    for (text, position) in POSITIONS {
-        let read = Lsn::read(text.as_bytes());
-        assert_eq!(rt; read.ok().map(|lsn| lsn.position), position, "{text}");
-    }
-    for (position, text) in PRINTED {
-        let lsn = Lsn::new(position).ok_or("past 2^63")?;
-        assert_eq!(rt; lsn.print(rt.alloc())?.as_str(), text);
-    }
-    Ok(())
+fn positions(rt: HostRuntime) {
+    has(&rt, &position("16/B374D848"), &Some(97_500_059_720));
+    has(&rt, &position("0/FFFFFFFF"), &Some(4_294_967_295));
+    has(
+        &rt,
+        &[position("0/"), position("0/123456789")],
+        &[None, None],
+    );
+    is_printed(&rt, rt.alloc(), 83_886_080, "0/5000000");
+    is_printed(&rt, rt.alloc(), 4_294_967_551, "1/FF");
+    is_printed(&rt, rt.alloc(), 97_500_059_720, "16/B374D848");
+}
+
+fn size(text: &[u8]) -> Option<u64> {
+    Size::read(text).ok()
 }
 
 #[test]
 fn sizes_and_names(rt: HostRuntime) {
-    let sizes = [Size::read(b"64MB").ok(), Size::read(b"64mb").ok()];
-    assert_eq!(rt; sizes, [Some(67_108_864), None]);
-    assert_eq!(rt; [Name::read(b""), Name::read(b"A")], [None, None]);
+    has(
+        &rt,
+        &[size(b"64MB"), size(b"64mb")],
+        &[Some(67_108_864), None],
+    );
+    has(&rt, &[Name::read(b""), Name::read(b"A")], &[None, None]);
+}
+
+/// The member whose server that of a member is, and the one whose server has this number.
+fn members_of_servers(member: MemberId, number: u8) -> [Option<MemberId>; 2] {
+    let server = ServerId::new(number).and_then(|server| server.member());
+    [ServerId::of(member).member(), server]
+}
+
+/// The union of two sets, what is in both, and the second one without a member.
+fn combined(first: MemberSet, second: MemberSet, without: MemberId) -> [MemberSet; 3] {
+    [
+        first.union(second),
+        first.intersection(second),
+        second.without(without),
+    ]
 }
 
 #[test]
 fn members_and_servers(rt: HostRuntime) {
-    let (a, p) = (MemberId { number: 0 }, MemberId { number: 15 });
-    assert_eq!(rt; [MemberId::new(15), MemberId::new(16)], [Some(p), None]);
-    let remote = ServerId::new(16).and_then(|server| server.member());
-    assert_eq!(rt; [ServerId::of(p).member(), remote], [Some(p), None]);
-    let one = MemberSet::empty().with(a);
-    let both = one.with(p);
-    let sets = [one.union(both), one.intersection(both), both.without(p)];
-    assert_eq!(rt; sets, [both, one, one]);
-    assert_eq!(rt; (both.first(), both.len()), (Some(a), 2));
-    let facts = [one.contains(p), one.is_subset(both), both.is_empty()];
-    assert_eq!(rt; facts, [false, true, false]);
+    has(
+        &rt,
+        &[MemberId::new(15), MemberId::new(16)],
+        &[Some(P), None],
+    );
+    has(&rt, &members_of_servers(P, 16), &[Some(P), None]);
+    let one = MemberSet::empty().with(A);
+    let both = one.with(P);
+    has(&rt, &combined(one, both, P), &[both, one, one]);
+    has(&rt, &(both.first(), both.len()), &(Some(A), 2));
+    let facts = [one.contains(P), one.is_subset(both), both.is_empty()];
+    has(&rt, &facts, &[false, true, false]);
 }

@@ -12,6 +12,3 @@ pub use door::Door;
 pub use laws::{earlier_answers_stay, pieces_make_the_whole};
 pub use listener::ListenerDoor;
 pub use memory::MemoryDoor;
-
-#[cfg(test)]
-mod tests;

@@ -137,6 +137,3 @@ impl<R: Net + Drop> Door for ListenerDoor<R> {
         self.shut();
     }
 }
-
-#[cfg(test)]
-mod tests;

@@ -4,9 +4,15 @@
 #[cfg(test)]
 mod answers;
 #[cfg(test)]
+mod checks;
+#[cfg(test)]
 mod connections;
 #[cfg(test)]
+mod doors;
+#[cfg(test)]
 mod facts;
+#[cfg(test)]
+mod listeners;
 #[cfg(test)]
 mod pages;
 #[cfg(test)]
@@ -15,6 +21,8 @@ mod paths;
 mod replies;
 #[cfg(test)]
 mod requests;
+#[cfg(test)]
+mod stores;
 #[cfg(test)]
 mod targets;
 #[cfg(test)]
