@@ -74,8 +74,10 @@ fn is_before(row: &Row, other: &Row) -> bool
 fn row_numbered(snapshot: &Snapshot, number: u8) -> Option<Row>
     ensures { result ≡ row_numbered snapshot.now number }
 {
-    let member = MemberId::new(number)?;
-    row_in(snapshot, member)
+    match MemberId::new(number) {
+        None => None,
+        Some(member) => row_in(snapshot, member),
+    }
 }
 
 /// The row of a member. `None` exactly where the cluster has no such member, or its key is absent.

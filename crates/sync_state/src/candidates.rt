@@ -10,7 +10,7 @@ use pat_base::{Host, Lsn, MOST_MEMBERS, MemberId, MemberSet, Name};
 use std::cmp::Ordering;
 
 /// A member that may be a synchronous standby, and what decides which of several is.
-#[derive(Clone, Copy, Debug, PartialEq, Eq)]
+#[derive(Clone, Copy)]
 pub(crate) struct Candidate {
     /// Whether the sync key names it as standby already.
     pub published: bool,

@@ -23,7 +23,7 @@ pub enum Plan {
 }
 
 /// The standbys of a leader in synchronous mode.
-#[derive(Clone, Copy, Debug, PartialEq, Eq)]
+#[derive(Clone, Copy)]
 pub(crate) struct Standbys {
     /// Whom the sync key names as standby.
     pub published: MemberSet,
