@@ -22,7 +22,7 @@ abbrev pub name_or_another : Option Name → List ℕ
 name_or_another None = codes "another member"
 name_or_another (Some name) = name_bytes name
 
--- the same, where it is told
+-- the name of another member, where it stands before the words
 abbrev pub name_if : Bool → Option Name → List ℕ
 name_if true name = name_or_another name
 name_if false name = []
