@@ -1,5 +1,5 @@
 -- Why an agent does what it does, in words.
-use Rattle.std.specs.Prelude.{ℕ, List, ◌++◌, Option, Some, None, codes}
+use Rattle.std.specs.Prelude.{ℕ, Bool, true, false, List, [], ◌++◌, Option, Some, None, codes}
 use Rattle.pat_base.specs.declared.name.Name.{Name}
 use Rattle.pat_base.specs.Name.{name_bytes}
 use Rattle.pat_base.specs.declared.ineligibility.Ineligibility.{Ineligibility}
@@ -21,6 +21,11 @@ reason_text reasons.WatchdogNotArmed = codes "the watchdog is not armed"
 abbrev pub name_or_another : Option Name → List ℕ
 name_or_another None = codes "another member"
 name_or_another (Some name) = name_bytes name
+
+-- the name of another member, where it stands before the words
+abbrev pub name_if : Bool → Option Name → List ℕ
+name_if true name = name_or_another name
+name_if false name = []
 
 -- why it does not ask for a free leader key
 abbrev pub ineligibility_text : Ineligibility → Option Name → List ℕ

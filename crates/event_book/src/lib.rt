@@ -10,6 +10,7 @@ mod listing;
 mod member;
 mod message;
 mod name_order;
+mod named_line;
 mod names;
 mod note_printing;
 mod printing;

@@ -5,6 +5,7 @@ ghost use Rattle.event_book.specs.NoteText.{note_line, reply_line, answered_line
 ghost use Rattle.event_book.specs.Text.{bytes_or_none};
 
 use crate::agent_note::AgentNoteText;
+use crate::named_line::write_named_line;
 use crate::{Bytes, Note};
 use pat_base::{Name, Ticks};
 use std::alloc::AllocError;
@@ -31,8 +32,7 @@ pub fn write_note_line(line: &mut String, tick: Ticks, note: &Note) -> Result<()
             write!(line, "{tick} {name} {text}\n")
         }
         Note::StaysByFailsafe { member } => {
-            let name = member.name;
-            write!(line, "{tick} {name} stays primary by failsafe\n")
+            write_named_line(line, tick, member.name, " stays primary by failsafe\n")
         }
         other => write_reply_line(line, tick, other),
     }
@@ -44,12 +44,10 @@ fn write_reply_line(line: &mut String, tick: Ticks, note: &Note) -> Result<(), A
 {
     match note {
         Note::RefusesCommit { server } => {
-            let name = server.name;
-            write!(line, "{tick} {name} refuses a commit\n")
+            write_named_line(line, tick, server.name, " refuses a commit\n")
         }
         Note::AlreadyRunning { agent } => {
-            let name = agent.name;
-            write!(line, "{tick} {name} is already running\n")
+            write_named_line(line, tick, agent.name, " is already running\n")
         }
         Note::NoMessage { number } => write!(line, "{tick} no message {number}\n"),
         Note::Undeliverable { number } => write!(
@@ -63,8 +61,7 @@ fn write_reply_line(line: &mut String, tick: Ticks, note: &Note) -> Result<(), A
             ..
         } => write_answered_line(line, tick, agent.name, *status, body),
         Note::NoAnswer { agent } => {
-            let name = agent.name;
-            write!(line, "{tick} {name} gives no answer\n")
+            write_named_line(line, tick, agent.name, " gives no answer\n")
         }
         Note::ConnectionFailed => write!(line, "{tick} connection failed\n"),
         Note::CtlLine { line: text } => write_ctl_line(line, text),

@@ -2,6 +2,7 @@
 ghost use Rattle.std.specs.Prelude.{◌≡◌, ◌++◌, OnOk, string_bytes};
 ghost use Rattle.event_book.specs.Text.{bytes_or_none, line_of, message_line, agent_line, link_line};
 
+use crate::named_line::write_named_line;
 use crate::note_printing::write_note_line;
 use crate::server_printing::{
     write_log_line, write_replication_line, write_server_line, write_watchdog_line,
@@ -62,20 +63,12 @@ fn write_agent_line(line: &mut String, tick: Ticks, event: &AgentEvent) -> Resul
 {
     match event {
         AgentEvent::Suspended { agent } => {
-            let name = agent.name;
-            write!(line, "{tick} {name} is held\n")
+            write_named_line(line, tick, agent.name, " is held\n")
         }
-        AgentEvent::Resumed { agent } => {
-            let name = agent.name;
-            write!(line, "{tick} {name} resumes\n")
-        }
-        AgentEvent::Killed { agent } => {
-            let name = agent.name;
-            write!(line, "{tick} {name} is killed\n")
-        }
+        AgentEvent::Resumed { agent } => { write_named_line(line, tick, agent.name, " resumes\n") }
+        AgentEvent::Killed { agent } => { write_named_line(line, tick, agent.name, " is killed\n") }
         AgentEvent::Started { agent, .. } => {
-            let name = agent.name;
-            write!(line, "{tick} {name} is started\n")
+            write_named_line(line, tick, agent.name, " is started\n")
         }
         _ => Ok(()),
     }

@@ -1,6 +1,7 @@
 //! Why watchdogs are fed, and why servers are ended.
-ghost use Rattle.std.specs.Prelude.{◌≡◌};
-ghost use Rattle.event_book.specs.Reasons.{name_or_another};
+ghost use Rattle.std.specs.Prelude.{◌≡◌, ◌++◌, Option};
+ghost use Rattle.pat_base.specs.declared.name.Name.{Name};
+ghost use Rattle.event_book.specs.Reasons.{ineligibility_text, name_if, name_or_another};
 
 use pat_base::{Ineligibility, MemberSet, Name};
 use std::fmt;
@@ -65,19 +66,37 @@ impl fmt::Display for IneligibilityText {
     ghost output = { λ text. Some (ineligibility_text text.bar text.by) };
 
     fn fmt<W: fmt::Write>(&self, f: &mut fmt::Formatter<W>) -> fmt::Result {
-        let other = name_or_another(&self.by);
-        match self.bar {
-            Ineligibility::NotRunning => f.write_str("its server is not a replica"),
-            Ineligibility::NoFailover => f.write_str("it may not fail over"),
-            Ineligibility::Paused => f.write_str("paused"),
-            Ineligibility::Candidate(_) => write!(f, "{other} is the candidate"),
-            Ineligibility::NotSync => f.write_str("it is not in the sync key"),
-            Ineligibility::TooFarBehind => f.write_str("it is too far behind"),
-            Ineligibility::NotListed => f.write_str("it is not in the failsafe key"),
-            Ineligibility::Hold => f.write_str("a failsafe hold"),
-            Ineligibility::OtherWrites(_) => write!(f, "{other} accepts writes"),
-            Ineligibility::Ahead(_) => write!(f, "{other} is ahead"),
-            Ineligibility::Priority(_) => write!(f, "{other} has a higher priority"),
-        }
+        let (tells_name, words) = words_of(self.bar);
+        let front = name_if(tells_name, &self.by);
+        write!(f, "{front}{words}")
+    }
+}
+
+/// The words for why a member doesn't ask, and whether the name of another member stands in front of them.
+fn words_of(bar: Ineligibility) -> (bool, &'static str)
+    ensures { (by : Option Name) → name_if result.0 by ++ result.1.now ≡ ineligibility_text bar by }
+{
+    match bar {
+        Ineligibility::NotRunning => (false, "its server is not a replica"),
+        Ineligibility::NoFailover => (false, "it may not fail over"),
+        Ineligibility::Paused => (false, "paused"),
+        Ineligibility::Candidate(_) => (true, " is the candidate"),
+        Ineligibility::NotSync => (false, "it is not in the sync key"),
+        Ineligibility::TooFarBehind => (false, "it is too far behind"),
+        Ineligibility::NotListed => (false, "it is not in the failsafe key"),
+        Ineligibility::Hold => (false, "a failsafe hold"),
+        Ineligibility::OtherWrites(_) => (true, " accepts writes"),
+        Ineligibility::Ahead(_) => (true, " is ahead"),
+        Ineligibility::Priority(_) => (true, " has a higher priority"),
+    }
+}
+
+fn name_if(tells_name: bool, name: &Option<Name>) -> &str
+    ensures { result.now ≡ name_if tells_name name.now }
+{
+    if tells_name {
+        name_or_another(name)
+    } else {
+        ""
     }
 }

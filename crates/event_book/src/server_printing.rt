@@ -5,6 +5,7 @@ ghost use Rattle.event_book.specs.ServerText.{watchdog_line, fed_line, server_li
 ghost use Rattle.event_book.specs.Text.{bytes_or_none};
 
 use crate::listing::end_by_list;
+use crate::named_line::write_named_line;
 use crate::{LogEvent, Names, ReplicationEvent, ServerEvent, WatchdogEvent};
 use pat_base::{Name, Required, Ticks};
 use std::alloc::AllocError;
@@ -27,8 +28,7 @@ pub fn write_watchdog_line(
             write_fed_line(line, trace, tick, member.name, *until)
         }
         WatchdogEvent::Reset { member } => {
-            let name = member.name;
-            write!(line, "{tick} {name} is reset by its watchdog\n")
+            write_named_line(line, tick, member.name, " is reset by its watchdog\n")
         }
         WatchdogEvent::Disarmed { .. }
         | WatchdogEvent::Measured { .. }
@@ -93,28 +93,22 @@ fn write_own_server_line(
 {
     match event {
         ServerEvent::Ended { server } => {
-            let name = server.name;
-            write!(line, "{tick} {name} no longer accepts writes\n")
+            write_named_line(line, tick, server.name, " no longer accepts writes\n")
         }
         ServerEvent::Crashed { server } => {
-            let name = server.name;
-            write!(line, "{tick} {name} crashed\n")
+            write_named_line(line, tick, server.name, " crashed\n")
         }
         ServerEvent::Promoted { server } => {
-            let name = server.name;
-            write!(line, "{tick} {name} is promoted by its operator\n")
+            write_named_line(line, tick, server.name, " is promoted by its operator\n")
         }
         ServerEvent::StartsAsReplica { server } => {
-            let name = server.name;
-            write!(line, "{tick} {name} starts as a replica\n")
+            write_named_line(line, tick, server.name, " starts as a replica\n")
         }
         ServerEvent::Frozen { server } => {
-            let name = server.name;
-            write!(line, "{tick} {name} is frozen\n")
+            write_named_line(line, tick, server.name, " is frozen\n")
         }
         ServerEvent::Thawed { server } => {
-            let name = server.name;
-            write!(line, "{tick} {name} is thawed\n")
+            write_named_line(line, tick, server.name, " is thawed\n")
         }
         _ => Ok(()),
     }
@@ -138,10 +132,7 @@ pub fn write_log_line(line: &mut String, tick: Ticks, event: &LogEvent) -> Resul
             let (name, source) = (server.name, from.name);
             write!(line, "{tick} {name} is cloned from {source}\n")
         }
-        LogEvent::Wiped { server } => {
-            let name = server.name;
-            write!(line, "{tick} {name} is wiped\n")
-        }
+        LogEvent::Wiped { server } => { write_named_line(line, tick, server.name, " is wiped\n") }
     }
 }
 
@@ -176,8 +167,8 @@ fn write_required_line(
     ensures { OnOk result (string_bytes line.new ≡ string_bytes line.old ++ bytes_or_none (required_line tick.0 (name_bytes name) required names.now)) }
 {
     match required {
-        Required::Nobody => write!(line, "{tick} {name} requires no standby\n"),
-        Required::AnyOne => write!(line, "{tick} {name} requires any standby\n"),
+        Required::Nobody => write_named_line(line, tick, name, " requires no standby\n"),
+        Required::AnyOne => write_named_line(line, tick, name, " requires any standby\n"),
         Required::All(_) => {
             write!(line, "{tick} {name} requires ")?;
             end_by_list(line, "no standby", names.as_slice())

@@ -5,6 +5,7 @@ ghost use Rattle.event_book.specs.StoreText.{store_line, granted_line, request_l
 ghost use Rattle.event_book.specs.Text.{bytes_or_none};
 
 use crate::listing::end_by_list;
+use crate::named_line::write_named_line;
 use crate::{Member, Names, StoreEvent};
 use lease_store::Txn;
 use pat_base::{Name, Ticks};
@@ -57,14 +58,14 @@ fn write_granted_line(
 {
     let name = by.name;
     match txn {
-        Txn::Create { .. } => write!(line, "{tick} {name} takes the leader key\n"),
-        Txn::Release { .. } => write!(line, "{tick} {name} releases the leader key\n"),
-        Txn::Claim { .. } => write!(line, "{tick} {name} claims the sync key\n"),
+        Txn::Create { .. } => write_named_line(line, tick, name, " takes the leader key\n"),
+        Txn::Release { .. } => write_named_line(line, tick, name, " releases the leader key\n"),
+        Txn::Claim { .. } => write_named_line(line, tick, name, " claims the sync key\n"),
         Txn::SetSync { .. } => {
             write!(line, "{tick} {name} publishes sync standbys ")?;
             end_by_list(line, "none", standbys.as_slice())
         }
-        Txn::DropSync { .. } => write!(line, "{tick} {name} removes the sync key\n"),
+        Txn::DropSync { .. } => write_named_line(line, tick, name, " removes the sync key\n"),
         other => write_request_line(line, tick, name, other),
     }
 }
@@ -79,9 +80,14 @@ fn write_request_line(
     ensures { OnOk result (string_bytes line.new ≡ string_bytes line.old ++ bytes_or_none (request_line tick.0 (name_bytes name) txn.now)) }
 {
     match txn {
-        Txn::SetFailover { .. } => write!(line, "{tick} {name} writes the failover key\n"),
-        Txn::DropFailover { .. } => write!(line, "{tick} {name} clears the failover key\n"),
-        Txn::SetConfig { .. } => write!(line, "{tick} {name} changes the configuration\n"),
+        Txn::SetFailover { .. } => write_named_line(line, tick, name, " writes the failover key\n"),
+        Txn::DropFailover { .. } => write_named_line(
+            line,
+            tick,
+            name,
+            " clears the failover key\n",
+        ),
+        Txn::SetConfig { .. } => write_named_line(line, tick, name, " changes the configuration\n"),
         _ => Ok(()),
     }
 }

@@ -1,4 +1,6 @@
 //! Kinds of transactions.
+ghost use Rattle.std.specs.Prelude.{◌≡◌};
+ghost use Rattle.lease_store.specs.Words.{kind_text};
 
 use crate::Txn;
 use std::fmt;
@@ -33,17 +35,23 @@ impl fmt::Display for TxnKind {
     ghost output = { λ kind. Some (kind_text kind) };
 
     fn fmt<W: fmt::Write>(&self, f: &mut fmt::Formatter<W>) -> fmt::Result {
-        match self {
-            TxnKind::Touch => f.write_str("touch"),
-            TxnKind::Create => f.write_str("create"),
-            TxnKind::Renewal => f.write_str("renewal"),
-            TxnKind::Release => f.write_str("release"),
-            TxnKind::Claim => f.write_str("claim"),
-            TxnKind::SyncWrite => f.write_str("sync write"),
-            TxnKind::FailoverWrite => f.write_str("failover write"),
-            TxnKind::FailoverRemoval => f.write_str("failover removal"),
-            TxnKind::ConfigurationWrite => f.write_str("configuration write"),
-        }
+        f.write_str(kind_text(*self))
+    }
+}
+
+fn kind_text(kind: TxnKind) -> &'static str
+    ensures { result.now ≡ kind_text kind }
+{
+    match kind {
+        TxnKind::Touch => "touch",
+        TxnKind::Create => "create",
+        TxnKind::Renewal => "renewal",
+        TxnKind::Release => "release",
+        TxnKind::Claim => "claim",
+        TxnKind::SyncWrite => "sync write",
+        TxnKind::FailoverWrite => "failover write",
+        TxnKind::FailoverRemoval => "failover removal",
+        TxnKind::ConfigurationWrite => "configuration write",
     }
 }
 

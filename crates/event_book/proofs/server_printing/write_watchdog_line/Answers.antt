@@ -4,4 +4,4 @@ pub returns-in-Armed : goal.returns-in-Armed
 returns-in-Armed c = rw c.in-Armed.is c.write.ensures.bytes
 
 pub returns-in-Reset : goal.returns-in-Reset
-returns-in-Reset c = rw c.in-Reset.is c.write-in-Reset.ensures.bytes
+returns-in-Reset c = rw c.in-Reset.is c.write_named_line.ensures
