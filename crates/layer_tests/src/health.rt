@@ -1,7 +1,8 @@
 //! Health checks of an agent in every role over a server in every state, on every path by every method, worked by hand from the table of
 //! health check endpoints in Patroni's documentation of its REST API.
 
-use crate::clusters::{ONLY_B, SYNCHRONOUS, follower, has_answer, led_by_a};
+use crate::checks::has;
+use crate::clusters::{ONLY_B, SYNCHRONOUS, follower, led_by_a};
 use cluster_config::{AgentView, RoleWord};
 use pat_base::{MemberSet, State, Ticks};
 use rest_answer::{Answer, answer};
@@ -108,14 +109,14 @@ fn told(
 
 /// Holds what is answered on every path by every method against a row.
 fn has_health(rt: &impl Abort, alloc: Global, view: &AgentView<'_>, routes: &Routes, row: &str) {
-    has_answer(rt, &row.len(), &PATHS.len());
+    has(rt, &row.len(), &PATHS.len());
     for (path, sign) in PATHS.iter().zip(row.bytes()) {
         let status = if sign == b'+' { 200 } else { 503 };
         let get = told(rt, alloc, view, routes, Verb::Get, path);
-        has_answer(rt, &get, &(status, true));
+        has(rt, &get, &(status, true));
         for verb in [Verb::Head, Verb::Options] {
             let alone = told(rt, alloc, view, routes, verb, path);
-            has_answer(rt, &alone, &(status, false));
+            has(rt, &alone, &(status, false));
         }
         for verb in [
             Verb::Post,
@@ -125,7 +126,7 @@ fn has_health(rt: &impl Abort, alloc: Global, view: &AgentView<'_>, routes: &Rou
             Verb::Other,
         ] {
             let refused = told(rt, alloc, view, routes, verb, path);
-            has_answer(rt, &refused, &(405, false));
+            has(rt, &refused, &(405, false));
         }
     }
 }
