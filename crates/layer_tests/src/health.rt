@@ -6,9 +6,9 @@ use crate::clusters::{ONLY_B, SYNCHRONOUS, follower, led_by_a};
 use cluster_config::{AgentView, RoleWord};
 use pat_base::{MemberSet, State, Ticks};
 use rest_answer::{Answer, answer};
-use rest_message::Verb;
+use rest_message::{Reply, Verb};
 use rest_paths::Routes;
-use std::alloc::Global;
+use std::alloc::{AllocError, Global};
 use std::process::Abort;
 
 /// The paths of the columns below.
@@ -92,6 +92,24 @@ const OF_REPLICAS: [(bool, bool, &str); 4] = [
     (true, true, "-----------+++"),
 ];
 
+/// What is replied to a request, where it changes nothing.
+pub(crate) fn reply_to(
+    alloc: Global,
+    view: &AgentView<'_>,
+    routes: &Routes,
+    verb: Verb,
+    path: &str,
+) -> Result<Option<Reply>, AllocError> {
+    Ok(reply_in(answer(alloc, view, routes, verb, path, b"{}")?))
+}
+
+fn reply_in(answer: Answer) -> Option<Reply> {
+    match answer {
+        Answer::Now(reply) => Some(reply),
+        Answer::Act(_) => None,
+    }
+}
+
 /// What is answered to a request: its status, and whether there is a body.
 fn told(
     rt: &impl Abort,
@@ -101,10 +119,9 @@ fn told(
     verb: Verb,
     path: &str,
 ) -> (u16, bool) {
-    match answer(alloc, view, routes, verb, path, b"{}").expect(rt, "memory") {
-        Answer::Now(reply) => (reply.status, !reply.body.is_empty()),
-        Answer::Act(_) => panic!(rt; "a health check changes nothing"),
-    }
+    let reply = reply_to(alloc, view, routes, verb, path).expect(rt, "memory");
+    let reply = reply.expect(rt, "a health check changes nothing");
+    (reply.status, !reply.body.is_empty())
 }
 
 /// Holds what is answered on every path by every method against a row.
