@@ -14,3 +14,8 @@ pub(crate) fn has_words(rt: &impl Abort, alloc: Global, told: &impl Display, wor
     let text = format!(in alloc; "{told}").expect(rt, "memory");
     has(rt, &text.as_str(), &words);
 }
+
+/// Holds a text against another.
+pub(crate) fn has_text(rt: &impl Abort, told: &str, wanted: &str) {
+    assert_eq!(rt; told, wanted);
+}

@@ -37,9 +37,8 @@ fn size(log: &Wal) -> (usize, u64) {
     (log.len(), log.end().position)
 }
 
-/// The serial of the entry at a place.
-fn serial_at(log: &Wal, place: usize) -> Option<u64> {
-    Some(log.get(place)?.serial)
+fn at(log: &Wal, place: usize) -> Option<Entry> {
+    log.get(place)
 }
 
 /// Whether the second of two logs begins with the first, with how many entries both begin, and where they part.
@@ -103,18 +102,18 @@ fn check_serials(rt: &impl Abort, alloc: Global, log: &Wal) {
 fn pieces_of_a_log(rt: HostRuntime) {
     let mut log = log_of(rt.alloc(), 600).expect(&rt, "room");
     let copy = copied(&log).expect(&rt, "memory");
-    for place in [255, 256, 599] {
-        has(&rt, &serial_at(&log, place), &Some(place as u64));
-    }
-    has(&rt, &serial_at(&log, 600), &None);
+    has(&rt, &at(&log, 255), &Some(entry(255, 1)));
+    has(&rt, &at(&log, 256), &Some(entry(256, 1)));
+    has(&rt, &at(&log, 599), &Some(entry(599, 1)));
+    has(&rt, &at(&log, 600), &None);
     cut(&mut log, 257);
     has(&rt, &size(&log), &(257, 257));
     cut(&mut log, 256);
     has(&rt, &size(&log), &(256, 256));
-    has(&rt, &serial_at(&log, 255), &Some(255));
-    has(&rt, &serial_at(&log, 256), &None);
+    has(&rt, &at(&log, 255), &Some(entry(255, 1)));
+    has(&rt, &at(&log, 256), &None);
     has(&rt, &size(&copy), &(600, 600));
-    has(&rt, &serial_at(&copy, 599), &Some(599));
+    has(&rt, &at(&copy, 599), &Some(entry(599, 1)));
 }
 
 /// A history with this point, and with room for one more.

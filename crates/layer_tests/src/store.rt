@@ -1,8 +1,9 @@
 //! Runs of the key store, worked by hand, and what a read of one gives.
 
+use crate::checks::has;
 use crate::clusters::{
-    A, B, END, NOW, ONLY_B, SYNCHRONOUS, TTL, ask, configuration, create, has_answer, info, name,
-    store_of, touch,
+    A, B, END, NOW, ONLY_B, SYNCHRONOUS, TTL, ask, configuration, create, info, name, store_of,
+    touch,
 };
 use cluster_config::{LeaderEntry, Snapshot};
 use lease_store::{ConfigValue, Expected, FailoverKey, HistoryRow, Key, Store, StoreRefusal, Txn};
@@ -22,8 +23,8 @@ fn renewed(rt: &impl Abort, alloc: Global) -> Store {
         row: None,
         failsafe: None,
     };
-    has_answer(rt, &ask(rt, &mut store, Ticks(1), A, create()), &Ok(2));
-    has_answer(rt, &ask(rt, &mut store, Ticks(5), A, renewal), &Ok(3));
+    has(rt, &ask(rt, &mut store, Ticks(1), A, create()), &Ok(2));
+    has(rt, &ask(rt, &mut store, Ticks(5), A, renewal), &Ok(3));
     store
 }
 
@@ -39,18 +40,18 @@ fn fencing(rt: HostRuntime) {
     let mut store = renewed(&rt, rt.alloc());
     let leader = store.get(Ticks(5), Key::Leader);
     let expiry = leader.expect(&rt, "the leader key").expiry;
-    has_answer(&rt, &expiry, &Some(Ticks(305)));
+    has(&rt, &expiry, &Some(Ticks(305)));
     let release = Txn::Release { revision: 2 };
     let late = ask(&rt, &mut store, Ticks(5), A, release);
     let (key, found) = (Key::Leader, Expected::Revision(3));
-    has_answer(&rt, &late, &Err(StoreRefusal::Mismatch { key, found }));
-    has_answer(&rt, &store.revision(), &3);
+    has(&rt, &late, &Err(StoreRefusal::Mismatch { key, found }));
+    has(&rt, &store.revision(), &3);
     let keys = [Key::Leader, Key::Config, Key::Member(A)];
-    has_answer(&rt, &three_keys(&rt, &store, Ticks(304)), &keys);
+    has(&rt, &three_keys(&rt, &store, Ticks(304)), &keys);
     let expired = store.expired(Ticks(305)).expect(&rt, "memory");
-    has_answer(&rt, &expired.len(), &2);
-    has_answer(&rt, &store.drop_expired(Ticks(305)), &Some(A));
-    has_answer(&rt, &store.drop_expired(Ticks(305)), &None);
+    has(&rt, &expired.len(), &2);
+    has(&rt, &store.drop_expired(Ticks(305)), &Some(A));
+    has(&rt, &store.drop_expired(Ticks(305)), &None);
 }
 
 #[test]
@@ -64,7 +65,7 @@ fn a_snapshot_of_one_member(rt: HostRuntime) {
         holder: A,
         revision: 3,
     };
-    has_answer(&rt, &read.expect(&rt, "memory").leader(), &Some(leader));
+    has(&rt, &read.expect(&rt, "memory").leader(), &Some(leader));
 }
 
 /// A renewal with all that it may carry.
@@ -125,7 +126,7 @@ fn each_transaction_is_granted(rt: HostRuntime) {
     let mut store = store_of(&rt, rt.alloc(), b"{}");
     for (revision, txn) in (2..).zip(&txns) {
         let copy = txn.try_clone().expect(&rt, "memory");
-        has_answer(&rt, &ask(&rt, &mut store, NOW, A, copy), &Ok(revision));
+        has(&rt, &ask(&rt, &mut store, NOW, A, copy), &Ok(revision));
     }
-    has_answer(&rt, &store.revision(), &11);
+    has(&rt, &store.revision(), &11);
 }

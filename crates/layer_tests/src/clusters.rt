@@ -2,11 +2,11 @@
 ghost use Rattle.std.specs.Prelude.{◌≡◌};
 ghost use Rattle.lease_store.specs.Writes.{ttl_of};
 
+use crate::checks::has;
 use cluster_config::{AgentView, ConfigText, RoleWord, Snapshot};
 use lease_store::{ConfigValue, Expected, MemberInfo, Store, StoreRefusal, Txn};
 use pat_base::{Host, Lsn, MemberId, MemberSet, Name, State, Tags, Ticks, Word};
 use std::alloc::Global;
-use std::fmt::{Debug, Display};
 use std::process::Abort;
 
 pub(crate) const A: MemberId = MemberId { number: 0 };
@@ -102,18 +102,6 @@ pub(crate) fn ask(
     Ok(store.apply(at, by, &txn)?.revision())
 }
 
-/// Holds what a call answers against what is wanted of it. Comparisons stand here alone, since each that is written out is
-/// proved by itself.
-pub(crate) fn has_answer<T: PartialEq + Debug>(rt: &impl Abort, told: &T, wanted: &T) {
-    assert_eq!(rt; told, wanted);
-}
-
-/// Holds the text of a value against these words.
-pub(crate) fn has_words(rt: &impl Abort, alloc: Global, told: &impl Display, words: &str) {
-    let text = format!(in alloc; "{told}").expect(rt, "memory");
-    has_answer(rt, &text.as_str(), &words);
-}
-
 pub(crate) fn configuration(rt: &impl Abort, alloc: Global, bytes: &[u8]) -> ConfigValue {
     ConfigValue::read(alloc, bytes).expect(rt, "a configuration")
 }
@@ -149,10 +137,10 @@ pub(crate) fn led_by_a(
         sync: Expected::Absent,
         standbys,
     };
-    has_answer(rt, &ask(rt, &mut store, NOW, A, create()), &Ok(2));
-    has_answer(rt, &ask(rt, &mut store, NOW, A, publish), &Ok(3));
-    has_answer(rt, &ask(rt, &mut store, NOW, B, touch()), &Ok(4));
-    has_answer(rt, &ask(rt, &mut store, NOW, C, touch()), &Ok(5));
+    has(rt, &ask(rt, &mut store, NOW, A, create()), &Ok(2));
+    has(rt, &ask(rt, &mut store, NOW, A, publish), &Ok(3));
+    has(rt, &ask(rt, &mut store, NOW, B, touch()), &Ok(4));
+    has(rt, &ask(rt, &mut store, NOW, C, touch()), &Ok(5));
     snapshot_of(rt, alloc, &store)
 }
 

@@ -1,6 +1,7 @@
 //! Configurations as text, worked by hand: what is read, what a patch leaves, and why one is refused.
 
-use crate::clusters::{configuration, has_answer, has_words};
+use crate::checks::{has, has_words};
+use crate::clusters::configuration;
 use cluster_config::{ConfigFault, ConfigText};
 use lease_store::ConfigValue;
 use std::alloc::Global;
@@ -14,7 +15,7 @@ fn is_told(
     wanted: &str,
 ) {
     match answered {
-        Ok(value) => has_answer(rt, &value.text(), &wanted),
+        Ok(value) => has(rt, &value.text(), &wanted),
         Err(fault) => has_words(rt, alloc, &fault, wanted),
     }
 }

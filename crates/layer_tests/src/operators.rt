@@ -1,8 +1,7 @@
 //! What operators ask of an agent, and what it answers, worked by hand.
 
-use crate::clusters::{
-    A, B, C, ONLY_B, SYNCHRONOUS, follower, has_answer, has_words, leader, led_by_a,
-};
+use crate::checks::{has, has_words};
+use crate::clusters::{A, B, C, ONLY_B, SYNCHRONOUS, follower, leader, led_by_a};
 use cluster_config::{ConfigFault, ConfigText};
 use lease_store::{Expected, FailoverKey, Key, StoreRefusal};
 use operator_keys::ConfigChange::{Patch, Replace};
@@ -23,7 +22,7 @@ fn is_refused(rt: &impl Abort, alloc: Global, fault: Option<CheckFault>, status:
     let Some(CheckFault::Refused(refused)) = fault else {
         panic!(rt; "not refused");
     };
-    has_answer(rt, &refused.status, &status);
+    has(rt, &refused.status, &status);
     has_words(rt, alloc, &refused, words);
 }
 
@@ -44,7 +43,7 @@ fn switchover_checks(rt: HostRuntime) {
     let words = "candidate name does not match with sync_standby";
     is_refused(&rt, alloc, asked, 412, words);
     let asked = check_switchover(alloc, &view, br#"{"leader":"a","candidate":"b"}"#);
-    has_answer(&rt, &asked, &Ok(failover_key(Some(A), Some(B))));
+    has(&rt, &asked, &Ok(failover_key(Some(A), Some(B))));
 }
 
 #[test]
@@ -61,13 +60,13 @@ fn operator_refusals(rt: HostRuntime) {
         status: 503,
         text: Text::IsLeader,
     };
-    has_answer(&rt, &check_reinit(&view), &Err(is_leader));
+    has(&rt, &check_reinit(&view), &Err(is_leader));
     let stopped = follower(&rt, &seen, State::Stopped);
     let not_running = Refused {
         status: 503,
         text: Text::NotRunning,
     };
-    has_answer(&rt, &check_restart(&stopped), &Err(not_running));
+    has(&rt, &check_restart(&stopped), &Err(not_running));
 }
 
 #[test]
@@ -76,12 +75,12 @@ fn requests_that_pass(rt: HostRuntime) {
     let seen = led_by_a(&rt, alloc, SYNCHRONOUS, ONLY_B);
     let view = follower(&rt, &seen, State::Replica);
     let asked = check_failover(alloc, &view, br#"{"candidate":"c"}"#);
-    has_answer(&rt, &asked, &Ok(failover_key(None, Some(C))));
-    has_answer(&rt, &check_restart(&view), &Ok(()));
-    has_answer(&rt, &check_reinit(&view), &Ok(()));
+    has(&rt, &asked, &Ok(failover_key(None, Some(C))));
+    has(&rt, &check_restart(&view), &Ok(()));
+    has(&rt, &check_reinit(&view), &Ok(()));
     let asked = check_configuration(alloc, &view, Replace, br#"{"pause":true}"#);
     let written = asked.expect(&rt, "a configuration");
-    has_answer(&rt, &written.text(), &r#"{"pause":true}"#);
+    has(&rt, &written.text(), &r#"{"pause":true}"#);
 }
 
 /// Words of faults that no other case prints.

@@ -1,5 +1,5 @@
 //! What lines of `patronictl` ask for, worked by hand.
-use crate::checks::has;
+use crate::ctl_checks::has;
 use ctl_command::{Command, CtlFault, Setting};
 use pat_base::{Host, MemberId, Name};
 use std::alloc::{AllocError, Global};

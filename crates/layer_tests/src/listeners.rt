@@ -1,4 +1,5 @@
 //! A TCP listener as a door.
+use crate::doors::{accepts, hang_up, opens, read_fails, reads, takes, write_fails};
 use pat_door::{Door, ListenerDoor};
 use std::io::{Read, Write};
 use std::net::{Net, OpenListener, SocketAddr, TcpListener, TcpStream};
@@ -12,27 +13,6 @@ fn free_address<R: Net>(net: &R) -> Option<SocketAddr> {
         .ok()
 }
 
-fn opens<D: Door>(door: &mut D, address: &[u8]) -> bool {
-    door.open(address).is_ok()
-}
-
-fn accepts<D: Door>(door: &mut D) -> bool {
-    door.accept().is_ok()
-}
-
-/// Whether a call reads these bytes.
-fn reads<D: Door>(door: &mut D, wanted: &[u8]) -> bool {
-    let mut buf = [0u8; 8];
-    match door.read(&mut buf) {
-        Ok(count) => &buf[..count] == wanted,
-        Err(_) => false,
-    }
-}
-
-fn takes<D: Door>(door: &mut D, piece: &[u8]) -> bool {
-    door.write(piece) == Ok(piece.len())
-}
-
 /// Whether who asks is told these bytes.
 fn is_told<S: Read>(stream: &mut S, wanted: &[u8]) -> bool {
     let mut buf = [0u8; 8];
@@ -42,30 +22,33 @@ fn is_told<S: Read>(stream: &mut S, wanted: &[u8]) -> bool {
     }
 }
 
-/// A connection to an address, on which this is asked.
-fn ask<R: Net>(net: &R, address: SocketAddr, piece: &[u8]) -> Option<R::Stream> {
-    let mut stream = TcpStream::connect(net, address).ok()?;
-    stream.write(piece).ok()?;
-    Some(stream)
+/// A connection to an address.
+fn connect<R: Net>(net: &R, address: SocketAddr) -> Option<R::Stream> {
+    TcpStream::connect(net, address).ok()
+}
+
+fn asks<S: Write>(stream: &mut S, piece: &[u8]) -> bool {
+    stream.write(piece).is_ok()
 }
 
 /// Two who ask, one after another.
 fn on_loopback<R: Net + Abort, D: Door>(rt: &R, door: &mut D, address: SocketAddr) {
-    let mut first = ask(rt, address, b"ask").expect(rt, "a connection");
+    let mut first = connect(rt, address).expect(rt, "a connection");
+    assert!(rt; asks(&mut first, b"ask"));
     assert!(rt;
-        !takes(door, b"none") && !reads(door, b""),
+        write_fails(door, b"none") && read_fails(door),
         "none is accepted"
     );
     assert!(rt; accepts(door) && reads(door, b"ask"));
     assert!(rt; takes(door, b"answer") && is_told(&mut first, b"answer"));
-    let mut second = ask(rt, address, b"").expect(rt, "a connection");
+    let mut second = connect(rt, address).expect(rt, "a connection");
     assert!(rt;
         accepts(door) && is_told(&mut first, b""),
         "the next one was accepted"
     );
-    door.hang_up();
+    hang_up(door);
     assert!(rt; is_told(&mut second, b""), "it was hung up");
-    assert!(rt; !takes(door, b"late"));
+    assert!(rt; write_fails(door, b"late"));
 }
 
 #[test]

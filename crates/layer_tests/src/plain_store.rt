@@ -11,6 +11,11 @@ pub(crate) struct PlainStore {
     pub(crate) revision: u64,
 }
 
+/// When a lease ends that begins now.
+fn until(now: Ticks, ttl: Ticks) -> Ticks {
+    Ticks(now.0.saturating_add(ttl.0))
+}
+
 /// Whether an entry is present.
 pub(crate) fn is_present(now: Ticks, entry: &KeyEntry) -> bool {
     match entry.expiry {
@@ -119,14 +124,23 @@ impl PlainStore {
     }
 
     fn write(&mut self, rt: &impl Abort, now: Ticks, by: MemberId, txn: &Txn) {
-        let until = |ttl: Ticks| Ticks(now.0.saturating_add(ttl.0));
         match txn {
             Txn::Touch { info, ttl } => {
-                self.put(rt, Key::Member(by), Value::Member(*info), Some(until(*ttl)));
+                self.put(
+                    rt,
+                    Key::Member(by),
+                    Value::Member(*info),
+                    Some(until(now, *ttl)),
+                );
             }
             Txn::Create { info, ttl, .. } => {
-                self.put(rt, Key::Leader, Value::Leader(by), Some(until(*ttl)));
-                self.put(rt, Key::Member(by), Value::Member(*info), Some(until(*ttl)));
+                self.put(rt, Key::Leader, Value::Leader(by), Some(until(now, *ttl)));
+                self.put(
+                    rt,
+                    Key::Member(by),
+                    Value::Member(*info),
+                    Some(until(now, *ttl)),
+                );
             }
             Txn::Renew {
                 info,
@@ -136,8 +150,13 @@ impl PlainStore {
                 failsafe,
                 ..
             } => {
-                self.extend(until(*ttl));
-                self.put(rt, Key::Member(by), Value::Member(*info), Some(until(*ttl)));
+                self.extend(until(now, *ttl));
+                self.put(
+                    rt,
+                    Key::Member(by),
+                    Value::Member(*info),
+                    Some(until(now, *ttl)),
+                );
                 if let Some(end) = *status {
                     self.put(rt, Key::Status, Value::Status(end), None);
                 }
@@ -157,7 +176,7 @@ impl PlainStore {
                     rt,
                     Key::Failover,
                     Value::Failover(*failover),
-                    Some(until(*ttl)),
+                    Some(until(now, *ttl)),
                 );
             }
             Txn::DropFailover { .. } => self.delete(Key::Failover),

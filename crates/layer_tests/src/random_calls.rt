@@ -1,6 +1,7 @@
 //! Random calls of the key store, held against a plain program.
 
-use crate::clusters::{A, B, C, END, NOW, ask, configuration, has_answer, info, store_of};
+use crate::checks::has;
+use crate::clusters::{A, B, C, END, NOW, ask, configuration, info, store_of};
 use crate::plain_store::{PlainStore, is_present};
 use lease_store::{Expected, FailoverKey, HistoryRow, Key, KeyEntry, Store, Txn, Value};
 use pat_base::{MemberId, MemberSet, Ticks};
@@ -120,19 +121,19 @@ fn transaction(
 
 /// Holds what two stores show at a moment against each other.
 fn agree(rt: &impl Abort, alloc: Global, store: &Store, plain: &PlainStore, now: Ticks) {
-    has_answer(rt, &store.revision(), &plain.revision);
+    has(rt, &store.revision(), &plain.revision);
     let entries = store.entries(now).expect(rt, "memory");
     let wanted = plain.pairs.iter().filter(|pair| is_present(now, &pair.1));
-    has_answer(
+    has(
         rt,
         &entries.len(),
         &wanted.clone().expect(rt, "memory").count(),
     );
     for (told, wanted) in entries.iter().zip(wanted) {
-        has_answer(rt, &told.0, &wanted.0);
+        has(rt, &told.0, &wanted.0);
         let told = format!(in alloc; "{:?}", told.1).expect(rt, "memory");
         let wanted = format!(in alloc; "{:?}", wanted.1).expect(rt, "memory");
-        has_answer(rt, &told.as_str(), &wanted.as_str());
+        has(rt, &told.as_str(), &wanted.as_str());
     }
 }
 
@@ -156,12 +157,12 @@ fn random_calls(rt: HostRuntime) {
             now = Ticks(now.0.saturating_add(1));
         }
         if draws.below(4) == 0 {
-            has_answer(&rt, &store.drop_expired(now), &plain.drop_expired(now));
+            has(&rt, &store.drop_expired(now), &plain.drop_expired(now));
         }
         let by = draws.member();
         let txn = transaction(&rt, alloc, &mut draws, &store, now);
         let wanted = plain.apply(&rt, now, by, &txn);
-        has_answer(&rt, &ask(&rt, &mut store, now, by, txn), &wanted);
+        has(&rt, &ask(&rt, &mut store, now, by, txn), &wanted);
         agree(&rt, alloc, &store, &plain, now);
     }
 }

@@ -1,6 +1,6 @@
 //! The tables that `list` and `history` print, worked by hand.
-use crate::checks::has;
-use crate::clusters::{billing, led, quiet};
+use crate::ctl_checks::has;
+use crate::ctl_clusters::{billing, led, quiet};
 use cluster_config::Snapshot;
 use patronictl::{CtlAnswer, ctl_answer};
 use std::alloc::{AllocError, Global};

@@ -1,13 +1,14 @@
 //! Health checks of an agent in every role over a server in every state, on every path by every method, worked by hand from the table of
 //! health check endpoints in Patroni's documentation of its REST API.
 
-use crate::clusters::{ONLY_B, SYNCHRONOUS, follower, has_answer, led_by_a};
+use crate::checks::has;
+use crate::clusters::{ONLY_B, SYNCHRONOUS, follower, led_by_a};
 use cluster_config::{AgentView, RoleWord};
 use pat_base::{MemberSet, State, Ticks};
 use rest_answer::{Answer, answer};
-use rest_message::Verb;
+use rest_message::{Reply, Verb};
 use rest_paths::Routes;
-use std::alloc::Global;
+use std::alloc::{AllocError, Global};
 use std::process::Abort;
 
 /// The paths of the columns below.
@@ -91,6 +92,24 @@ const OF_REPLICAS: [(bool, bool, &str); 4] = [
     (true, true, "-----------+++"),
 ];
 
+/// What is replied to a request, where it changes nothing.
+pub(crate) fn reply_to(
+    alloc: Global,
+    view: &AgentView<'_>,
+    routes: &Routes,
+    verb: Verb,
+    path: &str,
+) -> Result<Option<Reply>, AllocError> {
+    Ok(reply_in(answer(alloc, view, routes, verb, path, b"{}")?))
+}
+
+fn reply_in(answer: Answer) -> Option<Reply> {
+    match answer {
+        Answer::Now(reply) => Some(reply),
+        Answer::Act(_) => None,
+    }
+}
+
 /// What is answered to a request: its status, and whether there is a body.
 fn told(
     rt: &impl Abort,
@@ -100,22 +119,21 @@ fn told(
     verb: Verb,
     path: &str,
 ) -> (u16, bool) {
-    match answer(alloc, view, routes, verb, path, b"{}").expect(rt, "memory") {
-        Answer::Now(reply) => (reply.status, !reply.body.is_empty()),
-        Answer::Act(_) => panic!(rt; "a health check changes nothing"),
-    }
+    let reply = reply_to(alloc, view, routes, verb, path).expect(rt, "memory");
+    let reply = reply.expect(rt, "a health check changes nothing");
+    (reply.status, !reply.body.is_empty())
 }
 
 /// Holds what is answered on every path by every method against a row.
 fn has_health(rt: &impl Abort, alloc: Global, view: &AgentView<'_>, routes: &Routes, row: &str) {
-    has_answer(rt, &row.len(), &PATHS.len());
+    has(rt, &row.len(), &PATHS.len());
     for (path, sign) in PATHS.iter().zip(row.bytes()) {
         let status = if sign == b'+' { 200 } else { 503 };
         let get = told(rt, alloc, view, routes, Verb::Get, path);
-        has_answer(rt, &get, &(status, true));
+        has(rt, &get, &(status, true));
         for verb in [Verb::Head, Verb::Options] {
             let alone = told(rt, alloc, view, routes, verb, path);
-            has_answer(rt, &alone, &(status, false));
+            has(rt, &alone, &(status, false));
         }
         for verb in [
             Verb::Post,
@@ -125,7 +143,7 @@ fn has_health(rt: &impl Abort, alloc: Global, view: &AgentView<'_>, routes: &Rou
             Verb::Other,
         ] {
             let refused = told(rt, alloc, view, routes, verb, path);
-            has_answer(rt, &refused, &(405, false));
+            has(rt, &refused, &(405, false));
         }
     }
 }

@@ -1,9 +1,9 @@
 //! What the agent of a replica answers.
 use crate::checks::has_text;
+use crate::health::reply_to;
 use crate::views::replica;
 use cluster_config::AgentView;
-use rest_answer::{Answer, answer};
-use rest_message::Verb;
+use rest_message::{Reply, Verb};
 use rest_paths::Routes;
 use std::alloc::{AllocError, Global};
 use std::process::Abort;
@@ -20,13 +20,16 @@ fn words(
     verb: Verb,
     target: &str,
 ) -> Result<String, AllocError> {
-    match answer(alloc, view, routes, verb, target, b"")? {
-        Answer::Now(reply) => {
-            let sign = if reply.json { "" } else { ":" };
-            format!(in alloc; "{}{sign} {}", reply.status, reply.body)
-        }
-        Answer::Act(_) => String::from_str(alloc, "acts"),
+    match reply_to(alloc, view, routes, verb, target)? {
+        Some(reply) => reply_words(alloc, &reply),
+        None => String::from_str(alloc, "acts"),
     }
+}
+
+fn reply_words(alloc: Global, reply: &Reply) -> Result<String, AllocError> {
+    let sign = if reply.json { "" } else { ":" };
+    let (status, body) = (reply.status, reply.body.as_str());
+    format!(in alloc; "{status}{sign} {body}")
 }
 
 /// Holds what b answers against these words.

@@ -1,6 +1,6 @@
 //! What the words of each command come to, worked by hand.
-use crate::checks::has;
-use crate::clusters::{FIRST, SECOND, led, quiet};
+use crate::ctl_checks::has;
+use crate::ctl_clusters::{FIRST, SECOND, led, quiet};
 use cluster_config::Snapshot;
 use pat_base::MemberId;
 use patronictl::{CtlAnswer, ctl_answer};

@@ -1,6 +1,7 @@
 //! The plans of synchronous standbys, worked by hand.
 
-use crate::clusters::{A, B, C, END, ONLY_B, SYNCHRONOUS, has_answer, leader, led_by_a};
+use crate::checks::has;
+use crate::clusters::{A, B, C, END, ONLY_B, SYNCHRONOUS, leader, led_by_a};
 use cluster_config::{LeaderView, Snapshot};
 use pat_base::{Lsn, MemberSet, Required};
 use std::process::Abort;
@@ -24,7 +25,7 @@ fn has_plan(
         confirmed_positions: connected,
         noted: Some(END),
     };
-    has_answer(rt, &plan(&view, seen), &wanted);
+    has(rt, &plan(&view, seen), &wanted);
 }
 
 #[test]
@@ -44,5 +45,5 @@ fn sync_plans(rt: HostRuntime) {
 fn named_members(rt: HostRuntime) {
     let seen = led_by_a(&rt, rt.alloc(), SYNCHRONOUS, ONLY_B);
     let named = [named(&seen, A), named(&seen, B), named(&seen, C)];
-    has_answer(&rt, &named, &[true, true, false]);
+    has(&rt, &named, &[true, true, false]);
 }

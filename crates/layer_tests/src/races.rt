@@ -1,6 +1,7 @@
 //! Races for a free leader key, worked by hand.
 
-use crate::clusters::{C, END, TAGS, follower, has_answer, snapshot_of, store_of};
+use crate::checks::has;
+use crate::clusters::{C, END, TAGS, follower, snapshot_of, store_of};
 use leader_race::{may_race, wins};
 use pat_base::{Ineligibility, Lsn, PeerAnswer, State};
 
@@ -10,21 +11,21 @@ fn who_may_race_and_who_wins(rt: HostRuntime) {
     let store = store_of(&rt, rt.alloc(), b"{}");
     let seen = snapshot_of(&rt, rt.alloc(), &store);
     let stopped = follower(&rt, &seen, State::Stopped);
-    has_answer(
+    has(
         &rt,
         &may_race(&stopped, &seen),
         &Err(Ineligibility::NotRunning),
     );
     let view = follower(&rt, &seen, State::Replica);
-    has_answer(&rt, &may_race(&view, &seen), &Ok(()));
-    has_answer(&rt, &wins(&view, &seen, &[]), &Ok(()));
+    has(&rt, &may_race(&view, &seen), &Ok(()));
+    has(&rt, &wins(&view, &seen, &[]), &Ok(()));
     let ahead = PeerAnswer {
         member: C,
         writes: false,
         end: Lsn::new(END.position + 1),
         tags: TAGS,
     };
-    has_answer(
+    has(
         &rt,
         &wins(&view, &seen, &[ahead]),
         &Err(Ineligibility::Ahead(C)),
