@@ -1,8 +1,9 @@
 //! Commits whose clients are told that they are stored, and servers that lack one.
-ghost use Rattle.std.specs.Prelude.{OnOk};
+ghost use Rattle.std.specs.Prelude.{◌≡◌, ◌++◌, OnOk};
 ghost use Rattle.cluster_model.specs.Acknowledging.{AreAcknowledged};
+ghost use Rattle.cluster_model.specs.Losing.{losses_of};
 ghost use Rattle.cluster_model.specs.Next.{acknowledge_events};
-ghost use Rattle.cluster_model.specs.Parts.{each};
+ghost use Rattle.cluster_model.specs.Parts.{each, events_at};
 ghost use Rattle.world_model.specs.Emits.{Emits};
 
 use super::Stage;
@@ -30,8 +31,15 @@ impl Stage {
         let place = member.id.number as usize;
         while let Some(commit) = self.servers.next_acknowledged(place) {
             tell_acknowledged(&mut self.acknowledged, server, commit, self.clock, events)?;
-            tell_losses(&self.servers, &self.members, commit, self.clock, events)?;
+            self.note_losses(commit, events)?;
         }
         Ok(())
+    }
+
+    /// Writes down which servers that accept writes lack this commit, in script order.
+    fn note_losses(&self, commit: u64, events: &mut Vec<Event>) -> Result<(), AllocError>
+        ensures { OnOk result (events.new.items ≡ events.old.items ++ events_at (record { 0 = self.now.facts.clock }) (losses_of commit self.now.facts.servers self.now.facts.members)) }
+    {
+        tell_losses(&self.servers, &self.members, commit, self.clock, events)
     }
 }

@@ -1,11 +1,8 @@
-use Rattle.std.proofs.Common.{◌<◌, ◌∙◌, List, ◌++◌, ap, refl, sym, subst}
+use Rattle.std.proofs.Common.{◌<◌, ◌∙◌, refl, sym, subst}
 use Rattle.std.specs.Prelude.{slice_get}
-use Rattle.event_book.specs.declared.member.Member.{Member}
-use Rattle.cluster_model.specs.Losing.{losses_of}
 use Rattle.cluster_model.specs.Next.{acknowledge_events}
 use Rattle.cluster_model.specs.State.{Cluster}
 use Rattle.world_stage.proofs.Acknowledgements.{acknowledge-end, acknowledge-fewer, acknowledge-more, telling, waiting_at}
-use Rattle.world_stage.proofs.Losses.{at_once}
 use Rattle.world_model.proofs.Rest.{Left}
 use Rattle.world_stage.proofs.Worlds.{seen}
 use Rattle.world_stage.proofs.stage.Stage.acknowledge.Goals as goal
@@ -20,10 +17,9 @@ pub loop-commit-preserved : goal.loop-commit-preserved
 loop-commit-preserved c =
     let before = seen c.self.inside in
     let left = subst (λ (b : Cluster). Left c.args.self.now b c.args.events.now.items c.loop-commit.events.items (acknowledge_events c.args.self.now c.args.member) (acknowledge_events b c.args.member) 0 0) (sym c.self.view_is) c.loop-commit.invariant in
-    let lacking = c.in_ok-tell_losses.ensures ∙ ap (λ (ms : List Member). c.tell_acknowledged.new.events.items ++ at_once before (losses_of c.in-Some.commit c.next_acknowledged.new.self ms)) c.deref.ensures.value in
     acknowledge-more c.args.self.now before (telling before c.next_acknowledged.new.self c.tell_acknowledged.new.told.items) c.args.member c.in-Some.commit c.of-server.result c.next_acknowledged.new.self c.tell_acknowledged.new.told.items c.self.inside.clock
-    c.args.events.now.items c.loop-commit.events.items c.tell_acknowledged.new.events.items c.tell_losses.new.events.items _ left (sym c.next_acknowledged.ensures.commit ∙ c.in-Some.is) c.next_acknowledged.ensures.after
-    c.in_ok-tell_acknowledged.ensures.told c.of-server.ensures refl c.in_ok-tell_acknowledged.ensures.event refl lacking
+    c.args.events.now.items c.loop-commit.events.items c.tell_acknowledged.new.events.items c.note_losses.new.events.items _ left (sym c.next_acknowledged.ensures.commit ∙ c.in-Some.is) c.next_acknowledged.ensures.after
+    c.in_ok-tell_acknowledged.ensures.told c.of-server.ensures refl c.in_ok-tell_acknowledged.ensures.event refl c.in_ok-note_losses.ensures
 
 pub returns : goal.returns
 returns c =

@@ -59,7 +59,7 @@ returns c =
     ∙ ap (λ (members : List Member). agents_apart w.scope w.options.items members w.clock.0 w.agents.items kind) c.deref-2.ensures.value in
     subst
     (λ (b : Cluster). changed before c.now_after-now.result.0 c.change_keys.new.store c.change_processes.new.processes.items c.change_links.new.cuts c.change_flight.new.flight c.sent_after-self-inside.result c.change_servers.new.servers
-        c.change_frozen.new.frozen.items c.change_deadlines.new.deadlines.items c.change_holds.new.holds.items c.commits_after-self-inside.result c.change_acknowledged.new.told.items c.change_agents.new.agents.items ≡ cluster_after b kind)
+    c.change_frozen.new.frozen.items c.change_deadlines.new.deadlines.items c.change_holds.new.holds.items c.commits_after-self-inside.result c.change_acknowledged.new.told.items c.change_agents.new.agents.items ≡ cluster_after b kind)
     c.self.view_is
     (changed-is before kind c.now_after-now.result.0 c.change_keys.new.store c.change_processes.new.processes.items c.change_links.new.cuts c.change_flight.new.flight c.sent_after-self-inside.result c.change_servers.new.servers
     c.change_frozen.new.frozen.items c.change_deadlines.new.deadlines.items c.change_holds.new.holds.items c.commits_after-self-inside.result c.change_acknowledged.new.told.items c.change_agents.new.agents.items c.requires.comes.bare
