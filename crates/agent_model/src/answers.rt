@@ -9,7 +9,7 @@ use pat_base::{MOST_MEMBERS, MemberId, PeerAnswer};
 use std::marker::Model;
 
 /// What other members answered, in the order in which that came: one answer of each at most. It takes no memory.
-#[derive(Debug, Drop)]
+#[derive(Drop)]
 pub struct Answers {
     /// Those past the count are blanks.
     places: [PeerAnswer; MOST_MEMBERS],

@@ -6,7 +6,7 @@ use pat_base::{MemberId, PeerAnswer};
 
 /// What comes to an agent: a wake, an answer of the key store or of another member to the question of this number in its incarnation, a
 /// question of another member, or what an operator asks.
-#[derive(Debug, Drop)]
+#[derive(Drop)]
 pub enum Heard {
     Wake,
     /// What the key store had when it answered.

@@ -6,7 +6,7 @@ use lease_store::{Config, FailoverKey, SyncKey};
 use pat_base::{Lsn, MemberSet, Ticks};
 
 /// What a leader's required list becomes once its write of the sync key is granted.
-#[derive(Clone, Copy, Debug, PartialEq, Eq)]
+#[derive(Clone, Copy, PartialEq, Eq)]
 pub enum Settling {
     /// It stays.
     KeepsList,
@@ -17,7 +17,7 @@ pub enum Settling {
 }
 
 /// A question whose answer an agent may wait for.
-#[derive(Clone, Copy, Debug, PartialEq, Eq)]
+#[derive(Clone, Copy, PartialEq, Eq)]
 pub enum Question {
     /// What does the key store hold?
     Reading,
@@ -36,7 +36,7 @@ pub enum Question {
 }
 
 /// A sync key that was read, with its revision.
-#[derive(Clone, Copy, Debug, PartialEq, Eq)]
+#[derive(Clone, Copy, PartialEq, Eq)]
 pub struct SyncRead {
     pub key: SyncKey,
     pub revision: u64,
@@ -44,7 +44,7 @@ pub struct SyncRead {
 
 /// What an agent waits for: the question, its number in the agent's incarnation, the moment at which waiting ends, the span of the
 /// leases that were asked for, and the moment of asking.
-#[derive(Clone, Copy, Debug, PartialEq, Eq)]
+#[derive(Clone, Copy, PartialEq, Eq)]
 pub struct PendingQuestion {
     pub question: Question,
     pub sequence: u64,
@@ -54,7 +54,7 @@ pub struct PendingQuestion {
 }
 
 /// All that an agent knows beside its role.
-#[derive(Debug, Drop)]
+#[derive(Drop)]
 pub struct Knowledge {
     pub who: Who,
     /// The number of this incarnation of the agent.

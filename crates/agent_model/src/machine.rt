@@ -6,7 +6,7 @@ use pg_model::ServerStatus;
 
 /// What an agent sees of synchronous replication on its server: whom commits wait for, and by member number the confirmed
 /// position of each connected member: one that receives from this server.
-#[derive(Clone, Copy, Debug, PartialEq, Eq)]
+#[derive(Clone, Copy, PartialEq, Eq)]
 pub struct Replication {
     pub required: Required,
     pub confirmed_positions: [Option<Lsn>; MOST_MEMBERS],
@@ -14,7 +14,7 @@ pub struct Replication {
 
 /// What an agent sees of its machine, and reckons with in one input: its server, synchronous replication on it, its watchdog,
 /// and until when it has promised not to take the leader key.
-#[derive(Debug, Drop)]
+#[derive(Drop)]
 pub struct Machine {
     pub server: ServerStatus,
     pub replication: Replication,

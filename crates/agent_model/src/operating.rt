@@ -5,7 +5,7 @@ use operator_keys::Text;
 use pat_base::{MemberId, Ticks};
 
 /// What an agent asked the key store for on a request of an operator.
-#[derive(Clone, Copy, Debug, PartialEq, Eq)]
+#[derive(Clone, Copy, PartialEq, Eq)]
 pub enum Operation {
     /// That another member leads.
     FailingOver(FailoverKind),
@@ -14,7 +14,7 @@ pub enum Operation {
 }
 
 /// A request of an operator that waits for its result.
-#[derive(Clone, Copy, Debug, PartialEq, Eq)]
+#[derive(Clone, Copy, PartialEq, Eq)]
 pub struct Operating {
     /// Its number in the incarnation.
     pub request: u64,
@@ -28,7 +28,7 @@ pub struct Operating {
 }
 
 /// What an agent answers a request of an operator.
-#[derive(Clone, Copy, Debug, PartialEq, Eq)]
+#[derive(Clone, Copy, PartialEq, Eq)]
 pub enum Told {
     /// These words, with this status of HTTP (RFC 9110, "Status Codes").
     Text { status: u16, text: Text },

@@ -5,14 +5,14 @@ use event_book::{AgentNote, Body, Reason};
 use pat_base::{MemberId, PeerAnswer, Required, Ticks};
 
 /// Whom an agent writes to.
-#[derive(Clone, Copy, Debug, PartialEq, Eq)]
+#[derive(Clone, Copy, PartialEq, Eq)]
 pub enum Target {
     Store,
     Member(MemberId),
 }
 
 /// How the log of a server is repaired by that of another (Patroni documentation, "Replica imaging and bootstrap").
-#[derive(Clone, Copy, Debug, PartialEq, Eq)]
+#[derive(Clone, Copy, PartialEq, Eq)]
 pub enum Repair {
     /// It keeps what both have in common (`pg_rewind`, where `use_pg_rewind` is set).
     Rewind,
@@ -21,7 +21,7 @@ pub enum Repair {
 }
 
 /// What an agent does in an input: messages, orders to the own server, what it did to its watchdog and its hold, and notes.
-#[derive(Debug, Drop)]
+#[derive(Drop)]
 pub enum Output {
     /// A message under this number of the agent's incarnation.
     Send {

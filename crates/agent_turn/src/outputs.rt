@@ -10,7 +10,7 @@ use std::collections::VecDeque;
 use std::marker::Model;
 
 /// What an agent does, in order, with room for more.
-#[derive(Debug, Drop)]
+#[derive(Drop)]
 pub struct Outputs {
     outputs: VecDeque<Output>,
 }

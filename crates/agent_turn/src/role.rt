@@ -4,7 +4,6 @@ use agent_model::Why;
 use leader_key::{Armed, Lease, Writer};
 
 /// What an agent is to its cluster. The values can't be copied or dropped: who has none has no leader key.
-#[derive(Debug)]
 pub enum Role {
     /// It has no lease.
     Follower,

@@ -6,7 +6,7 @@ use pat_base::Ticks;
 
 /// An input on its way: its moment, and what its agent knows, its machine and its outputs have come to so far. The agent's role
 /// goes beside it, since a row takes that apart.
-#[derive(Debug, Drop)]
+#[derive(Drop)]
 pub struct Turn<'a> {
     pub moment: Ticks,
     pub knows: &'a mut Knowledge,

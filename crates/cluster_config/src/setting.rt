@@ -39,7 +39,7 @@ pub(crate) const SETTINGS: [Setting; 11] = [
 ];
 
 /// The least and the greatest value of a setting that is a number, in seconds, bytes or standbys.
-#[derive(Clone, Copy, Debug, PartialEq, Eq)]
+#[derive(Clone, Copy, PartialEq, Eq)]
 pub struct SettingRange {
     pub least: u64,
     pub greatest: u64,

@@ -12,7 +12,7 @@ use lease_store::Config;
 use serde_json::Value;
 
 /// A whole number of JSON, of at most 64 bits. How far it is below zero doesn't matter here.
-#[derive(Clone, Copy, Debug, PartialEq, Eq)]
+#[derive(Clone, Copy, PartialEq, Eq)]
 pub(crate) enum WholeNumber {
     BelowZero,
     FromZero(u64),

@@ -14,7 +14,7 @@ use std::marker::Model;
 
 /// What one read of the key store gives: the cluster's name, the names and hosts of all members in the order of the script, and
 /// each key that was present, with its value and its revision.
-#[derive(Debug, Drop)]
+#[derive(Drop)]
 pub struct Snapshot {
     scope: Name,
     members: Vec<(Name, Host)>,
@@ -32,7 +32,7 @@ impl Model for Snapshot {
 }
 
 /// Who leads, by which revision of the leader key.
-#[derive(Clone, Copy, Debug, PartialEq, Eq)]
+#[derive(Clone, Copy, PartialEq, Eq)]
 pub struct LeaderEntry {
     pub holder: MemberId,
     pub revision: u64,

@@ -4,7 +4,7 @@ use crate::Snapshot;
 use pat_base::{Lsn, MOST_MEMBERS, MemberId, Name, Required, State, Tags, Ticks};
 
 /// What an agent is to its cluster.
-#[derive(Clone, Copy, Debug, PartialEq, Eq)]
+#[derive(Clone, Copy, PartialEq, Eq)]
 pub enum RoleWord {
     /// It has no lease.
     Follower,

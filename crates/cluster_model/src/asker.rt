@@ -1,7 +1,7 @@
 //! Who asks something of an agent.
 
 /// Who asks something of an agent.
-#[derive(Clone, Copy, Debug, PartialEq, Eq)]
+#[derive(Clone, Copy, PartialEq, Eq)]
 pub enum Asker {
     /// A line `rest` of a script: where the agent doesn't run or is suspended, the run notes that it gives no answer.
     Line,

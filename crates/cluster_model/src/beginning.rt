@@ -1,7 +1,7 @@
 //! How servers begin to accept writes, and how their starts and stops end.
 
 /// How a server begins to accept writes by the order of its agent.
-#[derive(Clone, Copy, Debug, PartialEq, Eq)]
+#[derive(Clone, Copy, PartialEq, Eq)]
 pub enum Beginning {
     /// At once, on this timeline.
     AtOnce { timeline: u64 },
@@ -10,7 +10,7 @@ pub enum Beginning {
 }
 
 /// What a start or a stop of a primary comes to that is complete.
-#[derive(Clone, Copy, Debug, PartialEq, Eq)]
+#[derive(Clone, Copy, PartialEq, Eq)]
 pub enum Completion {
     /// It begins to accept writes, on this timeline.
     Begins { timeline: u64 },

@@ -1,7 +1,7 @@
 //! Whether a message can come to its receiver.
 
 /// What stands between a message and its receiver.
-#[derive(Clone, Copy, Debug, PartialEq, Eq)]
+#[derive(Clone, Copy, PartialEq, Eq)]
 pub enum Delivery {
     /// Nothing.
     Open,

@@ -5,7 +5,7 @@ use rest_message::Request;
 use script_model::Command;
 
 /// A step of a run: one tick of a `run` or `tick` line, another line of a script's body, or what a connection brings.
-#[derive(Debug, Drop)]
+#[derive(Drop)]
 pub enum Step {
     /// One tick of the default schedule.
     Scheduled,
@@ -18,7 +18,7 @@ pub enum Step {
 }
 
 /// What a connection to the REST interface of an agent brings.
-#[derive(Debug, Drop)]
+#[derive(Drop)]
 pub enum Visit {
     /// A request to the agent.
     Request(Request),

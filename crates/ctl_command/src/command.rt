@@ -3,7 +3,7 @@ use crate::Setting;
 use pat_base::MemberId;
 
 /// What a line of `patronictl` asks for (Patroni documentation, "patronictl").
-#[derive(Clone, Copy, Debug, PartialEq, Eq)]
+#[derive(Clone, Copy, PartialEq, Eq)]
 pub enum Command<'a> {
     /// `list [CLUSTER]`: the members and their state.
     List,

@@ -2,7 +2,7 @@
 use crate::ValueOption;
 
 /// Why words are no command: the first of them that is at fault, or what they lack.
-#[derive(Clone, Copy, Debug, PartialEq, Eq)]
+#[derive(Clone, Copy, PartialEq, Eq)]
 pub enum CtlFault<'a> {
     /// There are no words.
     NoCommand,
@@ -16,7 +16,7 @@ pub enum CtlFault<'a> {
 }
 
 /// What a command may lack.
-#[derive(Clone, Copy, Debug, PartialEq, Eq)]
+#[derive(Clone, Copy, PartialEq, Eq)]
 pub enum Needed {
     /// The cluster's name, printed as `CLUSTER`.
     Cluster,

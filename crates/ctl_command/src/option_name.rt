@@ -1,7 +1,7 @@
 //! The options.
 
 /// An option that takes a value.
-#[derive(Clone, Copy, Debug, PartialEq, Eq)]
+#[derive(Clone, Copy, PartialEq, Eq)]
 pub enum ValueOption {
     /// `--leader M`: who leads.
     Leader,

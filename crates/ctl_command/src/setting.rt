@@ -2,7 +2,7 @@
 
 /// A setting of the dynamic configuration, as `--set KEY=VALUE` names it (Patroni documentation, "patronictl
 /// edit-config").
-#[derive(Clone, Copy, Debug, PartialEq, Eq)]
+#[derive(Clone, Copy, PartialEq, Eq)]
 pub struct Setting<'a> {
     /// The names of the objects in which the setting stands, and then its own, between dots. Of what is read none is empty.
     pub key: &'a str,

@@ -5,7 +5,7 @@ use pat_base::{Ineligibility, MemberId, Name};
 use std::fmt;
 
 /// What an agent notes: it is printed, and changes nothing.
-#[derive(Clone, Copy, Debug, PartialEq, Eq)]
+#[derive(Clone, Copy, PartialEq, Eq)]
 pub enum AgentNote {
     /// The member needs a watchdog, and its device doesn't work.
     CannotArm,

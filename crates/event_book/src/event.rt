@@ -6,14 +6,14 @@ use pat_base::{Lsn, Name, Required, Shared, Ticks};
 use wal_model::Entry;
 
 /// A happening, at a moment in ticks of 100 ms.
-#[derive(Debug, Drop)]
+#[derive(Drop)]
 pub struct Event {
     pub tick: Ticks,
     pub kind: EventKind,
 }
 
 /// Happenings by what they concern.
-#[derive(Debug, Drop)]
+#[derive(Drop)]
 pub enum EventKind {
     /// The clock grew by one tick.
     Tick,
@@ -29,7 +29,7 @@ pub enum EventKind {
 }
 
 /// What happens to messages. They are numbered from 1 in order of sending.
-#[derive(Debug, Drop)]
+#[derive(Drop)]
 pub enum MessageEvent {
     /// The message was sent.
     Sent {
@@ -47,7 +47,7 @@ pub enum MessageEvent {
 }
 
 /// What happens at the key store.
-#[derive(Debug, Drop)]
+#[derive(Drop)]
 pub enum StoreEvent {
     /// The request that this message carries was granted. `standbys` are the names that a sync write publishes.
     Granted {
@@ -75,7 +75,7 @@ pub enum StoreEvent {
 }
 
 /// What happens to watchdogs, and to the holds that members take for a leader that can't reach the key store.
-#[derive(Debug, Drop)]
+#[derive(Drop)]
 pub enum WatchdogEvent {
     /// The member's watchdog got its first deadline, on the answer of this number.
     Armed {
@@ -115,7 +115,7 @@ pub enum WatchdogEvent {
 }
 
 /// What happens to servers, but for their logs.
-#[derive(Debug, Drop)]
+#[derive(Drop)]
 pub enum ServerEvent {
     /// The server accepts writes from now on.
     Began {
@@ -177,7 +177,7 @@ pub enum ServerEvent {
 }
 
 /// What happens to logs.
-#[derive(Debug, Drop)]
+#[derive(Drop)]
 pub enum LogEvent {
     /// A client's commit stands at the end of the log.
     Appended {
@@ -209,7 +209,7 @@ pub enum LogEvent {
 }
 
 /// What happens in synchronous replication.
-#[derive(Debug, Drop)]
+#[derive(Drop)]
 pub enum ReplicationEvent {
     /// Commits of this server wait for these from now on. `names` are those of the members of a set.
     RequiredSet {
@@ -235,7 +235,7 @@ pub enum ReplicationEvent {
 }
 
 /// What happens to agents.
-#[derive(Debug, Drop)]
+#[derive(Drop)]
 pub enum AgentEvent {
     /// The agent was woken.
     Woken {
@@ -270,7 +270,7 @@ pub enum AgentEvent {
 }
 
 /// What happens to links.
-#[derive(Debug, Drop)]
+#[derive(Drop)]
 pub enum LinkEvent {
     /// The link carries nothing from now on.
     Cut(Link),
@@ -279,7 +279,7 @@ pub enum LinkEvent {
 }
 
 /// What is printed, and read by no definition.
-#[derive(Debug, Drop)]
+#[derive(Drop)]
 pub enum Note {
     /// The member's agent notes this. With the name of the member that the note speaks of, where it speaks of one that is declared.
     OfAgent {

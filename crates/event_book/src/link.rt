@@ -8,14 +8,14 @@ use std::fmt;
 const ENDS: usize = MOST_MEMBERS + 1;
 
 /// One end of a link.
-#[derive(Clone, Copy, Debug, PartialEq, Eq)]
+#[derive(Clone, Copy, PartialEq, Eq)]
 pub enum LinkEnd {
     Store,
     Member(Member),
 }
 
 /// The link between two ends, in the order in which they were named.
-#[derive(Clone, Copy, Debug, PartialEq, Eq)]
+#[derive(Clone, Copy, PartialEq, Eq)]
 pub struct Link {
     pub first: LinkEnd,
     pub second: LinkEnd,

@@ -3,14 +3,14 @@
 use pat_base::{MemberId, Name, ServerId};
 
 /// A member that the script declares: its number in the order of the script, and its name.
-#[derive(Clone, Copy, Debug, PartialEq, Eq)]
+#[derive(Clone, Copy, PartialEq, Eq)]
 pub struct Member {
     pub id: MemberId,
     pub name: Name,
 }
 
 /// A server: its number, and the name of the member whose server it is.
-#[derive(Clone, Copy, Debug, PartialEq, Eq)]
+#[derive(Clone, Copy, PartialEq, Eq)]
 pub struct ServerOf {
     pub id: ServerId,
     pub name: Name,

@@ -6,7 +6,7 @@ use std::fmt;
 
 /// A message between an agent and the key store, or between two agents. `incarnation` and `sequence` name the question by the
 /// incarnation of the agent that asks and by the number of the question in that incarnation; an answer has those of its question.
-#[derive(Debug, Drop)]
+#[derive(Drop)]
 pub struct Message {
     pub from: LinkEnd,
     pub to: LinkEnd,
@@ -16,7 +16,7 @@ pub struct Message {
 }
 
 /// What a message says.
-#[derive(Debug, Drop)]
+#[derive(Drop)]
 pub enum Body {
     /// To the store: what do you hold?
     Read,

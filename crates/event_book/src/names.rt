@@ -10,7 +10,7 @@ use std::alloc::{AllocError, Global};
 use std::marker::Model;
 
 /// Names, as a line lists them.
-#[derive(Debug, Drop)]
+#[derive(Drop)]
 pub struct Names {
     items: Vec<Name>,
 }
@@ -69,7 +69,7 @@ fn put_member(names: &mut Vec<Name>, set: MemberSet, member: Member) -> Result<(
 }
 
 /// Text that a line prints as it stands.
-#[derive(Debug, Drop)]
+#[derive(Drop)]
 pub struct Bytes {
     text: String,
 }

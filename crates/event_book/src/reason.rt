@@ -7,7 +7,7 @@ use pat_base::{Ineligibility, MemberSet, Name};
 use std::fmt;
 
 /// What lets a leader feed its watchdog.
-#[derive(Clone, Copy, Debug, PartialEq, Eq)]
+#[derive(Clone, Copy, PartialEq, Eq)]
 pub enum Basis {
     /// The granted renewal that the answer of this number tells.
     Grant { answer: u64 },
@@ -16,7 +16,7 @@ pub enum Basis {
 }
 
 /// Why an agent ends its server.
-#[derive(Clone, Copy, Debug, PartialEq, Eq)]
+#[derive(Clone, Copy, PartialEq, Eq)]
 pub enum Reason {
     StoreOutOfReach,
     FailsafeNotAcknowledged,

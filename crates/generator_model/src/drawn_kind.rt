@@ -1,7 +1,7 @@
 //! What a line asks for that a draw gives.
 
 /// What a line asks for.
-#[derive(Clone, Copy, Debug, PartialEq, Eq)]
+#[derive(Clone, Copy, PartialEq, Eq)]
 pub enum DrawnKind {
     Run,
     Commit,

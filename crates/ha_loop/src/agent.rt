@@ -34,7 +34,6 @@ use wal_model::History;
 const MOST: u64 = 1 << 60;
 
 /// The agent of a member. It holds the leader key's values, so it can't be copied or dropped: `Agent::wreck` ends one.
-#[derive(Debug)]
 pub struct Agent {
     role: Role,
     knows: Knowledge,

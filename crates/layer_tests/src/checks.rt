@@ -9,6 +9,11 @@ pub(crate) fn has<T: PartialEq + Debug>(rt: &impl Abort, told: &T, wanted: &T) {
     assert_eq!(rt; told, wanted);
 }
 
+/// Holds what is told against what is wanted of it, where its type derives no `Debug`.
+pub(crate) fn is_same<T: PartialEq>(rt: &impl Abort, told: &T, wanted: &T) {
+    assert!(rt; *told == *wanted);
+}
+
 /// Holds the text of a value against these words.
 pub(crate) fn has_words(rt: &impl Abort, alloc: Global, told: &impl Display, words: &str) {
     let text = format!(in alloc; "{told}").expect(rt, "memory");

@@ -1,4 +1,5 @@
 //! What lines of `patronictl` ask for, worked by hand.
+use crate::checks::is_same;
 use crate::ctl_checks::has;
 use ctl_command::{Command, CtlFault, Setting};
 use pat_base::{Host, MemberId, Name};
@@ -22,7 +23,7 @@ fn read<'a>(rt: &impl Abort, words: &'a str) -> Result<Command<'a>, CtlFault<'a>
 
 /// Holds what words ask for in that cluster against a command.
 fn asks(rt: &impl Abort, words: &str, wanted: Command<'_>) {
-    has(rt, words, &read(rt, words).ok(), &Some(wanted));
+    is_same(rt, &read(rt, words).ok(), &Some(wanted));
 }
 
 /// Holds what is printed of a fault of words, in that cluster, against a text.

@@ -1,6 +1,6 @@
 //! What operators ask of an agent, and what it answers, worked by hand.
 
-use crate::checks::{has, has_words};
+use crate::checks::{has, has_words, is_same};
 use crate::clusters::{A, B, C, ONLY_B, SYNCHRONOUS, follower, leader, led_by_a};
 use cluster_config::{ConfigFault, ConfigText};
 use lease_store::{Expected, FailoverKey, Key, StoreRefusal};
@@ -43,7 +43,7 @@ fn switchover_checks(rt: HostRuntime) {
     let words = "candidate name does not match with sync_standby";
     is_refused(&rt, alloc, asked, 412, words);
     let asked = check_switchover(alloc, &view, br#"{"leader":"a","candidate":"b"}"#);
-    has(&rt, &asked, &Ok(failover_key(Some(A), Some(B))));
+    is_same(&rt, &asked, &Ok(failover_key(Some(A), Some(B))));
 }
 
 #[test]
@@ -75,7 +75,7 @@ fn requests_that_pass(rt: HostRuntime) {
     let seen = led_by_a(&rt, alloc, SYNCHRONOUS, ONLY_B);
     let view = follower(&rt, &seen, State::Replica);
     let asked = check_failover(alloc, &view, br#"{"candidate":"c"}"#);
-    has(&rt, &asked, &Ok(failover_key(None, Some(C))));
+    is_same(&rt, &asked, &Ok(failover_key(None, Some(C))));
     has(&rt, &check_restart(&view), &Ok(()));
     has(&rt, &check_reinit(&view), &Ok(()));
     let asked = check_configuration(alloc, &view, Replace, br#"{"pause":true}"#);

@@ -1,5 +1,5 @@
 //! What is asked for by each method at each path.
-use crate::checks::has;
+use crate::checks::is_same;
 use rest_health::Endpoint;
 use rest_message::Verb;
 use rest_paths::{Ask, Change, Page, Routes};
@@ -12,7 +12,7 @@ fn ask(routes: &Routes, verb: Verb, target: &str) -> Ask {
 /// Holds what each of these methods asks for at a target against this.
 fn asks(rt: &impl Abort, routes: &Routes, verbs: &[Verb], target: &str, wanted: Ask) {
     for verb in verbs {
-        has(rt, &ask(routes, *verb, target), &wanted);
+        is_same(rt, &ask(routes, *verb, target), &wanted);
     }
 }
 

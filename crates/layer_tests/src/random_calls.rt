@@ -3,6 +3,7 @@
 use crate::checks::has;
 use crate::clusters::{A, B, C, END, NOW, ask, configuration, info, store_of};
 use crate::plain_store::{PlainStore, is_present};
+use cluster_config::ConfigText;
 use lease_store::{Expected, FailoverKey, HistoryRow, Key, KeyEntry, Store, Txn, Value};
 use pat_base::{MemberId, MemberSet, Ticks};
 use std::alloc::Global;
@@ -119,8 +120,23 @@ fn transaction(
     }
 }
 
+/// Whether two values are the same.
+fn are_same(told: &Value, wanted: &Value) -> bool {
+    match (told, wanted) {
+        (Value::Leader(told), Value::Leader(wanted)) => told == wanted,
+        (Value::Config(told), Value::Config(wanted)) => told.text() == wanted.text(),
+        (Value::Member(told), Value::Member(wanted)) => told == wanted,
+        (Value::Failover(told), Value::Failover(wanted)) => told == wanted,
+        (Value::Sync(told), Value::Sync(wanted)) => told == wanted,
+        (Value::Status(told), Value::Status(wanted)) => told == wanted,
+        (Value::History(told), Value::History(wanted)) => told == wanted,
+        (Value::Failsafe(told), Value::Failsafe(wanted)) => told == wanted,
+        _ => false,
+    }
+}
+
 /// Holds what two stores show at a moment against each other.
-fn agree(rt: &impl Abort, alloc: Global, store: &Store, plain: &PlainStore, now: Ticks) {
+fn agree(rt: &impl Abort, store: &Store, plain: &PlainStore, now: Ticks) {
     has(rt, &store.revision(), &plain.revision);
     let entries = store.entries(now).expect(rt, "memory");
     let wanted = plain.pairs.iter().filter(|pair| is_present(now, &pair.1));
@@ -131,9 +147,9 @@ fn agree(rt: &impl Abort, alloc: Global, store: &Store, plain: &PlainStore, now:
     );
     for (told, wanted) in entries.iter().zip(wanted) {
         has(rt, &told.0, &wanted.0);
-        let told = format!(in alloc; "{:?}", told.1).expect(rt, "memory");
-        let wanted = format!(in alloc; "{:?}", wanted.1).expect(rt, "memory");
-        has(rt, &told.as_str(), &wanted.as_str());
+        has(rt, &told.1.revision, &wanted.1.revision);
+        has(rt, &told.1.expiry, &wanted.1.expiry);
+        has(rt, &are_same(&told.1.value, &wanted.1.value), &true);
     }
 }
 
@@ -163,6 +179,6 @@ fn random_calls(rt: HostRuntime) {
         let txn = transaction(&rt, alloc, &mut draws, &store, now);
         let wanted = plain.apply(&rt, now, by, &txn);
         has(&rt, &ask(&rt, &mut store, now, by, txn), &wanted);
-        agree(&rt, alloc, &store, &plain, now);
+        agree(&rt, &store, &plain, now);
     }
 }

@@ -1,6 +1,6 @@
 //! The plans of synchronous standbys, worked by hand.
 
-use crate::checks::has;
+use crate::checks::{has, is_same};
 use crate::clusters::{A, B, C, END, ONLY_B, SYNCHRONOUS, leader, led_by_a};
 use cluster_config::{LeaderView, Snapshot};
 use pat_base::{Lsn, MemberSet, Required};
@@ -25,7 +25,7 @@ fn has_plan(
         confirmed_positions: connected,
         noted: Some(END),
     };
-    has(rt, &plan(&view, seen), &wanted);
+    is_same(rt, &plan(&view, seen), &wanted);
 }
 
 #[test]

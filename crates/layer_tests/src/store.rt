@@ -1,6 +1,6 @@
 //! Runs of the key store, worked by hand, and what a read of one gives.
 
-use crate::checks::has;
+use crate::checks::{has, is_same};
 use crate::clusters::{
     A, B, END, NOW, ONLY_B, SYNCHRONOUS, TTL, ask, configuration, create, info, name, store_of,
     touch,
@@ -65,7 +65,7 @@ fn a_snapshot_of_one_member(rt: HostRuntime) {
         holder: A,
         revision: 3,
     };
-    has(&rt, &read.expect(&rt, "memory").leader(), &Some(leader));
+    is_same(&rt, &read.expect(&rt, "memory").leader(), &Some(leader));
 }
 
 /// A renewal with all that it may carry.

@@ -12,25 +12,21 @@ use lease_store::{Granted, Txn};
 use pat_base::{State, Ticks};
 
 /// The leader key was granted to this member. It must be spent.
-#[derive(Debug)]
 pub struct Lease {
     revision: u64,
 }
 
 /// A lease whose watchdog was armed, where it could be: the member may begin to write.
-#[derive(Debug)]
 pub struct Armed {
     revision: u64,
 }
 
 /// The member leads: its server accepts writes, or will when its start is complete.
-#[derive(Debug)]
 pub struct Writer {
     revision: u64,
 }
 
 /// The watchdog is required, and its device doesn't work. The lease is handed back.
-#[derive(Debug)]
 pub struct NotArmed(pub Lease);
 
 impl Lease {

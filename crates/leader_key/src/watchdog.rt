@@ -3,7 +3,7 @@ use pat_base::Ticks;
 use std::marker::Model;
 
 /// Whether a member uses a watchdog: Patroni's setting `watchdog.mode` (Patroni documentation, "Watchdog support").
-#[derive(Clone, Copy, Debug, PartialEq, Eq)]
+#[derive(Clone, Copy, PartialEq, Eq)]
 pub enum Mode {
     /// It uses none.
     Off,
@@ -15,7 +15,7 @@ pub enum Mode {
 
 /// The watchdog of a member's machine. It resets the machine at its deadline, unless it is fed or disarmed before: the
 /// server crashes, and the agent ends.
-#[derive(Debug, Drop)]
+#[derive(Drop)]
 pub struct Watchdog {
     mode: Mode,
     works: bool,

@@ -2,7 +2,7 @@
 use crate::{ConfigValue, FailoverKey};
 
 /// Which of the two requests that end in a failover key was made.
-#[derive(Clone, Copy, Debug, PartialEq, Eq)]
+#[derive(Clone, Copy, PartialEq, Eq)]
 pub enum FailoverKind {
     /// The leader is to hand over to another member.
     Switchover,
@@ -11,7 +11,7 @@ pub enum FailoverKind {
 }
 
 /// What an operator asks of an agent.
-#[derive(Debug, Drop)]
+#[derive(Drop)]
 pub enum OperatorRequest {
     /// A failover key is to be written.
     Failover {
@@ -27,7 +27,7 @@ pub enum OperatorRequest {
 }
 
 /// A request of an operator that passed its checks, and its number in the run.
-#[derive(Debug, Drop)]
+#[derive(Drop)]
 pub struct OperatorAction {
     /// Its number in the run.
     pub request: u64,

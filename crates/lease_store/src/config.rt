@@ -6,7 +6,7 @@ use pat_base::{TICKS_OF_SECOND, Ticks};
 
 /// The settings of a cluster, by Patroni's documentation, "Dynamic Configuration Settings". Times are in seconds, and
 /// the lag is in bytes. Each is within its range, so a setting outside it can't be made.
-#[derive(Clone, Copy, Debug, PartialEq, Eq)]
+#[derive(Clone, Copy, PartialEq, Eq)]
 pub struct Config {
     /// The time between two turns of an agent, from 1 to 86,400 seconds.
     pub loop_wait: u64,

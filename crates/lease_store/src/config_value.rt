@@ -8,7 +8,7 @@ use std::marker::Model;
 
 /// A configuration as the key store has it: its JSON text, and what that sets. Keys that set nothing here are kept in the
 /// text.
-#[derive(Debug, Drop)]
+#[derive(Drop)]
 pub struct ConfigValue {
     text: String,
     config: Config,

@@ -4,7 +4,7 @@ ghost use Rattle.std.specs.Prelude.{◌≡◌};
 use pat_base::MemberId;
 
 /// The store granted a request. It comes from the store alone and isn't copied, so whoever has one was granted its request.
-#[derive(Debug, Drop)]
+#[derive(Drop)]
 pub struct Granted {
     revision: u64,
     by: MemberId,

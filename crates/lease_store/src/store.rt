@@ -26,7 +26,7 @@ use std::marker::Model;
 /// the last revision that it granted. Revisions count its granted writes, from 1.
 ///
 /// A key with a lease is absent from its expiry on, by the clock of whoever calls.
-#[derive(Debug, Drop)]
+#[derive(Drop)]
 pub struct Store {
     alloc: Global,
     entries: Entries,

@@ -34,7 +34,7 @@ impl fmt::Display for Expected {
 ///
 /// `revision` is that of the leader key, but for `SetConfig`, where it is that of the configuration. A `ttl` is the span
 /// of the leases that it writes, in ticks, which `Store::apply` wants to be at most 2^40.
-#[derive(Debug, Drop)]
+#[derive(Drop)]
 pub enum Txn {
     /// The member tells of itself. It compares nothing, so only want of memory refuses it.
     Touch {

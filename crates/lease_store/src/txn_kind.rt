@@ -6,7 +6,7 @@ use crate::Txn;
 use std::fmt;
 
 /// What kind of transaction a request is, as printed lines name it.
-#[derive(Clone, Copy, Debug, PartialEq, Eq)]
+#[derive(Clone, Copy, PartialEq, Eq)]
 pub enum TxnKind {
     /// `Txn::Touch`.
     Touch,

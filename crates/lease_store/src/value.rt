@@ -7,7 +7,7 @@ use pat_base::{Host, Lsn, MemberId, MemberSet, Tags, Ticks, Word};
 use std::alloc::AllocError;
 
 /// What a member tells of itself, as Patroni's key `/members/NAME` has it.
-#[derive(Clone, Copy, Debug, PartialEq, Eq)]
+#[derive(Clone, Copy, PartialEq, Eq)]
 pub struct MemberInfo {
     /// Where the others reach it.
     pub host: Host,
@@ -25,7 +25,7 @@ pub struct MemberInfo {
 
 /// A failover or a switchover that was asked for, as Patroni's key `/failover` has it (its documentation of the REST API,
 /// "Switchover and failover endpoints").
-#[derive(Clone, Copy, Debug, PartialEq, Eq)]
+#[derive(Clone, Copy, PartialEq, Eq)]
 pub struct FailoverKey {
     /// The leader that is to step down. `None`: whoever leads.
     pub leader: Option<MemberId>,
@@ -35,7 +35,7 @@ pub struct FailoverKey {
 
 /// Who leads with synchronous replication, and who replicates synchronously, as Patroni's key `/sync` has it (its
 /// documentation, "Replication modes"). Only a member that it names may take over without losing commits.
-#[derive(Clone, Copy, Debug, PartialEq, Eq)]
+#[derive(Clone, Copy, PartialEq, Eq)]
 pub struct SyncKey {
     /// The leader that wrote the key.
     pub leader: MemberId,
@@ -44,7 +44,7 @@ pub struct SyncKey {
 }
 
 /// How a timeline ended, as a row of Patroni's key `/history`.
-#[derive(Clone, Copy, Debug, PartialEq, Eq)]
+#[derive(Clone, Copy, PartialEq, Eq)]
 pub struct HistoryRow {
     /// The timeline that ended, from 1. The row stands under the key of this one.
     pub timeline: u64,
@@ -57,7 +57,7 @@ pub struct HistoryRow {
 }
 
 /// The value of a key, with one kind for each kind of key: `Key` says what each is for.
-#[derive(Debug, Drop)]
+#[derive(Drop)]
 pub enum Value {
     /// The member that leads.
     Leader(MemberId),
@@ -78,7 +78,7 @@ pub enum Value {
 }
 
 /// What the store holds at a key.
-#[derive(Debug, Drop)]
+#[derive(Drop)]
 pub struct KeyEntry {
     /// Its value, of the key's kind.
     pub value: Value,

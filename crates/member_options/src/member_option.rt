@@ -4,7 +4,7 @@ use leader_key::Mode;
 use pat_base::{Host, Tags};
 
 /// One option of a member's line.
-#[derive(Clone, Copy, Debug, PartialEq, Eq)]
+#[derive(Clone, Copy, PartialEq, Eq)]
 pub enum MemberOption {
     /// `host=HOST`: where the others reach the member.
     Host(Host),
@@ -25,7 +25,7 @@ pub enum MemberOption {
 }
 
 /// What the options of a member's line say, with `None` or `false` for what none of them says.
-#[derive(Clone, Copy, Debug, PartialEq, Eq)]
+#[derive(Clone, Copy, PartialEq, Eq)]
 pub struct SaidOptions {
     /// Where the others reach the member.
     pub host: Option<Host>,
@@ -47,7 +47,7 @@ pub struct SaidOptions {
 
 /// What a script declares of a member beside its name: where it is reached, its tags (Patroni documentation, "YAML
 /// Configuration Settings", under "Tags"), and its watchdog ("Watchdog support").
-#[derive(Clone, Copy, Debug, PartialEq, Eq)]
+#[derive(Clone, Copy, PartialEq, Eq)]
 pub struct MemberOptions {
     /// Where the others reach the member: `127.0.0.1` where no option says it.
     pub host: Host,

@@ -1,7 +1,7 @@
 //! The names of options.
 
 /// What an option of a member is about: the word before its `=`.
-#[derive(Clone, Copy, Debug, PartialEq, Eq)]
+#[derive(Clone, Copy, PartialEq, Eq)]
 pub enum OptionName {
     Host,
     NoFailover,

@@ -16,7 +16,7 @@ const UNSAID_MARGIN: u64 = 5;
 
 /// How long before the end of a lease the deadline of a watchdog lies, in seconds: at most 15 (Patroni documentation, "Watchdog
 /// support": `safety_margin`).
-#[derive(Clone, Copy, Debug, PartialEq, Eq)]
+#[derive(Clone, Copy, PartialEq, Eq)]
 pub struct Margin {
     /// At most 15.
     pub seconds: u64,
@@ -52,7 +52,7 @@ impl Margin {
 }
 
 /// The failover priority of a member: -1000 to 1000 (Patroni documentation, "YAML Configuration Settings", under "Tags").
-#[derive(Clone, Copy, Debug, PartialEq, Eq)]
+#[derive(Clone, Copy, PartialEq, Eq)]
 pub struct Priority {
     /// From -1000 to 1000.
     pub number: i64,

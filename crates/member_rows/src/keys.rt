@@ -7,7 +7,7 @@ use lease_store::SyncKey;
 use pat_base::{Lsn, MemberId};
 
 /// What a list of members reads of a snapshot beside the members.
-#[derive(Clone, Copy, Debug, PartialEq, Eq)]
+#[derive(Clone, Copy, PartialEq, Eq)]
 pub struct ClusterKeys {
     /// Who leads.
     pub leader: Option<LeaderEntry>,

@@ -9,7 +9,7 @@ use pat_base::{Host, MOST_MEMBERS, MemberId, Name};
 use std::alloc::{AllocError, Global};
 
 /// A member that tells of itself in the key store.
-#[derive(Clone, Copy, Debug, PartialEq, Eq)]
+#[derive(Clone, Copy, PartialEq, Eq)]
 pub struct Row {
     pub member: MemberId,
     /// Its name, by the cluster's list of members.

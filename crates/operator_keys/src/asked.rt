@@ -8,7 +8,7 @@ use pat_base::{Host, MemberId, Name, member_named};
 use serde_json::Value;
 
 /// Whom a body names at one of its names.
-#[derive(Clone, Copy, Debug, PartialEq, Eq)]
+#[derive(Clone, Copy, PartialEq, Eq)]
 pub(crate) enum Named {
     Nobody,
     /// No member of the cluster has that name.
@@ -17,7 +17,7 @@ pub(crate) enum Named {
 }
 
 /// What a body asks: who is to step down, who is to lead, whether both have one name, and whether it is to be done later.
-#[derive(Clone, Copy, Debug, PartialEq, Eq)]
+#[derive(Clone, Copy, PartialEq, Eq)]
 pub(crate) struct Asked {
     pub leader: Named,
     pub candidate: Named,

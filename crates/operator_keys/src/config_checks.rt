@@ -14,7 +14,7 @@ use lease_store::{ConfigValue, Key, KeyEntry, Value};
 use std::alloc::Global;
 
 /// How a request changes the configuration (Patroni's documentation of the REST API, "Config endpoint").
-#[derive(Clone, Copy, Debug, PartialEq, Eq)]
+#[derive(Clone, Copy, PartialEq, Eq)]
 pub enum ConfigChange {
     /// `PATCH /config`: the body is merged into the configuration, where null removes.
     Patch,

@@ -3,7 +3,7 @@ ghost use Rattle.std.specs.Prelude.{◌≡◌, ◌↔◌, IsTrue, IsSome, IsNone
 ghost use Rattle.pat_cases.specs.Cases.{matches, first_answer, is_closed};
 
 /// One row of a table: an answer, and the facts that it is for. Facts are a word with a bit for each.
-#[derive(Clone, Copy, Debug, PartialEq, Eq)]
+#[derive(Clone, Copy, PartialEq, Eq)]
 pub struct Case {
     /// The facts that the row looks at.
     pub mask: u32,
@@ -14,7 +14,7 @@ pub struct Case {
 }
 
 /// Rows in order, of which the first that matches gives the answer. `cases!` writes one.
-#[derive(Clone, Copy, Debug, PartialEq, Eq)]
+#[derive(Clone, Copy, PartialEq, Eq)]
 pub struct CaseTable<const N: usize> {
     /// The rows, first to last.
     pub rows: [Case; N],

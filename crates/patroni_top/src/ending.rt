@@ -16,7 +16,7 @@ use std::alloc::AllocError;
 pub type Message = ArrayString<96>;
 
 /// How a run ended. It is a status, with what its line names.
-#[derive(Clone, Copy, Debug, PartialEq, Eq)]
+#[derive(Clone, Copy, PartialEq, Eq)]
 pub enum Ending {
     Done,
     /// The bytes pass no limit. The first line that has a fault, counted from 1, and its first fault.

@@ -5,7 +5,7 @@ ghost use Rattle.patroni_top.specs.Commands.{command_in, command_of, making_in, 
 use script_words::number;
 
 /// A command.
-#[derive(Clone, Copy, Debug, PartialEq, Eq)]
+#[derive(Clone, Copy, PartialEq, Eq)]
 pub enum Order<'a> {
     /// `run`: the script of the input is played, and its run printed.
     Run,

@@ -1,7 +1,7 @@
 //! How a run of the program ends.
 
 /// How the program ended. Its number is the exit status.
-#[derive(Clone, Copy, Debug, PartialEq, Eq)]
+#[derive(Clone, Copy, PartialEq, Eq)]
 pub enum Status {
     /// The whole output is written, and the input was read to its end, where it is read.
     Done = 0,

@@ -3,7 +3,7 @@ use pat_base::MemberId;
 use rest_message::Request;
 
 /// What comes of a command.
-#[derive(Debug, Drop)]
+#[derive(Drop)]
 pub enum Acted {
     /// These lines are printed, without line feeds.
     Lines(Vec<String>),

@@ -3,7 +3,7 @@ use pat_base::MemberId;
 use rest_message::Request;
 
 /// What the words of a command come to.
-#[derive(Debug, Drop)]
+#[derive(Drop)]
 pub enum CtlAnswer {
     /// These lines are printed, without line feeds.
     Prints(Vec<String>),

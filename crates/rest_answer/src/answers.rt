@@ -3,7 +3,7 @@ use lease_store::OperatorRequest;
 use rest_message::Reply;
 
 /// What comes of a request.
-#[derive(Debug, Drop)]
+#[derive(Drop)]
 pub enum Answer {
     /// It is answered at once.
     Now(Reply),

@@ -8,7 +8,7 @@ use rest_message::Reply;
 use std::alloc::{AllocError, Global};
 
 /// Why a connection is replied to without the agent of its member.
-#[derive(Clone, Copy, Debug, PartialEq, Eq)]
+#[derive(Clone, Copy, PartialEq, Eq)]
 pub enum Refusal {
     /// `BadHead`: what was read begins with no whole request: it never becomes a head, or ends before head or body does (RFC 9110,
     /// "400 Bad Request").

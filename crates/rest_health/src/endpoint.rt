@@ -1,7 +1,7 @@
 //! The paths of health checks.
 
 /// The paths that ask for the health of a member (Patroni documentation, "Patroni REST API", "Health check endpoints").
-#[derive(Clone, Copy, Debug, PartialEq, Eq)]
+#[derive(Clone, Copy, PartialEq, Eq)]
 pub enum Endpoint {
     /// `/`: the same as `/primary`.
     Root,

@@ -21,7 +21,7 @@ pub const FRESH_AS_PRIMARY: u32 = 64;
 pub const FRESH_OTHERWISE: u32 = 128;
 
 /// What is known of a member, and of the query of a request.
-#[derive(Clone, Copy, Debug, PartialEq, Eq)]
+#[derive(Clone, Copy, PartialEq, Eq)]
 pub struct Facts {
     /// The server runs as the primary.
     pub primary: bool,

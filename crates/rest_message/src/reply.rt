@@ -1,7 +1,7 @@
 //! Replies.
 
 /// What is answered to a request.
-#[derive(Debug, Drop)]
+#[derive(Drop)]
 pub struct Reply {
     /// The status (RFC 9110, section 15).
     pub status: u16,

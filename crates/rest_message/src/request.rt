@@ -2,7 +2,7 @@
 use crate::Verb;
 
 /// A whole request.
-#[derive(Debug, Drop)]
+#[derive(Drop)]
 pub struct Request {
     /// What is to be done.
     pub method: Verb,

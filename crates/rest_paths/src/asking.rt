@@ -8,7 +8,7 @@ use rest_health::Endpoint;
 use rest_message::Verb;
 
 /// What a request asks for, by its method and its path (Patroni documentation, "Patroni REST API").
-#[derive(Clone, Copy, Debug, PartialEq, Eq)]
+#[derive(Clone, Copy, PartialEq, Eq)]
 pub enum Ask {
     /// Nothing: the path is unknown, whatever the method (RFC 9110, "404 Not Found").
     NotFound,

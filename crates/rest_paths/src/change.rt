@@ -5,7 +5,7 @@ ghost use Rattle.rest_paths.specs.Asking.{change_by};
 use crate::Operation;
 
 /// What a request asks to be changed (Patroni documentation, "Patroni REST API").
-#[derive(Clone, Copy, Debug, PartialEq, Eq)]
+#[derive(Clone, Copy, PartialEq, Eq)]
 pub enum Change {
     /// `POST /switchover`: the leader is to hand over to another member ("Switchover and failover endpoints").
     Switchover,

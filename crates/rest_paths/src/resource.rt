@@ -4,7 +4,7 @@ use rest_health::Endpoint;
 
 /// What tells of a member or of its cluster (Patroni documentation, "Patroni REST API", "Monitoring endpoint", "Cluster status
 /// endpoints", "Config endpoint").
-#[derive(Clone, Copy, Debug, PartialEq, Eq)]
+#[derive(Clone, Copy, PartialEq, Eq)]
 pub enum Page {
     /// `/patroni`: the member's server and its agent.
     Patroni,
@@ -19,7 +19,7 @@ pub enum Page {
 }
 
 /// What an operator has a cluster or a member do (Patroni documentation, "Patroni REST API").
-#[derive(Clone, Copy, Debug, PartialEq, Eq)]
+#[derive(Clone, Copy, PartialEq, Eq)]
 pub enum Operation {
     /// `/switchover`: the leader hands over to another member ("Switchover and failover endpoints").
     Switchover,
@@ -32,7 +32,7 @@ pub enum Operation {
 }
 
 /// What a path stands for: the target resource of a request (RFC 9110, section 3.1).
-#[derive(Clone, Copy, Debug, PartialEq, Eq)]
+#[derive(Clone, Copy, PartialEq, Eq)]
 pub enum Resource {
     /// The health of the member, as one of the fourteen paths of health checks asks for it.
     Health(Endpoint),

@@ -20,7 +20,7 @@ use script_model::Script;
 use std::alloc::Global;
 
 /// Which connections are served.
-#[derive(Clone, Copy, Debug, PartialEq, Eq)]
+#[derive(Clone, Copy, PartialEq, Eq)]
 pub struct Service<'a> {
     /// The member to whose agent they come.
     pub member: MemberId,

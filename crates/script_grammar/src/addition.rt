@@ -4,7 +4,7 @@ use pat_base::Name;
 use script_model::Line;
 
 /// What a line behind the cluster's adds to a script.
-#[derive(Debug, Drop)]
+#[derive(Drop)]
 pub enum Addition {
     /// One more member, with this name and these options.
     Member(Name, MemberOptions),

@@ -1,7 +1,7 @@
 //! The first words of lines.
 
 /// What a line is about: its first word.
-#[derive(Clone, Copy, Debug, PartialEq, Eq)]
+#[derive(Clone, Copy, PartialEq, Eq)]
 pub enum Keyword {
     Cluster,
     Config,

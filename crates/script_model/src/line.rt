@@ -6,7 +6,7 @@ use pat_base::MemberId;
 use std::alloc::AllocError;
 
 /// One end of a link: a member, or the key store.
-#[derive(Clone, Copy, Debug, PartialEq, Eq)]
+#[derive(Clone, Copy, PartialEq, Eq)]
 pub enum End {
     /// The key store, which a script calls `store`.
     Store,
@@ -15,7 +15,7 @@ pub enum End {
 }
 
 /// What a line `slow` delays: the stop or the start of a server.
-#[derive(Clone, Copy, Debug, PartialEq, Eq)]
+#[derive(Clone, Copy, PartialEq, Eq)]
 pub enum SlowedCall {
     /// From a shutdown's beginning to its end.
     Stop,
@@ -24,7 +24,7 @@ pub enum SlowedCall {
 }
 
 /// What a line of a script's body asks for by itself. Ticks are of 100 ms, and messages are numbered from 1 in order of sending.
-#[derive(Debug, Drop, PartialEq, Eq)]
+#[derive(Drop, PartialEq, Eq)]
 pub enum Command {
     /// `turn M`: the agent of this member is woken.
     Turn(MemberId),
@@ -98,7 +98,7 @@ impl Command {
 }
 
 /// A line of a script's body. A line of ticks may ask for any number below 2^64, of 100 ms each.
-#[derive(Debug, Drop, PartialEq, Eq)]
+#[derive(Drop, PartialEq, Eq)]
 pub enum Line {
     /// `run N`: N ticks of the default schedule.
     Run(u64),

@@ -5,7 +5,7 @@ use std::marker::Model;
 use std::str;
 
 /// Bytes of a line. Several may own them.
-#[derive(Debug, Drop)]
+#[derive(Drop)]
 pub struct LineBytes {
     bytes: Shared<Vec<u8>>,
 }

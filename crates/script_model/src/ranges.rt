@@ -12,7 +12,7 @@ const LONGEST_COMMIT: u64 = 1_073_741_824;
 const LONGEST_DELAY: u64 = 100_000;
 
 /// How long a commit is, in bytes: 1 to 2^30.
-#[derive(Clone, Copy, Debug, PartialEq, Eq)]
+#[derive(Clone, Copy, PartialEq, Eq)]
 pub struct CommitSize {
     /// From 1, and at most 2^30.
     pub bytes: u64,
@@ -40,7 +40,7 @@ impl CommitSize {
 }
 
 /// How long a stop or a start takes, in ticks of 100 ms: at most 100,000.
-#[derive(Clone, Copy, Debug, PartialEq, Eq)]
+#[derive(Clone, Copy, PartialEq, Eq)]
 pub struct Delay {
     /// At most 100,000, of 100 ms each.
     pub ticks: u64,

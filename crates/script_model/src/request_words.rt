@@ -3,7 +3,7 @@ use crate::LineBytes;
 use std::alloc::{AllocError, Global};
 
 /// What the line of a request says: the words of any request, behind the member that it is for.
-#[derive(Debug, Drop, PartialEq, Eq)]
+#[derive(Drop, PartialEq, Eq)]
 pub struct RequestWords {
     /// Its method.
     pub method: LineBytes,

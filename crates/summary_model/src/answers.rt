@@ -6,7 +6,7 @@ use pat_base::{MOST_MEMBERS, Name, Ticks};
 pub const SERVERS: usize = MOST_MEMBERS + 1;
 
 /// What a script declares of the watchdog of a member.
-#[derive(Clone, Copy, Debug)]
+#[derive(Clone, Copy)]
 pub struct WatchOf {
     /// Whose watchdog it is.
     pub name: Name,
@@ -19,7 +19,7 @@ pub struct WatchOf {
 }
 
 /// What whoever notes an event sees beside it.
-#[derive(Clone, Copy, Debug, PartialEq, Eq)]
+#[derive(Clone, Copy, PartialEq, Eq)]
 pub struct Seen {
     /// After the event some server that accepts writes lacks an acknowledged commit. It is looked at only while that never
     /// was so.
@@ -30,7 +30,7 @@ pub struct Seen {
 }
 
 /// Why nothing is promised of the writers any more.
-#[derive(Clone, Copy, Debug, PartialEq, Eq)]
+#[derive(Clone, Copy, PartialEq, Eq)]
 pub enum Breach {
     /// The watchdog of the member of this name is off or broken.
     Watchdog(Name),
@@ -43,7 +43,7 @@ pub enum Breach {
 }
 
 /// Whether the premises of the claim of one writer are met.
-#[derive(Clone, Copy, Debug, PartialEq, Eq)]
+#[derive(Clone, Copy, PartialEq, Eq)]
 pub enum Premises {
     /// They were met all the time.
     Met,
@@ -52,7 +52,7 @@ pub enum Premises {
 }
 
 /// Whether the cluster replicates synchronously.
-#[derive(Clone, Copy, Debug, PartialEq, Eq)]
+#[derive(Clone, Copy, PartialEq, Eq)]
 pub enum Synchronous {
     /// All the time.
     On,
@@ -63,14 +63,14 @@ pub enum Synchronous {
 }
 
 /// When something was so for the first time.
-#[derive(Clone, Copy, Debug, PartialEq, Eq)]
+#[derive(Clone, Copy, PartialEq, Eq)]
 pub enum FirstMoment {
     Never,
     At(Ticks),
 }
 
 /// How a run closes: the answers of its summary.
-#[derive(Clone, Copy, Debug)]
+#[derive(Clone, Copy)]
 pub struct Closing {
     /// The moment of its end.
     pub end: Ticks,

@@ -4,7 +4,7 @@ use pat_base::MemberSet;
 
 /// The next step of a leader towards the synchronous standbys that are wanted. One step is made at a time, so that each
 /// standby that the sync key names is one that commits wait for.
-#[derive(Clone, Copy, Debug, PartialEq, Eq)]
+#[derive(Clone, Copy, PartialEq, Eq)]
 pub enum Plan {
     /// Nothing is to be changed.
     Keep,

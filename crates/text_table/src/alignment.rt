@@ -1,7 +1,7 @@
 //! Alignments.
 
 /// On which side of its column a text stands.
-#[derive(Clone, Copy, Debug, PartialEq, Eq)]
+#[derive(Clone, Copy, PartialEq, Eq)]
 pub enum Alignment {
     /// At the left, as words do.
     Left,

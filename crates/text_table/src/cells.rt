@@ -3,7 +3,7 @@ use std::alloc::{AllocError, Global};
 use std::marker::Model;
 
 /// The cells of one line of a table, from left to right.
-#[derive(Debug, Drop)]
+#[derive(Drop)]
 pub struct Cells {
     cells: Vec<String>,
 }

@@ -3,7 +3,7 @@ use crate::Alignment;
 use std::marker::Model;
 
 /// A column of a table.
-#[derive(Debug, Drop)]
+#[derive(Drop)]
 pub(crate) struct Column {
     heading: String,
     alignment: Alignment,

@@ -2,7 +2,7 @@
 use crate::Alignment;
 
 /// What a line has to know of a column.
-#[derive(Clone, Copy, Debug, PartialEq, Eq)]
+#[derive(Clone, Copy, PartialEq, Eq)]
 pub(crate) struct Slot {
     /// How many bytes its texts take, without the space on both sides.
     pub width: usize,

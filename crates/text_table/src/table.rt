@@ -7,7 +7,7 @@ use std::alloc::{AllocError, Global};
 use std::marker::Model;
 
 /// A table: columns, rows of cells, and a title where it has one.
-#[derive(Debug, Drop)]
+#[derive(Drop)]
 pub struct Table {
     title: Option<String>,
     columns: Vec<Column>,
