@@ -30,6 +30,7 @@ use world_fields::writing::write_down;
 use world_flight::flight::InFlight;
 use world_parts::actions::copy_of;
 use world_parts::machines::{item_at, machine_from};
+use world_parts::order_kinds::member_at;
 use world_parts::replication::replication_of;
 use world_parts::sources::source_of;
 
@@ -210,7 +211,7 @@ impl Stage {
     pub fn view(&self, id: MemberId) -> Option<AgentView<'_>>
         ensures { IsViewOf self.now id result }
     {
-        let member = *self.members.get(id.number as usize)?;
+        let member = member_at(&self.members, id)?;
         let machine = self.machine(member)?;
         places::view_at(
             &self.agents,

@@ -1,5 +1,6 @@
-use Rattle.std.proofs.Common.{◌≡◌, ◌∙◌, List, Option, Some, ap, rules, sym, subst}
-use Rattle.std.specs.Prelude.{option_and_then, option_map}
+use Rattle.std.proofs.Common.{◌≡◌, ◌∙◌, List, Option, Some, ap, sym, subst}
+use Rattle.std.specs.Prelude.{option_and_then, option_map, slice_get}
+use Rattle.event_book.specs.declared.member.Member.{Member}
 use Rattle.agent_model.specs.Agents.{AgentFacts, word_of}
 use Rattle.agent_model.specs.Views.{view_of}
 use Rattle.cluster_model.specs.Inputs.{agent_at}
@@ -14,9 +15,9 @@ use Rattle.world_stage.proofs.stage.Stage.view.Goals as goal
 pub returns : goal.returns
 returns c =
     let before = seen c.self.inside in
-    let member = c.in_ok-member.field-0.now in
+    let member = c.in_ok-member.member in
     let machine = c.in_ok-machine.machine in
-    let is : declared before c.args.id ≡ Some member = search rules in
+    let is : declared before c.args.id ≡ Some member = ap (λ (members : List Member). slice_get members c.args.id.number) (sym c.deref.ensures.value) ∙ sym c.member_at.ensures ∙ c.in_ok-member.was in
     let there : machine_of before member ≡ Some machine = subst (λ (b : Cluster). machine_of b member ≡ Some machine) (sym c.self.view_is) (sym c.machine.ensures.machine ∙ c.in_ok-machine.was) in
     let shows = c.view_at.ensures.shows
     ∙ ap (λ (agents : List (Option AgentFacts)). option_map (λ (a : AgentFacts). view_of c.self.inside.clock (word_of a.role) a.knows machine) (agent_at agents member.id.number)) c.deref-2.ensures.value in
