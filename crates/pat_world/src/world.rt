@@ -29,9 +29,7 @@ use pat_base::{MemberId, Ticks};
 use script_model::Head;
 use std::alloc::{AllocError, Global};
 use std::marker::Model;
-use world_acts::idling::{due_from, ends_from};
-use world_fields::writing::write_down;
-use world_play::take_step;
+use world_play::{due_from, ends_from, take_step, write_down};
 use world_stage::Stage;
 
 /// A cluster at a moment, which takes the steps of a run. It can't be dropped, since an agent can't: `World::close` ends

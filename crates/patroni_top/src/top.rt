@@ -16,9 +16,8 @@ use crate::reading::script_from;
 use crate::{Ended, Status};
 use pat_base::{Sink, Source, write_all};
 use pat_door::Door;
-use pat_serve::MOST_WAITING;
 use pat_world::World;
-use run_player::{Service, drill, play, serve};
+use run_player::{MOST_WAITING, Service, drill, play, serve};
 use std::alloc::Global;
 
 /// The program: all that it does with its words, its input, its two outputs and its door.

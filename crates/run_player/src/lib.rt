@@ -12,6 +12,7 @@ mod showing;
 mod watches;
 
 pub use drilling::drill;
+pub use pat_serve::MOST_WAITING;
 pub use playing::play;
 pub use print_error::PrintError;
 pub use printing::print_lines;

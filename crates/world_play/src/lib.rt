@@ -8,3 +8,5 @@ mod steps;
 mod ticks;
 
 pub use steps::take_step;
+pub use world_acts::idling::{due_from, ends_from};
+pub use world_fields::writing::write_down;
