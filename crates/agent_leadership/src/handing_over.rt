@@ -11,10 +11,11 @@ ghost use Rattle.agent_turn.specs.Roles.{role_of};
 ghost use Rattle.agent_model.specs.declared.why.Why.TheVariants as whys;
 ghost use Rattle.leader_key.specs.Lease.{writer_revision};
 
-use crate::asking::{all_answered, answers_until, ask_all, ask_one, is_settled};
 use crate::planning::take_step;
 use agent_model::{Answers, Knowledge, Output, PendingQuestion, Question, SyncRead, Who, Why};
-use agent_turn::{Role, Turn, is_paused};
+use agent_turn::{
+    Role, Turn, all_answered, answers_until, ask_all, ask_one, is_paused, is_settled,
+};
 use cluster_config::{Snapshot, candidate_of, is_standby};
 use event_book::{AgentNote, Body};
 use leader_key::Writer;

@@ -8,10 +8,10 @@ ghost use Rattle.agent_model.specs.Answers.{most_grant_outputs};
 ghost use Rattle.agent_turn.specs.Roles.{role_of};
 ghost use Rattle.agent_model.specs.Acting.{waiting_no_more};
 
+use agent_following::{leader_without_key, unleased_without_key};
 use agent_leadership::{
-    claim_fails, claim_granted, leader_renewed, leader_renewed_in_pause, leader_without_key,
-    settle, take_key, take_key_in_pause, unleased_renewed, unleased_renewed_in_pause,
-    unleased_without_key,
+    claim_fails, claim_granted, leader_renewed, leader_renewed_in_pause, settle, take_key,
+    take_key_in_pause, unleased_renewed, unleased_renewed_in_pause,
 };
 use agent_model::{PendingQuestion, Question};
 use agent_turn::{Role, Turn, belongs, inform, is_lease_of, is_paused, is_write_of};

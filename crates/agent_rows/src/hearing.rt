@@ -7,15 +7,14 @@ ghost use Rattle.agent_turn.specs.Roles.{role_of};
 ghost use Rattle.agent_model.specs.Table.{step};
 
 use crate::decisions::{granted, refused};
-use crate::operators::{
-    grants_operator, look, operate, operates, operator_granted, operator_refused,
-};
 use crate::peers::{answered, asked};
-use crate::reconciling::reconcile;
 use crate::snapshots::read_answered;
 use crate::wake::wake;
 use agent_model::Heard;
 use agent_turn::{Role, Turn};
+use agent_upkeep::{
+    grants_operator, look, operate, operates, operator_granted, operator_refused, reconcile,
+};
 use lease_store::Granted;
 use wal_model::History;
 

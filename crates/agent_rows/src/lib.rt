@@ -3,10 +3,7 @@
 
 mod decisions;
 mod hearing;
-mod operators;
 mod peers;
-mod reconciling;
-mod renewing;
 mod snapshots;
 mod wake;
 

@@ -6,9 +6,10 @@ ghost use Rattle.agent_model.specs.Peers.{accepted_answer, answered, asked, awai
 ghost use Rattle.agent_model.specs.Answers.{peer_answer_of};
 ghost use Rattle.agent_turn.specs.Roles.{role_of};
 
-use agent_leadership::{all_answered, hear_successor, judge};
+use agent_following::judge;
+use agent_leadership::hear_successor;
 use agent_model::{Output, PendingQuestion, Question, Who};
-use agent_turn::{Role, Turn, may_create, runs, word_of};
+use agent_turn::{Role, Turn, all_answered, may_create, runs, word_of};
 use pat_base::{MemberId, PeerAnswer};
 use pg_model::ServerStatus;
 

@@ -3,18 +3,17 @@ ghost use Rattle.std.specs.Prelude.{◌≡◌};
 ghost use Rattle.agent_model.specs.Agents.{Follower, IsWithin};
 ghost use Rattle.agent_turn.specs.Turns.{HasLeft, Spent, reached};
 ghost use Rattle.pat_base.specs.declared.member_id.TheConstants.{MOST_MEMBERS};
-ghost use Rattle.agent_model.specs.Snapshots.{awaits_read, finds_own_key, follows, read_answered, is_read, led, no_key, others_key, own_key};
+ghost use Rattle.agent_model.specs.Snapshots.{finds_own_key, follows, read_answered, led, no_key, others_key, own_key};
 ghost use Rattle.agent_turn.specs.Roles.{role_of};
 
-use crate::renewing::renew;
-use agent_leadership::{
+use agent_following::{
     finds_free, follow_row, leader_finds_free, leader_without_key, put_repair, repair_of,
     unleased_finds_free, unleased_without_key,
 };
-use agent_model::{PendingQuestion, Question};
 use agent_turn::{
     Role, Turn, inform, is_active, is_hold_active, is_paused, may_start_behind, sync_read_in,
 };
+use agent_upkeep::{awaits_read, renew};
 use cluster_config::{LeaderEntry, Snapshot};
 use pat_base::MemberId;
 use wal_model::History;
@@ -46,22 +45,6 @@ pub(crate) fn read_answered(
     turn.knows.last_read = Some(turn.moment);
     turn.knows.turn_settings = turn.knows.settings;
     led(role, turn, history, leader)
-}
-
-/// The answer to this read is waited for.
-pub(crate) fn awaits_read(waited: Option<PendingQuestion>, sequence: u64) -> bool
-    ensures { result ≡ awaits_read waited sequence }
-{
-    match waited {
-        None => false,
-        Some(waited) => is_read(waited.question) && waited.sequence == sequence,
-    }
-}
-
-fn is_read(question: Question) -> bool
-    ensures { result ≡ is_read question }
-{
-    matches!(question, Question::Reading)
 }
 
 /// What the agent does on the leader key.

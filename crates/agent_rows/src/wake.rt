@@ -6,11 +6,11 @@ ghost use Rattle.agent_model.specs.Agents.{IsWithin};
 ghost use Rattle.agent_model.specs.Wake.{due_from, finds_ended, has_turn, is_due, is_overdue, is_stopping, out_of_reach, overdue, reading, turn_begins, turned, unanswered, waits_until, woken};
 ghost use Rattle.agent_turn.specs.Roles.{role_of};
 
-use crate::operators::give_up;
-use crate::reconciling::reconcile;
-use agent_leadership::{claim_fails, judge_if_leading, judge_if_racing};
+use agent_following::judge_if_racing;
+use agent_leadership::{claim_fails, judge_if_leading};
 use agent_model::{Knowledge, Machine, PendingQuestion, Question};
 use agent_turn::{Role, Turn, is_paused};
+use agent_upkeep::{give_up, reconcile};
 use event_book::{Body, Reason};
 use pat_base::{State, Ticks};
 

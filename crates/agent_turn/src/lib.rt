@@ -2,6 +2,7 @@
 #![tactic(auto)]
 
 mod acting;
+mod asking;
 mod belonging;
 mod info;
 mod informing;
@@ -13,6 +14,7 @@ mod turn;
 mod view;
 
 pub use acting::is_hold_active;
+pub use asking::{all_answered, answers_until, ask_all, ask_one, is_settled};
 pub use belonging::{belongs, is_active, is_lease_of, is_write_of, may_create};
 pub use info::{info_of, runs};
 pub use informing::inform;

@@ -1,0 +1,131 @@
+//! What an agent asks as it renews its lease, and what it tells with that.
+ghost use Rattle.std.specs.Prelude.{◌≡◌, ◌≤◌};
+ghost use Rattle.agent_turn.specs.Turns.{ComesTo, HasLeft, Spent};
+ghost use Rattle.agent_model.specs.Agents.{IsSound};
+ghost use Rattle.pat_base.specs.Moments.{latest};
+ghost use Rattle.agent_model.specs.Snapshots.{missing_point, missing_row, renewal, renewing, row_at, row_told, status_told, turn_start};
+
+use agent_model::{Knowledge, Question};
+use agent_turn::{Turn, info_of};
+use cluster_config::Snapshot;
+use event_book::Body;
+use lease_store::{HistoryRow, Txn};
+use pat_base::{Lsn, MemberId, State, Ticks};
+use pg_model::ServerStatus;
+use wal_model::{History, HistoryPoint};
+
+/// Asks for the renewal of the leader key that was read.
+pub fn renew(turn: &mut Turn, history: &History, revision: u64)
+    requires { HasLeft 1 1 turn.old }
+    ensures outcome { ComesTo (renewing turn.old.moment history.now.points revision) turn.old turn.new }
+    ensures left { Spent 1 1 turn.old turn.new }
+{
+    let renewal = renewal(
+        turn.moment,
+        history,
+        revision,
+        turn.knows,
+        &turn.machine.server,
+    );
+    let until = turn_start(turn.moment, turn.knows) + turn.knows.settings.retry_timeout_ticks();
+    turn.ask(Question::Renewing, until, Body::Request(renewal));
+}
+
+/// When the turn began that asks this.
+fn turn_start(now: Ticks, knows: &Knowledge) -> Ticks
+    requires moment { now.0 ≤ latest }
+    requires sound { IsSound knows.now }
+    ensures value { result ≡ turn_start now knows.now.last_turn }
+    ensures bound { result.0 ≤ latest }
+{
+    match knows.last_turn {
+        None => now,
+        Some(moment) => moment,
+    }
+}
+
+fn renewal(
+    now: Ticks,
+    history: &History,
+    revision: u64,
+    knows: &Knowledge,
+    server: &ServerStatus,
+) -> Txn
+    ensures { result ≡ renewal now history.now.points revision knows.now server.now }
+{
+    Txn::Renew {
+        revision,
+        info: info_of(&knows.who, server),
+        ttl: knows.settings.ttl_ticks(),
+        status: status_told(server),
+        row: row_told(now, history, knows, server),
+        failsafe: None,
+    }
+}
+
+/// A leader tells where its log ends.
+fn status_told(server: &ServerStatus) -> Option<Lsn>
+    ensures { result ≡ status_told server.now }
+{
+    match server.state {
+        State::Primary => server.end,
+        _ => None,
+    }
+}
+
+/// A leader tells the first row of its history that the key store lacks.
+fn row_told(
+    now: Ticks,
+    history: &History,
+    knows: &Knowledge,
+    server: &ServerStatus,
+) -> Option<HistoryRow>
+    ensures { result ≡ row_told now history.now.points knows.now server.now }
+{
+    match server.state {
+        State::Primary => missing_row(now, knows.who.me, &knows.seen, history),
+        _ => None,
+    }
+}
+
+fn missing_row(
+    now: Ticks,
+    me: MemberId,
+    seen: &Option<Snapshot>,
+    history: &History,
+) -> Option<HistoryRow>
+    ensures { result ≡ missing_row now me seen.now history.now.points }
+{
+    match seen {
+        None => None,
+        Some(snapshot) => match missing_point(snapshot, history) {
+            None => None,
+            Some(point) => Some(row_at(now, me, point)),
+        },
+    }
+}
+
+fn row_at(now: Ticks, me: MemberId, point: HistoryPoint) -> HistoryRow
+    ensures { result ≡ row_at now me point }
+{
+    HistoryRow {
+        timeline: point.timeline,
+        at: point.at,
+        tick: now,
+        leader: me,
+    }
+}
+
+/// The first point of a history whose row the snapshot lacks.
+fn missing_point(snapshot: &Snapshot, history: &History) -> Option<HistoryPoint>
+    ensures { result ≡ missing_point snapshot.now history.now.points }
+{
+    for place in 0..history.len() {
+        if let Some(point) = history.get(place) {
+            if !snapshot.has_row(point.timeline) {
+                return Some(*point);
+            }
+        }
+    }
+    None
+}
