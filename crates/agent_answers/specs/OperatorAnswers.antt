@@ -15,9 +15,9 @@ use Rattle.lease_store.specs.declared.txn.Txn.{Txn}
 use Rattle.lease_store.specs.declared.txn.Txn.TheVariants as txns
 use Rattle.cluster_config.specs.KeyValues.{failover_in}
 use Rattle.cluster_config.specs.Snapshots.{SnapshotFacts}
-use Rattle.operator_keys.specs.declared.answer_text.Text.{Text}
-use Rattle.operator_keys.specs.declared.answer_text.Text.TheVariants as texts
-use Rattle.operator_keys.specs.Statuses.{service_unavailable, conflict, ok}
+use Rattle.operator_answers.specs.declared.answer_text.Text.{Text}
+use Rattle.operator_answers.specs.declared.answer_text.Text.TheVariants as texts
+use Rattle.operator_answers.specs.Statuses.{service_unavailable, conflict, ok}
 use Rattle.event_book.specs.declared.message.Body.TheVariants as bodies
 use Rattle.agent_model.specs.declared.heard.Heard.{Heard}
 use Rattle.agent_model.specs.declared.heard.Heard.TheVariants.{Wake, ReadAnswered, Granted, Mismatch, Operated}

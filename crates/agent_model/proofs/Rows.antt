@@ -44,13 +44,13 @@ use Rattle.agent_model.specs.Fits.{Fits}
 use Rattle.agent_model.specs.Outputs.{with_output}
 use Rattle.agent_model.specs.HandingOver.{is_done, leader_revision, clearing_under, clearing, successor_by, hands_over, hands_over_to, handover_judged, judged_if_leading, whom_answered, checking, checks, checks_unless_paused, failover_duty, duty_on, duties, check_answered}
 use Rattle.agent_model.specs.Operators.{telling, answering, answering_if, operating, config_revision, restarting, wiping, operated, result_as, looked_by, uses_read, looked, operator_until, late_answer, given_up_by, given_up, learned, granted_as, operates, grants_operator, operator_granted, refusal_of, operator_refused}
-use Rattle.operator_keys.specs.Statuses.{ok}
+use Rattle.operator_answers.specs.Statuses.{ok}
 use Rattle.agent_model.specs.declared.operating.Operating.{Operating}
 use Rattle.agent_model.specs.declared.operating.Operation.{Operation}
 use Rattle.agent_model.specs.declared.operating.Operation.TheVariants.{FailingOver, Configuring}
 use Rattle.agent_model.specs.declared.operating.Told.{Told}
 use Rattle.agent_model.specs.declared.operating.Told.TheVariants as tolds
-use Rattle.operator_keys.specs.declared.answer_text.Text.TheVariants as texts
+use Rattle.operator_answers.specs.declared.answer_text.Text.TheVariants as texts
 use Rattle.lease_store.specs.declared.action.OperatorRequest.{OperatorRequest}
 use Rattle.lease_store.specs.declared.action.OperatorRequest.TheVariants as requests
 use Rattle.lease_store.specs.declared.value.FailoverKey.{FailoverKey}

@@ -20,9 +20,9 @@ use Rattle.cluster_config.specs.declared.snapshot.LeaderEntry.{LeaderEntry}
 use Rattle.cluster_config.specs.KeyValues.{failover_in}
 use Rattle.cluster_config.specs.Naming.{is_member}
 use Rattle.cluster_config.specs.Snapshots.{SnapshotFacts, entry_in, leader_in}
-use Rattle.operator_keys.specs.declared.answer_text.Text.{Text}
-use Rattle.operator_keys.specs.declared.answer_text.Text.TheVariants as texts
-use Rattle.operator_keys.specs.Statuses.{ok, conflict, service_unavailable}
+use Rattle.operator_answers.specs.declared.answer_text.Text.{Text}
+use Rattle.operator_answers.specs.declared.answer_text.Text.TheVariants as texts
+use Rattle.operator_answers.specs.Statuses.{ok, conflict, service_unavailable}
 use Rattle.event_book.specs.declared.message.Body.{Body}
 use Rattle.event_book.specs.declared.message.Body.TheVariants as bodies
 use Rattle.agent_model.specs.declared.knowledge.Knowledge.{Knowledge}

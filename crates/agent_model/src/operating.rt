@@ -1,7 +1,7 @@
 //! What an agent does for operators, and owes an answer for.
 
 use lease_store::FailoverKind;
-use operator_keys::Text;
+use operator_answers::Text;
 use pat_base::{MemberId, Ticks};
 
 /// What an agent asked the key store for on a request of an operator.

@@ -18,7 +18,7 @@ use event_book::Body;
 use lease_store::{
     Config, FailoverKey, FailoverKind, Granted, Key, KeyEntry, OperatorRequest, Txn,
 };
-use operator_keys::{CONFLICT, OK, SERVICE_UNAVAILABLE, Text};
+use operator_answers::{CONFLICT, OK, SERVICE_UNAVAILABLE, Text};
 use pat_base::{Host, MemberId, Name, State, Ticks};
 
 /// For so many ticks an operator waits for what comes of a switchover or a failover.

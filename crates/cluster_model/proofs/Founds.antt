@@ -11,8 +11,8 @@ use Rattle.agent_model.specs.declared.operating.Told.TheVariants as tolds
 use Rattle.agent_model.specs.declared.output.Repair.{Repair}
 use Rattle.agent_model.specs.declared.output.Repair.TheVariants as repairs
 use Rattle.agent_model.specs.Agents.{AgentFacts}
-use Rattle.operator_keys.specs.Statuses.{ok}
-use Rattle.operator_keys.specs.AnswerTexts.{answer_text}
+use Rattle.operator_answers.specs.Statuses.{ok}
+use Rattle.operator_answers.specs.AnswerTexts.{answer_text}
 use Rattle.rest_message.specs.Replies.{ReplyText}
 use Rattle.rest_answer.specs.Replies.{json_of, text_of}
 use Rattle.cluster_model.specs.Orders.{copying, repair_by, repair_over, rewinding}

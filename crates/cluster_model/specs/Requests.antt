@@ -9,7 +9,7 @@ use Rattle.event_book.specs.declared.event.EventKind.TheVariants as kinds
 use Rattle.event_book.specs.declared.event.Note.{Note}
 use Rattle.event_book.specs.declared.event.Note.TheVariants as notes
 use Rattle.event_book.specs.declared.member.Member.{Member}
-use Rattle.operator_keys.specs.AnswerTexts.{answer_text}
+use Rattle.operator_answers.specs.AnswerTexts.{answer_text}
 use Rattle.operator_keys.specs.ConfigChecks.{configuration_in}
 use Rattle.rest_answer.specs.Answers.{Answered, answer_to}
 use Rattle.rest_answer.specs.declared.refusal.Refusal.TheVariants as refusals
@@ -22,7 +22,7 @@ use Rattle.script_model.specs.declared.request_words.RequestWords.{RequestWords}
 use Rattle.agent_model.specs.declared.operating.Told.{Told}
 use Rattle.agent_model.specs.declared.operating.Told.TheVariants as tolds
 use Rattle.agent_model.specs.Agents.{AgentFacts, Outcome}
-use Rattle.operator_keys.specs.Statuses.{ok}
+use Rattle.operator_answers.specs.Statuses.{ok}
 use Rattle.cluster_model.specs.declared.asker.Asker.{Asker}
 use Rattle.cluster_model.specs.declared.asker.Asker.TheVariants as askers
 use Rattle.agent_model.specs.Views.{shown}

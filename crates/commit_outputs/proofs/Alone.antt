@@ -22,7 +22,7 @@ use Rattle.agent_model.specs.declared.output.Repair.{Repair}
 use Rattle.agent_model.specs.declared.output.Target.TheVariants as targets
 use Rattle.agent_model.specs.Agents.{AgentFacts}
 use Rattle.agent_commit_law.specs.Committing.{StandsAlone}
-use Rattle.operator_keys.specs.Statuses.{ok}
+use Rattle.operator_answers.specs.Statuses.{ok}
 use Rattle.agent_outputs.specs.Orders.{IsOfTable}
 use Rattle.cluster_model.specs.declared.heard_message.HeardMessage.{HeardMessage}
 use Rattle.cluster_model.specs.Beginnings.{server_restart_kinds}

@@ -30,7 +30,7 @@ use Rattle.agent_model.specs.declared.output.Output.TheVariants as outputs
 use Rattle.agent_model.specs.declared.output.Target.TheVariants as targets
 use Rattle.agent_model.specs.Agents.{AgentFacts}
 use Rattle.agent_commit_law.specs.Committing.{IsCovered, IsQuietBody, IsQuietTxn}
-use Rattle.operator_keys.specs.Statuses.{ok}
+use Rattle.operator_answers.specs.Statuses.{ok}
 use Rattle.agent_outputs.specs.Orders.{IsOfTable}
 use Rattle.agent_roles.specs.Asks.{IsAsk}
 use Rattle.cluster_model.specs.declared.heard_message.HeardMessage.{HeardMessage}

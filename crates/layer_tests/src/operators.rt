@@ -4,9 +4,10 @@ use crate::checks::{has, has_words, is_same};
 use crate::clusters::{A, B, C, ONLY_B, SYNCHRONOUS, follower, leader, led_by_a};
 use cluster_config::{ConfigFault, ConfigText};
 use lease_store::{Expected, FailoverKey, Key, StoreRefusal};
+use operator_answers::Text;
 use operator_keys::ConfigChange::{Patch, Replace};
 use operator_keys::{
-    CheckFault, Refused, Text, check_configuration, check_failover, check_reinit, check_restart,
+    CheckFault, Refused, check_configuration, check_failover, check_reinit, check_restart,
     check_switchover,
 };
 use pat_base::{MemberId, State};

@@ -7,7 +7,7 @@ use Rattle.cluster_config.specs.declared.view.AgentView.{AgentView}
 use Rattle.cluster_config.specs.ConfigReading.{json_of}
 use Rattle.cluster_config.specs.Snapshots.{SnapshotFacts}
 use Rattle.leader_race.proofs.Barring.{no, no-bar}
-use Rattle.operator_keys.specs.declared.answer_text.Text.{Text}
+use Rattle.operator_answers.specs.declared.answer_text.Text.{Text}
 use Rattle.operator_keys.specs.declared.asked.Asked.{Asked}
 use Rattle.operator_keys.specs.declared.refusal.Refused.{Refused}
 use Rattle.operator_keys.specs.Asking.{asked_by}

@@ -24,7 +24,7 @@ use Rattle.cluster_config.specs.Naming.{is_standby}
 use Rattle.cluster_config.specs.Snapshots.{SnapshotFacts, leader_in}
 use Rattle.leader_race.specs.Eligibility.{may_fail_over}
 use Rattle.leader_race.proofs.Barring.{no, no-bar}
-use Rattle.operator_keys.specs.declared.answer_text.Text.TheVariants as texts
+use Rattle.operator_answers.specs.declared.answer_text.Text.TheVariants as texts
 use Rattle.operator_keys.specs.declared.asked.Asked.{Asked}
 use Rattle.operator_keys.specs.declared.asked.Named.{Named}
 use Rattle.operator_keys.specs.declared.asked.Named.TheVariants as named
@@ -34,7 +34,7 @@ use Rattle.operator_keys.specs.Bodies.{text_at}
 use Rattle.operator_keys.specs.Candidates.{leads, names_leader, info_of, anyone_may_take_over}
 use Rattle.operator_keys.specs.Checks.{switchover_key, failover_key, switchover_of, failover_of}
 use Rattle.operator_keys.specs.Laws.{MayFollow, IsCalled}
-use Rattle.operator_keys.specs.Statuses.{bad_request, precondition_failed}
+use Rattle.operator_answers.specs.Statuses.{bad_request, precondition_failed}
 use Rattle.operator_keys.specs.Rules.{leader_not_named, candidate_not_named, target_is_source, paused_without_candidate, scheduled, other_leader, candidate_leads, another_under_way, no_such_candidate, candidate_not_standby, candidate_may_not_fail_over, no_good_candidates, switchover_refusal, failover_refusal}
 use Rattle.operator_keys.proofs.Passing.{nobody-is, same-some, first_refusal-none, refused_where-none, not-false, body_of-json, Passed, passed, passed-key}
 

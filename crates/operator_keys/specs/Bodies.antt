@@ -3,9 +3,9 @@ use Rattle.std.specs.Prelude.{ℕ, ◌&&◌, is_some, codes, Bool, true, false, 
 use Rattle.serde_json.specs.Data.{Data}
 use Rattle.serde_json.specs.Find.{get, as_object, as_str}
 use Rattle.cluster_config.specs.ConfigReading.{json_of}
-use Rattle.operator_keys.specs.declared.answer_text.Text.TheVariants as texts
+use Rattle.operator_answers.specs.declared.answer_text.Text.TheVariants as texts
 use Rattle.operator_keys.specs.declared.refusal.Refused.{Refused}
-use Rattle.operator_keys.specs.Statuses.{bad_request}
+use Rattle.operator_answers.specs.Statuses.{bad_request}
 
 -- the text at a name of an object, if there is one
 abbrev pub text_at : List ℕ → Data → Option (List ℕ)

@@ -5,13 +5,13 @@ use Rattle.lease_store.specs.declared.value.FailoverKey.{FailoverKey}
 use Rattle.serde_json.specs.Data.{Data}
 use Rattle.cluster_config.specs.declared.view.AgentView.{AgentView}
 use Rattle.cluster_config.specs.Snapshots.{SnapshotFacts}
-use Rattle.operator_keys.specs.declared.answer_text.Text.TheVariants as texts
+use Rattle.operator_answers.specs.declared.answer_text.Text.TheVariants as texts
 use Rattle.operator_keys.specs.declared.asked.Asked.{Asked}
 use Rattle.operator_keys.specs.declared.refusal.Refused.{Refused}
 use Rattle.operator_keys.specs.Asking.{asked_by, member_if}
 use Rattle.operator_keys.specs.Bodies.{body_of}
 use Rattle.operator_keys.specs.Refusals.{unless_refused, on_ok}
-use Rattle.operator_keys.specs.Statuses.{service_unavailable}
+use Rattle.operator_answers.specs.Statuses.{service_unavailable}
 use Rattle.operator_keys.specs.Rules.{switchover_refusal, failover_refusal}
 
 -- the snapshot, unless another request waits

@@ -12,13 +12,13 @@ use Rattle.cluster_config.specs.declared.config_fault.ConfigFault.{ConfigFault}
 use Rattle.cluster_config.specs.declared.view.AgentView.{AgentView}
 use Rattle.cluster_config.specs.ConfigReading.{config_patched, config_replaced}
 use Rattle.cluster_config.specs.Snapshots.{SnapshotFacts, entry_in}
-use Rattle.operator_keys.specs.declared.answer_text.Text.TheVariants as texts
+use Rattle.operator_answers.specs.declared.answer_text.Text.TheVariants as texts
 use Rattle.operator_keys.specs.declared.config_checks.ConfigChange.{ConfigChange}
 use Rattle.operator_keys.specs.declared.config_checks.ConfigChange.TheVariants as changes
 use Rattle.operator_keys.specs.declared.refusal.Refused.{Refused}
 use Rattle.operator_keys.specs.Checks.{seen_if}
 use Rattle.operator_keys.specs.Refusals.{on_ok}
-use Rattle.operator_keys.specs.Statuses.{bad_request}
+use Rattle.operator_answers.specs.Statuses.{bad_request}
 
 -- the configuration that a value is
 abbrev pub configuration_by : Value → Option Settings

@@ -1,4 +1,3 @@
-pub mod AnswerTexts
 pub mod Asking
 pub mod Bodies
 pub mod Candidates
@@ -8,4 +7,3 @@ pub mod Laws
 pub mod Refusals
 pub mod Rules
 pub mod ServerChecks
-pub mod Statuses

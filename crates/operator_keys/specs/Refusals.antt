@@ -1,6 +1,6 @@
 -- What requests of operators are refused with, by rules of which the first that applies counts.
 use Rattle.std.specs.Prelude.{◌≡◌, ◌≢◌, ℕ, Bool, true, false, List, [], ◌∷◌, Option, Some, None, Result, Ok, Err}
-use Rattle.operator_keys.specs.declared.answer_text.Text.{Text}
+use Rattle.operator_answers.specs.declared.answer_text.Text.{Text}
 use Rattle.operator_keys.specs.declared.refusal.CheckFault.{CheckFault}
 use Rattle.operator_keys.specs.declared.refusal.CheckFault.TheVariants as faults
 use Rattle.operator_keys.specs.declared.refusal.Refused.{Refused}

@@ -8,7 +8,7 @@ use Rattle.cluster_config.specs.KeyValues.{config_in, failover_in, active_sync_i
 use Rattle.cluster_config.specs.Naming.{is_standby}
 use Rattle.cluster_config.specs.Snapshots.{SnapshotFacts, leader_in}
 use Rattle.leader_race.specs.Eligibility.{may_fail_over}
-use Rattle.operator_keys.specs.declared.answer_text.Text.TheVariants as texts
+use Rattle.operator_answers.specs.declared.answer_text.Text.TheVariants as texts
 use Rattle.operator_keys.specs.declared.asked.Asked.{Asked}
 use Rattle.operator_keys.specs.declared.asked.Named.{Named}
 use Rattle.operator_keys.specs.declared.asked.Named.TheVariants as named
@@ -16,7 +16,7 @@ use Rattle.operator_keys.specs.declared.refusal.Refused.{Refused}
 use Rattle.operator_keys.specs.Asking.{is_nobody}
 use Rattle.operator_keys.specs.Candidates.{names_leader, info_of, anyone_may_take_over}
 use Rattle.operator_keys.specs.Refusals.{refused_where, first_refusal}
-use Rattle.operator_keys.specs.Statuses.{bad_request, precondition_failed, service_unavailable}
+use Rattle.operator_answers.specs.Statuses.{bad_request, precondition_failed, service_unavailable}
 
 -- the body names no leader
 abbrev pub leader_not_named : Named → Option Refused

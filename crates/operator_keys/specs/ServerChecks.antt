@@ -6,10 +6,10 @@ use Rattle.pat_base.specs.ServerState.{live}
 use Rattle.cluster_config.specs.declared.view.AgentView.{AgentView}
 use Rattle.cluster_config.specs.declared.view.RoleWord.{RoleWord}
 use Rattle.cluster_config.specs.declared.view.RoleWord.TheVariants as roles
-use Rattle.operator_keys.specs.declared.answer_text.Text.TheVariants as texts
+use Rattle.operator_answers.specs.declared.answer_text.Text.TheVariants as texts
 use Rattle.operator_keys.specs.declared.refusal.Refused.{Refused}
 use Rattle.operator_keys.specs.Refusals.{refused_where}
-use Rattle.operator_keys.specs.Statuses.{service_unavailable}
+use Rattle.operator_answers.specs.Statuses.{service_unavailable}
 
 -- a server in this state runs
 abbrev pub is_running : State → Bool

@@ -7,8 +7,8 @@ ghost use Rattle.operator_keys.specs.Bodies.{text_at, is_text_or_absent, is_requ
 ghost use Rattle.operator_keys.specs.Refusals.{with_fault};
 ghost use Rattle.operator_keys.specs.declared.refusal.CheckFault.TheVariants as faults;
 
-use crate::status::BAD_REQUEST;
-use crate::{CheckFault, Refused, Text};
+use crate::{CheckFault, Refused};
+use operator_answers::{BAD_REQUEST, Text};
 use serde_json::{Category, Value};
 use std::alloc::{AllocError, Global};
 

@@ -8,10 +8,10 @@ use crate::asked::asked_by;
 use crate::body::body_of;
 use crate::failing_over::{failover_refusal, switchover_refusal};
 use crate::refusal::judged;
-use crate::status::SERVICE_UNAVAILABLE;
-use crate::{CheckFault, Refused, Text};
+use crate::{CheckFault, Refused};
 use cluster_config::{AgentView, Snapshot};
 use lease_store::FailoverKey;
+use operator_answers::{SERVICE_UNAVAILABLE, Text};
 use serde_json::Value;
 use std::alloc::Global;
 

@@ -7,10 +7,10 @@ ghost use Rattle.operator_keys.specs.ConfigChecks.{configuration_by, configurati
 ghost use Rattle.operator_keys.specs.Refusals.{Answers};
 
 use crate::checks::seen_by;
-use crate::status::BAD_REQUEST;
-use crate::{CheckFault, Refused, Text};
+use crate::{CheckFault, Refused};
 use cluster_config::{AgentView, ConfigFault, ConfigText, Snapshot};
 use lease_store::{ConfigValue, Key, KeyEntry, Value};
+use operator_answers::{BAD_REQUEST, Text};
 use std::alloc::Global;
 
 /// How a request changes the configuration (Patroni's documentation of the REST API, "Config endpoint").

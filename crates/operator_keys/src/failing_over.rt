@@ -2,14 +2,14 @@
 ghost use Rattle.std.specs.Prelude.{◌≡◌};
 ghost use Rattle.operator_keys.specs.Rules.{leader_not_named, candidate_not_named, target_is_source, paused_without_candidate, scheduled, other_leader, candidate_leads, another_under_way, no_such_candidate, is_standby_or_nobody, candidate_not_standby, candidate_may_not_fail_over, no_good_candidates, switchover_refusal, failover_refusal};
 
+use crate::Refused;
 use crate::asked::{Asked, Named};
 use crate::candidates::{anyone_may_take_over, info_of, names_leader};
 use crate::refusal::{first_refusal, refused_where};
-use crate::status::{BAD_REQUEST, PRECONDITION_FAILED, SERVICE_UNAVAILABLE};
-use crate::{Refused, Text};
 use cluster_config::{LeaderEntry, Snapshot, is_standby};
 use leader_race::may_fail_over;
 use lease_store::{FailoverKey, MemberInfo, SyncKey};
+use operator_answers::{BAD_REQUEST, PRECONDITION_FAILED, SERVICE_UNAVAILABLE, Text};
 
 /// What refuses a switchover that asks this, by the first rule that applies.
 pub(crate) fn switchover_refusal(asked: Asked, seen: &Snapshot) -> Option<Refused>

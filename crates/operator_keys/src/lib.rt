@@ -2,7 +2,6 @@
 //! a change of the configuration.
 #![tactic(auto)]
 
-mod answer_text;
 mod asked;
 mod body;
 mod candidates;
@@ -12,12 +11,9 @@ mod failing_over;
 mod laws;
 mod refusal;
 mod server_checks;
-mod status;
 
-pub use answer_text::Text;
 pub use checks::{check_failover, check_switchover};
 pub use config_checks::{ConfigChange, check_configuration, configuration_in};
 pub use laws::{keys_name_whom_bodies_name, what_a_failover_names, what_a_switchover_names};
 pub use refusal::{CheckFault, Refused};
 pub use server_checks::{check_reinit, check_restart};
-pub use status::{BAD_REQUEST, CONFLICT, NOT_FOUND, OK, PRECONDITION_FAILED, SERVICE_UNAVAILABLE};

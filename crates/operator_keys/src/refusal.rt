@@ -4,7 +4,7 @@ ghost use Rattle.std.specs.Result.{result_err};
 ghost use Rattle.operator_keys.specs.Refusals.{refused_where, first_refusal};
 ghost use Rattle.operator_keys.specs.declared.refusal.CheckFault.TheVariants as faults;
 
-use crate::Text;
+use operator_answers::Text;
 use std::alloc::AllocError;
 use thiserror::Error;
 

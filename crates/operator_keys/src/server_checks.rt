@@ -3,10 +3,10 @@ ghost use Rattle.std.specs.Prelude.{◌≡◌};
 ghost use Rattle.std.specs.Result.{result_err};
 ghost use Rattle.operator_keys.specs.ServerChecks.{is_running, has_key, restart_refusal, reinit_refusal};
 
+use crate::Refused;
 use crate::refusal::{judged, refused_where};
-use crate::status::SERVICE_UNAVAILABLE;
-use crate::{Refused, Text};
 use cluster_config::{AgentView, RoleWord};
+use operator_answers::{SERVICE_UNAVAILABLE, Text};
 use pat_base::State;
 
 /// Whether the agent that shows this may restart its server, or what refuses it (Patroni's documentation of the REST API,

@@ -5,9 +5,9 @@ use Rattle.serde_json.specs.Written.{compact_text}
 use Rattle.lease_store.specs.declared.action.OperatorRequest.{OperatorRequest}
 use Rattle.cluster_config.specs.declared.view.AgentView.{AgentView}
 use Rattle.cluster_config.specs.Snapshots.{SnapshotFacts}
-use Rattle.operator_keys.specs.AnswerTexts.{answer_text}
+use Rattle.operator_answers.specs.AnswerTexts.{answer_text}
 use Rattle.operator_keys.specs.declared.refusal.Refused.{Refused}
-use Rattle.operator_keys.specs.Statuses.{not_found}
+use Rattle.operator_answers.specs.Statuses.{not_found}
 use Rattle.rest_facts.specs.Checks.{health_of_view}
 use Rattle.rest_health.specs.declared.endpoint.Endpoint.{Endpoint}
 use Rattle.rest_pages.specs.Patroni.{patroni_members_of}

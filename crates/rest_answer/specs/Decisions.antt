@@ -5,14 +5,14 @@ use Rattle.lease_store.specs.declared.action.OperatorRequest.{OperatorRequest}
 use Rattle.lease_store.specs.declared.action.OperatorRequest.TheVariants as requests
 use Rattle.cluster_config.specs.Snapshots.{SnapshotFacts}
 use Rattle.cluster_config.specs.declared.view.AgentView.{AgentView}
-use Rattle.operator_keys.specs.declared.answer_text.Text.TheVariants as texts
+use Rattle.operator_answers.specs.declared.answer_text.Text.TheVariants as texts
 use Rattle.operator_keys.specs.declared.config_checks.ConfigChange.TheVariants as changes
 use Rattle.operator_keys.specs.declared.refusal.Refused.{Refused}
 use Rattle.operator_keys.specs.Checks.{switchover_on, failover_on}
 use Rattle.operator_keys.specs.ConfigChecks.{configuration_on}
 use Rattle.operator_keys.specs.Refusals.{unless_refused}
 use Rattle.operator_keys.specs.ServerChecks.{restart_refusal, reinit_refusal}
-use Rattle.operator_keys.specs.Statuses.{not_found}
+use Rattle.operator_answers.specs.Statuses.{not_found}
 use Rattle.rest_paths.specs.declared.change.Change.{Change}
 use Rattle.rest_paths.specs.declared.change.Change.TheVariants as asked
 

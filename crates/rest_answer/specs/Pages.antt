@@ -5,9 +5,9 @@ use Rattle.serde_json.specs.View.{items_of}
 use Rattle.serde_json.specs.Written.{compact_text}
 use Rattle.cluster_config.specs.declared.view.AgentView.{AgentView}
 use Rattle.cluster_config.specs.Snapshots.{SnapshotFacts}
-use Rattle.operator_keys.specs.AnswerTexts.{answer_text}
-use Rattle.operator_keys.specs.declared.answer_text.Text.TheVariants.{NoStoreAnswer}
-use Rattle.operator_keys.specs.Statuses.{ok, service_unavailable}
+use Rattle.operator_answers.specs.AnswerTexts.{answer_text}
+use Rattle.operator_answers.specs.declared.answer_text.Text.TheVariants.{NoStoreAnswer}
+use Rattle.operator_answers.specs.Statuses.{ok, service_unavailable}
 use Rattle.rest_pages.specs.Cluster.{cluster_members}
 use Rattle.rest_pages.specs.Configuration.{configuration_text}
 use Rattle.rest_pages.specs.Failsafe.{failsafe_data}

@@ -1,8 +1,8 @@
 -- Replies that the agent has no part in.
 use Rattle.std.specs.Prelude.{ℕ, List, codes}
-use Rattle.operator_keys.specs.AnswerTexts.{answer_text}
-use Rattle.operator_keys.specs.declared.answer_text.Text.TheVariants.{NoResultInTime}
-use Rattle.operator_keys.specs.Statuses.{bad_request, service_unavailable}
+use Rattle.operator_answers.specs.AnswerTexts.{answer_text}
+use Rattle.operator_answers.specs.declared.answer_text.Text.TheVariants.{NoResultInTime}
+use Rattle.operator_answers.specs.Statuses.{bad_request, service_unavailable}
 use Rattle.rest_answer.specs.declared.refusal.Refusal.{Refusal}
 use Rattle.rest_answer.specs.declared.refusal.Refusal.TheVariants as refusals
 use Rattle.rest_message.specs.Replies.{ReplyText}

@@ -9,9 +9,10 @@ ghost use Rattle.rest_answer.specs.Decisions.{asking_for, change_on};
 
 use cluster_config::AgentView;
 use lease_store::{ConfigValue, FailoverKey, FailoverKind, OperatorRequest};
+use operator_answers::{NOT_FOUND, Text};
 use operator_keys::{
-    CheckFault, ConfigChange, NOT_FOUND, Refused, Text, check_configuration, check_failover,
-    check_reinit, check_restart, check_switchover,
+    CheckFault, ConfigChange, Refused, check_configuration, check_failover, check_reinit,
+    check_restart, check_switchover,
 };
 use rest_paths::Change;
 use std::alloc::Global;

@@ -3,7 +3,7 @@
 ghost use Rattle.std.specs.Prelude.{ℕ, ◌≡◌, List, Option, None, true, false};
 ghost use Rattle.cluster_config.specs.declared.view.AgentView.{AgentView};
 ghost use Rattle.cluster_config.specs.Snapshots.{SnapshotFacts};
-ghost use Rattle.operator_keys.specs.Statuses.{not_found};
+ghost use Rattle.operator_answers.specs.Statuses.{not_found};
 ghost use Rattle.rest_health.specs.declared.endpoint.Endpoint.{Endpoint};
 ghost use Rattle.rest_paths.specs.declared.asking.Ask.TheVariants.{NotAllowed, NotFound};
 ghost use Rattle.rest_paths.specs.declared.resource.Page.{Page};

@@ -3,7 +3,7 @@ ghost use Rattle.std.specs.Prelude.{◌≡◌, IfOk};
 ghost use Rattle.rest_answer.specs.Refusals.{refusal_reply, refusal_status, refusal_words};
 ghost use Rattle.rest_message.specs.Replies.{reply_text};
 
-use operator_keys::{BAD_REQUEST, SERVICE_UNAVAILABLE};
+use operator_answers::{BAD_REQUEST, SERVICE_UNAVAILABLE};
 use rest_message::Reply;
 use std::alloc::{AllocError, Global};
 

@@ -1,10 +1,10 @@
 //! Replies that are made at once.
 ghost use Rattle.std.specs.Prelude.{◌≡◌, IfOk, string_bytes};
-ghost use Rattle.operator_keys.specs.AnswerTexts.{answer_text};
+ghost use Rattle.operator_answers.specs.AnswerTexts.{answer_text};
 ghost use Rattle.rest_message.specs.Replies.{reply_text};
 ghost use Rattle.rest_answer.specs.Replies.{json_of, text_of, status_alone};
 
-use operator_keys::Text;
+use operator_answers::Text;
 use rest_message::Reply;
 use std::alloc::{AllocError, Global};
 

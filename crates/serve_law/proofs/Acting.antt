@@ -12,7 +12,7 @@ use Rattle.event_book.specs.declared.event.Event.{Event}
 use Rattle.event_book.specs.declared.event.EventKind.{EventKind}
 use Rattle.event_book.specs.declared.event.EventKind.TheVariants as kinds
 use Rattle.event_book.specs.declared.member.Member.{Member}
-use Rattle.operator_keys.specs.Statuses.{ok}
+use Rattle.operator_answers.specs.Statuses.{ok}
 use Rattle.rest_answer.specs.Answers.{Acts}
 use Rattle.rest_answer.specs.declared.refusal.Refusal.TheVariants.{NoResult}
 use Rattle.rest_answer.specs.Refusals.{refusal_reply}

@@ -6,8 +6,8 @@ use Rattle.lease_store.specs.declared.action.OperatorRequest.TheVariants as requ
 use Rattle.lease_store.specs.declared.action.FailoverKind.TheVariants as failover_kinds
 use Rattle.cluster_config.specs.declared.view.AgentView.{AgentView}
 use Rattle.cluster_config.specs.Snapshots.{SnapshotFacts}
-use Rattle.operator_keys.specs.declared.answer_text.Text.{Text}
-use Rattle.operator_keys.specs.declared.answer_text.Text.TheVariants as texts
+use Rattle.operator_answers.specs.declared.answer_text.Text.{Text}
+use Rattle.operator_answers.specs.declared.answer_text.Text.TheVariants as texts
 use Rattle.operator_keys.specs.declared.config_checks.ConfigChange.TheVariants as changes
 use Rattle.operator_keys.specs.declared.refusal.Refused.{Refused}
 use Rattle.operator_keys.specs.Bodies.{body_of}
@@ -15,7 +15,7 @@ use Rattle.operator_keys.specs.Checks.{failover_by, failover_on, seen_if, switch
 use Rattle.operator_keys.specs.ConfigChecks.{configuration_from, configuration_in, configuration_on}
 use Rattle.operator_keys.specs.Refusals.{on_ok, unless_refused}
 use Rattle.operator_keys.specs.ServerChecks.{reinit_refusal, restart_refusal}
-use Rattle.operator_keys.specs.Statuses.{ok}
+use Rattle.operator_answers.specs.Statuses.{ok}
 use Rattle.rest_paths.specs.declared.asking.Ask.{Ask}
 use Rattle.rest_paths.specs.declared.asking.Ask.TheVariants as asks
 use Rattle.rest_paths.specs.declared.change.Change.{Change}

@@ -7,8 +7,8 @@ use Rattle.pat_base.specs.declared.member_id.MemberId.{MemberId}
 use Rattle.event_book.specs.declared.event.Event.{Event}
 use Rattle.event_book.specs.declared.event.EventKind.{EventKind}
 use Rattle.event_book.specs.declared.member.Member.{Member}
-use Rattle.operator_keys.specs.declared.answer_text.Text.{Text}
-use Rattle.operator_keys.specs.AnswerTexts.{answer_text}
+use Rattle.operator_answers.specs.declared.answer_text.Text.{Text}
+use Rattle.operator_answers.specs.AnswerTexts.{answer_text}
 use Rattle.rest_answer.specs.Replies.{text_of}
 use Rattle.rest_message.specs.Replies.{ReplyText}
 use Rattle.agent_model.specs.declared.operating.Told.{Told}

@@ -2,10 +2,10 @@ use Rattle.std.proofs.Common.{◌≡◌, ℕ, List, refl, subst}
 use Rattle.std.specs.Fmt.{HasWritten}
 use Rattle.pat_base.specs.declared.name.Name.{Name}
 use Rattle.cluster_config.specs.declared.config_fault.ConfigFault.{ConfigFault}
-use Rattle.operator_keys.specs.declared.answer_text.Text.{Text}
-use Rattle.operator_keys.specs.declared.answer_text.Text.TheVariants as texts
-use Rattle.operator_keys.specs.AnswerTexts.{answer_text, IfFixed}
-use Rattle.operator_keys.proofs.answer_text.TextDisplay.fmt.Goals as goal
+use Rattle.operator_answers.specs.declared.answer_text.Text.{Text}
+use Rattle.operator_answers.specs.declared.answer_text.Text.TheVariants as texts
+use Rattle.operator_answers.specs.AnswerTexts.{answer_text, IfFixed}
+use Rattle.operator_answers.proofs.answer_text.TextDisplay.fmt.Goals as goal
 
 fixed-told : (text : Text) (P : Type 0) → ((name : Name) → text ≡ texts.SwitchedOver name → ⊥) → ((name : Name) → text ≡ texts.FailedOver name → ⊥) → ((fault : ConfigFault) → text ≡ texts.BadConfiguration fault → ⊥) → IfFixed text P → P
 fixed-told (texts.SwitchedOver name) P switched failed bad told = absurd (switched name refl)

@@ -1,6 +1,6 @@
 //! What an agent answers operators.
 ghost use Rattle.std.specs.Prelude.{◌≡◌};
-ghost use Rattle.operator_keys.specs.AnswerTexts.{answer_text, IfFixed};
+ghost use Rattle.operator_answers.specs.AnswerTexts.{answer_text, IfFixed};
 
 use cluster_config::ConfigFault;
 use pat_base::Name;
@@ -69,7 +69,7 @@ pub enum Text {
 
 impl fmt::Display for Text {
     ghost use Rattle.std.specs.Prelude.{Some};
-    ghost use Rattle.operator_keys.specs.AnswerTexts.{answer_text};
+    ghost use Rattle.operator_answers.specs.AnswerTexts.{answer_text};
 
     ghost output = { λ text. Some (answer_text text) };
 
@@ -124,7 +124,7 @@ struct FaultName(ConfigFault);
 
 impl fmt::Display for FaultName {
     ghost use Rattle.std.specs.Prelude.{Some};
-    ghost use Rattle.operator_keys.specs.AnswerTexts.{fault_text};
+    ghost use Rattle.operator_answers.specs.AnswerTexts.{fault_text};
 
     ghost output = { λ name. Some (fault_text name.0) };
 

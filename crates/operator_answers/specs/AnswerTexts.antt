@@ -4,8 +4,8 @@ use Rattle.pat_base.specs.Name.{name_bytes}
 use Rattle.cluster_config.specs.declared.config_fault.ConfigFault.{ConfigFault}
 use Rattle.cluster_config.specs.declared.config_fault.ConfigFault.TheVariants as faults
 use Rattle.cluster_config.specs.SettingTable.{setting_name}
-use Rattle.operator_keys.specs.declared.answer_text.Text.{Text}
-use Rattle.operator_keys.specs.declared.answer_text.Text.TheVariants as texts
+use Rattle.operator_answers.specs.declared.answer_text.Text.{Text}
+use Rattle.operator_answers.specs.declared.answer_text.Text.TheVariants as texts
 
 -- what is at fault in a configuration
 abbrev pub fault_text : ConfigFault → List ℕ

@@ -1,0 +1,8 @@
+//! What an agent answers operators: the words and the statuses.
+#![tactic(auto)]
+
+mod answer_text;
+mod status;
+
+pub use answer_text::Text;
+pub use status::{BAD_REQUEST, CONFLICT, NOT_FOUND, OK, PRECONDITION_FAILED, SERVICE_UNAVAILABLE};
