@@ -1,7 +1,8 @@
 //! Scripts: one that is read, one that is refused, and the texts of faults.
 use crate::checks::{has, has_words};
 use cluster_script::{ScriptLines, limit_passed, read};
-use pat_base::{NotLsn, NotSize, ReadError, State};
+use pat_base::{NotLsn, NotSize, State};
+use pat_outside::ReadError;
 use pg_model::{CommitFault, InState, PgFault};
 use script_grammar::{Limit, ScriptFault};
 use script_words::Fault;

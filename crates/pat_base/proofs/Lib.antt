@@ -1,9 +1,7 @@
-pub mod Contents
 pub mod Digits
 pub mod Hosts
 pub mod MemberBits
 pub mod Members
 pub mod Names
 pub mod Positions
-pub mod Printing
 pub mod Texts

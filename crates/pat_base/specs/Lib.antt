@@ -6,12 +6,9 @@ pub mod Lsn
 pub mod LsnText
 pub mod MemberId
 pub mod MemberNames
-pub mod Memory
 pub mod Moments
 pub mod Name
 pub mod NameText
-pub mod Outside
-pub mod Prints
 pub mod ServerState
 pub mod ShortText
 pub mod SizeText

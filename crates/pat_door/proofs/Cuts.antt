@@ -1,7 +1,7 @@
 -- Bytes that are cut at places, as answers are held.
 use Rattle.std.proofs.Common.{ℕ, zero, suc, ◌≡◌, ◌≤◌, ◌+◌, ◌-◌, List, [], ◌∷◌, ◌++◌, length, take, drop, Some, None, slice_get, unwrap_or, arith, refl, sym, ◌∙◌, ap, subst, length-drop, add-one}
 use Rattle.std.proofs.lemmas.List.{drop_all, drop-append-le, take-append-le}
-use Rattle.pat_base.proofs.Contents.{slice_rest}
+use Rattle.pat_outside.proofs.Contents.{slice_rest}
 use Rattle.pat_door.specs.Doors.{grow_last}
 use Rattle.pat_door.specs.Memory.{cut_from, cut_at, AreInOrder, AreInOrderFrom}
 

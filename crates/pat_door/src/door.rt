@@ -1,10 +1,10 @@
 //! Where connections come from, by three meanings: two counts of faults that never fall and, where they are told, the
 //! connections to come and what was answered.
 ghost use Rattle.std.specs.Prelude.{ℕ, ◌≡◌, ◌<◌, ◌≤◌, ◌-◌, length, take, Option, Some, IfOk, IsOk, IsSome, IsOkAnd, OnOk, OnErr};
-ghost use Rattle.pat_base.specs.Outside.{Known, Rose};
+ghost use Rattle.pat_outside.specs.Outside.{Known, Rose};
 ghost use Rattle.pat_door.specs.Doors.{DoorFacts, Tells, bytes_here, after_accept, after_read, after_write, after_hang_up};
 
-use pat_base::Failed;
+use pat_outside::Failed;
 
 /// Where connections come from, one after another: the present one, which was accepted last, is read and answered until it
 /// is hung up, or until the next one is accepted. `open` and `accept` count their faults, and `read` and `write` theirs.

@@ -2,7 +2,7 @@
 ghost use Rattle.std.specs.Prelude.{◌≡◌, ◌<◌, ◌≤◌, length, None, IfSome};
 
 use crate::Door;
-use pat_base::Failed;
+use pat_outside::Failed;
 use std::io::{Read, Write};
 use std::net::{Net, OpenListener, OpenStream, Shutdown, TcpListener};
 use std::str;

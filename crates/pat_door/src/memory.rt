@@ -1,13 +1,13 @@
 //! A door in memory, with the calls that are to fail: for tests and for callers that embed the program.
 ghost use Rattle.std.specs.Prelude.{ℕ, ◌≡◌, ◌<◌, ◌≤◌, ◌-◌, ◌↔◌, ◌⊎◌, [], length, map, take, Some, None, Contains, min, IfOk, IsOk, IsSome, IsOkAnd, IsErr, IsTrue, OnOk, OnErr, option_copied, slice_get};
-ghost use Rattle.pat_base.specs.Outside.{Known, Rose};
-ghost use Rattle.pat_base.specs.Memory.{counted};
+ghost use Rattle.pat_outside.specs.Outside.{Known, Rose};
+ghost use Rattle.pat_outside.specs.Memory.{counted};
 ghost use Rattle.pat_door.specs.Doors.{Tells, bytes_here, after_accept, after_read, after_write, after_hang_up};
 
 use crate::Door;
 use crate::answers::Answers;
 use crate::unread::Unread;
-use pat_base::Failed;
+use pat_outside::Failed;
 use std::alloc::{AllocError, Global};
 use std::collections::VecDeque;
 use std::marker::Model;

@@ -3,8 +3,8 @@ use Rattle.std.proofs.Common.{◌≡◌, ℕ, ◌≤◌, ◌∷◌, [], Bool, tr
 use Rattle.std.specs.Prelude.{IfSome, option_map}
 use Rattle.std.specs.declared.alloc.AllocError.{AllocError}
 use Rattle.pat_base.specs.declared.member_id.MemberId.{MemberId}
-use Rattle.pat_base.specs.Outside.{Known, Rose}
-use Rattle.pat_base.proofs.Contents.{Rose-earlier}
+use Rattle.pat_outside.specs.Outside.{Known, Rose}
+use Rattle.pat_outside.proofs.Contents.{Rose-earlier}
 use Rattle.pat_door.specs.declared.door.Door.{Ghosts}
 use Rattle.pat_door.specs.Doors.{DoorFacts, Tells, after_hang_up, after_read, after_write, bytes_here, grow_last, grow_last_from}
 use Rattle.event_book.specs.declared.event.Event.{Event}

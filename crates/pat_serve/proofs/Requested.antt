@@ -1,6 +1,6 @@
 -- What was read of a connection.
 use Rattle.std.proofs.Common.{◌≡◌, ℕ, List, Option, Some, Result, Ok, Err, refl, ◌∙◌, ap}
-use Rattle.pat_base.specs.Outside.{Known}
+use Rattle.pat_outside.specs.Outside.{Known}
 use Rattle.pat_door.specs.Doors.{DoorFacts, Tells, after_read}
 use Rattle.rest_answer.specs.declared.refusal.Refusal.{Refusal}
 use Rattle.rest_answer.specs.declared.refusal.Refusal.TheVariants as refusals

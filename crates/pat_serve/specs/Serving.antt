@@ -1,7 +1,7 @@
 -- What a call that serves a connection says of its world, of its events and of its door.
 use Rattle.std.specs.Prelude.{ℕ, ◌≡◌, ◌≢◌, ◌≤◌, ◌++◌, Bool, true, false, List, length, Option, Some, Result, Ok, Err}
 use Rattle.pat_base.specs.declared.member_id.MemberId.{MemberId}
-use Rattle.pat_base.specs.Outside.{Known, Rose}
+use Rattle.pat_outside.specs.Outside.{Known, Rose}
 use Rattle.event_book.specs.declared.event.Event.{Event}
 use Rattle.cluster_model.specs.declared.step.Step.{Step}
 use Rattle.cluster_model.specs.Cluster.{cluster_over}

@@ -1,6 +1,6 @@
 //! What a connection asks, as what it brings to a run.
 ghost use Rattle.std.specs.Prelude.{ℕ, ◌≡◌, ◌≢◌, ◌≤◌, Ok, None, IfOk, IfSome, OnOk};
-ghost use Rattle.pat_base.specs.Outside.{Known, Rose};
+ghost use Rattle.pat_outside.specs.Outside.{Known, Rose};
 ghost use Rattle.pat_door.specs.Doors.{Tells, after_read, bytes_here};
 ghost use Rattle.serve_model.specs.Connections.{asks_for_a_head, first_visit};
 ghost use Rattle.pat_serve.specs.Serving.{IsFaultOf, IsRead};

@@ -1,6 +1,6 @@
 //! What an agent replied, read off events, and written to a connection.
 ghost use Rattle.std.specs.Prelude.{ℕ, List, ◌≡◌, ◌≢◌, ◌≤◌, ◌-◌, Ok, Some, false, length, IfOk, OnOk, option_map};
-ghost use Rattle.pat_base.specs.Outside.{Rose};
+ghost use Rattle.pat_outside.specs.Outside.{Rose};
 ghost use Rattle.pat_door.specs.Doors.{Tells, after_write};
 ghost use Rattle.rest_message.specs.Replies.{reply_text};
 ghost use Rattle.rest_reply.specs.Replies.{reply_bytes};

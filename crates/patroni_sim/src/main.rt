@@ -2,8 +2,8 @@
 //! its agents on a socket too. All that it does is `patroni_top::run`, over the real input, outputs and network.
 #![tactic(auto)]
 
-use pat_base::{ReaderSource, WriterSink, write_all};
 use pat_door::ListenerDoor;
+use pat_outside::{ReaderSource, WriterSink, write_all};
 use patroni_top::{Ended, Status, run};
 use std::io::{BufWriter, Stdout, Write};
 use std::process::ExitCode;

@@ -1,8 +1,9 @@
 //! Runs over objects in memory, and what they are checked against.
 use cluster_config::Snapshot;
 use lease_store::{Key, MemberInfo, Value};
-use pat_base::{Host, MemberId, MemorySink, MemorySource, State};
+use pat_base::{Host, MemberId, State};
 use pat_door::MemoryDoor;
+use pat_outside::{MemorySink, MemorySource};
 use pat_world::World;
 use patroni_top::{Ended, run};
 use std::alloc::{AllocError, Global};

@@ -2,12 +2,12 @@
 use Rattle.std.proofs.Common.{◌≡◌, ◌≢◌, ◌<◌, ◌*◌, ◌+◌, ℕ, Bool, false, true, List, [], Option, Some, None, Result, Ok, Err, append-nil, arith, nat_lt, refl, sym, subst, ap, ◌∙◌}
 use Rattle.std.proofs.lemmas.Bool.Decides.{nat_tests}
 use Rattle.pat_base.specs.declared.member_id.MemberId.{MemberId}
-use Rattle.pat_base.specs.declared.outside.Sink.{Ghosts as SinkGhosts}
-use Rattle.pat_base.specs.declared.outside.Source.{Ghosts as SourceGhosts}
-use Rattle.pat_base.specs.Outside.{Consumed, Grew, Known, Rose}
-use Rattle.pat_base.specs.Prints.{Prints}
-use Rattle.pat_base.proofs.Contents.{Grew-nothing}
-use Rattle.pat_base.proofs.Printing.{Prints-stop}
+use Rattle.pat_outside.specs.declared.outside.Sink.{Ghosts as SinkGhosts}
+use Rattle.pat_outside.specs.declared.outside.Source.{Ghosts as SourceGhosts}
+use Rattle.pat_outside.specs.Outside.{Consumed, Grew, Known, Rose}
+use Rattle.pat_outside.specs.Prints.{Prints}
+use Rattle.pat_outside.proofs.Contents.{Grew-nothing}
+use Rattle.pat_outside.proofs.Printing.{Prints-stop}
 use Rattle.pat_door.specs.declared.door.Door.{Ghosts as DoorGhosts}
 use Rattle.script_grammar.specs.Limits.{limit_of}
 use Rattle.script_grammar.specs.Reading.{script_of}

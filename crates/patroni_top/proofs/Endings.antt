@@ -1,12 +1,12 @@
 -- What is said of how a command ends, for each way in which it does.
 use Rattle.std.proofs.Common.{◌≡◌, ◌≢◌, ◌≤◌, ℕ, Bool, true, false, List, [], length, Option, Some, None, Result, Ok, Err, append-nil, refl, inl, inr, sym, subst, ◌∙◌}
 use Rattle.pat_base.specs.declared.member_id.MemberId.{MemberId}
-use Rattle.pat_base.specs.declared.outside.Sink.{Ghosts as SinkGhosts}
-use Rattle.pat_base.specs.declared.outside.Source.{Ghosts as SourceGhosts}
-use Rattle.pat_base.specs.Outside.{Grew, Known, Rose, Consumed}
-use Rattle.pat_base.specs.Prints.{Prints}
-use Rattle.pat_base.proofs.Contents.{Grew-nothing}
-use Rattle.pat_base.proofs.Printing.{Prints-stop}
+use Rattle.pat_outside.specs.declared.outside.Sink.{Ghosts as SinkGhosts}
+use Rattle.pat_outside.specs.declared.outside.Source.{Ghosts as SourceGhosts}
+use Rattle.pat_outside.specs.Outside.{Grew, Known, Rose, Consumed}
+use Rattle.pat_outside.specs.Prints.{Prints}
+use Rattle.pat_outside.proofs.Contents.{Grew-nothing}
+use Rattle.pat_outside.proofs.Printing.{Prints-stop}
 use Rattle.pat_door.specs.declared.door.Door.{Ghosts as DoorGhosts}
 use Rattle.script_grammar.specs.declared.limit.Limit.{Limit}
 use Rattle.script_grammar.specs.Limits.{limit_of}

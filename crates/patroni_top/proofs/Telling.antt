@@ -1,9 +1,9 @@
 -- What is told on the error output.
 use Rattle.std.proofs.Common.{◌≡◌, List, ℕ, Result, Ok, Err, refl, inl, inr, subst}
-use Rattle.pat_base.specs.declared.outside.Failed.{Failed}
-use Rattle.pat_base.specs.declared.outside.Sink.{Ghosts}
-use Rattle.pat_base.specs.Prints.{Prints, failed}
-use Rattle.pat_base.proofs.Contents.{GrewByPrefix-all}
+use Rattle.pat_outside.specs.declared.outside.Failed.{Failed}
+use Rattle.pat_outside.specs.declared.outside.Sink.{Ghosts}
+use Rattle.pat_outside.specs.Prints.{Prints, failed}
+use Rattle.pat_outside.proofs.Contents.{GrewByPrefix-all}
 use Rattle.patroni_top.specs.Status.{IsReported}
 
 told : {E X : Type 0} {sink : Ghosts E} {before after : E} {line : List ℕ} (result : Result X Failed) → Prints sink before after failed result line → IsReported sink before after line

@@ -1,8 +1,8 @@
 -- How a run ended, with what it leaves.
 use Rattle.std.specs.Prelude.{ℕ, ◌≡◌, ◌≢◌, ◌↔◌, Bool, List, Option, Some, None, Ok, Err, Result, IsSome, IsTrue, IfSome}
-use Rattle.pat_base.specs.declared.outside.Source.{Ghosts}
-use Rattle.pat_base.specs.declared.outside.Sink.{Ghosts as SinkGhosts}
-use Rattle.pat_base.specs.Outside.{Known}
+use Rattle.pat_outside.specs.declared.outside.Source.{Ghosts}
+use Rattle.pat_outside.specs.declared.outside.Sink.{Ghosts as SinkGhosts}
+use Rattle.pat_outside.specs.Outside.{Known}
 use Rattle.pat_door.specs.declared.door.Door.{Ghosts as DoorGhosts}
 use Rattle.serve_model.specs.Connections.{Connection}
 use Rattle.pat_world.specs.Steps.{WorldFacts}

@@ -1,10 +1,10 @@
 -- Exit statuses, and what is said of each on the error output.
 use Rattle.std.specs.Prelude.{ℕ, ◌≡◌, ◌≤◌, ◌⊎◌, List, [], ◌++◌, Some, None, Err, length, codes}
 use Rattle.std.specs.Fmt.{decimal}
-use Rattle.pat_base.specs.declared.outside.Sink.{Ghosts}
-use Rattle.pat_base.specs.declared.transfer.ReadError.{ReadError}
-use Rattle.pat_base.specs.declared.transfer.ReadError.TheVariants as reads
-use Rattle.pat_base.specs.Outside.{Rose, Grew, GrewByPrefix}
+use Rattle.pat_outside.specs.declared.outside.Sink.{Ghosts}
+use Rattle.pat_outside.specs.declared.transfer.ReadError.{ReadError}
+use Rattle.pat_outside.specs.declared.transfer.ReadError.TheVariants as reads
+use Rattle.pat_outside.specs.Outside.{Rose, Grew, GrewByPrefix}
 use Rattle.script_words.specs.declared.fault.Fault.{Fault}
 use Rattle.script_grammar.specs.declared.limit.Limit.{Limit}
 use Rattle.script_grammar.specs.declared.script_fault.ScriptFault.{ScriptFault}

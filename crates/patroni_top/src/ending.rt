@@ -6,7 +6,7 @@ ghost use Rattle.patroni_top.specs.declared.ending.Ending.TheVariants as endings
 use crate::Status;
 use arrayvec::ArrayString;
 use itoa::Buffer;
-use pat_base::ReadError;
+use pat_outside::ReadError;
 use run_player::{PrintError, ServeError};
 use script_grammar::{Limit, ScriptFault, limit_text};
 use script_words::{Fault, fault_text};

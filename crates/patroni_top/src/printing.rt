@@ -1,9 +1,9 @@
 //! Scripts written in their canonical spelling.
 ghost use Rattle.std.specs.Prelude.{◌≡◌, IsErrOf};
-ghost use Rattle.pat_base.specs.Prints.{Prints};
+ghost use Rattle.pat_outside.specs.Prints.{Prints};
 ghost use Rattle.script_model.specs.Script.{spelling_of};
 
-use pat_base::Sink;
+use pat_outside::Sink;
 use run_player::{PrintError, print_lines};
 use script_model::Script;
 use script_printing::print;

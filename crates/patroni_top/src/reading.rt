@@ -1,6 +1,6 @@
 //! The script of a source.
 ghost use Rattle.std.specs.Prelude.{◌≡◌, ◌≢◌, Some, None, Ok, Err, [], IfOk, IfErr, IsErrOf};
-ghost use Rattle.pat_base.specs.Outside.{Known, Rose, Consumed};
+ghost use Rattle.pat_outside.specs.Outside.{Known, Rose, Consumed};
 ghost use Rattle.script_grammar.specs.Limits.{limit_of};
 ghost use Rattle.script_grammar.specs.Reading.{script_of};
 ghost use Rattle.patroni_top.specs.Limits.{KeepsLimits, most_read};
@@ -8,7 +8,7 @@ ghost use Rattle.patroni_top.specs.Status.{Refuses, IsRefusal};
 
 use crate::ending::Ending;
 use cluster_script::ScriptLines;
-use pat_base::{Source, read_at_most};
+use pat_outside::{Source, read_at_most};
 use script_model::Script;
 use std::alloc::Global;
 

@@ -1,6 +1,6 @@
 //! The top call.
 ghost use Rattle.std.specs.Prelude.{List, ◌≡◌, ◌↔◌, None, map, string_bytes};
-ghost use Rattle.pat_base.specs.Outside.{Known};
+ghost use Rattle.pat_outside.specs.Outside.{Known};
 ghost use Rattle.serve_model.specs.Connections.{Connection};
 ghost use Rattle.patroni_top.specs.Claims.{KeepsPromises};
 ghost use Rattle.patroni_top.specs.Commands.{IfPlayed, Serve, command_of, heeded, order_command, reads, verdict_of};
@@ -14,8 +14,8 @@ use crate::order::Order;
 use crate::printing::print_script;
 use crate::reading::script_from;
 use crate::{Ended, Status};
-use pat_base::{Sink, Source, write_all};
 use pat_door::Door;
+use pat_outside::{Sink, Source, write_all};
 use pat_world::World;
 use run_player::{MOST_WAITING, Service, drill, play, serve};
 use std::alloc::Global;

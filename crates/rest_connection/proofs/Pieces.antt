@@ -9,8 +9,8 @@ use Rattle.std.proofs.lemmas.List.Elements.{All-nil, All-cons}
 use Rattle.httparse.specs.Grammar.{RequestHead, IsRequestHead, HasNoRequest, IsField, lf, is_token_byte, is_uri_byte, print_request, EndsInTarget}
 use Rattle.httparse.specs.Spans.{name_and_value}
 use Rattle.httparse.proofs.GrammarLemmas.{request_unique, ReadsRequest-append}
-use Rattle.pat_base.specs.Outside.{Known}
-use Rattle.pat_base.proofs.Contents.{HasRead, HasRead-more}
+use Rattle.pat_outside.specs.Outside.{Known}
+use Rattle.pat_outside.proofs.Contents.{HasRead, HasRead-more}
 use Rattle.pat_door.specs.Doors.{DoorFacts, Tells, bytes_here, after_read}
 use Rattle.pat_door.specs.declared.door.Door.{Ghosts}
 use Rattle.pat_door.proofs.Growing.{after_read-twice}

@@ -1,6 +1,6 @@
 -- Bytes that are written on a connection piece by piece.
 use Rattle.std.proofs.Common.{ℕ, ◌≡◌, ◌≤◌, ◌<◌, ◌+◌, ◌-◌, List, [], ◌++◌, length, take, drop, Option, Some, IsSome, arith, refl, ap, sym, ◌∙◌, take-add, length-drop, take-append-drop, take_all}
-use Rattle.pat_base.proofs.Contents.{slice_rest}
+use Rattle.pat_outside.proofs.Contents.{slice_rest}
 use Rattle.pat_door.specs.Doors.{DoorFacts, Tells, after_write}
 use Rattle.pat_door.specs.declared.door.Door.{Ghosts}
 use Rattle.pat_door.proofs.Growing.{after_write-nothing, after_write-twice}

@@ -1,6 +1,6 @@
 -- What a connection asks, and what a call tells of it.
 use Rattle.std.specs.Prelude.{ℕ, ◌≡◌, ◌≤◌, List, take, Option, Some, None, Result, Ok, Err}
-use Rattle.pat_base.specs.Outside.{Known}
+use Rattle.pat_outside.specs.Outside.{Known}
 use Rattle.pat_door.specs.Doors.{DoorFacts, after_read}
 use Rattle.rest_message.specs.declared.request.Request.{Request}
 use Rattle.rest_request.specs.declared.fault.RequestFault.{RequestFault}

@@ -1,6 +1,6 @@
 //! What a connection asks.
 ghost use Rattle.std.specs.Prelude.{ℕ, ◌≡◌, ◌≢◌, ◌≤◌, ◌+◌, ◌++◌, ◌⊎◌, ⊤, length, take, Some, Result, Err, IfOk, OnOk, IsErrOf, MatchResult, IsSome};
-ghost use Rattle.pat_base.specs.Outside.{Known, Rose};
+ghost use Rattle.pat_outside.specs.Outside.{Known, Rose};
 ghost use Rattle.pat_door.specs.Doors.{Tells, bytes_here, after_read};
 ghost use Rattle.rest_request.specs.declared.fault.RequestFault.{RequestFault};
 ghost use Rattle.rest_request.specs.declared.fault.RequestFault.TheVariants as faults;
@@ -10,8 +10,8 @@ ghost use Rattle.rest_connection.specs.declared.asking.AskError.TheVariants.{Byt
 ghost use Rattle.rest_connection.specs.declared.asking.TheConstants.{PIECE};
 ghost use Rattle.rest_connection.specs.Connections.{IsRequested, LeavesRest, seen};
 
-use pat_base::Failed;
 use pat_door::Door;
+use pat_outside::Failed;
 use rest_message::Request;
 use rest_request::{RequestFault, read_request};
 use std::alloc::{AllocError, Global};

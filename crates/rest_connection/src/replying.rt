@@ -1,14 +1,14 @@
 //! What is answered on a connection.
 ghost use Rattle.std.specs.Prelude.{ℕ, ◌≡◌, ◌≢◌, ◌≤◌, ◌<◌, ◌-◌, length, Some, Result, Err, IsOk, IsSome, MatchResult, OnOk, OnErr, IsErrOf};
-ghost use Rattle.pat_base.specs.Outside.{Rose};
+ghost use Rattle.pat_outside.specs.Outside.{Rose};
 ghost use Rattle.pat_door.specs.Doors.{Tells, after_write};
 ghost use Rattle.rest_message.specs.Replies.{reply_text};
 ghost use Rattle.rest_reply.specs.Replies.{reply_bytes};
 ghost use Rattle.rest_connection.specs.declared.replying.ReplyError.TheVariants.{Memory, Connection};
 ghost use Rattle.rest_connection.specs.Answers.{WritesFront};
 
-use pat_base::Failed;
 use pat_door::Door;
+use pat_outside::Failed;
 use rest_message::Reply;
 use rest_reply::print_reply;
 use std::alloc::{AllocError, Global};

@@ -2,11 +2,11 @@
 use Rattle.std.proofs.Common.{◌≡◌, Bool, false, ℕ, ◌+◌, ◌*◌, ◌≤◌, List, [], ◌++◌, length, Result, Ok, Err, arith, append_assoc, append-nil, length-append, refl, ◌∙◌, ap, sym, subst}
 use Rattle.std.specs.Prelude.{IsErrOf}
 use Rattle.pat_base.specs.declared.member_id.MemberId.{MemberId}
-use Rattle.pat_base.specs.declared.outside.Sink.{Ghosts as SinkGhosts}
-use Rattle.pat_base.specs.Outside.{Grew}
-use Rattle.pat_base.specs.Prints.{Prints}
-use Rattle.pat_base.proofs.Contents.{Grew-Grew}
-use Rattle.pat_base.proofs.Printing.{Prints-none, Prints-ok, Prints-stop, Prints-then}
+use Rattle.pat_outside.specs.declared.outside.Sink.{Ghosts as SinkGhosts}
+use Rattle.pat_outside.specs.Outside.{Grew}
+use Rattle.pat_outside.specs.Prints.{Prints}
+use Rattle.pat_outside.proofs.Contents.{Grew-Grew}
+use Rattle.pat_outside.proofs.Printing.{Prints-none, Prints-ok, Prints-stop, Prints-then}
 use Rattle.cluster_model.specs.declared.step.Step.{Step}
 use Rattle.cluster_model.specs.Starting.{cluster_of}
 use Rattle.cluster_model.specs.State.{Cluster}

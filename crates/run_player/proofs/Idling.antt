@@ -3,9 +3,9 @@ use Rattle.std.proofs.Common.{◌≡◌, Bool, ℕ, ◌+◌, ◌-◌, ◌≤◌,
 use Rattle.std.specs.Prelude.{All}
 use Rattle.std.proofs.lemmas.List.{length-replicate}
 use Rattle.std.proofs.lemmas.List.Elements.{All-nil, All-cons}
-use Rattle.pat_base.specs.declared.outside.Sink.{Ghosts}
-use Rattle.pat_base.specs.Prints.{Prints}
-use Rattle.pat_base.proofs.Printing.{Prints-nothing}
+use Rattle.pat_outside.specs.declared.outside.Sink.{Ghosts}
+use Rattle.pat_outside.specs.Prints.{Prints}
+use Rattle.pat_outside.proofs.Printing.{Prints-nothing}
 use Rattle.event_book.specs.declared.event.Event.{Event}
 use Rattle.event_book.specs.declared.member.Member.{Member}
 use Rattle.event_book.specs.Text.{lines_of}

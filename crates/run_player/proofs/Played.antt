@@ -3,12 +3,12 @@ use Rattle.std.proofs.Common.{◌≡◌, Bool, ℕ, ◌+◌, List, [], ◌∷◌
 use Rattle.std.proofs.lemmas.Option.{none-some, same_Some}
 use Rattle.std.specs.Prelude.{IsErrOf, slice_get}
 use Rattle.pat_base.specs.declared.name.Name.{Name}
-use Rattle.pat_base.specs.declared.outside.Failed.{Failed}
-use Rattle.pat_base.specs.declared.outside.Sink.{Ghosts}
-use Rattle.pat_base.specs.Outside.{Grew}
-use Rattle.pat_base.specs.Prints.{Prints, failed}
-use Rattle.pat_base.proofs.Contents.{Grew-Grew, Grew-nothing}
-use Rattle.pat_base.proofs.Printing.{Prints-none, Prints-nothing, Prints-ok, Prints-stop, Prints-then}
+use Rattle.pat_outside.specs.declared.outside.Failed.{Failed}
+use Rattle.pat_outside.specs.declared.outside.Sink.{Ghosts}
+use Rattle.pat_outside.specs.Outside.{Grew}
+use Rattle.pat_outside.specs.Prints.{Prints, failed}
+use Rattle.pat_outside.proofs.Contents.{Grew-Grew, Grew-nothing}
+use Rattle.pat_outside.proofs.Printing.{Prints-none, Prints-nothing, Prints-ok, Prints-stop, Prints-then}
 use Rattle.event_book.specs.declared.event.Event.{Event}
 use Rattle.event_book.specs.Text.{lines_of}
 use Rattle.script_model.specs.declared.line.Line.{Line}

@@ -1,7 +1,7 @@
 -- What is written into a sink that has room can't fail.
 use Rattle.std.proofs.Common.{◌≡◌, ℕ, List, length, Err, arith, refl}
-use Rattle.pat_base.specs.declared.outside.Sink.{Ghosts}
-use Rattle.pat_base.specs.Prints.{Prints}
+use Rattle.pat_outside.specs.declared.outside.Sink.{Ghosts}
+use Rattle.pat_outside.specs.Prints.{Prints}
 use Rattle.run_player.specs.declared.print_error.PrintError.{PrintError}
 use Rattle.run_player.specs.declared.print_error.PrintError.TheVariants.{Memory, Write}
 

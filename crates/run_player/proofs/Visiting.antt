@@ -4,8 +4,8 @@ use Rattle.std.specs.Prelude.{IsErrOf, ◌⊎◌}
 use Rattle.std.proofs.lemmas.Bool.{cases_lt}
 use Rattle.std.proofs.lemmas.List.Elements.{All-nil, All-append}
 use Rattle.pat_base.specs.declared.member_id.MemberId.{MemberId}
-use Rattle.pat_base.specs.Outside.{Rose}
-use Rattle.pat_base.proofs.Contents.{Rose-earlier}
+use Rattle.pat_outside.specs.Outside.{Rose}
+use Rattle.pat_outside.proofs.Contents.{Rose-earlier}
 use Rattle.cluster_model.specs.State.{Cluster}
 use Rattle.pat_door.specs.declared.door.Door.{Ghosts}
 use Rattle.pat_door.specs.Doors.{DoorFacts, grow_last, grow_last_from}

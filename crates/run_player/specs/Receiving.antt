@@ -1,9 +1,9 @@
 -- What a call that serves connections says of its player, of its sink and of its door.
 use Rattle.std.specs.Prelude.{ℕ, ◌≡◌, ◌++◌, List, length, Result, Ok, OnOk, IsErrOf}
 use Rattle.pat_base.specs.declared.member_id.MemberId.{MemberId}
-use Rattle.pat_base.specs.declared.outside.Sink.{Ghosts as SinkGhosts}
-use Rattle.pat_base.specs.Outside.{Grew}
-use Rattle.pat_base.specs.Prints.{Prints}
+use Rattle.pat_outside.specs.declared.outside.Sink.{Ghosts as SinkGhosts}
+use Rattle.pat_outside.specs.Outside.{Grew}
+use Rattle.pat_outside.specs.Prints.{Prints}
 use Rattle.cluster_model.specs.declared.step.Step.{Step}
 use Rattle.pat_door.specs.declared.door.Door.{Ghosts as DoorGhosts}
 use Rattle.serve_model.specs.Connections.{Connection}

@@ -1,9 +1,9 @@
 -- A run with connections behind its script: the steps that they bring, and what was sent on each.
 use Rattle.std.specs.Prelude.{ℕ, ◌≡◌, ◌≢◌, ◌≤◌, false, List, [], ◌∷◌, ◌++◌, length, All, Some, None, Result, Err, IfOk, OnOk, IsErrOf, MatchResult, ◌⊎◌, ◌+◌}
 use Rattle.pat_base.specs.declared.member_id.MemberId.{MemberId}
-use Rattle.pat_base.specs.declared.outside.Sink.{Ghosts as SinkGhosts}
-use Rattle.pat_base.specs.Outside.{Grew, Rose}
-use Rattle.pat_base.specs.Prints.{Prints}
+use Rattle.pat_outside.specs.declared.outside.Sink.{Ghosts as SinkGhosts}
+use Rattle.pat_outside.specs.Outside.{Grew, Rose}
+use Rattle.pat_outside.specs.Prints.{Prints}
 use Rattle.script_model.specs.Script.{ScriptText}
 use Rattle.cluster_model.specs.declared.step.Step.{Step}
 use Rattle.cluster_model.specs.Cluster.{cluster_over}

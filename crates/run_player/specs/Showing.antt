@@ -1,8 +1,8 @@
 -- What steps brought, as it is printed and noted.
 use Rattle.std.specs.Prelude.{ℕ, ◌≡◌, ◌++◌, Bool, List, [], ◌∷◌, Result, OnOk, IsErrOf}
-use Rattle.pat_base.specs.declared.outside.Sink.{Ghosts}
-use Rattle.pat_base.specs.Outside.{Grew}
-use Rattle.pat_base.specs.Prints.{Prints}
+use Rattle.pat_outside.specs.declared.outside.Sink.{Ghosts}
+use Rattle.pat_outside.specs.Outside.{Grew}
+use Rattle.pat_outside.specs.Prints.{Prints}
 use Rattle.event_book.specs.declared.event.Event.{Event}
 use Rattle.event_book.specs.Text.{lines_of}
 use Rattle.summary_model.specs.Sights.{SummaryFacts, noted_steps}

@@ -1,6 +1,6 @@
 //! Scripts played of which the closing summary alone is printed.
 ghost use Rattle.std.specs.Prelude.{◌≡◌, ◌≤◌, length, IfOk, IsErrOf};
-ghost use Rattle.pat_base.specs.Prints.{Prints};
+ghost use Rattle.pat_outside.specs.Prints.{Prints};
 ghost use Rattle.cluster_model.specs.Steps.{steps_of};
 ghost use Rattle.world_model.specs.Room.{most_steps};
 ghost use Rattle.run_player.specs.Left.{IsLeftBy};
@@ -8,7 +8,7 @@ ghost use Rattle.run_player.specs.Run.{played_of, summary_of_run};
 
 use crate::player::Player;
 use crate::print_error::PrintError;
-use pat_base::Sink;
+use pat_outside::Sink;
 use pat_world::World;
 use script_model::Script;
 use std::alloc::Global;

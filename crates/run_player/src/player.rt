@@ -1,6 +1,6 @@
 //! Who plays runs: steps, and what they print.
 ghost use Rattle.std.specs.Prelude.{◌≡◌, ◌<◌, ◌∷◌, ◌++◌, [], false, length, IfOk, IsErrOf, OnOk, replicate, slice_get, Some};
-ghost use Rattle.pat_base.specs.Prints.{Prints};
+ghost use Rattle.pat_outside.specs.Prints.{Prints};
 ghost use Rattle.script_model.specs.Script.{IsLine, names_of};
 ghost use Rattle.cluster_model.specs.Cluster.{cluster_over};
 ghost use Rattle.cluster_model.specs.Next.{run_events};
@@ -20,7 +20,7 @@ use crate::showing::{note, note_ticks};
 use crate::watches::first_summary;
 use cluster_model::Step;
 use event_book::Event;
-use pat_base::{Discard, Sink};
+use pat_outside::{Discard, Sink};
 use pat_world::World;
 use script_model::{Command, Head, Line, Script};
 use std::alloc::{AllocError, Global};

@@ -1,6 +1,6 @@
 //! Scripts played.
 ghost use Rattle.std.specs.Prelude.{◌≤◌, false, length, IfOk, IsErrOf};
-ghost use Rattle.pat_base.specs.Prints.{Prints};
+ghost use Rattle.pat_outside.specs.Prints.{Prints};
 ghost use Rattle.cluster_model.specs.Starting.{cluster_of};
 ghost use Rattle.cluster_model.specs.Steps.{steps_of};
 ghost use Rattle.world_model.specs.Room.{most_steps};
@@ -10,7 +10,7 @@ ghost use Rattle.run_player.specs.Run.{played_of, text_of_run};
 
 use crate::player::Player;
 use crate::print_error::PrintError;
-use pat_base::Sink;
+use pat_outside::Sink;
 use pat_world::World;
 use script_model::Script;
 use std::alloc::Global;

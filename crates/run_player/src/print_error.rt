@@ -2,7 +2,7 @@
 ghost use Rattle.std.specs.Prelude.{◌≡◌};
 ghost use Rattle.run_player.specs.declared.print_error.PrintError.TheVariants.{Memory, Write};
 
-use pat_base::Failed;
+use pat_outside::Failed;
 use std::alloc::AllocError;
 use thiserror::Error;
 

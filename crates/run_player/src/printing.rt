@@ -1,14 +1,14 @@
 //! Events and the closing summary as lines on a sink.
 ghost use Rattle.std.specs.Prelude.{◌≡◌, ◌≤◌, ◌<◌, length, string_bytes, IsErrOf, OnOk};
-ghost use Rattle.pat_base.specs.Outside.{Grew};
-ghost use Rattle.pat_base.specs.Prints.{Prints, failed};
+ghost use Rattle.pat_outside.specs.Outside.{Grew};
+ghost use Rattle.pat_outside.specs.Prints.{Prints, failed};
 ghost use Rattle.event_book.specs.Text.{lines_of};
 ghost use Rattle.summary_model.specs.SummaryText.{closing_text};
 ghost use Rattle.run_player.specs.LineParts.{line_length};
 
 use crate::print_error::PrintError;
 use event_book::{Event, write_line};
-use pat_base::{Failed, Sink, write_all};
+use pat_outside::{Failed, Sink, write_all};
 use std::alloc::{AllocError, Global};
 use summary::closing_text;
 use summary_model::Closing;

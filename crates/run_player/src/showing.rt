@@ -8,7 +8,7 @@ ghost use Rattle.run_player.specs.Showing.{Shows};
 use crate::print_error::PrintError;
 use crate::printing::{print_lines, set_text};
 use event_book::Event;
-use pat_base::Sink;
+use pat_outside::Sink;
 use std::alloc::AllocError;
 use summary::Summary;
 

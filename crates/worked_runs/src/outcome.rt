@@ -1,8 +1,8 @@
 //! What comes of a worked run.
 use crate::case::Case;
 use crate::connections::line_of;
-use pat_base::{MemorySink, MemorySource};
 use pat_door::MemoryDoor;
+use pat_outside::{MemorySink, MemorySource};
 use patroni_top::{Ended, Status, run};
 use std::alloc::{AllocError, Global};
 

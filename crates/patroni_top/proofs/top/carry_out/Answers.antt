@@ -1,6 +1,6 @@
 use Rattle.std.proofs.Common.{◌∙◌, ◌≤◌, length, Err, Ok, ap, refl, subst, sym}
 use Rattle.std.proofs.lemmas.Result.{err_from_is_err_and}
-use Rattle.pat_base.specs.Prints.{Prints}
+use Rattle.pat_outside.specs.Prints.{Prints}
 use Rattle.script_model.specs.Script.{ScriptText, spelling_of}
 use Rattle.cluster_model.specs.Steps.{steps_of}
 use Rattle.world_model.specs.Room.{most_steps}

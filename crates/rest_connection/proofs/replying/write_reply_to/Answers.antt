@@ -1,4 +1,4 @@
-use Rattle.pat_base.proofs.Contents.{OnErr-holds}
+use Rattle.pat_outside.proofs.Contents.{OnErr-holds}
 use Rattle.rest_message.specs.Replies.{reply_text}
 use Rattle.rest_reply.specs.Replies.{reply_bytes}
 use Rattle.rest_connection.proofs.Writing.{front-nothing}

@@ -1,6 +1,6 @@
 use Rattle.std.proofs.Common.{◌≡◌, ◌+◌, ◌-◌, ◌∙◌, ◌<◌, arith, refl, take}
 use Rattle.pat_door.specs.Doors.{after_write}
-use Rattle.pat_base.proofs.Contents.{OnErr-holds, within-more}
+use Rattle.pat_outside.proofs.Contents.{OnErr-holds, within-more}
 use Rattle.rest_connection.proofs.Writing.{written-nothing, written-more, written-front, written-all, rest-fits}
 use Rattle.rest_connection.proofs.replying.write_whole.Goals as goal
 

@@ -1,7 +1,7 @@
 use Rattle.std.proofs.Common.{ℕ, Bool, false, List, length, ap, ◌∙◌, Err, Ok, subst}
-use Rattle.pat_base.specs.Prints.{Prints}
+use Rattle.pat_outside.specs.Prints.{Prints}
 use Rattle.std.proofs.lemmas.Result.{err_from_is_err_and}
-use Rattle.pat_base.proofs.Printing.{Prints-none, Prints-ok}
+use Rattle.pat_outside.proofs.Printing.{Prints-none, Prints-ok}
 use Rattle.cluster_model.specs.Starting.{cluster_of}
 use Rattle.cluster_model.specs.State.{Cluster}
 use Rattle.cluster_model.specs.Steps.{names_in, steps_of}

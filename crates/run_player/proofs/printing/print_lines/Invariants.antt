@@ -1,6 +1,6 @@
 use Rattle.std.proofs.Common.{length}
-use Rattle.pat_base.proofs.Printing.{IsPrinting}
-use Rattle.pat_base.specs.Prints.{failed}
+use Rattle.pat_outside.proofs.Printing.{IsPrinting}
+use Rattle.pat_outside.specs.Prints.{failed}
 use Rattle.run_player.proofs.printing.print_lines.Given as goal
 
 abbrev pub invariant-loop-rest : goal.invariant-loop-rest

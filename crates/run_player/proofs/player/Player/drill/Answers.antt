@@ -1,7 +1,7 @@
 use Rattle.std.proofs.Common.{Err, ap, ◌∙◌, subst}
 use Rattle.std.proofs.lemmas.Result.{err_from_is_err_and}
-use Rattle.pat_base.specs.Prints.{Prints}
-use Rattle.pat_base.proofs.Printing.{Prints-none}
+use Rattle.pat_outside.specs.Prints.{Prints}
+use Rattle.pat_outside.proofs.Printing.{Prints-none}
 use Rattle.summary_model.specs.declared.answers.Closing.{Closing}
 use Rattle.summary_model.specs.Sights.{SummaryFacts}
 use Rattle.summary_model.specs.SummaryText.{closing_text}

@@ -1,8 +1,8 @@
 use Rattle.std.proofs.Common.{◌++◌, [], Err, append-nil, ap, ◌∙◌, sym, subst}
 use Rattle.std.proofs.lemmas.Result.{err_from_is_err_and}
-use Rattle.pat_base.specs.Outside.{Grew}
-use Rattle.pat_base.specs.Prints.{Prints}
-use Rattle.pat_base.proofs.Printing.{Prints-then, Prints-stop}
+use Rattle.pat_outside.specs.Outside.{Grew}
+use Rattle.pat_outside.specs.Prints.{Prints}
+use Rattle.pat_outside.proofs.Printing.{Prints-then, Prints-stop}
 use Rattle.cluster_model.specs.Steps.{steps_of}
 use Rattle.summary_model.specs.declared.answers.Closing.{Closing}
 use Rattle.summary_model.specs.Sights.{SummaryFacts}

@@ -1,8 +1,8 @@
 //! All bytes of a piece, and all bytes of a source up to a limit.
 ghost use Rattle.std.specs.Prelude.{ℕ, ◌≡◌, ◌≢◌, ◌<◌, ◌≤◌, ◌+◌, ◌-◌, ◌++◌, length, take, drop, Some, IfOk, IsOk, OnErr, OnOk, IsErrOf};
-ghost use Rattle.pat_base.specs.Outside.{Known, Rose, Consumed};
-ghost use Rattle.pat_base.specs.Prints.{Prints, failed};
-ghost use Rattle.pat_base.specs.declared.transfer.ReadError.TheVariants.{Memory, Fault};
+ghost use Rattle.pat_outside.specs.Outside.{Known, Rose, Consumed};
+ghost use Rattle.pat_outside.specs.Prints.{Prints, failed};
+ghost use Rattle.pat_outside.specs.declared.transfer.ReadError.TheVariants.{Memory, Fault};
 
 use crate::{Failed, Sink, Source};
 use std::alloc::{AllocError, Global};

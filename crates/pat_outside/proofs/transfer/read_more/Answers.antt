@@ -1,6 +1,6 @@
 use Rattle.std.proofs.Common.{◌≤◌, ◌∙◌, rules, arith}
 use Rattle.std.proofs.lemmas.Bool.{false≢true}
-use Rattle.pat_base.proofs.transfer.read_more.Goals as goal
+use Rattle.pat_outside.proofs.transfer.read_more.Goals as goal
 
 pub returns-in_err-count-clause-consumed : goal.returns-in_err-count-clause-consumed
 returns-in_err-count-clause-consumed g c = record { some = λ all told. (0, omega arith, c.in_err-count.ensures.same ∙ told) }

@@ -1,8 +1,8 @@
 -- Output that is written piece by piece. All loops that print rest on these.
 use Rattle.std.proofs.Common.{◌≡◌, ◌≢◌, ℕ, ◌-◌, ◌≤◌, List, [], ◌++◌, length, Result, Ok, Err, arith, append_assoc, append-nil, length-append, refl, ◌∙◌, ap, sym, subst}
-use Rattle.pat_base.specs.declared.outside.Sink.{Ghosts}
-use Rattle.pat_base.specs.Prints.{Prints}
-use Rattle.pat_base.proofs.Contents.{Grew-nothing, Grew-Grew, Grew-part, GrewByPrefix-more, GrewByPrefix-same, Rose-earlier}
+use Rattle.pat_outside.specs.declared.outside.Sink.{Ghosts}
+use Rattle.pat_outside.specs.Prints.{Prints}
+use Rattle.pat_outside.proofs.Contents.{Grew-nothing, Grew-Grew, Grew-part, GrewByPrefix-more, GrewByPrefix-same, Rose-earlier}
 
 -- a call that writes nothing
 pub Prints-nothing : {K X E : Type 0} (sink : Ghosts K) (a : K) (fault : E) (x : X) → Prints sink a a fault (Ok x) []

@@ -1,7 +1,7 @@
 -- Contents that grow and shrink piece by piece. All loops that print or read rest on these.
 use Rattle.std.proofs.Common.{◌≡◌, ℕ, ◌+◌, ◌-◌, ◌≤◌, List, [], ◌++◌, length, take, drop, Option, Some, arith, append_assoc, append-nil, refl, ◌∙◌, ap, sym, inl, inr, take-add, length-drop, take_all, drop-drop, take-append-drop, Result, Ok, Err, OnErr}
 use Rattle.std.proofs.lemmas.List.{drop_all}
-use Rattle.pat_base.specs.Outside.{Known, Rose, Grew, GrewByPrefix, Consumed}
+use Rattle.pat_outside.specs.Outside.{Known, Rose, Grew, GrewByPrefix, Consumed}
 
 -- what holds holds on an error too
 pub OnErr-holds : {X E P : Type 0} (r : Result X E) → P → OnErr r P

@@ -1,6 +1,6 @@
 use Rattle.std.proofs.Common.{arith}
-use Rattle.pat_base.proofs.Contents.{HasRead-more, HasRead-end, HasRead-Consumed}
-use Rattle.pat_base.proofs.transfer.read_at_most.Goals as goal
+use Rattle.pat_outside.proofs.Contents.{HasRead-more, HasRead-end, HasRead-Consumed}
+use Rattle.pat_outside.proofs.transfer.read_at_most.Goals as goal
 
 pub loop-bytes-preserved : goal.loop-bytes-preserved
 loop-bytes-preserved g c = record {

@@ -1,6 +1,6 @@
 use Rattle.std.proofs.Common.{◌-◌, vec_len}
-use Rattle.pat_base.proofs.Contents.{HasRead}
-use Rattle.pat_base.proofs.transfer.read_at_most.Given as goal
+use Rattle.pat_outside.proofs.Contents.{HasRead}
+use Rattle.pat_outside.proofs.transfer.read_at_most.Given as goal
 
 -- what has been read, and the promise of the source
 pub record Reading (Was Is had : Type 0) : Type 0 where

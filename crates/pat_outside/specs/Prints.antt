@@ -1,8 +1,8 @@
 -- What a call that writes some bytes says of its sink.
 use Rattle.std.specs.Prelude.{ℕ, ◌≡◌, ◌≢◌, ◌≤◌, ◌-◌, List, length, Result, OnOk, OnErr, IsErrOf, MatchResult}
-use Rattle.pat_base.specs.declared.outside.Failed.{Failed}
-use Rattle.pat_base.specs.declared.outside.Sink.{Ghosts}
-use Rattle.pat_base.specs.Outside.{Rose, Grew, GrewByPrefix}
+use Rattle.pat_outside.specs.declared.outside.Failed.{Failed}
+use Rattle.pat_outside.specs.declared.outside.Sink.{Ghosts}
+use Rattle.pat_outside.specs.Outside.{Rose, Grew, GrewByPrefix}
 
 -- the error of a write
 abbrev pub failed : Failed

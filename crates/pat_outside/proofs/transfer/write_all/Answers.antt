@@ -1,11 +1,11 @@
 use Rattle.std.proofs.Common.{ℕ, ◌≡◌, ◌≤◌, ◌+◌, ◌-◌, length, take, drop, List, Result, Ok, Err, IsErr, arith, length-drop, subst, take_all}
-use Rattle.pat_base.specs.declared.outside.Failed.{Failed}
-use Rattle.pat_base.specs.declared.outside.Sink.{Ghosts}
-use Rattle.pat_base.specs.Outside.{Rose, Grew}
-use Rattle.pat_base.specs.Prints.{Prints, failed}
-use Rattle.pat_base.proofs.Contents.{Grew-more, within-more, Grew-front, Rose-earlier, slice_rest}
-use Rattle.pat_base.proofs.transfer.write_all.Invariants.{Written}
-use Rattle.pat_base.proofs.transfer.write_all.Goals as goal
+use Rattle.pat_outside.specs.declared.outside.Failed.{Failed}
+use Rattle.pat_outside.specs.declared.outside.Sink.{Ghosts}
+use Rattle.pat_outside.specs.Outside.{Rose, Grew}
+use Rattle.pat_outside.specs.Prints.{Prints, failed}
+use Rattle.pat_outside.proofs.Contents.{Grew-more, within-more, Grew-front, Rose-earlier, slice_rest}
+use Rattle.pat_outside.proofs.transfer.write_all.Invariants.{Written}
+use Rattle.pat_outside.proofs.transfer.write_all.Goals as goal
 
 -- the rest of the bytes fits where all of them do
 rest-fits : (bytes : List ℕ) (at n : ℕ) → length bytes ≤ n → length (take (length bytes - at) (drop at bytes)) ≤ n - at

@@ -1,7 +1,7 @@
 use Rattle.std.proofs.Common.{ℕ, ◌≤◌, ◌-◌, length, take, List}
-use Rattle.pat_base.specs.declared.outside.Sink.{Ghosts}
-use Rattle.pat_base.specs.Outside.{Grew}
-use Rattle.pat_base.proofs.transfer.write_all.Given as goal
+use Rattle.pat_outside.specs.declared.outside.Sink.{Ghosts}
+use Rattle.pat_outside.specs.Outside.{Grew}
+use Rattle.pat_outside.proofs.transfer.write_all.Given as goal
 
 -- the front up to a place has been written
 pub record Written {K : Type 0} (sink : Ghosts K) (before after : K) (bytes : List ℕ) (at : ℕ) : Type 0 where

@@ -1,6 +1,6 @@
 //! The trusted edge: a real reader as a source, a real writer as a sink. They tell nothing of their content.
 ghost use Rattle.std.specs.Prelude.{ℕ, ◌≡◌, ◌<◌, ◌≤◌, ◌-◌, ◌++◌, length, take, drop, None, Some, IfOk, IsOk, IsOkAnd, OnErr};
-ghost use Rattle.pat_base.specs.Outside.{Known, Rose};
+ghost use Rattle.pat_outside.specs.Outside.{Known, Rose};
 
 use crate::{Failed, Sink, Source};
 use std::io::{Read, Write};

@@ -1,7 +1,7 @@
 //! A source and a sink in memory, with the calls that are to fail: for tests and for callers that embed the program.
 ghost use Rattle.std.specs.Prelude.{ℕ, ◌≡◌, ◌<◌, ◌≤◌, ◌+◌, ◌-◌, ◌++◌, ◌↔◌, ◌⊎◌, [], length, take, drop, Some, Contains, min, IfOk, IsOk, IsOkAnd, IsErr, OnErr, vec_len, vec_capacity};
-ghost use Rattle.pat_base.specs.Outside.{Known, Rose};
-ghost use Rattle.pat_base.specs.Memory.{counted};
+ghost use Rattle.pat_outside.specs.Outside.{Known, Rose};
+ghost use Rattle.pat_outside.specs.Memory.{counted};
 
 use crate::{Failed, Sink, Source};
 use std::alloc::{AllocError, Global};
@@ -19,7 +19,7 @@ pub struct MemorySource {
 
 impl Model for MemorySource {
     ghost use Rattle.std.specs.Prelude.{◌≤◌, drop, vec_len};
-    ghost use Rattle.pat_base.specs.Memory.{Input};
+    ghost use Rattle.pat_outside.specs.Memory.{Input};
 
     ghost Value = { Input };
 
@@ -92,7 +92,7 @@ pub struct MemorySink {
 
 impl Model for MemorySink {
     ghost use Rattle.std.specs.Prelude.{◌≤◌, ◌-◌, vec_len, vec_capacity};
-    ghost use Rattle.pat_base.specs.Memory.{Output};
+    ghost use Rattle.pat_outside.specs.Memory.{Output};
 
     ghost Value = { Output };
 

@@ -1,6 +1,6 @@
 //! What reaches outside, by two meanings: a count of faults that never falls and, where it is told, the content.
 ghost use Rattle.std.specs.Prelude.{ℕ, ◌≡◌, ◌<◌, ◌≤◌, ◌-◌, ◌++◌, List, length, take, drop, Option, Some, IfOk, IsOk, IsOkAnd, OnErr};
-ghost use Rattle.pat_base.specs.Outside.{Known, Rose};
+ghost use Rattle.pat_outside.specs.Outside.{Known, Rose};
 
 /// A call that reaches outside failed: the count of faults of its object rose.
 #[derive(Clone, Copy, Debug, PartialEq, Eq)]
