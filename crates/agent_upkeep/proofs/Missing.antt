@@ -1,23 +1,19 @@
 -- The first point of a history whose row a snapshot lacks.
-use Rattle.std.proofs.Common.{◌≡◌, ℕ, ◌+◌, ◌<◌, true, false, List, [], ◌∷◌, length, Option, Some, None, refl, sym, ap, ◌∙◌, drop, arith}
+use Rattle.std.proofs.Common.{◌≡◌, ℕ, ◌+◌, ◌<◌, true, false, List, [], ◌∷◌, length, Option, Some, None, refl, sym, ◌∙◌, drop, arith}
 use Rattle.std.specs.List.{slice_get}
-use Rattle.std.proofs.lemmas.List.{drop_more}
-use Rattle.std.proofs.lemmas.Option.{slice_get_within, get_or_from_slice_get, slice_get-get_or}
+use Rattle.std.proofs.lemmas.Option.{slice_get-get_or}
+use Rattle.pat_base.proofs.Lists.{drop-get}
 use Rattle.wal_model.specs.declared.entry.HistoryPoint.{HistoryPoint}
 use Rattle.cluster_config.specs.Snapshots.{SnapshotFacts, has_row}
 use Rattle.agent_model.specs.Snapshots.{missing_point}
 
--- what is left of a list begins with the element that stands there
-drop-at : (points : List HistoryPoint) (i : ℕ) (point : HistoryPoint) → slice_get points i ≡ Some point → drop i points ≡ point ∷ drop (i + 1) points
-drop-at points i point is = drop_more points i point (slice_get_within points i point is) ∙ ap (λ (x : HistoryPoint). x ∷ drop (i + 1) points) (get_or_from_slice_get points i point point is)
-
 -- its row is missing
 pub missing-here : (snapshot : SnapshotFacts) (points : List HistoryPoint) (i : ℕ) (point : HistoryPoint) → slice_get points i ≡ Some point → has_row point.timeline snapshot ≡ false → missing_point snapshot (drop i points) ≡ Some point
-missing-here snapshot points i point is lacks = rw (drop-at points i point is, lacks) refl
+missing-here snapshot points i point is lacks = rw (drop-get HistoryPoint points i point is, lacks) refl
 
 -- its row is there
 pub missing-later : (snapshot : SnapshotFacts) (points : List HistoryPoint) (i : ℕ) (point : HistoryPoint) → slice_get points i ≡ Some point → has_row point.timeline snapshot ≡ true → missing_point snapshot (drop i points) ≡ missing_point snapshot (drop (i + 1) points)
-missing-later snapshot points i point is has = rw (drop-at points i point is, has) refl
+missing-later snapshot points i point is has = rw (drop-get HistoryPoint points i point is, has) refl
 
 none-some : {point : HistoryPoint} → ◌≡◌ {A = Option HistoryPoint} None (Some point) → ⊥
 none-some e = cc

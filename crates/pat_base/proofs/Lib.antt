@@ -1,5 +1,6 @@
 pub mod Digits
 pub mod Hosts
+pub mod Lists
 pub mod MemberBits
 pub mod Members
 pub mod Names

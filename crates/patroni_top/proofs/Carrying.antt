@@ -19,8 +19,8 @@ use Rattle.cluster_model.specs.State.{Cluster}
 use Rattle.cluster_model.specs.Steps.{steps_of}
 use Rattle.serve_model.specs.Connections.{Connection, most_waiting}
 use Rattle.pat_world.specs.Steps.{WorldFacts}
-use Rattle.run_player.specs.declared.print_error.PrintError.{PrintError}
-use Rattle.run_player.specs.declared.print_error.PrintError.TheVariants as prints
+use Rattle.run_printing.specs.declared.print_error.PrintError.{PrintError}
+use Rattle.run_printing.specs.declared.print_error.PrintError.TheVariants as prints
 use Rattle.run_player.specs.declared.serve_error.ServeError.{ServeError}
 use Rattle.run_player.specs.declared.serve_error.ServeError.TheVariants as serves
 use Rattle.run_player.specs.Left.{IsLeftBy}

@@ -35,7 +35,7 @@ use Rattle.event_book.specs.Writers.{HasOneWriter}
 use Rattle.script_words.specs.declared.fault.Fault.{Fault}
 use Rattle.run_player.specs.Run.{Played, closing_of_run, played_of, run_of}
 use Rattle.pat_world.specs.Book.{events_by_step}
-use Rattle.run_player.specs.Watches.{declared_watch, first_summary, is_off, watches_of}
+use Rattle.run_printing.specs.Watches.{declared_watch, first_summary, is_off, watches_of}
 use Rattle.pat_base.specs.declared.member_id.MemberId.{MemberId}
 use Rattle.serve_model.specs.Connections.{Connection, most_waiting}
 use Rattle.run_player.specs.Served.{served_of}

@@ -8,7 +8,7 @@ use Rattle.rest_law.specs.Finding.{FindsOne}
 use Rattle.lease_parts.specs.Kept.{WhereMet}
 use Rattle.commit_runs.specs.Runs.{KeepsCommitsIn, KeepsOrderIn, first_logs}
 use Rattle.run_player.specs.Run.{Played, closing_of_run, run_of}
-use Rattle.run_player.specs.Watches.{watches_of}
+use Rattle.run_printing.specs.Watches.{watches_of}
 
 -- what every run keeps
 pub record KeepsPromises (played : Played) : Type 0 where

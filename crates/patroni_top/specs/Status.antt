@@ -14,8 +14,8 @@ use Rattle.script_grammar.specs.Limits.{limit_text, limit_of}
 use Rattle.script_grammar.specs.Reading.{script_of}
 use Rattle.patroni_top.specs.declared.ending.Ending.{Ending}
 use Rattle.patroni_top.specs.declared.ending.Ending.TheVariants as endings
-use Rattle.run_player.specs.declared.print_error.PrintError.{PrintError}
-use Rattle.run_player.specs.declared.print_error.PrintError.TheVariants as prints
+use Rattle.run_printing.specs.declared.print_error.PrintError.{PrintError}
+use Rattle.run_printing.specs.declared.print_error.PrintError.TheVariants as prints
 use Rattle.run_player.specs.declared.serve_error.ServeError.{ServeError}
 use Rattle.run_player.specs.declared.serve_error.ServeError.TheVariants as serves
 use Rattle.patroni_top.specs.declared.status.Status.{Status}

@@ -4,7 +4,7 @@ ghost use Rattle.pat_outside.specs.Prints.{Prints};
 ghost use Rattle.script_model.specs.Script.{spelling_of};
 
 use pat_outside::Sink;
-use run_player::{PrintError, print_lines};
+use run_printing::{PrintError, print_lines};
 use script_model::Script;
 use script_printing::print;
 use std::alloc::Global;

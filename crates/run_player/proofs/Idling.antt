@@ -20,7 +20,7 @@ use Rattle.summary_model.specs.Sights.{noted_steps}
 use Rattle.world_model.specs.Idle.{BringsTicks, IsTick}
 use Rattle.pat_world.specs.Steps.{TookSteps}
 use Rattle.run_player.specs.declared.player.Player.{Player}
-use Rattle.run_player.specs.declared.print_error.PrintError.TheVariants.{Write}
+use Rattle.run_printing.specs.declared.print_error.PrintError.TheVariants.{Write}
 use Rattle.run_player.specs.Playing.{Idles, Plays}
 use Rattle.run_player.specs.Run.{noted_from, printed_from, traced_after, traced_over}
 use Rattle.pat_world.specs.Book.{events_by_step}

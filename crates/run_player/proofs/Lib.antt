@@ -5,5 +5,4 @@ pub mod Received
 pub mod Shown
 pub mod Silence
 pub mod Visiting
-pub mod Watching
 pub mod Whole

@@ -23,11 +23,11 @@ use Rattle.pat_world.specs.Steps.{HasStepsLeft, TookSteps}
 use Rattle.world_model.specs.Room.{step_cost}
 use Rattle.world_model.specs.Emits.{Emits}
 use Rattle.pat_world.proofs.Stepping.{TookSteps-none, TookSteps-then, steps-left-behind, steps-left-fewer}
-use Rattle.world_model.proofs.Starting.{drop-get}
+use Rattle.pat_base.proofs.Lists.{drop-get}
 use Rattle.world_model.proofs.Taking.{members-stay, cluster_over-append}
 use Rattle.run_player.specs.declared.player.Player.{Player}
-use Rattle.run_player.specs.declared.print_error.PrintError.{PrintError}
-use Rattle.run_player.specs.declared.print_error.PrintError.TheVariants.{Memory, Write}
+use Rattle.run_printing.specs.declared.print_error.PrintError.{PrintError}
+use Rattle.run_printing.specs.declared.print_error.PrintError.TheVariants.{Memory, Write}
 use Rattle.run_player.specs.Playing.{Plays, PrintsWholeSteps}
 use Rattle.run_player.specs.Run.{noted_from, printed_from, traced_after, traced_over}
 

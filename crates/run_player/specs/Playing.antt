@@ -10,8 +10,8 @@ use Rattle.cluster_model.specs.State.{Cluster}
 use Rattle.world_model.specs.Idle.{BringsTicks}
 use Rattle.pat_world.specs.Steps.{TookSteps}
 use Rattle.run_player.specs.declared.player.Player.{Player}
-use Rattle.run_player.specs.declared.print_error.PrintError.{PrintError}
-use Rattle.run_player.specs.declared.print_error.PrintError.TheVariants.{Memory, Write}
+use Rattle.run_printing.specs.declared.print_error.PrintError.{PrintError}
+use Rattle.run_printing.specs.declared.print_error.PrintError.TheVariants.{Memory, Write}
 use Rattle.run_player.specs.Run.{noted_from, printed_from, traced_over}
 
 -- the lines of the first of these steps were printed, each step's whole, and nothing else

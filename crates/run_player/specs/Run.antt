@@ -16,7 +16,7 @@ use Rattle.pat_world.specs.Book.{events_by_step}
 use Rattle.summary_model.specs.declared.answers.Closing.{Closing}
 use Rattle.summary_model.specs.Sights.{SummaryFacts, noted_steps}
 use Rattle.summary_model.specs.SummaryText.{closing_text}
-use Rattle.run_player.specs.Watches.{first_summary}
+use Rattle.run_printing.specs.Watches.{first_summary}
 
 -- what is played: a cluster from its beginning on, and the steps that it takes
 pub record Played : Type 0 where

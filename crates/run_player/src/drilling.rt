@@ -7,9 +7,9 @@ ghost use Rattle.run_player.specs.Left.{IsLeftBy};
 ghost use Rattle.run_player.specs.Run.{played_of, summary_of_run};
 
 use crate::player::Player;
-use crate::print_error::PrintError;
 use pat_outside::Sink;
 use pat_world::World;
+use run_printing::PrintError;
 use script_model::Script;
 use std::alloc::Global;
 

@@ -4,17 +4,11 @@
 mod drilling;
 mod player;
 mod playing;
-mod print_error;
-mod printing;
 mod serve_error;
 mod serving;
-mod showing;
-mod watches;
 
 pub use drilling::drill;
 pub use pat_serve::MOST_WAITING;
 pub use playing::play;
-pub use print_error::PrintError;
-pub use printing::print_lines;
 pub use serve_error::ServeError;
 pub use serving::{Service, serve};

@@ -12,16 +12,15 @@ ghost use Rattle.world_model.specs.Room.{most_steps};
 ghost use Rattle.pat_world.specs.Steps.{HasStepsLeft, IsCounted, TookSteps};
 ghost use Rattle.run_player.specs.Playing.{Idles, Plays, PrintsWholeSteps};
 ghost use Rattle.run_player.specs.Run.{noted_from, printed_from, traced_after};
-ghost use Rattle.run_player.specs.Watches.{first_summary};
+ghost use Rattle.run_printing.specs.Watches.{first_summary};
 
-use crate::print_error::PrintError;
-use crate::printing::{print_closing, print_lines, set_text};
-use crate::showing::{note, note_ticks};
-use crate::watches::first_summary;
 use cluster_model::Step;
 use event_book::Event;
 use pat_outside::{Discard, Sink};
 use pat_world::World;
+use run_printing::{
+    PrintError, first_summary, note, note_ticks, print_closing, print_lines, set_text,
+};
 use script_model::{Command, Head, Line, Script};
 use std::alloc::{AllocError, Global};
 use summary::Summary;

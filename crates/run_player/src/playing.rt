@@ -9,9 +9,9 @@ ghost use Rattle.run_player.specs.Playing.{PrintsWholeSteps};
 ghost use Rattle.run_player.specs.Run.{played_of, text_of_run};
 
 use crate::player::Player;
-use crate::print_error::PrintError;
 use pat_outside::Sink;
 use pat_world::World;
+use run_printing::PrintError;
 use script_model::Script;
 use std::alloc::Global;
 

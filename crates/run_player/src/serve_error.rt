@@ -3,7 +3,7 @@ ghost use Rattle.std.specs.Prelude.{◌≡◌};
 ghost use Rattle.run_player.specs.Served.{serve_error};
 ghost use Rattle.run_player.specs.declared.serve_error.ServeError.TheVariants.{Memory};
 
-use crate::PrintError;
+use run_printing::PrintError;
 use std::alloc::AllocError;
 use thiserror::Error;
 

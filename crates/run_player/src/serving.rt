@@ -10,13 +10,12 @@ ghost use Rattle.run_player.specs.Served.{Serves};
 
 use crate::ServeError;
 use crate::player::Player;
-use crate::printing::print_closing;
-use crate::showing::show;
 use pat_base::MemberId;
 use pat_door::Door;
 use pat_outside::Sink;
 use pat_serve::serve_one;
 use pat_world::World;
+use run_printing::{print_closing, show};
 use script_model::Script;
 use std::alloc::Global;
 

@@ -14,7 +14,7 @@ use Rattle.world_model.specs.Room.{HasRoom, round_cost, step_cost}
 use Rattle.world_model.specs.Emits.{Emits}
 use Rattle.world_model.proofs.Rooms.{HasRoom-fewer}
 use Rattle.world_model.proofs.Silence.{first-empty}
-use Rattle.world_model.proofs.Starting.{drop-get}
+use Rattle.pat_base.proofs.Lists.{drop-get}
 use Rattle.world_model.proofs.Taking.{members-stay, cluster_over-append, Emits-weaker}
 
 -- what happened so far, and the rest, are the whole; the rest has room

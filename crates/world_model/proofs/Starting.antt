@@ -3,10 +3,10 @@ use Rattle.std.proofs.Common.{◌≡◌, ℕ, ◌+◌, ◌*◌, ◌-◌, ◌≤�
 use Rattle.std.specs.Prelude.{slice_get}
 use Rattle.std.proofs.lemmas.List.{drop_all, drop_more}
 use Rattle.std.proofs.lemmas.List.Elements.{All-nil, All-cons}
-use Rattle.std.proofs.lemmas.Option.{slice_get_within, slice_get-get_or}
 use Rattle.pat_base.specs.declared.member_id.MemberId.{MemberId}
 use Rattle.pat_base.specs.declared.name.Name.{Name}
 use Rattle.pat_base.specs.MemberId.{member_of}
+use Rattle.pat_base.proofs.Lists.{drop-get}
 use Rattle.pg_model.specs.Facts.{fresh}
 use Rattle.member_options.specs.declared.member_option.MemberOptions.{MemberOptions}
 use Rattle.script_model.specs.Script.{HeadText, names_of}
@@ -18,14 +18,6 @@ use Rattle.cluster_model.specs.Starting.{cluster_of, first_agent}
 use Rattle.world_model.specs.Room.{HasNumbers, HasRoom, HasRoomFor, most_steps, step_cost}
 use Rattle.world_model.proofs.Rooms.{HasRoom-fewer}
 use Rattle.world_model.proofs.ServerRooms.{HasTimeline}
-
--- the list from a place on, where something is at that place
-pub drop-get : (X : Type 0) (xs : List X) (i : ℕ) (x : X) → slice_get xs i ≡ Some x → drop i xs ≡ x ∷ drop (i + 1) xs
-drop-get X xs i x is =
-    let there : i < length xs = slice_get_within xs i x is in
-    let same : Some x ≡ Some (get_or xs i x) = sym is ∙ slice_get-get_or xs i x there in
-    let one : x ≡ get_or xs i x = cc in
-    drop_more xs i x there ∙ ap (λ y. y ∷ drop (i + 1) xs) (sym one)
 
 pub members-more : (names : List Name) (done longer : List Member) (place : ℕ) (member : Member) → done ++ members_from place (drop place names) ≡ members_from 0 names
     → member_of place ≡ Some member.id → slice_get names place ≡ Some member.name → longer ≡ done ++ member ∷ [] → longer ++ members_from (place + 1) (drop (place + 1) names) ≡ members_from 0 names

@@ -5,7 +5,7 @@ use Rattle.script_model.specs.Script.{ScriptText, spelling_of}
 use Rattle.cluster_model.specs.Steps.{steps_of}
 use Rattle.world_model.specs.Room.{most_steps}
 use Rattle.pat_world.specs.Steps.{WorldFacts}
-use Rattle.run_player.specs.declared.print_error.PrintError.TheVariants.{Write}
+use Rattle.run_printing.specs.declared.print_error.PrintError.TheVariants.{Write}
 use Rattle.run_player.specs.Left.{IsLeftBy}
 use Rattle.run_player.specs.Run.{played_of, summary_of_run}
 use Rattle.patroni_top.specs.Commands.{Formats, Makes, Plays, Print, Run}

@@ -5,7 +5,7 @@ use Rattle.pat_outside.proofs.Printing.{Prints-none}
 use Rattle.summary_model.specs.declared.answers.Closing.{Closing}
 use Rattle.summary_model.specs.Sights.{SummaryFacts}
 use Rattle.summary_model.specs.SummaryText.{closing_text}
-use Rattle.run_player.specs.declared.print_error.PrintError.TheVariants.{Memory, Write}
+use Rattle.run_printing.specs.declared.print_error.PrintError.TheVariants.{Memory, Write}
 use Rattle.run_player.proofs.Played.{memory-is-no-write}
 use Rattle.run_player.proofs.Silence.{no-write}
 use Rattle.run_player.proofs.player.Player.drill.Goals as goal

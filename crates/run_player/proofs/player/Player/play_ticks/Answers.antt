@@ -3,7 +3,7 @@ use Rattle.std.proofs.lemmas.List.{length-replicate}
 use Rattle.std.proofs.lemmas.Result.{err_from_is_err_and}
 use Rattle.cluster_model.specs.declared.step.Step.{Step}
 use Rattle.pat_world.specs.Steps.{HasStepsLeft}
-use Rattle.run_player.specs.declared.print_error.PrintError.TheVariants.{Memory}
+use Rattle.run_printing.specs.declared.print_error.PrintError.TheVariants.{Memory}
 use Rattle.run_player.proofs.Idling.{Plays-idle, none-left, tick-declared, ticks-first, ticks-split}
 use Rattle.run_player.proofs.Played.{Playing-end, Playing-more, Playing-room, Playing-start, Playing-stop, Plays-none}
 use Rattle.run_player.proofs.player.Player.play_ticks.Goals as goal

@@ -1,6 +1,6 @@
 //! Why the output of a run isn't whole.
 ghost use Rattle.std.specs.Prelude.{◌≡◌};
-ghost use Rattle.run_player.specs.declared.print_error.PrintError.TheVariants.{Memory, Write};
+ghost use Rattle.run_printing.specs.declared.print_error.PrintError.TheVariants.{Memory, Write};
 
 use pat_outside::Failed;
 use std::alloc::AllocError;

@@ -3,7 +3,7 @@ use Rattle.std.proofs.Common.{◌≡◌, ℕ, ◌+◌, ◌≤◌, List, [], ◌�
 use Rattle.std.specs.Prelude.{slice_get}
 use Rattle.std.proofs.lemmas.List.{drop_all}
 use Rattle.summary_model.specs.declared.answers.WatchOf.{WatchOf}
-use Rattle.world_model.proofs.Starting.{drop-get}
+use Rattle.pat_base.proofs.Lists.{drop-get}
 
 -- one watchdog more
 pub watches-more : (all done longer : List WatchOf) (place : ℕ) (watchdog : WatchOf) → done ++ drop place all ≡ all → slice_get all place ≡ Some watchdog → longer ≡ done ++ watchdog ∷ [] → longer ++ drop (place + 1) all ≡ all

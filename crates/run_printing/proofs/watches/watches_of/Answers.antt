@@ -1,8 +1,8 @@
 use Rattle.std.proofs.Common.{◌≤◌, length, arith, ap}
 use Rattle.std.proofs.lemmas.List.{length-map}
-use Rattle.run_player.specs.Watches.{watches_of}
-use Rattle.run_player.proofs.Watching.{watches-more, watches-end}
-use Rattle.run_player.proofs.watches.watches_of.Goals as goal
+use Rattle.run_printing.specs.Watches.{watches_of}
+use Rattle.run_printing.proofs.Watching.{watches-more, watches-end}
+use Rattle.run_printing.proofs.watches.watches_of.Goals as goal
 
 pub loop-place-preserved : goal.loop-place-preserved
 loop-place-preserved c = watches-more _ _ _ c.loop-place.place c.watch_at.result c.loop-place.invariant c.watch_at.ensures c.in_ok-push.ensures.items

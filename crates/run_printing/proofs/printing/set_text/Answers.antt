@@ -3,7 +3,7 @@ use Rattle.std.proofs.lemmas.List.{drop_all}
 use Rattle.std.specs.String.{string_bytes}
 use Rattle.event_book.specs.Text.{lines_of, line_of, bytes_or_none}
 use Rattle.event_book.proofs.Runs.{lines_of-drop}
-use Rattle.run_player.proofs.printing.set_text.Goals as goal
+use Rattle.run_printing.proofs.printing.set_text.Goals as goal
 
 pub loop-event-preserved : goal.loop-event-preserved
 loop-event-preserved c =

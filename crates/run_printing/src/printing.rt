@@ -4,7 +4,7 @@ ghost use Rattle.pat_outside.specs.Outside.{Grew};
 ghost use Rattle.pat_outside.specs.Prints.{Prints, failed};
 ghost use Rattle.event_book.specs.Text.{lines_of};
 ghost use Rattle.summary_model.specs.SummaryText.{closing_text};
-ghost use Rattle.run_player.specs.LineParts.{line_length};
+ghost use Rattle.run_printing.specs.LineParts.{line_length};
 
 use crate::print_error::PrintError;
 use event_book::{Event, write_line};

@@ -3,8 +3,8 @@ use Rattle.std.proofs.lemmas.List.{drop_all}
 use Rattle.std.proofs.lemmas.Result.{err_from_is_err_and}
 use Rattle.event_book.specs.Text.{lines_of}
 use Rattle.summary_model.specs.Sights.{noted_step}
-use Rattle.run_player.proofs.Shown.{Showing-end, Showing-more, Showing-none, Showing-start, Showing-stop, next-brought}
-use Rattle.run_player.proofs.showing.show.Goals as goal
+use Rattle.run_printing.proofs.Shown.{Showing-end, Showing-more, Showing-none, Showing-start, Showing-stop, next-brought}
+use Rattle.run_printing.proofs.showing.show.Goals as goal
 
 pub loop-events-init : goal.loop-events-init
 loop-events-init g c = Showing-start g.K.Sink c.args.summary.now c.args.trace c.args.out.now _

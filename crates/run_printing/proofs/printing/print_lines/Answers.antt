@@ -3,7 +3,7 @@ use Rattle.std.proofs.lemmas.Bool.Decides.{nat_tests}
 use Rattle.std.proofs.lemmas.Result.{err_from_is_err_and}
 use Rattle.pat_outside.proofs.Printing.{Prints-ok, Prints-then, Prints-stop, IsPrinting-more, IsPrinting-end}
 use Rattle.pat_outside.specs.Prints.{Prints, failed}
-use Rattle.run_player.proofs.printing.print_lines.Goals as goal
+use Rattle.run_printing.proofs.printing.print_lines.Goals as goal
 
 nothing : (text : List ℕ) → length text ≡ 0 → text ≡ []
 nothing [] e = refl

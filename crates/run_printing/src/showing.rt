@@ -3,7 +3,7 @@ ghost use Rattle.std.specs.Prelude.{◌≡◌, All, List, length, map, OnOk};
 ghost use Rattle.event_book.specs.declared.event.Event.{Event};
 ghost use Rattle.summary_model.specs.Passing.{IsTickAlone};
 ghost use Rattle.summary_model.specs.Sights.{noted_step, noted_steps};
-ghost use Rattle.run_player.specs.Showing.{Shows};
+ghost use Rattle.run_printing.specs.Showing.{Shows};
 
 use crate::print_error::PrintError;
 use crate::printing::{print_lines, set_text};
@@ -16,7 +16,7 @@ use summary::Summary;
 const MOST_COUNTED: u64 = 1 << 60;
 
 /// Notes and prints what steps brought, one after another. None of them changes whether messages are traced. The text is a buffer.
-pub(crate) fn show<K: Sink>(
+pub fn show<K: Sink>(
     summary: &mut Summary,
     text: &mut String,
     trace: bool,
@@ -35,7 +35,7 @@ pub(crate) fn show<K: Sink>(
 
 /// Notes the events of one step. What the summary counts never gets near its most in a run that memory can hold, so that is told
 /// as want of memory.
-pub(crate) fn note(summary: &mut Summary, events: &[Event]) -> Result<(), AllocError>
+pub fn note(summary: &mut Summary, events: &[Event]) -> Result<(), AllocError>
     ensures { OnOk result (summary.new ≡ noted_step summary.old events.now) }
 {
     let closing = summary.closing();
@@ -47,7 +47,7 @@ pub(crate) fn note(summary: &mut Summary, events: &[Event]) -> Result<(), AllocE
 }
 
 /// Notes so many ticks that bring nothing else, under the same limit.
-pub(crate) fn note_ticks(summary: &mut Summary, ticks: u64) -> Result<(), AllocError>
+pub fn note_ticks(summary: &mut Summary, ticks: u64) -> Result<(), AllocError>
     ensures { OnOk result ((steps : List (List Event)) → length steps ≡ ticks → All IsTickAlone steps → summary.new ≡ noted_steps summary.old steps) }
 {
     if summary.closing().end.0 > MOST_COUNTED || ticks > MOST_COUNTED {

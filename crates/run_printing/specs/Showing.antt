@@ -6,8 +6,8 @@ use Rattle.pat_outside.specs.Prints.{Prints}
 use Rattle.event_book.specs.declared.event.Event.{Event}
 use Rattle.event_book.specs.Text.{lines_of}
 use Rattle.summary_model.specs.Sights.{SummaryFacts, noted_steps}
-use Rattle.run_player.specs.declared.print_error.PrintError.{PrintError}
-use Rattle.run_player.specs.declared.print_error.PrintError.TheVariants.{Memory, Write}
+use Rattle.run_printing.specs.declared.print_error.PrintError.{PrintError}
+use Rattle.run_printing.specs.declared.print_error.PrintError.TheVariants.{Memory, Write}
 
 -- the lines of what these steps brought, where none of them changes whether messages are traced
 abbrev pub lines_by_step : Bool → List (List Event) → List ℕ
