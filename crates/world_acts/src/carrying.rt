@@ -22,7 +22,7 @@ use event_book::{Body, Event, LinkEnd, Member, Message};
 use ha_loop::Outputs;
 use pat_base::{MemberId, PeerAnswer};
 use std::alloc::AllocError;
-use world_parts::order_kinds::receiver_of;
+use world_orders::order_kinds::receiver_of;
 use world_stage::Stage;
 
 /// What the agent of a member did on the message that it heard is carried out, in its order. Then the list is empty.

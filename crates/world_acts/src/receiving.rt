@@ -7,7 +7,7 @@ ghost use Rattle.world_model.specs.Emits.{Emits};
 
 use event_book::{Event, Member};
 use std::alloc::AllocError;
-use world_parts::machines::item_at;
+use world_fields::machines::item_at;
 use world_parts::sources::source_of;
 use world_stage::Stage;
 

@@ -11,7 +11,7 @@ use agent_model::Repair;
 use event_book::{Event, Member};
 use pat_base::MemberId;
 use std::alloc::AllocError;
-use world_parts::order_kinds::member_at;
+use world_fields::members::member_at;
 use world_parts::sources::link_of_members;
 use world_stage::Stage;
 

@@ -15,11 +15,12 @@ use event_book::{Event, EventKind, Member, Note, Reason, ServerEvent, ServerOf};
 use pat_base::{MemberId, Required, State};
 use std::alloc::AllocError;
 use world_fields::losing::loss_of_any;
-use world_parts::order_kinds::{
-    declared_member, following_of, member_at, require_of, stop_of, upstream_of, wipe_of,
+use world_fields::members::member_at;
+use world_orders::order_kinds::{
+    declared_member, following_of, require_of, stop_of, upstream_of, wipe_of,
 };
+use world_orders::server_commands::{beginning_of, promoted_timeline, restart_of};
 use world_parts::server_changes::is_down;
-use world_parts::server_commands::{beginning_of, promoted_timeline, restart_of};
 use world_stage::Stage;
 
 /// The server of a member is promoted by its operator, where it is a replica, and begins.

@@ -16,7 +16,8 @@ use event_book::{AgentEvent, AgentNote, Event, EventKind, Member, WatchdogEvent}
 use pat_base::{MemberId, Ticks};
 use std::alloc::AllocError;
 use world_agents::requests::told_kind;
-use world_parts::order_kinds::{agent_noting, arming, feeding, hold_of_request, member_at};
+use world_fields::members::member_at;
+use world_orders::order_kinds::{agent_noting, arming, feeding, hold_of_request};
 use world_stage::Stage;
 
 /// The watchdog of a member got its first deadline, on the message that was heard.

@@ -21,7 +21,7 @@ use member_options::MemberOptions;
 use pat_base::{Name, Ticks};
 use std::alloc::{AllocError, Global};
 use wal_model::History;
-use world_parts::machines::who_of;
+use world_fields::machines::who_of;
 
 /// The agents of a cluster of this name with these members, of whom these options are declared, each in its first incarnation. It fails only for want of memory.
 pub fn first_agents(

@@ -13,3 +13,11 @@ pub fn declared(members: &[Member], id: MemberId) -> Member
 {
     members[id.number as usize]
 }
+
+/// The declared member of this number, if there is one.
+pub fn member_at(members: &[Member], id: MemberId) -> Option<Member>
+    ensures { result ≡ slice_get members.now id.number }
+{
+    let member = members.get(id.number as usize)?;
+    Some(*member)
+}

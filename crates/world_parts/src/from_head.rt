@@ -8,12 +8,12 @@ ghost use Rattle.pat_base.specs.declared.member_id.TheConstants.{MOST_MEMBERS};
 ghost use Rattle.cluster_model.specs.Machines.{hosts_of};
 ghost use Rattle.cluster_model.specs.Starting.{options_of};
 
-use crate::machines::declared_options;
 use event_book::{AgentProcess, Member};
 use member_options::MemberOptions;
 use pat_base::{Host, MemberId, Name};
 use script_model::Head;
 use std::alloc::{AllocError, Global};
+use world_fields::machines::declared_options;
 
 /// The declared members, numbered in order.
 pub fn members_of(alloc: Global, head: &Head) -> Result<Vec<Member>, AllocError>

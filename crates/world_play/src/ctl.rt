@@ -13,7 +13,7 @@ use pat_base::MemberId;
 use patronictl::{CtlAnswer, ctl_answer};
 use rest_message::Request;
 use std::alloc::AllocError;
-use world_parts::order_kinds::member_at;
+use world_fields::members::member_at;
 use world_stage::Stage;
 
 /// An operator types these words behind patronictl: what it prints is written down, and its request is made.

@@ -23,8 +23,8 @@ use world_acts::receiving::{all_receive, receive};
 use world_acts::servers::promote;
 use world_acts::wakes::{start_agent, turn, wakes};
 use world_fields::links::{cut_of, join_of};
+use world_orders::server_commands::{commit_of, crash_of, freezing_of, slow_of};
 use world_parts::processes::{kill_of, resume_of, suspend_of};
-use world_parts::server_commands::{commit_of, crash_of, freezing_of, slow_of};
 use world_stage::Stage;
 
 /// The most rounds of one tick.

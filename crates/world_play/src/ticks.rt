@@ -13,8 +13,8 @@ use std::alloc::AllocError;
 use world_acts::servers::begin_on;
 use world_fields::watchdogs::reset_of;
 use world_fields::writing::write_down;
-use world_parts::order_kinds::declared_member;
-use world_parts::server_commands::completion_of;
+use world_orders::order_kinds::declared_member;
+use world_orders::server_commands::completion_of;
 use world_stage::Stage;
 
 /// The clock grows by one, starts and stops of servers that don't write are complete, and the keys that have expired are

@@ -26,11 +26,11 @@ use pat_base::{MemberId, Ticks};
 use std::alloc::AllocError;
 use std::mem;
 use world_agents::places;
+use world_fields::machines::{item_at, machine_from};
+use world_fields::members::member_at;
 use world_fields::writing::write_down;
 use world_flight::flight::InFlight;
 use world_parts::actions::copy_of;
-use world_parts::machines::{item_at, machine_from};
-use world_parts::order_kinds::member_at;
 use world_parts::replication::replication_of;
 use world_parts::sources::source_of;
 

@@ -27,11 +27,11 @@ use lease_store::{Granted, StoreRefusal, Txn};
 use pat_base::{Shared, Ticks};
 use std::alloc::AllocError;
 use world_fields::deliveries::delivery_of;
+use world_fields::naming::published_names;
 use world_fields::snapshots::snapshot_for;
 use world_fields::writing::write_down;
 use world_flight::flight::InFlight;
 use world_flight::flight_index::message_way;
-use world_parts::naming::published_names;
 
 impl Stage {
     /// The first message that may move of those with numbers from this one to the last. Those before it stay where they are.

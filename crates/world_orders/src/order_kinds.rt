@@ -6,7 +6,6 @@ ghost use Rattle.cluster_model.specs.Orders.{agent_noting, arming, barring, decl
 ghost use Rattle.cluster_model.specs.State.{Cluster};
 ghost use Rattle.world_model.specs.Comes.{MayCome};
 
-use crate::naming::required_names;
 use agent_model::Target;
 use cluster_model::HeardMessage;
 use event_book::{
@@ -16,6 +15,8 @@ use event_book::{
 use pat_base::{Ineligibility, MemberId, Name, Required, State, Ticks};
 use pg_cluster::Servers;
 use std::alloc::{AllocError, Global};
+use world_fields::members::member_at;
+use world_fields::naming::required_names;
 
 /// The declared member of this number, if there is a number.
 pub fn declared_member(members: &[Member], id: Option<MemberId>) -> Option<Member>
@@ -32,14 +33,6 @@ pub fn receiver_of(members: &[Member], target: Target) -> Option<LinkEnd>
         Target::Store => Some(LinkEnd::Store),
         Target::Member(id) => Some(LinkEnd::Member(member_at(members, id)?)),
     }
-}
-
-/// The declared member of this number.
-pub fn member_at(members: &[Member], id: MemberId) -> Option<Member>
-    ensures { result ≡ slice_get members.now id.number }
-{
-    let member = members.get(id.number as usize)?;
-    Some(*member)
 }
 
 /// A server follows this leader's: what happens where there is such a member.
