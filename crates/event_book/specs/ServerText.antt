@@ -16,11 +16,15 @@ use Rattle.event_book.specs.declared.event.WatchdogEvent.{WatchdogEvent}
 use Rattle.event_book.specs.declared.event.WatchdogEvent.TheVariants as watchdogs
 use Rattle.event_book.specs.Listing.{listed}
 use Rattle.event_book.specs.Traced.{traced}
+use Rattle.wal_model.specs.declared.entry.Entry.{Entry}
+
+-- the line of a watchdog that is fed
+abbrev pub feeding_line : ℕ → List ℕ → ℕ → List ℕ
+feeding_line tick name until = decimal tick ++ (codes " " ++ (name ++ (codes " feeds its watchdog until " ++ (decimal until ++ codes "\n"))))
 
 -- the line of a new deadline for the watchdog of the member of this name, which it has only while messages are traced
 abbrev pub fed_line : Bool → ℕ → List ℕ → ℕ → Option (List ℕ)
-fed_line trace tick name until =
-    traced trace (decimal tick ++ (codes " " ++ (name ++ (codes " feeds its watchdog until " ++ (decimal until ++ codes "\n")))))
+fed_line trace tick name until = traced trace (feeding_line tick name until)
 
 -- the line of what happens to a watchdog, if it has one
 abbrev pub watchdog_line : Bool → ℕ → WatchdogEvent → Option (List ℕ)
@@ -52,10 +56,13 @@ server_line tick (servers.Diverged server upstream at) =
     Some (decimal tick ++ (codes " " ++ (name_bytes server.name ++ (codes " diverges from " ++ (name_bytes upstream.name ++ (codes " at " ++ (lsn_text at.position ++ codes "\n")))))))
 server_line tick event = own_server_line tick event
 
+-- the line of a commit, on a server of this name
+abbrev pub commit_line : ℕ → Entry → List ℕ → List ℕ
+commit_line tick entry name = decimal tick ++ (codes " commit " ++ (decimal entry.serial ++ (codes " of " ++ (decimal entry.bytes ++ (codes " bytes on " ++ (name ++ codes "\n"))))))
+
 -- the line of what happens to a log, if it has one
 abbrev pub log_line : ℕ → LogEvent → Option (List ℕ)
-log_line tick (logs.Appended server entry) =
-    Some (decimal tick ++ (codes " commit " ++ (decimal entry.serial ++ (codes " of " ++ (decimal entry.bytes ++ (codes " bytes on " ++ (name_bytes server.name ++ codes "\n")))))))
+log_line tick (logs.Appended server entry) = Some (commit_line tick entry (name_bytes server.name))
 log_line tick (logs.Received server from count) = None
 log_line tick (logs.Rewound server from kept at) =
     Some (decimal tick ++ (codes " " ++ (name_bytes server.name ++ (codes " is rewound to " ++ (lsn_text at.position ++ codes "\n")))))

@@ -6,6 +6,7 @@ use Rattle.event_book.specs.declared.event.Event.{Event}
 use Rattle.event_book.specs.declared.event.EventKind.{EventKind}
 use Rattle.event_book.specs.declared.event.EventKind.TheVariants as kinds
 use Rattle.event_book.specs.declared.event.MessageEvent.{MessageEvent}
+use Rattle.event_book.specs.declared.message.Message.{Message}
 use Rattle.event_book.specs.declared.event.MessageEvent.TheVariants as messages
 use Rattle.event_book.specs.declared.event.AgentEvent.{AgentEvent}
 use Rattle.event_book.specs.declared.event.AgentEvent.TheVariants as agents
@@ -18,10 +19,14 @@ use Rattle.event_book.specs.ServerText.{watchdog_line, server_line, log_line, re
 use Rattle.event_book.specs.StoreText.{store_line}
 use Rattle.event_book.specs.Traced.{traced}
 
+-- the line of a message that is sent
+abbrev pub sent_line : ℕ → ℕ → Message → List ℕ
+sent_line tick number message =
+    decimal tick ++ (codes " message " ++ (decimal number ++ (codes " from " ++ (end_text message.from ++ (codes " to " ++ (end_text message.to ++ (codes ": " ++ (body_text message.body ++ codes "\n"))))))))
+
 -- the line of what happens to a message, which it has only while messages are traced
 abbrev pub message_line : Bool → ℕ → MessageEvent → Option (List ℕ)
-message_line trace tick (messages.Sent number message) =
-    traced trace (decimal tick ++ (codes " message " ++ (decimal number ++ (codes " from " ++ (end_text message.from ++ (codes " to " ++ (end_text message.to ++ (codes ": " ++ (body_text message.body ++ codes "\n")))))))))
+message_line trace tick (messages.Sent number message) = traced trace (sent_line tick number message)
 message_line trace tick (messages.Delivered number) = traced trace (decimal tick ++ (codes " message " ++ (decimal number ++ codes " is delivered\n")))
 message_line trace tick (messages.Lost number) = traced trace (decimal tick ++ (codes " message " ++ (decimal number ++ codes " is lost\n")))
 

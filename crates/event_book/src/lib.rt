@@ -13,6 +13,7 @@ mod name_order;
 mod named_line;
 mod names;
 mod note_printing;
+mod pieces;
 mod printing;
 mod reason;
 mod server_printing;

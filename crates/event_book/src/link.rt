@@ -23,7 +23,17 @@ pub struct Link {
 
 impl LinkEnd {
     ghost use Rattle.std.specs.Prelude.{◌≡◌, ◌<◌};
-    ghost use Rattle.event_book.specs.Links.{end_count, end_number};
+    ghost use Rattle.event_book.specs.Links.{end_count, end_number, end_text};
+
+    /// What a script calls it.
+    pub fn as_str(&self) -> &str
+        ensures { result.now ≡ end_text self.now }
+    {
+        match self {
+            LinkEnd::Store => "store",
+            LinkEnd::Member(member) => member.name.as_str(),
+        }
+    }
 
     /// The number of a member, or the first that no member has, for the key store.
     pub fn number(self) -> u8
@@ -44,10 +54,7 @@ impl fmt::Display for LinkEnd {
     ghost output = { λ end. Some (end_text end) };
 
     fn fmt<W: fmt::Write>(&self, f: &mut fmt::Formatter<W>) -> fmt::Result {
-        match self {
-            LinkEnd::Store => f.write_str("store"),
-            LinkEnd::Member(member) => f.write_str(member.name.as_str()),
-        }
+        f.write_str(self.as_str())
     }
 }
 

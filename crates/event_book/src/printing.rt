@@ -1,14 +1,17 @@
 //! The printed line of an event.
-ghost use Rattle.std.specs.Prelude.{◌≡◌, ◌++◌, OnOk, string_bytes};
-ghost use Rattle.event_book.specs.Text.{bytes_or_none, line_of, message_line, agent_line, link_line};
+ghost use Rattle.std.specs.Prelude.{◌≡◌, ◌++◌, OnOk, codes, string_bytes};
+ghost use Rattle.std.specs.Fmt.{decimal};
+ghost use Rattle.event_book.specs.Text.{bytes_or_none, line_of, message_line, sent_line, agent_line, link_line};
 
 use crate::named_line::write_named_line;
 use crate::note_printing::write_note_line;
+use crate::pieces::append;
 use crate::server_printing::{
     write_log_line, write_replication_line, write_server_line, write_watchdog_line,
 };
 use crate::store_printing::write_store_line;
-use crate::{AgentEvent, Event, EventKind, LinkEvent, MessageEvent};
+use crate::{AgentEvent, Event, EventKind, LinkEvent, Message, MessageEvent};
+use itoa::Buffer;
 use pat_base::Ticks;
 use std::alloc::AllocError;
 
@@ -44,18 +47,55 @@ fn write_message_line(
     }
     match event {
         MessageEvent::Sent { number, message } => {
-            let message = message.get();
-            let (from, to, body) = (message.from, message.to, &message.body);
-            write!(
-                line,
-                "{tick} message {number} from {from} to {to}: {body}\n"
-            )
+            write_sent_line(line, tick, *number, message.get())
         }
         MessageEvent::Delivered { number } => {
-            write!(line, "{tick} message {number} is delivered\n")
+            write_message_end(line, tick, *number, " is delivered\n")
         }
-        MessageEvent::Lost { number } => { write!(line, "{tick} message {number} is lost\n") }
+        MessageEvent::Lost { number } => write_message_end(line, tick, *number, " is lost\n"),
     }
+}
+
+/// Appends the line of a message that is sent.
+fn write_sent_line(
+    line: &mut String,
+    tick: Ticks,
+    number: u64,
+    message: &Message,
+) -> Result<(), AllocError>
+    ensures { OnOk result (string_bytes line.new ≡ string_bytes line.old ++ sent_line tick.0 number message.now) }
+{
+    let (mut moment, mut digits) = (Buffer::new(), Buffer::new());
+    let pieces = [
+        moment.format(tick.0),
+        " message ",
+        digits.format(number),
+        " from ",
+        message.from.as_str(),
+        " to ",
+        message.to.as_str(),
+        ": ",
+    ];
+    append(line, &pieces)?;
+    let body = &message.body;
+    write!(line, "{body}\n")
+}
+
+/// Appends a moment, a message's number, and the words behind it.
+fn write_message_end(
+    line: &mut String,
+    tick: Ticks,
+    number: u64,
+    words: &str,
+) -> Result<(), AllocError>
+    ensures { OnOk result (string_bytes line.new ≡ string_bytes line.old ++ (decimal tick.0 ++ (codes " message " ++ (decimal number ++ words.now)))) }
+{
+    let (mut moment, mut digits) = (Buffer::new(), Buffer::new());
+    append(
+        line,
+        &[moment.format(tick.0), " message ", digits.format(number)],
+    )?;
+    line.push_str(words)
 }
 
 fn write_agent_line(line: &mut String, tick: Ticks, event: &AgentEvent) -> Result<(), AllocError>

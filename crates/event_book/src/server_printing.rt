@@ -1,14 +1,17 @@
 //! The printed lines of what happens to watchdogs, servers, their logs and their synchronous replication.
 ghost use Rattle.std.specs.Prelude.{◌≡◌, ◌++◌, OnOk, string_bytes};
 ghost use Rattle.pat_base.specs.Name.{name_bytes};
-ghost use Rattle.event_book.specs.ServerText.{watchdog_line, fed_line, server_line, own_server_line, log_line, replication_line, required_line};
+ghost use Rattle.event_book.specs.ServerText.{watchdog_line, fed_line, feeding_line, server_line, own_server_line, commit_line, log_line, replication_line, required_line};
 ghost use Rattle.event_book.specs.Text.{bytes_or_none};
 
 use crate::listing::end_by_list;
 use crate::named_line::write_named_line;
+use crate::pieces::append;
 use crate::{LogEvent, Names, ReplicationEvent, ServerEvent, WatchdogEvent};
+use itoa::Buffer;
 use pat_base::{Name, Required, Ticks};
 use std::alloc::AllocError;
+use wal_model::Entry;
 
 /// Appends the line of what happens to a watchdog, if it has one. It fails only for want of memory.
 pub fn write_watchdog_line(
@@ -48,7 +51,28 @@ fn write_fed_line(
     if !trace {
         return Ok(());
     }
-    write!(line, "{tick} {name} feeds its watchdog until {until}\n")
+    write_feeding_line(line, tick, name, until)
+}
+
+/// Appends the line of a watchdog that is fed.
+fn write_feeding_line(
+    line: &mut String,
+    tick: Ticks,
+    name: Name,
+    until: Ticks,
+) -> Result<(), AllocError>
+    ensures { OnOk result (string_bytes line.new ≡ string_bytes line.old ++ feeding_line tick.0 (name_bytes name) until.0) }
+{
+    let (mut moment, mut end) = (Buffer::new(), Buffer::new());
+    let pieces = [
+        moment.format(tick.0),
+        " ",
+        name.as_str(),
+        " feeds its watchdog until ",
+        end.format(until.0),
+        "\n",
+    ];
+    append(line, &pieces)
 }
 
 /// Appends the line of what happens to a server, if it has one. It fails only for want of memory.
@@ -120,8 +144,7 @@ pub fn write_log_line(line: &mut String, tick: Ticks, event: &LogEvent) -> Resul
 {
     match event {
         LogEvent::Appended { server, entry } => {
-            let (name, serial, bytes) = (server.name, entry.serial, entry.bytes);
-            write!(line, "{tick} commit {serial} of {bytes} bytes on {name}\n")
+            write_commit_line(line, tick, entry, server.name)
         }
         LogEvent::Received { .. } => Ok(()),
         LogEvent::Rewound { server, at, .. } => {
@@ -134,6 +157,29 @@ pub fn write_log_line(line: &mut String, tick: Ticks, event: &LogEvent) -> Resul
         }
         LogEvent::Wiped { server } => { write_named_line(line, tick, server.name, " is wiped\n") }
     }
+}
+
+/// Appends the line of a commit.
+fn write_commit_line(
+    line: &mut String,
+    tick: Ticks,
+    entry: &Entry,
+    name: Name,
+) -> Result<(), AllocError>
+    ensures { OnOk result (string_bytes line.new ≡ string_bytes line.old ++ commit_line tick.0 entry.now (name_bytes name)) }
+{
+    let (mut moment, mut serial, mut bytes) = (Buffer::new(), Buffer::new(), Buffer::new());
+    let pieces = [
+        moment.format(tick.0),
+        " commit ",
+        serial.format(entry.serial),
+        " of ",
+        bytes.format(entry.bytes),
+        " bytes on ",
+        name.as_str(),
+        "\n",
+    ];
+    append(line, &pieces)
 }
 
 /// Appends the line of what happens in synchronous replication, if it has one. It fails only for want of memory.
@@ -152,7 +198,14 @@ pub fn write_replication_line(
         } => write_required_line(line, tick, server.name, *required, names),
         ReplicationEvent::Confirmed { .. } | ReplicationEvent::Lacks { .. } => Ok(()),
         ReplicationEvent::Acknowledged { commit, .. } => {
-            write!(line, "{tick} commit {commit} is acknowledged\n")
+            let (mut moment, mut serial) = (Buffer::new(), Buffer::new());
+            let pieces = [
+                moment.format(tick.0),
+                " commit ",
+                serial.format(*commit),
+                " is acknowledged\n",
+            ];
+            append(line, &pieces)
         }
     }
 }
