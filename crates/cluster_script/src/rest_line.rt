@@ -7,7 +7,7 @@ ghost use Rattle.pat_base.specs.declared.member_id.TheConstants.{MOST_MEMBERS};
 
 use crate::arguments::{member_in, missing_behind, missing_word};
 use crate::members::Members;
-use pat_base::MemberId;
+use pat_base::{MemberId, Shared};
 use script_model::{Command, Line, RequestWords};
 use script_words::{Fault, both, cut_word, is_token};
 use std::alloc::{AllocError, Global};
@@ -129,7 +129,7 @@ pub fn rest_line(
     match asked_member(members, rest) {
         Err(fault) => Ok(Err(fault)),
         Ok((member, ())) => {
-            let request = request_behind(alloc, behind_word(rest))?;
+            let request = Shared::new(alloc, request_behind(alloc, behind_word(rest))?)?;
             Ok(Ok(Line::Command(Command::Rest(member, request))))
         }
     }

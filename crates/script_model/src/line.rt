@@ -2,7 +2,7 @@
 ghost use Rattle.std.specs.Prelude.{◌≡◌, IfOk};
 
 use crate::{CommitSize, Delay, LineBytes, RequestWords};
-use pat_base::MemberId;
+use pat_base::{MemberId, Shared};
 use std::alloc::AllocError;
 
 /// One end of a link: a member, or the key store.
@@ -24,7 +24,7 @@ pub enum SlowedCall {
 }
 
 /// What a line of a script's body asks for by itself. Ticks are of 100 ms, and messages are numbered from 1 in order of sending.
-#[derive(Drop, PartialEq, Eq)]
+#[derive(Drop)]
 pub enum Command {
     /// `turn M`: the agent of this member is woken.
     Turn(MemberId),
@@ -59,7 +59,7 @@ pub enum Command {
     /// `join X Y`: the link between two ends, which differ, carries messages again.
     Join(End, End),
     /// `rest M METHOD TARGET`, `rest M METHOD TARGET BODY`: a request to the REST interface of this member's agent.
-    Rest(MemberId, RequestWords),
+    Rest(MemberId, Shared<RequestWords>),
     /// `ctl WORDS`: a command of patronictl, as an operator types it (Patroni documentation, "patronictl"). The words are all that
     /// stands behind the blank, and may be none.
     Ctl(LineBytes),
@@ -98,7 +98,7 @@ impl Command {
 }
 
 /// A line of a script's body. A line of ticks may ask for any number below 2^64, of 100 ms each.
-#[derive(Drop, PartialEq, Eq)]
+#[derive(Drop)]
 pub enum Line {
     /// `run N`: N ticks of the default schedule.
     Run(u64),

@@ -59,23 +59,3 @@ impl LineBytes {
         })
     }
 }
-
-impl PartialEq for LineBytes {
-    ghost use Rattle.std.specs.Str.{bytes_eq};
-    ghost use Rattle.std.proofs.lemmas.Cmp.{nat_list_eq_equiv};
-    ghost use Rattle.std.specs.Cmp as compares;
-
-    ghost eq = { bytes_eq };
-
-    ghost laws = { compares.partial_equiv_from_equiv nat_list_eq_equiv };
-
-    fn eq(&self, other: &LineBytes) -> bool {
-        self.as_slice() == other.as_slice()
-    }
-}
-
-impl Eq for LineBytes {
-    ghost use Rattle.std.proofs.lemmas.Cmp.{nat_list_eq_equiv};
-
-    ghost laws = { nat_list_eq_equiv };
-}

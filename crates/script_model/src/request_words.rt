@@ -3,7 +3,7 @@ use crate::LineBytes;
 use std::alloc::{AllocError, Global};
 
 /// What the line of a request says: the words of any request, behind the member that it is for.
-#[derive(Drop, PartialEq, Eq)]
+#[derive(Drop)]
 pub struct RequestWords {
     /// Its method.
     pub method: LineBytes,
@@ -30,17 +30,6 @@ impl RequestWords {
             method: LineBytes::new(alloc, method)?,
             target: LineBytes::new(alloc, target)?,
             body: LineBytes::new(alloc, body)?,
-        })
-    }
-
-    /// The same request, at no cost of its size. It fails only where the owners can't be counted any more.
-    pub fn try_clone(&self) -> Result<RequestWords, AllocError>
-        ensures { IfOk result (λ request. request ≡ self.now) }
-    {
-        Ok(RequestWords {
-            method: self.method.try_clone()?,
-            target: self.target.try_clone()?,
-            body: self.body.try_clone()?,
         })
     }
 

@@ -52,7 +52,7 @@ fn write_command(text: &mut String, head: &Head, command: &Command) -> Result<()
         Command::Slow(member, slowed, delay) => write_slow(text, head, *member, *slowed, *delay),
         Command::Cut(first, second) => write_link_line(text, head, Keyword::Cut, *first, *second),
         Command::Join(first, second) => write_link_line(text, head, Keyword::Join, *first, *second),
-        Command::Rest(member, request) => write_rest(text, head, *member, request),
+        Command::Rest(member, request) => write_rest(text, head, *member, request.get()),
         Command::Ctl(said) => write_ctl(text, said),
         Command::Trace(on) => write_trace(text, *on),
     }

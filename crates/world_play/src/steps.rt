@@ -102,6 +102,7 @@ fn take_command(
         }
         Command::Rest(id, request) => {
             let member = stage.declared(*id);
+            let request = request.get();
             make_request(
                 stage,
                 member,
