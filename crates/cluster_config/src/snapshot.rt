@@ -7,8 +7,8 @@ ghost use Rattle.lease_store.specs.KeyOrder.{key_cmp};
 ghost use Rattle.lease_store.specs.declared.key.Key.TheVariants as keys;
 ghost use Rattle.cluster_config.specs.Snapshots.{IsRead, entry_in, leader_by, leader_of_entry, leader_in, settings_by, settings_of_entry, settings_in, failsafe_by, failsafe_of_entry, failsafe_in, has_row};
 
-use lease_store::{Config, Key, KeyEntry, Value, in_key_order, key_entry_at};
-use pat_base::{Host, MemberId, MemberSet, Name};
+use lease_store::{Config, Copies, Key, KeyEntry, Value, in_key_order, key_entry_at};
+use pat_base::{Host, MemberId, MemberSet, Name, Shared};
 use std::alloc::{AllocError, Global};
 use std::marker::Model;
 
@@ -17,8 +17,8 @@ use std::marker::Model;
 #[derive(Drop)]
 pub struct Snapshot {
     scope: Name,
-    members: Vec<(Name, Host)>,
-    entries: Vec<(Key, KeyEntry)>,
+    members: Shared<Vec<(Name, Host)>>,
+    entries: Copies,
 }
 
 impl Model for Snapshot {
@@ -54,8 +54,25 @@ impl Snapshot {
     {
         Ok(Snapshot {
             scope,
-            members: Vec::from_slice(alloc, members)?,
-            entries: in_key_order(alloc, entries)?,
+            members: Shared::new(alloc, Vec::from_slice(alloc, members)?)?,
+            entries: Shared::new(alloc, in_key_order(alloc, entries)?)?,
+        })
+    }
+
+    /// The snapshot of entries as the key store tells them, which it shares, as it does the members. It fails only where owners can't be
+    /// counted any more.
+    pub fn sharing(
+        scope: Name,
+        members: &Shared<Vec<(Name, Host)>>,
+        entries: Copies,
+    ) -> Result<Snapshot, AllocError>
+        requires { IsRead entries.items }
+        ensures { IfOk result (λ snapshot. snapshot ≡ record { scope = scope; members = members.now.items; entries = entries.items }) }
+    {
+        Ok(Snapshot {
+            scope,
+            members: members.try_clone()?,
+            entries,
         })
     }
 
@@ -70,7 +87,7 @@ impl Snapshot {
     pub fn members(&self) -> &[(Name, Host)]
         ensures { result.now ≡ self.now.members }
     {
-        &self.members
+        self.members.get()
     }
 
     /// The keys that were present, in their order, each once and with a value of its kind, the configuration always among them.
@@ -78,14 +95,14 @@ impl Snapshot {
         ensures entries { result.now ≡ self.now.entries }
         ensures read { IsRead self.now.entries }
     {
-        &self.entries
+        self.entries.get()
     }
 
     /// The entry of a key: its value and its revision. `None` exactly where the key was absent.
     pub fn entry(&self, key: Key) -> Option<&KeyEntry>
         ensures { option_copied result ≡ entry_in key self.now }
     {
-        key_entry_at(&self.entries, key)
+        key_entry_at(self.entries.get(), key)
     }
 
     /// Who leads. `None` exactly where the leader key was absent.

@@ -1,5 +1,5 @@
 -- Before the first lease ends no key is absent.
-use Rattle.std.proofs.Common.{◌≡◌, ◌≢◌, ℕ, ◌≤◌, ◌<◌, nat_lt, not, Bool, true, false, cond, List, [], ◌∷◌, map, filter, Option, Some, None, arith, refl, ap, sym, ◌∙◌, IsTrue}
+use Rattle.std.proofs.Common.{◌≡◌, ◌≢◌, ℕ, ◌≤◌, ◌<◌, nat_lt, not, Bool, true, false, cond, List, [], ◌∷◌, map, filter, Some, None, arith, refl, ap, sym, ◌∙◌, IsTrue}
 use Rattle.std.proofs.lemmas.Bool.Decides.{nat_tests}
 use Rattle.std.specs.BTreeSet.{BTreeSet, contains}
 use Rattle.std.specs.FinMap.{find, is_sorted}

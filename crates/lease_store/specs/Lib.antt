@@ -1,4 +1,5 @@
 pub mod Answers
+pub mod Copied
 pub mod Decision
 pub mod Defaults
 pub mod Fencing

@@ -12,6 +12,7 @@ ghost use Rattle.lease_store.specs.Writes.{keys_after_grant, is_lease, ttl_of};
 ghost use Rattle.pat_base.specs.Moments.{latest};
 
 use crate::compares::{check, is_present, present_at};
+use crate::copies::{Copies, forget_absent, told};
 use crate::entries::{Entries, drop_absent, entry_of};
 use crate::leases::{Leases, first_expiry};
 use crate::walks::{absent_keys, copies_of_present};
@@ -32,10 +33,13 @@ pub struct Store {
     entries: Entries,
     leases: Leases,
     revision: u64,
+    /// Copies of all pairs, where they were told and nothing has changed since.
+    copies: Option<Copies>,
 }
 
 impl Model for Store {
     ghost use Rattle.lease_store.specs.Keys.{Keys};
+    ghost use Rattle.lease_store.specs.Copied.{AreCopies};
     ghost use Rattle.lease_store.specs.Indexed.{IsIndexed};
     ghost use Rattle.lease_store.specs.Kept.{IsKept};
 
@@ -43,7 +47,7 @@ impl Model for Store {
 
     ghost view = { λ s. record { revision = s.revision; pairs = s.entries.entries } };
 
-    ghost invariant = { λ s. IsKept s.entries.entries × IsIndexed s.entries.entries s.leases };
+    ghost invariant = { λ s. IsKept s.entries.entries × IsIndexed s.entries.entries s.leases × AreCopies s.entries.entries s.copies };
 }
 
 impl Store {
@@ -63,6 +67,7 @@ impl Store {
             entries,
             leases: BTreeSet::new(alloc),
             revision: 1,
+            copies: None,
         })
     }
 
@@ -102,6 +107,7 @@ impl Store {
             revision: self.revision + 1,
             at: now,
         };
+        self.copies = None;
         grant(
             self.alloc,
             &mut self.entries,
@@ -147,6 +153,7 @@ impl Store {
         ensures same { (later : ℕ) (key : Key) → now.0 ≤ later → key_at self.new later key ≡ key_at self.old later key }
     {
         let holder = expired_holder(&self.entries, now);
+        forget_absent(&self.entries, &self.leases, &mut self.copies, now);
         drop_absent(&mut self.entries, &mut self.leases, now);
         holder
     }
@@ -161,6 +168,23 @@ impl Store {
         ensures config { IfOk result (λ entries. IsSome (find key_cmp Key.Config entries.items)) }
     {
         copies_of_present(self.alloc, &self.entries, now)
+    }
+
+    /// The same, to be shared. Where nothing has changed since they were told last, it copies none of them.
+    pub fn share_entries(&mut self, now: Ticks) -> Result<Copies, AllocError>
+        ensures same { self.new ≡ self.old }
+        ensures pairs { IfOk result (λ entries. entries.items ≡ present_pairs now.0 self.old.pairs) }
+        ensures order { IfOk result (λ entries. IsTrue (is_sorted key_cmp entries.items)) }
+        ensures kinds { IfOk result (λ entries. AreOfKind entries.items) }
+        ensures config { IfOk result (λ entries. IsSome (find key_cmp Key.Config entries.items)) }
+    {
+        told(
+            self.alloc,
+            &self.entries,
+            &self.leases,
+            &mut self.copies,
+            now,
+        )
     }
 }
 

@@ -12,7 +12,7 @@ ghost use Rattle.cluster_model.specs.Limits.{most_in_flight};
 ghost use Rattle.world_model.specs.Short.{IsSent};
 
 use event_book::{EventKind, Message, MessageEvent};
-use lease_store::{Granted, Key, KeyEntry};
+use lease_store::{Copies, Granted};
 use pat_base::{Shared, Ticks};
 use std::alloc::{AllocError, Global};
 use std::collections::BTreeMap;
@@ -28,16 +28,17 @@ pub struct InFlight {
     pub message: Shared<Message>,
     /// The moment of its sending.
     pub sent: Ticks,
-    pub snapshot: Vec<(Key, KeyEntry)>,
+    pub snapshot: Option<Copies>,
     pub grant: Option<Granted>,
 }
 
 impl Model for InFlight {
     ghost use Rattle.event_book.specs.Flight.{InFlightFacts};
+    ghost use Rattle.lease_store.specs.Copied.{items_if};
 
     ghost Value = { InFlightFacts };
 
-    ghost view = { λ m. record { message = m.message; sent = m.sent; snapshot = m.snapshot.items; grant = m.grant } };
+    ghost view = { λ m. record { message = m.message; sent = m.sent; snapshot = items_if m.snapshot; grant = m.grant } };
 }
 
 /// The messages in flight, by their numbers.

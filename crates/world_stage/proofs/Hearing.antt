@@ -1,13 +1,18 @@
 -- What an agent hears, and what becomes of it.
-use Rattle.std.proofs.Common.{◌≡◌, ℕ, ◌^◌, ◌<◌, Bool, is_some, List, Option, Some, None, refl, ◌∙◌, ap, sym}
+use Rattle.std.proofs.Common.{◌≡◌, ℕ, ◌^◌, ◌<◌, Bool, is_some, List, Option, Some, None, Vec, refl, ◌∙◌, ap, sym}
 use Rattle.std.specs.Prelude.{IfSome, option_map, slice_get, slice_set}
+use Rattle.std.proofs.lemmas.Bool.{false≢true}
 use Rattle.std.proofs.lemmas.List.{set-get_or}
 use Rattle.std.proofs.lemmas.Option.{get_or_from_slice_get}
 use Rattle.pat_base.specs.declared.ticks.Ticks.{Ticks}
 use Rattle.pat_base.specs.Changes.{changed_at, with_changed}
+use Rattle.lease_store.specs.declared.key.Key.{Key}
+use Rattle.lease_store.specs.declared.value.KeyEntry.{KeyEntry}
+use Rattle.lease_store.specs.Copied.{items_if}
 use Rattle.wal_model.specs.declared.entry.HistoryPoint.{HistoryPoint}
 use Rattle.pg_model.specs.Facts.{ServerFacts}
 use Rattle.pg_cluster.specs.Servers.{without_spare}
+use Rattle.cluster_config.specs.Snapshots.{IsRead}
 use Rattle.member_options.specs.declared.member_option.MemberOptions.{MemberOptions}
 use Rattle.event_book.specs.declared.member.Member.{Member}
 use Rattle.agent_model.specs.declared.heard.Heard.{Heard}
@@ -85,3 +90,8 @@ machine-is cluster member result receives replication options deadline hold serv
 pub unspared : (found : Option ServerFacts) → IfSome (option_map without_spare found) (λ s. s.timeline < 2 ^ 60) → IfSome found (λ s. s.timeline < 2 ^ 60)
 unspared None below = tt
 unspared (Some s) below = below
+
+-- what a read tells is carried
+pub none-read : {Z : Type 0} (entries : Option (Vec (Key × KeyEntry) Z)) → entries ≡ None → IsRead (items_if entries) → ⊥
+none-read None is read = false≢true read.config
+none-read (Some entries) is read = cc

@@ -5,6 +5,7 @@ use Rattle.lease_store.specs.Answers.{present_pairs}
 use Rattle.lease_store.specs.declared.granted.Granted.{Granted}
 use Rattle.lease_store.specs.declared.key.Key.{Key}
 use Rattle.lease_store.specs.declared.value.KeyEntry.{KeyEntry}
+use Rattle.lease_store.specs.Keys.{Keys}
 use Rattle.event_book.specs.declared.event.Event.{Event}
 use Rattle.event_book.specs.declared.event.EventKind.TheVariants as kinds
 use Rattle.event_book.specs.declared.event.MessageEvent.TheVariants.{Sent, Lost}
@@ -22,6 +23,10 @@ use Rattle.world_model.proofs.Taking.{Emits-nothing, Emits-one, Emits-then}
 -- a cluster whose messages in flight are these, of which the last has this number
 abbrev pub with_flight : Cluster → Flight → ℕ → Cluster
 with_flight cluster flight sent = record cluster { facts = record cluster.facts { flight = flight; sent = sent } }
+
+-- a cluster whose key store has these
+abbrev pub with_keys : Cluster → Keys → Cluster
+with_keys cluster keys = record cluster { facts = record cluster.facts { keys = keys } }
 
 abbrev lost-if : Cluster → ℕ → Bool → Cluster
 lost-if cluster number true = cluster_after cluster (kinds.Message (Lost number))

@@ -2,6 +2,7 @@
 ghost use Rattle.std.specs.Prelude.{◌≡◌, ◌<◌, ◌≤◌, ◌+◌, ◌^◌, ◌++◌, ◌∷◌, [], length, OnOk, IfOk, slice_get, Some};
 ghost use Rattle.script_model.specs.Script.{IsLink, IsMember};
 ghost use Rattle.cluster_model.specs.Commands.{link_of};
+ghost use Rattle.cluster_model.specs.Machines.{hosts_of};
 ghost use Rattle.pat_base.specs.declared.member_id.TheConstants.{MOST_MEMBERS};
 ghost use Rattle.cluster_model.specs.Next.{declared};
 ghost use Rattle.cluster_model.specs.Starting.{cluster_of};
@@ -20,7 +21,7 @@ use event_book::{AgentProcess, Link, Member};
 use ha_loop::{Agent, Outputs};
 use lease_store::Store;
 use member_options::MemberOptions;
-use pat_base::{Host, MemberId, Name, Ticks};
+use pat_base::{Host, MemberId, Name, Shared, Ticks};
 use pg_cluster::Servers;
 use rest_paths::Routes;
 use script_model::{End, Head};
@@ -42,7 +43,7 @@ pub struct Stage {
     /// What the script declares of the members beside their names.
     options: Vec<MemberOptions>,
     /// Where members are reached, as snapshots tell agents.
-    hosts: Vec<(Name, Host)>,
+    hosts: Shared<Vec<(Name, Host)>>,
     clock: Ticks,
     store: Store,
     members: Vec<Member>,
@@ -118,7 +119,7 @@ impl Stage {
         let count = head.member_count();
         let members = members_of(alloc, head)?;
         let options = options_of(alloc, head)?;
-        let hosts = hosts_of(alloc, &options, &members)?;
+        let hosts = shared_hosts(alloc, &options, &members)?;
         let processes = processes_of(alloc, count)?;
         let deadlines = Vec::from_elem(alloc, None, count)?;
         let holds = Vec::from_elem(alloc, None, count)?;
@@ -303,4 +304,15 @@ impl Stage {
     {
         self.clock = Ticks(self.clock.0 + ticks);
     }
+}
+
+/// Where members are reached, to be shared with snapshots.
+fn shared_hosts(
+    alloc: Global,
+    options: &[MemberOptions],
+    members: &[Member],
+) -> Result<Shared<Vec<(Name, Host)>>, AllocError>
+    ensures { IfOk result (λ hosts. hosts.items ≡ hosts_of options.now members.now) }
+{
+    Shared::new(alloc, hosts_of(alloc, options, members)?)
 }

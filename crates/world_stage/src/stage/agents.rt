@@ -1,5 +1,6 @@
 //! Agents: how they are woken, hear, and are shown.
 ghost use Rattle.std.specs.Prelude.{◌≡◌, ◌≤◌, ◌*◌, [], Some, OnOk, IfOk, IfSome, option_copied, option_map, slice_get};
+ghost use Rattle.lease_store.specs.Copied.{items_if};
 ghost use Rattle.cluster_config.specs.Snapshots.{IsRead};
 ghost use Rattle.agent_model.specs.declared.heard.Heard.TheVariants as heards;
 ghost use Rattle.agent_model.specs.Agents.{IsWithin};
@@ -21,7 +22,7 @@ use agent_model::{Heard, Machine};
 use cluster_config::{AgentView, Snapshot};
 use event_book::{AgentEvent, AgentProcess, Body, Event, EventKind, LinkEnd, Member, Message};
 use ha_loop::{Agent, Outputs};
-use lease_store::{Key, KeyEntry, OperatorAction};
+use lease_store::{Copies, Key, KeyEntry, OperatorAction};
 use pat_base::{MemberId, Ticks};
 use std::alloc::AllocError;
 use std::mem;
@@ -196,15 +197,26 @@ impl Stage {
     pub fn snapshot_now(&self) -> Result<Snapshot, AllocError>
         ensures { IfOk result (λ snapshot. snapshot ≡ snapshot_at self.now) }
     {
-        self.snapshot(self.store.entries(self.clock)?)
+        self.snapshot_read(self.store.entries(self.clock)?)
     }
 
-    /// The snapshot of these entries. It fails only for want of memory.
-    fn snapshot(&self, entries: Vec<(Key, KeyEntry)>) -> Result<Snapshot, AllocError>
+    /// The snapshot of entries that nobody else has.
+    fn snapshot_read(&self, entries: Vec<(Key, KeyEntry)>) -> Result<Snapshot, AllocError>
         requires { IsRead entries.items }
         ensures { IfOk result (λ snapshot. snapshot ≡ snapshot_with self.now entries.items) }
     {
-        Snapshot::read(self.alloc, self.scope, &self.hosts, entries)
+        Snapshot::read(self.alloc, self.scope, self.hosts.get(), entries)
+    }
+
+    /// The snapshot of entries that an answer carries. It fails only where owners can't be counted any more.
+    fn snapshot(&self, entries: Option<Copies>) -> Result<Snapshot, AllocError>
+        requires { IsRead (items_if entries) }
+        ensures { IfOk result (λ snapshot. snapshot ≡ snapshot_with self.now (items_if entries)) }
+    {
+        match entries {
+            None => unreachable!(),
+            Some(entries) => Snapshot::sharing(self.scope, &self.hosts, entries),
+        }
     }
 
     /// What the agent of a member shows of itself and of its server. `None` exactly where none runs.

@@ -228,7 +228,7 @@ impl Stage {
         let carried = InFlight {
             message: message.try_clone()?,
             sent: self.clock,
-            snapshot: snapshot_for(self.alloc, &self.store, self.clock, &message.get().body)?,
+            snapshot: snapshot_for(&mut self.store, self.clock, &message.get().body)?,
             grant,
         };
         self.index.insert(number)?;

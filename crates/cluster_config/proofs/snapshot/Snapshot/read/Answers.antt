@@ -1,4 +1,4 @@
-use Rattle.std.proofs.Common.{sym, subst, List}
+use Rattle.std.proofs.Common.{◌∙◌, ap, sym, subst, List}
 use Rattle.lease_store.specs.declared.key.Key.{Key}
 use Rattle.lease_store.specs.declared.value.KeyEntry.{KeyEntry}
 use Rattle.lease_store.proofs.InOrder.{in_key_order-sorted}
@@ -12,9 +12,15 @@ returns-in_err-from_slice-clause-in_order c = in_key_order-sorted c.args.entries
 pub returns-in_err-in_key_order-clause-in_order : goal.returns-in_err-in_key_order-clause-in_order
 returns-in_err-in_key_order-clause-in_order c = in_key_order-sorted c.args.entries.items
 
+pub returns-in_err-new-clause-in_order : goal.returns-in_err-new-clause-in_order
+returns-in_err-new-clause-in_order c = in_key_order-sorted c.args.entries.items
+
+pub returns-in_err-new-2-clause-in_order : goal.returns-in_err-new-2-clause-in_order
+returns-in_err-new-2-clause-in_order c = in_key_order-sorted c.args.entries.items
+
 pub returns-clause-in_order : goal.returns-clause-in_order
 returns-clause-in_order c = in_key_order-sorted c.args.entries.items
 
 pub invariant_of-result : goal.invariant_of-result
 invariant_of-result c =
-    subst (λ (entries : List (Key × KeyEntry)). IsRead entries) (sym c.in_ok-in_key_order.ensures) (read-in_key_order c.args.entries.items c.requires.kinds c.requires.config)
+    subst (λ (entries : List (Key × KeyEntry)). IsRead entries) (sym (ap (λ v. v.items) c.in_ok-new-2.ensures ∙ c.in_ok-in_key_order.ensures)) (read-in_key_order c.args.entries.items c.requires.kinds c.requires.config)

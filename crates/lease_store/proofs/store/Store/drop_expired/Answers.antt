@@ -1,10 +1,17 @@
-use Rattle.std.proofs.Common.{ap, refl}
+use Rattle.std.proofs.Common.{ap, refl, sym, subst, List}
+use Rattle.lease_store.specs.declared.key.Key.{Key}
+use Rattle.lease_store.specs.declared.value.KeyEntry.{KeyEntry}
+use Rattle.lease_store.specs.Copied.{AreCopies}
 use Rattle.lease_store.specs.Keys.{Keys}
 use Rattle.lease_store.proofs.Answering.{kept_dropped, lost_where, same_later}
 use Rattle.lease_store.proofs.store.Store.drop_expired.Goals as goal
 
 pub invariant_of-self : goal.invariant_of-self
-invariant_of-self c = (kept_dropped _ _ _ c.drop_absent.ensures.entries c.self.invariant.0, c.drop_absent.ensures.indexed)
+invariant_of-self c = (
+  kept_dropped _ _ _ c.drop_absent.ensures.entries c.self.invariant.0,
+  c.drop_absent.ensures.indexed,
+  subst (λ (pairs : List (Key × KeyEntry)). AreCopies pairs c.forget_absent.new.copies) (sym c.drop_absent.ensures.entries) c.forget_absent.ensures,
+)
 
 pub returns-clause-dropped : goal.returns-clause-dropped
 returns-clause-dropped c =
