@@ -19,11 +19,12 @@ use Rattle.cluster_model.specs.Steps.{steps_of}
 use Rattle.serve_model.specs.Connections.{Connection}
 use Rattle.run_printing.specs.declared.print_error.PrintError.{PrintError}
 use Rattle.run_printing.specs.declared.print_error.PrintError.TheVariants as prints
-use Rattle.run_player.specs.declared.serve_error.ServeError.{ServeError}
-use Rattle.run_player.specs.declared.serve_error.ServeError.TheVariants as serves
+use Rattle.run_printing.specs.declared.serve_error.ServeError.{ServeError}
+use Rattle.run_printing.specs.declared.serve_error.ServeError.TheVariants as serves
 use Rattle.run_player.specs.Playing.{PrintsWholeSteps}
 use Rattle.run_player.specs.Run.{EndsAtStep, Played}
-use Rattle.run_player.specs.Served.{Came, after_steps, serve_error, served_of}
+use Rattle.run_player.specs.Served.{Came, after_steps, served_of}
+use Rattle.run_printing.specs.Errors.{serve_error}
 use Rattle.run_player.proofs.Closing.{write-is}
 use Rattle.run_player.proofs.Visiting.{Came-none}
 use Rattle.patroni_top.specs.Limits.{most_read}

@@ -28,12 +28,13 @@ use Rattle.pat_world.proofs.Stepping.{steps-left-behind, steps-left-fewer}
 use Rattle.run_player.specs.declared.player.Player.{Player}
 use Rattle.run_printing.specs.declared.print_error.PrintError.{PrintError}
 use Rattle.run_printing.specs.declared.print_error.PrintError.TheVariants as prints
-use Rattle.run_player.specs.declared.serve_error.ServeError.{ServeError}
-use Rattle.run_player.specs.declared.serve_error.ServeError.TheVariants.{Door, Memory, Write}
+use Rattle.run_printing.specs.declared.serve_error.ServeError.{ServeError}
+use Rattle.run_printing.specs.declared.serve_error.ServeError.TheVariants.{Door, Memory, Write}
 use Rattle.run_player.specs.Playing.{Plays}
 use Rattle.run_player.specs.Receiving.{PrintsSteps, Receives}
 use Rattle.run_player.specs.Run.{printed_from}
-use Rattle.run_player.specs.Served.{AreServed, AreWhole, Came, serve_error, visits_steps}
+use Rattle.run_player.specs.Served.{AreServed, AreWhole, Came, visits_steps}
+use Rattle.run_printing.specs.Errors.{serve_error}
 use Rattle.run_printing.specs.Showing.{Shows, ShowsWhole, lines_by_step}
 use Rattle.run_player.proofs.Played.{Plays-nothing, Plays-then, PrintsWholeSteps-none, next-text}
 use Rattle.run_player.proofs.Shown.{connection-visiting, lines-visiting, shows-whole, traced-visiting}

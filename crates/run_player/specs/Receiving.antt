@@ -10,8 +10,8 @@ use Rattle.serve_model.specs.Connections.{Connection}
 use Rattle.pat_world.specs.Steps.{TookSteps}
 use Rattle.summary_model.specs.SummaryText.{closing_text}
 use Rattle.run_player.specs.declared.player.Player.{Player}
-use Rattle.run_player.specs.declared.serve_error.ServeError.{ServeError}
-use Rattle.run_player.specs.declared.serve_error.ServeError.TheVariants.{Door, Memory, Write}
+use Rattle.run_printing.specs.declared.serve_error.ServeError.{ServeError}
+use Rattle.run_printing.specs.declared.serve_error.ServeError.TheVariants.{Door, Memory, Write}
 use Rattle.run_player.specs.Playing.{Plays, PrintsWholeSteps}
 use Rattle.run_player.specs.Run.{noted_from, printed_from}
 use Rattle.run_player.specs.Served.{Came, after_steps, served_steps, visits_steps}

@@ -16,18 +16,11 @@ use Rattle.pat_door.specs.Doors.{DoorFacts, Tells}
 use Rattle.serve_model.specs.Connections.{Connection, IsSent, Unread, Whole, bytes_due, steps_of_connection}
 use Rattle.pat_serve.specs.Serving.{IsRead}
 use Rattle.pat_world.specs.Steps.{WorldFacts}
-use Rattle.run_printing.specs.declared.print_error.PrintError.{PrintError}
-use Rattle.run_player.specs.declared.serve_error.ServeError.{ServeError}
-use Rattle.run_printing.specs.declared.print_error.PrintError.TheVariants as prints
-use Rattle.run_player.specs.declared.serve_error.ServeError.TheVariants.{Door, Memory, Write}
+use Rattle.run_printing.specs.declared.serve_error.ServeError.{ServeError}
+use Rattle.run_printing.specs.declared.serve_error.ServeError.TheVariants.{Door, Memory, Write}
 use Rattle.run_player.specs.Left.{IsLeftBy}
 use Rattle.run_player.specs.Playing.{PrintsWholeSteps}
 use Rattle.run_player.specs.Run.{Played, lines_of_run, text_of_run}
-
--- how serving ends where the output isn't whole
-abbrev pub serve_error : PrintError → ServeError
-serve_error prints.Memory = Memory
-serve_error prints.Write = Write
 
 -- what a cluster comes to by these steps
 abbrev pub after_steps : Cluster → List Step → Cluster

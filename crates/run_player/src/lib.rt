@@ -4,11 +4,10 @@
 mod drilling;
 mod player;
 mod playing;
-mod serve_error;
 mod serving;
 
 pub use drilling::drill;
 pub use pat_serve::MOST_WAITING;
 pub use playing::play;
-pub use serve_error::ServeError;
+pub use run_printing::ServeError;
 pub use serving::{Service, serve};

@@ -1,3 +1,4 @@
+pub mod Errors
 pub mod LineParts
 pub mod Showing
 pub mod Watches

@@ -2,7 +2,7 @@ use Rattle.std.proofs.Common.{◌+◌, ◌-◌, ◌*◌, ◌++◌, ◌∙◌, []
 use Rattle.std.proofs.lemmas.Result.{err_from_is_err_and}
 use Rattle.serve_model.specs.Connections.{connection_cost}
 use Rattle.pat_world.proofs.Stepping.{steps-left-fewer}
-use Rattle.run_player.specs.declared.serve_error.ServeError.TheVariants.{Door}
+use Rattle.run_printing.specs.declared.serve_error.ServeError.TheVariants.{Door}
 use Rattle.run_player.proofs.Received.{Receives-none, Receives-so, Receives-start, Receives-stop, Receives-then, door-is-no-write, err-is-not-ok, received-members, room-behind}
 use Rattle.run_player.proofs.Visiting.{Came-refused}
 use Rattle.run_player.proofs.player.Player.receive.Goals as goal

@@ -1,6 +1,6 @@
 use Rattle.std.proofs.Common.{◌+◌, ◌∙◌, [], ◌∷◌, Err, Ok, arith, ap, map, refl}
 use Rattle.std.proofs.lemmas.Result.{err_from_is_err_and}
-use Rattle.run_player.specs.declared.serve_error.ServeError.TheVariants.{Door, Memory}
+use Rattle.run_printing.specs.declared.serve_error.ServeError.TheVariants.{Door, Memory}
 use Rattle.run_player.specs.declared.player.Player.{Player}
 use Rattle.run_player.proofs.Received.{Receives-none, accepted, door-is-no-write, err-is-not-ok, memory-is-no-write, no-plays, not-door, ok-is-no-door, plays-visit, prints-part, prints-visit, receives-one, shows-so}
 use Rattle.run_player.proofs.Visiting.{Came-none-since, Came-refused}

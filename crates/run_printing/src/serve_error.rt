@@ -1,9 +1,9 @@
 //! Why connections weren't all served.
 ghost use Rattle.std.specs.Prelude.{◌≡◌};
-ghost use Rattle.run_player.specs.Served.{serve_error};
-ghost use Rattle.run_player.specs.declared.serve_error.ServeError.TheVariants.{Memory};
+ghost use Rattle.run_printing.specs.Errors.{serve_error};
+ghost use Rattle.run_printing.specs.declared.serve_error.ServeError.TheVariants.{Memory};
 
-use run_printing::PrintError;
+use crate::PrintError;
 use std::alloc::AllocError;
 use thiserror::Error;
 
