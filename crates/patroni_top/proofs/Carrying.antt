@@ -29,17 +29,19 @@ use Rattle.run_player.specs.Run.{Played, played_of, summary_of_run, text_of_run}
 use Rattle.run_player.specs.Served.{Came, Serves as ServedSo, after_steps, served_of}
 use Rattle.run_printing.specs.Errors.{serve_error}
 use Rattle.run_player.proofs.Closing.{memory-is, no-door}
-use Rattle.patroni_top.specs.Limits.{most_read}
+use Rattle.command_line.specs.Limits.{most_read}
 use Rattle.patroni_top.specs.declared.ended.Ended.{Ended}
-use Rattle.patroni_top.specs.declared.ending.Ending.{Ending}
-use Rattle.patroni_top.specs.declared.ending.Ending.TheVariants as endings
-use Rattle.patroni_top.specs.declared.status.Status.{Status}
-use Rattle.patroni_top.specs.declared.status.Status.TheVariants as statuses
-use Rattle.patroni_top.specs.Commands.{Command, Drill, Drills, EndsWhole, Formats, Generate, Makes, NoCommand, PastCount, Plan, Plays, Print, Run, Serve, Serves, UnknownMember, Verdict, heeded, member_named, plan_run, plan_text, plays, reads, service_of, verdict_in, verdict_of_count, verdict_on}
-use Rattle.patroni_top.specs.Drawing.{CanBeDrawn, RefusesToDraw}
+use Rattle.command_line.specs.declared.ending.Ending.{Ending}
+use Rattle.command_line.specs.declared.ending.Ending.TheVariants as endings
+use Rattle.command_line.specs.declared.status.Status.{Status}
+use Rattle.command_line.specs.declared.status.Status.TheVariants as statuses
+use Rattle.command_line.specs.Commands.{Command, Drill, Generate, Print, Run, Serve, heeded, plays, reads}
+use Rattle.command_line.specs.Members.{member_named}
+use Rattle.patroni_top.specs.Verdicts.{Drills, EndsWhole, Formats, Makes, NoCommand, PastCount, Plan, Plays, Says, Serves, UnknownMember, Verdict, plan_run, plan_text, service_of, verdict_in, verdict_of_count, verdict_on}
+use Rattle.command_line.specs.Drawing.{CanBeDrawn, RefusesToDraw}
 use Rattle.patroni_top.specs.Ended.{Carries, IsCarriedOut, LeavesWorld, ended_by}
 use Rattle.patroni_top.specs.Ends.{Ends, IsCut, IsVisited, serving_of}
-use Rattle.patroni_top.specs.Status.{IsRefusal, Refuses, Says, ending_of_print, ending_of_serve, status_of}
+use Rattle.command_line.specs.Status.{IsRefusal, Refuses, ending_of_print, ending_of_serve, status_of}
 use Rattle.patroni_top.proofs.Endings.{Ends-done, Ends-faulty, Ends-past, Ends-refused, Ends-stopped, Ends-wanting, IsQuiet, Reads, plays-only, prints-so, quiet, refusal-says, script-makes, steps-cut}
 
 -- an ending in which the input gives no script

@@ -27,14 +27,15 @@ use Rattle.run_player.specs.Served.{Came, after_steps, served_of}
 use Rattle.run_printing.specs.Errors.{serve_error}
 use Rattle.run_player.proofs.Closing.{write-is}
 use Rattle.run_player.proofs.Visiting.{Came-none}
-use Rattle.patroni_top.specs.Limits.{most_read}
-use Rattle.patroni_top.specs.declared.ending.Ending.{Ending}
-use Rattle.patroni_top.specs.declared.ending.Ending.TheVariants as endings
-use Rattle.patroni_top.specs.declared.status.Status.{Status}
-use Rattle.patroni_top.specs.declared.status.Status.TheVariants as statuses
-use Rattle.patroni_top.specs.Commands.{Drills, EndsWhole, Faulty, Formats, IfPlayed, Makes, NoCommand, PastCount, PastLimit, Plan, Plays, Serves, UnknownMember, Verdict, heeded, plan_run, plan_text, service_of, verdict_by, verdict_in}
+use Rattle.command_line.specs.Limits.{most_read}
+use Rattle.command_line.specs.declared.ending.Ending.{Ending}
+use Rattle.command_line.specs.declared.ending.Ending.TheVariants as endings
+use Rattle.command_line.specs.declared.status.Status.{Status}
+use Rattle.command_line.specs.declared.status.Status.TheVariants as statuses
+use Rattle.command_line.specs.Commands.{heeded}
+use Rattle.patroni_top.specs.Verdicts.{Drills, EndsWhole, Faulty, Formats, IfPlayed, Makes, NoCommand, PastCount, PastLimit, Plan, Plays, Says, Serves, UnknownMember, Verdict, plan_run, plan_text, service_of, verdict_by, verdict_in}
 use Rattle.patroni_top.specs.Ends.{Ends, IsBroken, IsCut, IsDone, IsFaulty, IsHalted, IsPastLimit, IsServedBy, IsVisited, serving_of}
-use Rattle.patroni_top.specs.Status.{status_of, ending_of_print, ending_of_serve, Refuses, Says, IsRefusal}
+use Rattle.command_line.specs.Status.{status_of, ending_of_print, ending_of_serve, Refuses, IsRefusal}
 
 -- an ending that refuses bytes says what comes of them
 pub refusal-says : (waited : ℕ) (makes : ScriptText → Verdict) (ending : Ending) (bytes : List ℕ) → IsRefusal ending → Refuses waited ending bytes → Says ending (verdict_in waited makes bytes)

@@ -43,7 +43,9 @@ use Rattle.patroni_top.specs.Claims.{KeepsPromises}
 use Rattle.generator_model.proofs.BodyLaws.{generated-IsScript}
 use Rattle.generator_model.specs.Generating.{generated_script}
 use Rattle.generator_model.specs.declared.bounds.TheConstants.{MOST_GENERATED}
-use Rattle.patroni_top.specs.Commands.{Command, Drill, Drills, Formats, Generate, IfPlayed, Makes, PastCount, Plays, Print, Run, Serve, Verdict, member_named, service_of, verdict_by, verdict_in, verdict_of}
+use Rattle.command_line.specs.Commands.{Command, Drill, Generate, Print, Run, Serve}
+use Rattle.command_line.specs.Members.{member_named}
+use Rattle.patroni_top.specs.Verdicts.{Drills, Formats, IfPlayed, Makes, PastCount, Plays, Verdict, service_of, verdict_by, verdict_in, verdict_of}
 use Rattle.patroni_top.proofs.Books.{book-by-step, named-steps, steps-tell}
 
 armable : (mode : Mode) (works : Bool) → not (is_off mode) && works ≡ is_armable mode works

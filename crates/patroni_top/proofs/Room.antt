@@ -13,8 +13,8 @@ use Rattle.script_model.specs.Script.{ScriptText, line_text, names_of}
 use Rattle.script_model.specs.Ticks.{ticks_of_line, total_ticks}
 use Rattle.serve_model.specs.Connections.{connection_cost, most_waiting}
 use Rattle.world_model.specs.Room.{most_steps}
-use Rattle.patroni_top.specs.Drawing.{CanBeDrawn}
-use Rattle.patroni_top.specs.Limits.{KeepsLimits}
+use Rattle.command_line.specs.Drawing.{CanBeDrawn}
+use Rattle.command_line.specs.Limits.{KeepsLimits}
 
 -- a body has no more steps than ticks and lines
 line-steps : (line : Line) → length (steps_of_line line) ≤ ticks_of_line line + 1

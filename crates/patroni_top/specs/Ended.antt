@@ -8,12 +8,13 @@ use Rattle.serve_model.specs.Connections.{Connection}
 use Rattle.pat_world.specs.Steps.{WorldFacts}
 use Rattle.run_player.specs.Left.{IsLeftBy}
 use Rattle.patroni_top.specs.declared.ended.Ended.{Ended}
-use Rattle.patroni_top.specs.declared.ending.Ending.{Ending}
-use Rattle.patroni_top.specs.declared.ending.Ending.TheVariants as endings
-use Rattle.patroni_top.specs.declared.status.Status.TheVariants as statuses
-use Rattle.patroni_top.specs.Commands.{Command, IfPlayed, Verdict, heeded, plays, reads, verdict_of, verdict_on}
+use Rattle.command_line.specs.declared.ending.Ending.{Ending}
+use Rattle.command_line.specs.declared.ending.Ending.TheVariants as endings
+use Rattle.command_line.specs.declared.status.Status.TheVariants as statuses
+use Rattle.command_line.specs.Commands.{Command, heeded, plays, reads}
+use Rattle.patroni_top.specs.Verdicts.{IfPlayed, Says, Verdict, verdict_of, verdict_on}
 use Rattle.patroni_top.specs.Ends.{Ends}
-use Rattle.patroni_top.specs.Status.{Says, status_of}
+use Rattle.command_line.specs.Status.{status_of}
 
 -- how a run ended that leaves something where all is done
 abbrev pub ending_in : {A : Type 0} → Result A Ending → Ending

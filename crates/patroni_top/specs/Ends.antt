@@ -10,10 +10,11 @@ use Rattle.run_printing.specs.declared.serve_error.ServeError.{ServeError}
 use Rattle.run_printing.specs.declared.serve_error.ServeError.TheVariants as errors
 use Rattle.run_player.specs.Run.{lines_of_run}
 use Rattle.run_player.specs.Served.{Came, after_steps, served_of}
-use Rattle.patroni_top.specs.declared.status.Status.{Status}
-use Rattle.patroni_top.specs.declared.status.Status.TheVariants as statuses
-use Rattle.patroni_top.specs.Limits.{most_read}
-use Rattle.patroni_top.specs.Commands.{EndsWhole, Faulty, Makes, PastCount, PastLimit, Plan, Serves, UnknownMember, Verdict, heeded, plan_text}
+use Rattle.command_line.specs.declared.status.Status.{Status}
+use Rattle.command_line.specs.declared.status.Status.TheVariants as statuses
+use Rattle.command_line.specs.Limits.{most_read}
+use Rattle.command_line.specs.Commands.{heeded}
+use Rattle.patroni_top.specs.Verdicts.{EndsWhole, Faulty, Makes, PastCount, PastLimit, Plan, Serves, UnknownMember, Verdict, plan_text}
 
 -- the input is no script, or declares no such member
 abbrev pub IsFaulty : Verdict → Type 0

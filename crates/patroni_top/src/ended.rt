@@ -1,5 +1,5 @@
 //! How a run ended, with the world that it leaves.
-use crate::Status;
+use command_line::Status;
 use pat_world::World;
 
 /// How a run ended, with the world that it leaves.

@@ -3,16 +3,9 @@
 //! `run` is all that the program does. It answers how it ended, with the world that a run leaves.
 #![tactic(auto)]
 
-mod drawing;
 mod ended;
-mod ending;
-mod members;
-mod order;
-mod printing;
-mod reading;
-mod status;
 mod top;
 
+pub use command_line::Status;
 pub use ended::Ended;
-pub use status::Status;
 pub use top::run;

@@ -3,19 +3,17 @@ ghost use Rattle.std.specs.Prelude.{List, ◌≡◌, ◌↔◌, None, map, strin
 ghost use Rattle.pat_outside.specs.Outside.{Known};
 ghost use Rattle.serve_model.specs.Connections.{Connection};
 ghost use Rattle.patroni_top.specs.Claims.{KeepsPromises};
-ghost use Rattle.patroni_top.specs.Commands.{IfPlayed, Serve, command_of, heeded, order_command, reads, verdict_of};
+ghost use Rattle.command_line.specs.Commands.{Serve, command_of, heeded, order_command, reads};
+ghost use Rattle.command_line.specs.Status.{status_of, message_of, IsReported};
 ghost use Rattle.patroni_top.specs.Ended.{Carries, IsCarriedOut};
-ghost use Rattle.patroni_top.specs.Status.{status_of, message_of, Says, IsReported};
+ghost use Rattle.patroni_top.specs.Verdicts.{IfPlayed, Says, verdict_of};
 
-use crate::drawing::drawn_script;
-use crate::ending::{Ending, message};
-use crate::members::member_named;
-use crate::order::Order;
-use crate::printing::print_script;
-use crate::reading::script_from;
-use crate::{Ended, Status};
+use crate::Ended;
+use command_line::{
+    Ending, Order, Status, drawn_script, member_named, print_script, report, script_from,
+};
 use pat_door::Door;
-use pat_outside::{Sink, Source, write_all};
+use pat_outside::{Sink, Source};
 use pat_world::World;
 use run_player::{MOST_WAITING, Service, drill, play, serve};
 use std::alloc::Global;
@@ -145,12 +143,4 @@ fn serve_script<S: Source, K: Sink, D: Door>(
     };
     let world = serve(alloc, &script, &service, door, out)?;
     Ok(Some(world))
-}
-
-/// Says in one line what isn't done.
-fn report<E: Sink>(err: &mut E, ending: Ending)
-    ensures { IsReported E.Sink err.old err.new (message_of ending) }
-{
-    let line = message(ending);
-    let _ = write_all(err, line.as_str().as_bytes());
 }

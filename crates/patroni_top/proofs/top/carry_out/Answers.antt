@@ -8,7 +8,8 @@ use Rattle.pat_world.specs.Steps.{WorldFacts}
 use Rattle.run_printing.specs.declared.print_error.PrintError.TheVariants.{Write}
 use Rattle.run_player.specs.Left.{IsLeftBy}
 use Rattle.run_player.specs.Run.{played_of, summary_of_run}
-use Rattle.patroni_top.specs.Commands.{Formats, Makes, Plays, Print, Run}
+use Rattle.command_line.specs.Commands.{Print, Run}
+use Rattle.patroni_top.specs.Verdicts.{Formats, Makes, Plays}
 use Rattle.patroni_top.proofs.Carrying.{drilled-part, drilled-whole, formatted-part, formatted-whole, generated-part, generated-whole, not-drilled, not-generated, printed-part, printed-whole, refused}
 use Rattle.patroni_top.proofs.Room.{room-alone, room-drawn}
 use Rattle.patroni_top.proofs.top.carry_out.Goals as goal

@@ -1,7 +1,7 @@
 use Rattle.std.proofs.Common.{◌∙◌, None, Err, map, option_map, sym, ap}
 use Rattle.std.specs.String.{string_bytes}
-use Rattle.patroni_top.specs.declared.status.Status.{Status}
-use Rattle.patroni_top.specs.Commands.{command_of, order_command}
+use Rattle.command_line.specs.declared.status.Status.{Status}
+use Rattle.command_line.specs.Commands.{command_of, order_command}
 use Rattle.patroni_top.proofs.Carrying.{asked, unasked}
 use Rattle.patroni_top.proofs.Premises.{promises-kept}
 use Rattle.patroni_top.proofs.top.run.Goals as goal

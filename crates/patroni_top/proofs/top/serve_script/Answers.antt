@@ -1,11 +1,13 @@
 use Rattle.std.proofs.Common.{◌∙◌, ◌*◌, Err, ap, refl}
 use Rattle.std.proofs.lemmas.Result.{err_from_is_err_and}
 use Rattle.serve_model.specs.Connections.{most_waiting}
-use Rattle.patroni_top.specs.Commands.{Serve, member_named, service_of}
+use Rattle.command_line.specs.Commands.{Serve}
+use Rattle.command_line.specs.Members.{member_named}
+use Rattle.patroni_top.specs.Verdicts.{service_of}
 use Rattle.patroni_top.proofs.Carrying.{refused, served-part, served-whole, unknown}
 use Rattle.patroni_top.proofs.Endings.{quiet-service}
-use Rattle.patroni_top.proofs.Input.{keeps-counted, read-counted, refuses-counted}
-use Rattle.patroni_top.proofs.Naming.{found-in}
+use Rattle.command_line.proofs.Input.{keeps-counted, read-counted, refuses-counted}
+use Rattle.command_line.proofs.Naming.{found-in}
 use Rattle.patroni_top.proofs.Room.{room-behind}
 use Rattle.patroni_top.proofs.top.serve_script.Goals as goal
 

@@ -3,8 +3,8 @@ ghost use Rattle.std.specs.Prelude.{◌≡◌, ◌≢◌, Some, None, Ok, Err, [
 ghost use Rattle.pat_outside.specs.Outside.{Known, Rose, Consumed};
 ghost use Rattle.script_grammar.specs.Limits.{limit_of};
 ghost use Rattle.script_grammar.specs.Reading.{script_of};
-ghost use Rattle.patroni_top.specs.Limits.{KeepsLimits, most_read};
-ghost use Rattle.patroni_top.specs.Status.{Refuses, IsRefusal};
+ghost use Rattle.command_line.specs.Limits.{KeepsLimits, most_read};
+ghost use Rattle.command_line.specs.Status.{Refuses, IsRefusal};
 
 use crate::ending::Ending;
 use cluster_script::ScriptLines;

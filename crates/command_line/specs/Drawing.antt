@@ -1,8 +1,8 @@
 -- How many lines may be drawn.
 use Rattle.std.specs.Prelude.{ℕ, ◌≤◌, ◌<◌}
 use Rattle.generator_model.specs.declared.bounds.TheConstants.{MOST_GENERATED}
-use Rattle.patroni_top.specs.declared.ending.Ending.{Ending}
-use Rattle.patroni_top.specs.declared.ending.Ending.TheVariants as endings
+use Rattle.command_line.specs.declared.ending.Ending.{Ending}
+use Rattle.command_line.specs.declared.ending.Ending.TheVariants as endings
 
 -- so many lines may be drawn
 abbrev pub CanBeDrawn : ℕ → Type 0

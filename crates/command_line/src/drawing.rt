@@ -1,7 +1,7 @@
 //! Scripts that nobody wrote.
 ghost use Rattle.std.specs.Prelude.{◌≡◌, IfOk, IfErr};
 ghost use Rattle.generator_model.specs.Generating.{generated_script};
-ghost use Rattle.patroni_top.specs.Drawing.{CanBeDrawn, RefusesToDraw};
+ghost use Rattle.command_line.specs.Drawing.{CanBeDrawn, RefusesToDraw};
 
 use crate::ending::Ending;
 use generator_model::MOST_GENERATED;

@@ -23,7 +23,7 @@ pub enum Status {
 
 impl Status {
     ghost use Rattle.std.specs.Prelude.{◌≡◌};
-    ghost use Rattle.patroni_top.specs.Status.{code_of};
+    ghost use Rattle.command_line.specs.Status.{code_of};
 
     /// The exit status.
     pub fn code(self) -> u8

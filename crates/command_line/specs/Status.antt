@@ -12,15 +12,14 @@ use Rattle.script_grammar.specs.declared.script_fault.ScriptFault.TheVariants as
 use Rattle.script_words.specs.Faults.{text_of}
 use Rattle.script_grammar.specs.Limits.{limit_text, limit_of}
 use Rattle.script_grammar.specs.Reading.{script_of}
-use Rattle.patroni_top.specs.declared.ending.Ending.{Ending}
-use Rattle.patroni_top.specs.declared.ending.Ending.TheVariants as endings
+use Rattle.command_line.specs.declared.ending.Ending.{Ending}
+use Rattle.command_line.specs.declared.ending.Ending.TheVariants as endings
 use Rattle.run_printing.specs.declared.print_error.PrintError.{PrintError}
 use Rattle.run_printing.specs.declared.print_error.PrintError.TheVariants as prints
 use Rattle.run_printing.specs.declared.serve_error.ServeError.{ServeError}
 use Rattle.run_printing.specs.declared.serve_error.ServeError.TheVariants as serves
-use Rattle.patroni_top.specs.declared.status.Status.{Status}
-use Rattle.patroni_top.specs.declared.status.Status.TheVariants as statuses
-use Rattle.patroni_top.specs.Commands.{Faulty, PastCount, PastLimit, UnknownMember, Verdict}
+use Rattle.command_line.specs.declared.status.Status.{Status}
+use Rattle.command_line.specs.declared.status.Status.TheVariants as statuses
 
 -- the number of an exit status
 abbrev pub code_of : Status → ℕ
@@ -45,14 +44,6 @@ status_of endings.Memory = statuses.Memory
 status_of endings.DoorFault = statuses.DoorFault
 status_of (endings.Limit limit) = statuses.Limit
 status_of endings.PastCount = statuses.Limit
-
--- what an ending says of what came of the words and the input: the fault with its line, or the limit, is the input's
-abbrev pub Says : Ending → Verdict → Type 0
-Says (endings.NotScript line fault) verdict = verdict ≡ Faulty line fault
-Says endings.UnknownMember verdict = verdict ≡ UnknownMember
-Says (endings.Limit limit) verdict = verdict ≡ PastLimit limit
-Says endings.PastCount verdict = verdict ≡ PastCount
-Says _ verdict = Unit {0}
 
 -- an ending refuses bytes that are to be a script for what they are, where so many ticks come beside those of its lines
 abbrev pub Refuses : ℕ → Ending → List ℕ → Type 0

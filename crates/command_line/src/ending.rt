@@ -1,14 +1,13 @@
 //! How a run ended, with what is told of it.
 ghost use Rattle.std.specs.Prelude.{◌≡◌, ◌≤◌, length};
-ghost use Rattle.patroni_top.specs.Status.{ending_of_read, ending_of_fault, ending_of_print, ending_of_serve, fault_line, limit_line, message_of};
-ghost use Rattle.patroni_top.specs.declared.ending.Ending.TheVariants as endings;
+ghost use Rattle.command_line.specs.Status.{ending_of_read, ending_of_fault, ending_of_print, ending_of_serve, fault_line, limit_line, message_of};
+ghost use Rattle.command_line.specs.declared.ending.Ending.TheVariants as endings;
 
 use crate::Status;
 use arrayvec::ArrayString;
 use itoa::Buffer;
 use pat_outside::ReadError;
-use run_player::ServeError;
-use run_printing::PrintError;
+use run_printing::{PrintError, ServeError};
 use script_grammar::{Limit, ScriptFault, limit_text};
 use script_words::{Fault, fault_text};
 use std::alloc::AllocError;
@@ -36,7 +35,7 @@ pub enum Ending {
 }
 
 impl Ending {
-    ghost use Rattle.patroni_top.specs.Status.{status_of};
+    ghost use Rattle.command_line.specs.Status.{status_of};
 
     /// The exit status of this ending.
     pub fn status(self) -> Status

@@ -4,7 +4,7 @@ use Rattle.pat_outside.specs.declared.outside.Failed.{Failed}
 use Rattle.pat_outside.specs.declared.outside.Sink.{Ghosts}
 use Rattle.pat_outside.specs.Prints.{Prints, failed}
 use Rattle.pat_outside.proofs.Contents.{GrewByPrefix-all}
-use Rattle.patroni_top.specs.Status.{IsReported}
+use Rattle.command_line.specs.Status.{IsReported}
 
 told : {E X : Type 0} {sink : Ghosts E} {before after : E} {line : List ℕ} (result : Result X Failed) → Prints sink before after failed result line → IsReported sink before after line
 told {sink = sink} {before = before} {after = after} {line = line} (Ok done) p = record {

@@ -1,6 +1,6 @@
 //! What the words of a command line ask for.
 ghost use Rattle.std.specs.Prelude.{◌≡◌, map, option_map, string_bytes, Some};
-ghost use Rattle.patroni_top.specs.Commands.{command_in, command_of, making_in, order_command, service_in};
+ghost use Rattle.command_line.specs.Commands.{command_in, command_of, making_in, order_command, service_in};
 
 use script_words::number;
 

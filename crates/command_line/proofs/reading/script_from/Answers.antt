@@ -2,8 +2,8 @@ use Rattle.std.proofs.Common.{◌∙◌, ap, sym, Some}
 use Rattle.std.proofs.lemmas.Result.{IfOk-weaker, IfErr-weaker}
 use Rattle.script_grammar.specs.Limits.{limit_of}
 use Rattle.script_grammar.specs.Reading.{script_of}
-use Rattle.patroni_top.proofs.Input.{limit_of-take, reads-all, Refuses-all}
-use Rattle.patroni_top.proofs.reading.script_from.Goals as goal
+use Rattle.command_line.proofs.Input.{limit_of-take, reads-all, Refuses-all}
+use Rattle.command_line.proofs.reading.script_from.Goals as goal
 
 pub returns-clause-script : goal.returns-clause-script
 returns-clause-script g c =

@@ -1,7 +1,7 @@
 //! Members by their names.
 ghost use Rattle.std.specs.Prelude.{◌≡◌, Some, IfSome, slice_get};
 ghost use Rattle.script_model.specs.Script.{IsMember, MemberText, names_of};
-ghost use Rattle.patroni_top.specs.Commands.{is_named, member_named};
+ghost use Rattle.command_line.specs.Members.{is_named, member_named};
 
 use pat_base::MemberId;
 use script_model::Head;

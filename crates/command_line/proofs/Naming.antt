@@ -8,7 +8,7 @@ use Rattle.std.proofs.lemmas.Option.{slice_get_cases}
 use Rattle.pat_base.specs.declared.member_id.MemberId.{MemberId}
 use Rattle.pat_base.specs.MemberId.{member_of}
 use Rattle.script_model.specs.Script.{HeadText, MemberText}
-use Rattle.patroni_top.specs.Commands.{is_named, member_named}
+use Rattle.command_line.specs.Members.{is_named, member_named}
 
 -- the member of this name among those from a place on
 abbrev pub named_from : List ℕ → List MemberText → ℕ → Option MemberId

@@ -1,6 +1,6 @@
 use Rattle.std.proofs.Common.{◌<◌, ℕ, ◌∙◌, subst, sym}
-use Rattle.patroni_top.proofs.Naming.{named-all, named-behind, named-here}
-use Rattle.patroni_top.proofs.members.member_named.Goals as goal
+use Rattle.command_line.proofs.Naming.{named-all, named-behind, named-here}
+use Rattle.command_line.proofs.members.member_named.Goals as goal
 
 pub loop-place-init : goal.loop-place-init
 loop-place-init c = named-all c.args.name.now c.args.head.now

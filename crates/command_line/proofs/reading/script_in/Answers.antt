@@ -2,7 +2,7 @@ use Rattle.std.proofs.Common.{◌∙◌, ap, sym}
 use Rattle.script_grammar.specs.Limits.{limit_of}
 use Rattle.script_grammar.specs.Reading.{script_of}
 use Rattle.script_grammar.proofs.LimitLaws.{within-limits}
-use Rattle.patroni_top.proofs.reading.script_in.Goals as goal
+use Rattle.command_line.proofs.reading.script_in.Goals as goal
 
 pub returns-clause-few : goal.returns-clause-few
 returns-clause-few c =

@@ -7,11 +7,11 @@ use Rattle.script_grammar.specs.Limits.{limit_of, most_bytes, most_ticks, ticks_
 use Rattle.script_grammar.specs.Reading.{script_of}
 use Rattle.script_words.specs.Lines.{lines_in}
 use Rattle.script_model.specs.Script.{ScriptText}
-use Rattle.patroni_top.specs.Limits.{KeepsLimits, most_read}
+use Rattle.command_line.specs.Limits.{KeepsLimits, most_read}
 use Rattle.script_grammar.specs.declared.limit.Limit.TheVariants.{Bytes}
-use Rattle.patroni_top.specs.declared.ending.Ending.{Ending}
-use Rattle.patroni_top.specs.declared.ending.Ending.TheVariants as endings
-use Rattle.patroni_top.specs.Status.{Refuses}
+use Rattle.command_line.specs.declared.ending.Ending.{Ending}
+use Rattle.command_line.specs.declared.ending.Ending.TheVariants as endings
+use Rattle.command_line.specs.Status.{Refuses}
 
 too-long : (waited : ℕ) (bytes : List ℕ) → most_bytes < length bytes → limit_of waited bytes ≡ Some Bytes
 too-long waited bytes long =

@@ -1,0 +1,3 @@
+pub mod Input
+pub mod Naming
+pub mod Telling
