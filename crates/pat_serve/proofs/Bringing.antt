@@ -14,7 +14,7 @@ use Rattle.cluster_model.specs.Steps.{names_in}
 use Rattle.world_model.specs.Emits.{Emits}
 use Rattle.world_model.proofs.Taking.{cluster_over-append, members-stay}
 use Rattle.world_model.specs.Room.{step_cost}
-use Rattle.pat_world.specs.Book.{events_by_step}
+use Rattle.run_model.specs.Run.{events_by_step}
 use Rattle.pat_world.specs.Steps.{HasStepsLeft, TookSteps, WorldFacts}
 use Rattle.pat_world.proofs.IdleTicks.{run_events-both}
 use Rattle.pat_world.proofs.Stepping.{TookSteps-none, TookSteps-then, steps-left-behind, steps-left-fewer}

@@ -11,7 +11,7 @@ use Rattle.lease_runs.proofs.Fencing.{fenced-behind}
 use Rattle.lease_runs.proofs.MeasuredRuns.{runs-fenced}
 use Rattle.world_model.specs.Emits.{Emits}
 use Rattle.pat_world.specs.Fenced.{KeepsFencing}
-use Rattle.pat_world.proofs.OneWriter.{run_events-last}
+use Rattle.run_model.proofs.Steps.{run_events-last}
 
 pub step-fenced : (before after : Cluster) (had has : List Event) (step : Step) (cost : _) → had ≡ [] → Emits before after had has (next_events before step) cost → KeepsFencing before has
 step-fenced before after had has step cost none took = λ head steps stands.

@@ -13,7 +13,7 @@ use Rattle.commit_runs.proofs.EveryRun.{runs-in-order, runs-keep}
 use Rattle.world_model.specs.Emits.{Emits}
 use Rattle.pat_world.specs.KeptCommits.{KeepsAcknowledged}
 use Rattle.pat_world.proofs.IdleTicks.{run_events-both}
-use Rattle.pat_world.proofs.OneWriter.{run_events-last}
+use Rattle.run_model.proofs.Steps.{run_events-last}
 
 -- what every run keeps is kept behind one more step, and behind more steps at once
 module _ (claim : HeadText → List Event → Type 0) (every : (head : HeadText) → IsHead head → (steps : List Step) → claim head (run_events (cluster_of head) steps)) where

@@ -1,8 +1,7 @@
 -- A step of a world that a run brought keeps one writer, whom alone a load balancer finds.
-use Rattle.std.proofs.Common.{◌≡◌, ℕ, List, [], ◌∷◌, ◌++◌, append-nil, append_assoc, ◌∙◌, ap, sym}
+use Rattle.std.proofs.Common.{◌≡◌, ℕ, List, [], ◌∷◌, ◌++◌, ◌∙◌, ap, sym}
 use Rattle.cluster_model.specs.declared.step.Step.{Step}
 use Rattle.event_book.specs.declared.event.Event.{Event}
-use Rattle.cluster_model.specs.Cluster.{cluster_over}
 use Rattle.cluster_model.specs.Next.{next_events, run_events}
 use Rattle.cluster_model.specs.Starting.{cluster_of}
 use Rattle.cluster_model.specs.State.{Cluster}
@@ -11,17 +10,7 @@ use Rattle.world_model.specs.Emits.{Emits}
 use Rattle.rest_law.proofs.Found.{one-found}
 use Rattle.pat_world.specs.OnePrimary.{KeepsOnePrimary}
 use Rattle.pat_world.specs.OneWriter.{KeepsOneWriter}
-use Rattle.world_model.proofs.Taking.{cluster_over-append}
-
--- the events of steps and of one more
-pub run_events-last : (start : Cluster) (steps : List Step) (step : Step) → run_events start (steps ++ step ∷ []) ≡ run_events start steps ++ next_events (cluster_over start (run_events start steps)) step
-run_events-last start [] step = append-nil (next_events start step)
-run_events-last start (first ∷ steps) step =
-    let taken = next_events start first in
-    let later : Cluster = cluster_over start taken in
-    ap (λ es. taken ++ es) (run_events-last later steps step)
-    ∙ sym (append_assoc taken (run_events later steps) (next_events (cluster_over later (run_events later steps)) step))
-    ∙ ap (λ (c : Cluster). (taken ++ run_events later steps) ++ next_events c step) (sym (cluster_over-append start taken (run_events later steps)))
+use Rattle.run_model.proofs.Steps.{run_events-last}
 
 pub step-keeps : (before after : Cluster) (had has : List Event) (step : Step) (cost : ℕ) → had ≡ [] → Emits before after had has (next_events before step) cost → KeepsOneWriter before has
 step-keeps before after had has step cost none took = record {

@@ -1,5 +1,5 @@
 -- Which books a world stands for.
-use Rattle.std.specs.Prelude.{ℕ, ◌≡◌, ◌<◌, ◌++◌, List, [], ◌∷◌, length}
+use Rattle.std.specs.Prelude.{ℕ, ◌≡◌, ◌<◌, ◌++◌, List, length}
 use Rattle.event_book.specs.declared.event.Event.{Event}
 use Rattle.event_book.specs.Acknowledged.{acknowledged_in}
 use Rattle.event_book.specs.Logs.{logs_in, logs_over}
@@ -26,10 +26,3 @@ pub record StandsFor (start : Cluster) (book : List Event) (world : Cluster) : T
 -- the events that a step adds to a book
 abbrev pub next_of : Cluster → List Event → Step → List Event
 next_of start book step = next_events (left_by start book) step
-
--- the events of each of these steps, from a cluster on
-abbrev pub events_by_step : Cluster → List Step → List (List Event)
-events_by_step cluster [] = []
-events_by_step cluster (step ∷ more) =
-    let events = next_events cluster step in
-    events ∷ events_by_step (cluster_over cluster events) more

@@ -22,8 +22,9 @@ use Rattle.run_printing.specs.declared.print_error.PrintError.TheVariants as pri
 use Rattle.run_printing.specs.declared.serve_error.ServeError.{ServeError}
 use Rattle.run_printing.specs.declared.serve_error.ServeError.TheVariants as serves
 use Rattle.run_player.specs.Playing.{PrintsWholeSteps}
-use Rattle.run_player.specs.Run.{EndsAtStep, Played}
-use Rattle.run_player.specs.Served.{Came, after_steps, served_of}
+use Rattle.run_model.specs.Run.{EndsAtStep, Played}
+use Rattle.run_model.specs.Visits.{after_steps, served_of}
+use Rattle.run_player.specs.Served.{Came}
 use Rattle.run_printing.specs.Errors.{serve_error}
 use Rattle.run_player.proofs.Closing.{write-is}
 use Rattle.run_player.proofs.Visiting.{Came-none}

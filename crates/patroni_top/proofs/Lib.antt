@@ -1,5 +1,4 @@
-pub mod Books
 pub mod Carrying
 pub mod Endings
-pub mod Premises
+pub mod Promised
 pub mod Room

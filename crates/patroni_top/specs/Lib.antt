@@ -1,4 +1,3 @@
-pub mod Claims
 pub mod Ended
 pub mod Ends
 pub mod Verdicts

@@ -9,8 +9,8 @@ use Rattle.generator_model.specs.Generating.{generated_script}
 use Rattle.generator_model.specs.declared.bounds.TheConstants.{MOST_GENERATED}
 use Rattle.script_model.specs.Script.{ScriptText, spelling_of}
 use Rattle.serve_model.specs.Connections.{Connection, most_waiting}
-use Rattle.run_player.specs.Run.{EndsAtStep, Played, played_of, summary_of_run, text_of_run}
-use Rattle.run_player.specs.Served.{served_of}
+use Rattle.run_model.specs.Run.{EndsAtStep, Played, played_of, summary_of_run, text_of_run}
+use Rattle.run_model.specs.Visits.{served_of}
 use Rattle.command_line.specs.Commands.{Command, Drill, Generate, Print, Run, Serve}
 use Rattle.command_line.specs.Members.{member_named}
 use Rattle.command_line.specs.declared.ending.Ending.{Ending}

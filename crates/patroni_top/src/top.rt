@@ -2,7 +2,7 @@
 ghost use Rattle.std.specs.Prelude.{List, ◌≡◌, ◌↔◌, None, map, string_bytes};
 ghost use Rattle.pat_outside.specs.Outside.{Known};
 ghost use Rattle.serve_model.specs.Connections.{Connection};
-ghost use Rattle.patroni_top.specs.Claims.{KeepsPromises};
+ghost use Rattle.promise_law.specs.Claims.{KeepsPromises};
 ghost use Rattle.command_line.specs.Commands.{Serve, command_of, heeded, order_command, reads};
 ghost use Rattle.command_line.specs.Status.{status_of, message_of, IsReported};
 ghost use Rattle.patroni_top.specs.Ended.{Carries, IsCarriedOut};

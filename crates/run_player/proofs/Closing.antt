@@ -29,10 +29,11 @@ use Rattle.run_printing.specs.declared.serve_error.ServeError.{ServeError}
 use Rattle.run_printing.specs.declared.serve_error.ServeError.TheVariants.{Door, Memory, Write}
 use Rattle.run_player.specs.Playing.{Plays, PrintsWholeSteps}
 use Rattle.run_player.specs.Receiving.{Receives, ReceivesAll}
-use Rattle.run_player.specs.Run.{lines_of_run, noted_from, printed_from, text_of_run}
-use Rattle.run_player.specs.Served.{Came, Serves, after_steps, served_of, served_steps, visits_steps}
+use Rattle.run_model.specs.Run.{lines_of_run, noted_from, printed_from, text_of_run}
+use Rattle.run_model.specs.Visits.{after_steps, served_of, served_steps, visits_steps}
+use Rattle.run_player.specs.Served.{Came, Serves}
 use Rattle.run_printing.specs.Errors.{serve_error}
-use Rattle.run_printing.specs.Watches.{first_summary}
+use Rattle.run_model.specs.Watches.{first_summary}
 use Rattle.run_player.proofs.Played.{Plays-then, PrintsWholeSteps-none, next-text}
 use Rattle.run_player.proofs.Visiting.{Came-none, Came-stop, visits-few}
 use Rattle.run_player.proofs.Whole.{left-by, text-is}

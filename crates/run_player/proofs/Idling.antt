@@ -22,8 +22,7 @@ use Rattle.pat_world.specs.Steps.{TookSteps}
 use Rattle.run_player.specs.declared.player.Player.{Player}
 use Rattle.run_printing.specs.declared.print_error.PrintError.TheVariants.{Write}
 use Rattle.run_player.specs.Playing.{Idles, Plays}
-use Rattle.run_player.specs.Run.{noted_from, printed_from, traced_after, traced_over}
-use Rattle.pat_world.specs.Book.{events_by_step}
+use Rattle.run_model.specs.Run.{events_by_step, noted_from, printed_from, traced_after, traced_over}
 
 -- a tick changes nothing of what is traced
 traced-once : (trace : Bool) (step : Step) → IsTick step → traced_after trace step ≡ trace

@@ -29,7 +29,7 @@ use Rattle.run_player.specs.declared.player.Player.{Player}
 use Rattle.run_printing.specs.declared.print_error.PrintError.{PrintError}
 use Rattle.run_printing.specs.declared.print_error.PrintError.TheVariants.{Memory, Write}
 use Rattle.run_player.specs.Playing.{Plays, PrintsWholeSteps}
-use Rattle.run_player.specs.Run.{noted_from, printed_from, traced_after, traced_over}
+use Rattle.run_model.specs.Run.{noted_from, printed_from, traced_after, traced_over}
 
 -- a call that stops says the same of its sink, whatever it would have answered
 pub Prints-err : {K X Y E : Type 0} {sink : Ghosts K} {a b : K} {fault error : E} {bytes : List ℕ} → Prints {X = X} sink a b fault (Err error) bytes → Prints {X = Y} sink a b fault (Err error) bytes

@@ -22,7 +22,7 @@ use Rattle.pat_door.specs.declared.door.Door.{Ghosts as DoorGhosts}
 use Rattle.pat_door.specs.Doors.{DoorFacts, Tells, accept_first, after_accept, bytes_here}
 use Rattle.serve_model.specs.Connections.{Connection, Course, Unread, Unwritten, Whole, connection_cost, steps_of_connection}
 use Rattle.pat_serve.specs.Serving.{Brings, Serves}
-use Rattle.pat_world.specs.Book.{events_by_step}
+use Rattle.run_model.specs.Run.{events_by_step, printed_from}
 use Rattle.pat_world.specs.Steps.{HasStepsLeft}
 use Rattle.pat_world.proofs.Stepping.{steps-left-behind, steps-left-fewer}
 use Rattle.run_player.specs.declared.player.Player.{Player}
@@ -32,8 +32,8 @@ use Rattle.run_printing.specs.declared.serve_error.ServeError.{ServeError}
 use Rattle.run_printing.specs.declared.serve_error.ServeError.TheVariants.{Door, Memory, Write}
 use Rattle.run_player.specs.Playing.{Plays}
 use Rattle.run_player.specs.Receiving.{PrintsSteps, Receives}
-use Rattle.run_player.specs.Run.{printed_from}
-use Rattle.run_player.specs.Served.{AreServed, AreWhole, Came, visits_steps}
+use Rattle.run_model.specs.Visits.{visits_steps}
+use Rattle.run_player.specs.Served.{AreServed, AreWhole, Came}
 use Rattle.run_printing.specs.Errors.{serve_error}
 use Rattle.run_printing.specs.Showing.{Shows, ShowsWhole, lines_by_step}
 use Rattle.run_player.proofs.Played.{Plays-nothing, Plays-then, PrintsWholeSteps-none, next-text}

@@ -14,9 +14,8 @@ use Rattle.cluster_model.specs.Next.{next_events}
 use Rattle.cluster_model.specs.State.{Cluster}
 use Rattle.serve_model.specs.Connections.{Connection, Course, Unread, Unwritten, Whole, failure_steps, first_visit, most_waiting, read_steps, reply_in, steps_by, steps_of_connection, unless_replied, waiting_steps}
 use Rattle.rest_message.specs.Replies.{ReplyText}
-use Rattle.pat_world.specs.Book.{events_by_step}
+use Rattle.run_model.specs.Run.{events_by_step, printed_from, traced_after, traced_over}
 use Rattle.run_player.specs.Playing.{PrintsWholeSteps}
-use Rattle.run_player.specs.Run.{printed_from, traced_after, traced_over}
 use Rattle.run_printing.specs.Showing.{ShowsWhole, lines_by_step}
 
 -- a step of a connection: a tick of the default schedule, or what the connection brings

@@ -13,7 +13,8 @@ use Rattle.serve_model.specs.Connections.{Connection, Whole, connection_cost, st
 use Rattle.pat_serve.proofs.Waiting.{connection-few}
 use Rattle.run_printing.specs.declared.serve_error.ServeError.{ServeError}
 use Rattle.run_printing.specs.declared.serve_error.ServeError.TheVariants.{Door, Memory}
-use Rattle.run_player.specs.Served.{AreServed, AreWhole, Came, after_steps, visits_steps}
+use Rattle.run_model.specs.Visits.{after_steps, visits_steps}
+use Rattle.run_player.specs.Served.{AreServed, AreWhole, Came}
 use Rattle.run_player.proofs.Played.{run_events-append}
 
 -- the steps of some connections and then of others

@@ -13,8 +13,8 @@ use Rattle.pat_world.proofs.Standing.{is-stands}
 use Rattle.pat_world.proofs.Stepping.{steps-left-behind}
 use Rattle.world_model.specs.Room.{most_steps}
 use Rattle.run_player.specs.Left.{IsLeftBy}
-use Rattle.run_player.specs.Run.{noted_from, printed_from, summary_of_run, text_of_run}
-use Rattle.run_printing.specs.Watches.{first_summary}
+use Rattle.run_model.specs.Run.{noted_from, printed_from, summary_of_run, text_of_run}
+use Rattle.run_model.specs.Watches.{first_summary}
 
 -- what is printed from a player that has just begun is the whole
 pub text-is : (head : HeadText) (steps : List Step) (world : Cluster) (trace : Bool) (summary : SummaryFacts) → world ≡ cluster_of head → trace ≡ false → summary ≡ first_summary head

@@ -4,7 +4,7 @@ use Rattle.cluster_model.specs.Starting.{cluster_of}
 use Rattle.pat_world.specs.Book.{StandsFor}
 use Rattle.pat_world.specs.Steps.{HasStepsLeft, IsCounted, WorldFacts}
 use Rattle.world_model.specs.Room.{most_steps}
-use Rattle.run_player.specs.Run.{Played, run_of}
+use Rattle.run_model.specs.Run.{Played, run_of}
 
 -- the world took all steps of this run: it stands for the book of them and counts them, it may take what is left of the most steps, and no
 -- counter has come farther than its steps bring one

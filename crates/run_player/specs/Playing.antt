@@ -12,7 +12,7 @@ use Rattle.pat_world.specs.Steps.{TookSteps}
 use Rattle.run_player.specs.declared.player.Player.{Player}
 use Rattle.run_printing.specs.declared.print_error.PrintError.{PrintError}
 use Rattle.run_printing.specs.declared.print_error.PrintError.TheVariants.{Memory, Write}
-use Rattle.run_player.specs.Run.{noted_from, printed_from, traced_over}
+use Rattle.run_model.specs.Run.{noted_from, printed_from, traced_over}
 
 -- the lines of the first of these steps were printed, each step's whole, and nothing else
 pub record PrintsWholeSteps {K : Type 0} (sink : Ghosts K) (out then : K) (cluster : Cluster) (trace : Bool) (steps : List Step) : Type 0 where

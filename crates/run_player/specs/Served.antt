@@ -1,13 +1,10 @@
--- A run with connections behind its script: the steps that they bring, and what was sent on each.
+-- A run with connections behind its script: which came, and what was sent on each.
 use Rattle.std.specs.Prelude.{ℕ, ◌≡◌, ◌≢◌, ◌≤◌, false, List, [], ◌∷◌, ◌++◌, length, All, Some, None, Result, Err, IfOk, OnOk, IsErrOf, MatchResult, ◌⊎◌, ◌+◌}
 use Rattle.pat_base.specs.declared.member_id.MemberId.{MemberId}
 use Rattle.pat_outside.specs.declared.outside.Sink.{Ghosts as SinkGhosts}
 use Rattle.pat_outside.specs.Outside.{Grew, Rose}
 use Rattle.pat_outside.specs.Prints.{Prints}
 use Rattle.script_model.specs.Script.{ScriptText}
-use Rattle.cluster_model.specs.declared.step.Step.{Step}
-use Rattle.cluster_model.specs.Cluster.{cluster_over}
-use Rattle.cluster_model.specs.Next.{run_events}
 use Rattle.cluster_model.specs.Starting.{cluster_of}
 use Rattle.cluster_model.specs.State.{Cluster}
 use Rattle.cluster_model.specs.Steps.{steps_of}
@@ -20,26 +17,8 @@ use Rattle.run_printing.specs.declared.serve_error.ServeError.{ServeError}
 use Rattle.run_printing.specs.declared.serve_error.ServeError.TheVariants.{Door, Memory, Write}
 use Rattle.run_player.specs.Left.{IsLeftBy}
 use Rattle.run_player.specs.Playing.{PrintsWholeSteps}
-use Rattle.run_player.specs.Run.{Played, lines_of_run, text_of_run}
-
--- what a cluster comes to by these steps
-abbrev pub after_steps : Cluster → List Step → Cluster
-after_steps cluster steps = cluster_over cluster (run_events cluster steps)
-
--- the steps that connections to the agent of the member of this number bring, each from the cluster that those before it leave
-abbrev pub visits_steps : Cluster → MemberId → List Connection → List Step
-visits_steps cluster id [] = []
-visits_steps cluster id (visitor ∷ more) =
-    let steps = steps_of_connection cluster id visitor in
-    steps ++ visits_steps (after_steps cluster steps) id more
-
--- the steps of a script's body, and then those that connections bring
-abbrev pub served_steps : Cluster → List Step → MemberId → List Connection → List Step
-served_steps cluster steps id visitors = steps ++ visits_steps (after_steps cluster steps) id visitors
-
--- what is played of a script with connections behind it
-abbrev pub served_of : ScriptText → MemberId → List Connection → Played
-served_of script id visitors = record { head = script.head; steps = served_steps (cluster_of script.head) (steps_of script.body) id visitors }
+use Rattle.run_model.specs.Run.{lines_of_run, text_of_run}
+use Rattle.run_model.specs.Visits.{after_steps, served_of}
 
 -- a connection with these bytes, in this cluster: it asks what they say, unless a read failed, and this was sent of what was due
 pub record IsServed (cluster : Cluster) (id : MemberId) (bytes : List ℕ) (visitor : Connection) (sent : List ℕ) : Type 0 where

@@ -4,7 +4,7 @@ ghost use Rattle.pat_outside.specs.Prints.{Prints};
 ghost use Rattle.cluster_model.specs.Steps.{steps_of};
 ghost use Rattle.world_model.specs.Room.{most_steps};
 ghost use Rattle.run_player.specs.Left.{IsLeftBy};
-ghost use Rattle.run_player.specs.Run.{played_of, summary_of_run};
+ghost use Rattle.run_model.specs.Run.{played_of, summary_of_run};
 
 use crate::player::Player;
 use pat_outside::Sink;

@@ -11,8 +11,8 @@ ghost use Rattle.world_model.specs.Idle.{IsTick};
 ghost use Rattle.world_model.specs.Room.{most_steps};
 ghost use Rattle.pat_world.specs.Steps.{HasStepsLeft, IsCounted, TookSteps};
 ghost use Rattle.run_player.specs.Playing.{Idles, Plays, PrintsWholeSteps};
-ghost use Rattle.run_player.specs.Run.{noted_from, printed_from, traced_after};
-ghost use Rattle.run_printing.specs.Watches.{first_summary};
+ghost use Rattle.run_model.specs.Run.{noted_from, printed_from, traced_after};
+ghost use Rattle.run_model.specs.Watches.{first_summary};
 
 use cluster_model::Step;
 use event_book::Event;

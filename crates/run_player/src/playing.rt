@@ -6,7 +6,7 @@ ghost use Rattle.cluster_model.specs.Steps.{steps_of};
 ghost use Rattle.world_model.specs.Room.{most_steps};
 ghost use Rattle.run_player.specs.Left.{IsLeftBy};
 ghost use Rattle.run_player.specs.Playing.{PrintsWholeSteps};
-ghost use Rattle.run_player.specs.Run.{played_of, text_of_run};
+ghost use Rattle.run_model.specs.Run.{played_of, text_of_run};
 
 use crate::player::Player;
 use pat_outside::Sink;

@@ -1,4 +1,3 @@
 pub mod Errors
 pub mod LineParts
 pub mod Showing
-pub mod Watches

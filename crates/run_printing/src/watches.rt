@@ -1,7 +1,7 @@
 //! What a script says of the watchdogs of its members, as the summary of a run reads it.
 ghost use Rattle.std.specs.Prelude.{◌≡◌, ◌<◌, ◌≤◌, length, IfOk, slice_get, Some};
 ghost use Rattle.pat_base.specs.declared.member_id.TheConstants.{MOST_MEMBERS};
-ghost use Rattle.run_printing.specs.Watches.{is_off, first_summary, declared_watch, watches_of};
+ghost use Rattle.run_model.specs.Watches.{is_off, first_summary, declared_watch, watches_of};
 
 use leader_key::Mode;
 use member_options::MemberOptions;

@@ -7,7 +7,7 @@ use Rattle.world_model.specs.Room.{most_steps}
 use Rattle.pat_world.specs.Steps.{WorldFacts}
 use Rattle.run_printing.specs.declared.print_error.PrintError.TheVariants.{Write}
 use Rattle.run_player.specs.Left.{IsLeftBy}
-use Rattle.run_player.specs.Run.{played_of, summary_of_run}
+use Rattle.run_model.specs.Run.{played_of, summary_of_run}
 use Rattle.command_line.specs.Commands.{Print, Run}
 use Rattle.patroni_top.specs.Verdicts.{Formats, Makes, Plays}
 use Rattle.patroni_top.proofs.Carrying.{drilled-part, drilled-whole, formatted-part, formatted-whole, generated-part, generated-whole, not-drilled, not-generated, printed-part, printed-whole, refused}

@@ -3,7 +3,7 @@ use Rattle.std.specs.String.{string_bytes}
 use Rattle.command_line.specs.declared.status.Status.{Status}
 use Rattle.command_line.specs.Commands.{command_of, order_command}
 use Rattle.patroni_top.proofs.Carrying.{asked, unasked}
-use Rattle.patroni_top.proofs.Premises.{promises-kept}
+use Rattle.patroni_top.proofs.Promised.{promises-kept}
 use Rattle.patroni_top.proofs.top.run.Goals as goal
 
 pub returns-in_default-clause-carried : goal.returns-in_default-clause-carried

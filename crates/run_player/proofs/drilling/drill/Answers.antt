@@ -9,7 +9,7 @@ use Rattle.world_model.proofs.Declaring.{names-start}
 use Rattle.world_model.specs.Room.{most_steps}
 use Rattle.pat_world.proofs.Stepping.{steps-left-fewer}
 use Rattle.run_printing.specs.declared.print_error.PrintError.TheVariants.{Memory, Write}
-use Rattle.run_printing.specs.Watches.{first_summary}
+use Rattle.run_model.specs.Watches.{first_summary}
 use Rattle.run_player.proofs.Played.{Prints-err, memory-is-no-write, same-error}
 use Rattle.run_player.proofs.Whole.{left-by, summary-is}
 use Rattle.run_player.proofs.drilling.drill.Goals as goal

@@ -7,7 +7,7 @@ use Rattle.serve_model.specs.Connections.{connection_cost}
 use Rattle.pat_world.proofs.Stepping.{steps-left-fewer}
 use Rattle.world_model.proofs.Declaring.{names-start}
 use Rattle.world_model.specs.Room.{most_steps}
-use Rattle.run_printing.specs.Watches.{first_summary}
+use Rattle.run_model.specs.Watches.{first_summary}
 use Rattle.run_player.proofs.Closing.{serves-all, serves-none, serves-part}
 use Rattle.run_player.proofs.serving.serve.Goals as goal
 

@@ -3,7 +3,7 @@ use Rattle.std.proofs.lemmas.Option.{slice_get-map}
 use Rattle.pat_base.specs.declared.name.Name.{Name}
 use Rattle.script_model.specs.Script.{MemberText}
 use Rattle.member_options.specs.declared.member_option.MemberOptions.{MemberOptions}
-use Rattle.run_printing.specs.Watches.{declared_watch}
+use Rattle.run_model.specs.Watches.{declared_watch}
 use Rattle.run_printing.proofs.watches.watch_at.Goals as goal
 
 -- a member of this name and these options is watched as they say

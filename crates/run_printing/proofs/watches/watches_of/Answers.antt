@@ -1,6 +1,6 @@
 use Rattle.std.proofs.Common.{◌≤◌, length, arith, ap}
 use Rattle.std.proofs.lemmas.List.{length-map}
-use Rattle.run_printing.specs.Watches.{watches_of}
+use Rattle.run_model.specs.Watches.{watches_of}
 use Rattle.run_printing.proofs.Watching.{watches-more, watches-end}
 use Rattle.run_printing.proofs.watches.watches_of.Goals as goal
 

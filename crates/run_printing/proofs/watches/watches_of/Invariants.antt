@@ -1,5 +1,5 @@
 use Rattle.std.proofs.Common.{◌≡◌, ◌++◌, drop}
-use Rattle.run_printing.specs.Watches.{watches_of}
+use Rattle.run_model.specs.Watches.{watches_of}
 use Rattle.run_printing.proofs.watches.watches_of.Given as goal
 
 abbrev pub invariant-loop-place : goal.invariant-loop-place

@@ -8,7 +8,7 @@ use Rattle.summary_model.specs.declared.answers.Closing.{Closing}
 use Rattle.summary_model.specs.Sights.{SummaryFacts}
 use Rattle.summary_model.specs.SummaryText.{closing_text}
 use Rattle.run_printing.specs.declared.print_error.PrintError.TheVariants.{Write}
-use Rattle.run_player.specs.Run.{printed_from}
+use Rattle.run_model.specs.Run.{printed_from}
 use Rattle.run_player.proofs.Played.{same-error}
 use Rattle.run_player.proofs.player.Player.play.Goals as goal
 

@@ -17,9 +17,9 @@ use Rattle.summary_law.proofs.Listing.{named-step}
 use Rattle.commit_runs.specs.Runs.{first_logs}
 use Rattle.commit_runs.proofs.Losses.{told-back}
 use Rattle.commit_runs.proofs.LossRuns.{runs-tell}
-use Rattle.pat_world.proofs.OneWriter.{run_events-last}
+use Rattle.run_model.proofs.Steps.{run_events-last}
 use Rattle.world_model.proofs.Taking.{cluster_over-append}
-use Rattle.pat_world.specs.Book.{events_by_step}
+use Rattle.run_model.specs.Run.{events_by_step}
 
 -- the events of all steps are the book
 pub book-by-step : (cluster : Cluster) (steps : List Step) → book_of (events_by_step cluster steps) ≡ run_events cluster steps

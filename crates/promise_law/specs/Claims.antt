@@ -7,8 +7,8 @@ use Rattle.summary_model.specs.Listed.{AreNamed}
 use Rattle.rest_law.specs.Finding.{FindsOne}
 use Rattle.lease_parts.specs.Kept.{WhereMet}
 use Rattle.commit_runs.specs.Runs.{KeepsCommitsIn, KeepsOrderIn, first_logs}
-use Rattle.run_player.specs.Run.{Played, closing_of_run, run_of}
-use Rattle.run_printing.specs.Watches.{watches_of}
+use Rattle.run_model.specs.Run.{Played, closing_of_run, run_of}
+use Rattle.run_model.specs.Watches.{watches_of}
 
 -- what every run keeps
 pub record KeepsPromises (played : Played) : Type 0 where

@@ -12,11 +12,10 @@ use Rattle.cluster_model.specs.Cluster.{cluster_over}
 use Rattle.cluster_model.specs.Next.{next_events, run_events}
 use Rattle.cluster_model.specs.Starting.{cluster_of}
 use Rattle.cluster_model.specs.State.{Cluster}
-use Rattle.pat_world.specs.Book.{events_by_step}
 use Rattle.summary_model.specs.declared.answers.Closing.{Closing}
 use Rattle.summary_model.specs.Sights.{SummaryFacts, noted_steps}
 use Rattle.summary_model.specs.SummaryText.{closing_text}
-use Rattle.run_printing.specs.Watches.{first_summary}
+use Rattle.run_model.specs.Watches.{first_summary}
 
 -- what is played: a cluster from its beginning on, and the steps that it takes
 pub record Played : Type 0 where
@@ -30,6 +29,13 @@ played_of script = record { head = script.head; steps = steps_of script.body }
 -- the book of a run: what happens from its head on, step by step
 abbrev pub run_of : Played → List Event
 run_of played = run_events (cluster_of played.head) played.steps
+
+-- the events of each of these steps, from a cluster on
+abbrev pub events_by_step : Cluster → List Step → List (List Event)
+events_by_step cluster [] = []
+events_by_step cluster (step ∷ more) =
+    let events = next_events cluster step in
+    events ∷ events_by_step (cluster_over cluster events) more
 
 -- whether messages are traced after a command
 abbrev pub traced_by : Bool → Command → Bool

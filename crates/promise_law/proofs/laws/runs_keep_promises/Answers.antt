@@ -1,0 +1,5 @@
+use Rattle.promise_law.proofs.Premises.{keeps-promises}
+use Rattle.promise_law.proofs.laws.runs_keep_promises.Goals as goal
+
+pub returns : goal.returns
+returns c = keeps-promises
