@@ -17,9 +17,9 @@ use Rattle.serve_model.specs.Connections.{Connection, IsSent, Unread, Whole, byt
 use Rattle.pat_serve.specs.Serving.{IsRead}
 use Rattle.pat_world.specs.Steps.{WorldFacts}
 use Rattle.run_printing.specs.declared.print_error.PrintError.{PrintError}
-use Rattle.run_player.specs.declared.serve_error.ServeError.{ServeError}
+use Rattle.run_serving.specs.declared.serve_error.ServeError.{ServeError}
 use Rattle.run_printing.specs.declared.print_error.PrintError.TheVariants as prints
-use Rattle.run_player.specs.declared.serve_error.ServeError.TheVariants.{Door, Memory, Write}
+use Rattle.run_serving.specs.declared.serve_error.ServeError.TheVariants.{Door, Memory, Write}
 use Rattle.run_player.specs.Left.{IsLeftBy}
 use Rattle.run_player.specs.Playing.{PrintsWholeSteps}
 use Rattle.run_player.specs.Run.{Played, lines_of_run, text_of_run}

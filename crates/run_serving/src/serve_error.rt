@@ -1,7 +1,7 @@
 //! Why connections weren't all served.
 ghost use Rattle.std.specs.Prelude.{◌≡◌};
-ghost use Rattle.run_player.specs.Served.{serve_error};
-ghost use Rattle.run_player.specs.declared.serve_error.ServeError.TheVariants.{Memory};
+ghost use Rattle.run_serving.specs.Served.{serve_error};
+ghost use Rattle.run_serving.specs.declared.serve_error.ServeError.TheVariants.{Memory};
 
 use run_printing::PrintError;
 use std::alloc::AllocError;

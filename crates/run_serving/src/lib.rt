@@ -1,0 +1,9 @@
+//! Runs with connections behind a script: each is served, and what it brings is played and printed.
+#![tactic(auto)]
+
+mod serve_error;
+mod serving;
+
+pub use pat_serve::MOST_WAITING;
+pub use serve_error::ServeError;
+pub use serving::{Service, serve};
