@@ -19,13 +19,13 @@ use Rattle.cluster_model.specs.Steps.{steps_of}
 use Rattle.serve_model.specs.Connections.{Connection}
 use Rattle.run_printing.specs.declared.print_error.PrintError.{PrintError}
 use Rattle.run_printing.specs.declared.print_error.PrintError.TheVariants as prints
-use Rattle.run_player.specs.declared.serve_error.ServeError.{ServeError}
-use Rattle.run_player.specs.declared.serve_error.ServeError.TheVariants as serves
+use Rattle.run_serving.specs.declared.serve_error.ServeError.{ServeError}
+use Rattle.run_serving.specs.declared.serve_error.ServeError.TheVariants as serves
 use Rattle.run_player.specs.Playing.{PrintsWholeSteps}
 use Rattle.run_player.specs.Run.{EndsAtStep, Played}
-use Rattle.run_player.specs.Served.{Came, after_steps, serve_error, served_of}
-use Rattle.run_player.proofs.Closing.{write-is}
-use Rattle.run_player.proofs.Visiting.{Came-none}
+use Rattle.run_serving.specs.Served.{Came, after_steps, serve_error, served_of}
+use Rattle.run_serving.proofs.Closing.{write-is}
+use Rattle.run_serving.proofs.Visiting.{Came-none}
 use Rattle.patroni_top.specs.Limits.{most_read}
 use Rattle.patroni_top.specs.declared.ending.Ending.{Ending}
 use Rattle.patroni_top.specs.declared.ending.Ending.TheVariants as endings

@@ -38,7 +38,7 @@ use Rattle.pat_world.specs.Book.{events_by_step}
 use Rattle.run_printing.specs.Watches.{declared_watch, first_summary, is_off, watches_of}
 use Rattle.pat_base.specs.declared.member_id.MemberId.{MemberId}
 use Rattle.serve_model.specs.Connections.{Connection, most_waiting}
-use Rattle.run_player.specs.Served.{served_of}
+use Rattle.run_serving.specs.Served.{served_of}
 use Rattle.patroni_top.specs.Claims.{KeepsPromises}
 use Rattle.generator_model.proofs.BodyLaws.{generated-IsScript}
 use Rattle.generator_model.specs.Generating.{generated_script}

@@ -14,7 +14,7 @@ use Rattle.generator_model.specs.declared.bounds.TheConstants.{MOST_GENERATED}
 use Rattle.script_model.specs.Script.{HeadText, MemberText, ScriptText, spelling_of}
 use Rattle.serve_model.specs.Connections.{Connection, most_waiting}
 use Rattle.run_player.specs.Run.{EndsAtStep, Played, played_of, summary_of_run, text_of_run}
-use Rattle.run_player.specs.Served.{served_of}
+use Rattle.run_serving.specs.Served.{served_of}
 use Rattle.patroni_top.specs.declared.order.Order.{Order}
 use Rattle.patroni_top.specs.declared.order.Order.TheVariants as orders
 

@@ -6,10 +6,10 @@ use Rattle.pat_outside.specs.Outside.{Known, Rose, Grew, GrewByPrefix, Consumed}
 use Rattle.pat_door.specs.declared.door.Door.{Ghosts as DoorGhosts}
 use Rattle.cluster_model.specs.Starting.{cluster_of}
 use Rattle.cluster_model.specs.Steps.{steps_of}
-use Rattle.run_player.specs.declared.serve_error.ServeError.{ServeError}
-use Rattle.run_player.specs.declared.serve_error.ServeError.TheVariants as errors
+use Rattle.run_serving.specs.declared.serve_error.ServeError.{ServeError}
+use Rattle.run_serving.specs.declared.serve_error.ServeError.TheVariants as errors
 use Rattle.run_player.specs.Run.{lines_of_run}
-use Rattle.run_player.specs.Served.{Came, after_steps, served_of}
+use Rattle.run_serving.specs.Served.{Came, after_steps, served_of}
 use Rattle.patroni_top.specs.declared.status.Status.{Status}
 use Rattle.patroni_top.specs.declared.status.Status.TheVariants as statuses
 use Rattle.patroni_top.specs.Limits.{most_read}

@@ -16,8 +16,8 @@ use Rattle.patroni_top.specs.declared.ending.Ending.{Ending}
 use Rattle.patroni_top.specs.declared.ending.Ending.TheVariants as endings
 use Rattle.run_printing.specs.declared.print_error.PrintError.{PrintError}
 use Rattle.run_printing.specs.declared.print_error.PrintError.TheVariants as prints
-use Rattle.run_player.specs.declared.serve_error.ServeError.{ServeError}
-use Rattle.run_player.specs.declared.serve_error.ServeError.TheVariants as serves
+use Rattle.run_serving.specs.declared.serve_error.ServeError.{ServeError}
+use Rattle.run_serving.specs.declared.serve_error.ServeError.TheVariants as serves
 use Rattle.patroni_top.specs.declared.status.Status.{Status}
 use Rattle.patroni_top.specs.declared.status.Status.TheVariants as statuses
 use Rattle.patroni_top.specs.Commands.{Faulty, PastCount, PastLimit, UnknownMember, Verdict}
