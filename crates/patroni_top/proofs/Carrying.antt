@@ -21,15 +21,15 @@ use Rattle.serve_model.specs.Connections.{Connection, most_waiting}
 use Rattle.pat_world.specs.Steps.{WorldFacts}
 use Rattle.run_printing.specs.declared.print_error.PrintError.{PrintError}
 use Rattle.run_printing.specs.declared.print_error.PrintError.TheVariants as prints
-use Rattle.run_printing.specs.declared.serve_error.ServeError.{ServeError}
-use Rattle.run_printing.specs.declared.serve_error.ServeError.TheVariants as serves
 use Rattle.run_player.specs.Left.{IsLeftBy}
 use Rattle.run_player.specs.Playing.{PrintsWholeSteps}
+use Rattle.run_serving.specs.Served.{Came, Serves as ServedSo}
+use Rattle.run_serving.proofs.Closing.{memory-is, no-door}
+use Rattle.run_printing.specs.declared.serve_error.ServeError.{ServeError}
+use Rattle.run_printing.specs.declared.serve_error.ServeError.TheVariants as serves
 use Rattle.run_model.specs.Run.{Played, played_of, summary_of_run, text_of_run}
 use Rattle.run_model.specs.Visits.{after_steps, served_of}
-use Rattle.run_player.specs.Served.{Came, Serves as ServedSo}
 use Rattle.run_printing.specs.Errors.{serve_error}
-use Rattle.run_player.proofs.Closing.{memory-is, no-door}
 use Rattle.command_line.specs.Limits.{most_read}
 use Rattle.patroni_top.specs.declared.ended.Ended.{Ended}
 use Rattle.command_line.specs.declared.ending.Ending.{Ending}

@@ -19,15 +19,15 @@ use Rattle.cluster_model.specs.Steps.{steps_of}
 use Rattle.serve_model.specs.Connections.{Connection}
 use Rattle.run_printing.specs.declared.print_error.PrintError.{PrintError}
 use Rattle.run_printing.specs.declared.print_error.PrintError.TheVariants as prints
+use Rattle.run_player.specs.Playing.{PrintsWholeSteps}
+use Rattle.run_serving.specs.Served.{Came}
+use Rattle.run_serving.proofs.Closing.{write-is}
+use Rattle.run_serving.proofs.Visiting.{Came-none}
 use Rattle.run_printing.specs.declared.serve_error.ServeError.{ServeError}
 use Rattle.run_printing.specs.declared.serve_error.ServeError.TheVariants as serves
-use Rattle.run_player.specs.Playing.{PrintsWholeSteps}
 use Rattle.run_model.specs.Run.{EndsAtStep, Played}
 use Rattle.run_model.specs.Visits.{after_steps, served_of}
-use Rattle.run_player.specs.Served.{Came}
 use Rattle.run_printing.specs.Errors.{serve_error}
-use Rattle.run_player.proofs.Closing.{write-is}
-use Rattle.run_player.proofs.Visiting.{Came-none}
 use Rattle.command_line.specs.Limits.{most_read}
 use Rattle.command_line.specs.declared.ending.Ending.{Ending}
 use Rattle.command_line.specs.declared.ending.Ending.TheVariants as endings

@@ -6,11 +6,11 @@ use Rattle.pat_outside.specs.Outside.{Known, Rose, Grew, GrewByPrefix, Consumed}
 use Rattle.pat_door.specs.declared.door.Door.{Ghosts as DoorGhosts}
 use Rattle.cluster_model.specs.Starting.{cluster_of}
 use Rattle.cluster_model.specs.Steps.{steps_of}
+use Rattle.run_serving.specs.Served.{Came}
 use Rattle.run_printing.specs.declared.serve_error.ServeError.{ServeError}
 use Rattle.run_printing.specs.declared.serve_error.ServeError.TheVariants as errors
 use Rattle.run_model.specs.Run.{lines_of_run}
 use Rattle.run_model.specs.Visits.{after_steps, served_of}
-use Rattle.run_player.specs.Served.{Came}
 use Rattle.command_line.specs.declared.status.Status.{Status}
 use Rattle.command_line.specs.declared.status.Status.TheVariants as statuses
 use Rattle.command_line.specs.Limits.{most_read}

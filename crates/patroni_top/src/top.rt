@@ -15,7 +15,8 @@ use command_line::{
 use pat_door::Door;
 use pat_outside::{Sink, Source};
 use pat_world::World;
-use run_player::{MOST_WAITING, Service, drill, play, serve};
+use run_player::{drill, play};
+use run_serving::{MOST_WAITING, Service, serve};
 use std::alloc::Global;
 
 /// The program: all that it does with its words, its input, its two outputs and its door.

@@ -1,4 +1,2 @@
 pub mod Left
 pub mod Playing
-pub mod Receiving
-pub mod Served

@@ -25,21 +25,23 @@ use script_model::{Command, Head, Line, Script};
 use std::alloc::{AllocError, Global};
 use summary::Summary;
 
-/// Takes steps in a world, and prints what happens. It can't be dropped, since a world can't.
-pub(crate) struct Player {
-    pub(crate) alloc: Global,
-    pub(crate) world: World,
+/// Takes steps in a world, and prints what happens. It can't be dropped, since a world can't: `into_world` gives that back.
+pub struct Player {
+    pub alloc: Global,
+    pub world: World,
     /// Whether messages are traced.
-    pub(crate) trace: bool,
-    pub(crate) summary: Summary,
+    pub trace: bool,
+    /// What the steps so far come to in the closing summary.
+    pub summary: Summary,
     /// A buffer for the events of one step.
     events: Vec<Event>,
     /// A buffer for the text of one step.
-    pub(crate) text: String,
+    pub text: String,
 }
 
 impl Player {
-    pub(crate) fn new(alloc: Global, head: &Head) -> Result<Player, AllocError>
+    /// The player of the world of this head, in which no step was taken. It fails only for want of memory.
+    pub fn new(alloc: Global, head: &Head) -> Result<Player, AllocError>
         ensures world { IfOk result (λ player. player.world.cluster ≡ cluster_of head.now) }
         ensures steps { IfOk result (λ player. player.world.steps ≡ 0) }
         ensures room { IfOk result (λ player. HasStepsLeft player.world most_steps) }
@@ -61,7 +63,7 @@ impl Player {
     }
 
     /// The world after the steps that were taken.
-    pub(crate) fn into_world(self) -> World
+    pub fn into_world(self) -> World
         ensures { result ≡ self.world }
     {
         let Player {
@@ -103,12 +105,9 @@ impl Player {
         print_closing(self.alloc, &self.summary.closing(), out)
     }
 
-    /// The lines of a body, one after another.
-    pub(crate) fn play_body<K: Sink>(
-        &mut self,
-        script: &Script,
-        out: &mut K,
-    ) -> Result<(), PrintError>
+    /// Takes the steps of a script's lines, one line after another, and prints what happens, each line in one piece. On Err it may have
+    /// taken some of them: where memory is wanting, what was printed are the lines of whole steps.
+    pub fn play_body<K: Sink>(&mut self, script: &Script, out: &mut K) -> Result<(), PrintError>
         requires room { HasStepsLeft self.old.world (length (steps_of script.now.body)) }
         requires members { names_in self.old.world.cluster.facts.members ≡ names_of script.now.head }
         ensures { Plays K.Sink self.old self.new out.old out.new result (steps_of script.now.body) }

@@ -10,12 +10,12 @@ use Rattle.serve_model.specs.Connections.{Connection}
 use Rattle.pat_world.specs.Steps.{TookSteps}
 use Rattle.summary_model.specs.SummaryText.{closing_text}
 use Rattle.run_player.specs.declared.player.Player.{Player}
+use Rattle.run_player.specs.Playing.{Plays, PrintsWholeSteps}
+use Rattle.run_serving.specs.Served.{Came}
 use Rattle.run_printing.specs.declared.serve_error.ServeError.{ServeError}
 use Rattle.run_printing.specs.declared.serve_error.ServeError.TheVariants.{Door, Memory, Write}
-use Rattle.run_player.specs.Playing.{Plays, PrintsWholeSteps}
 use Rattle.run_model.specs.Run.{noted_from, printed_from}
 use Rattle.run_model.specs.Visits.{after_steps, served_steps, visits_steps}
-use Rattle.run_player.specs.Served.{Came}
 
 -- the lines of these steps were to be printed: they were, or where memory is wanting, those of the first of them, whole, or a front of them;
 -- where no connection comes, all

@@ -7,8 +7,9 @@ use Rattle.serve_model.specs.Connections.{connection_cost}
 use Rattle.pat_world.proofs.Stepping.{steps-left-fewer}
 use Rattle.world_model.proofs.Declaring.{names-start}
 use Rattle.world_model.specs.Room.{most_steps}
+use Rattle.run_serving.proofs.Closing.{serves-all, serves-none, serves-part}
+use Rattle.run_serving.proofs.serving.serve.Goals as goal
 use Rattle.run_model.specs.Watches.{first_summary}
-use Rattle.run_player.proofs.Closing.{serves-all, serves-none, serves-part}
 use Rattle.run_player.proofs.serving.serve.Goals as goal
 
 pub returns-in_err-player : goal.returns-in_err-player
@@ -16,12 +17,12 @@ returns-in_err-player g c =
     let p = err_from_is_err_and c.from_residual.result c.from_residual.ensures.1 in
     ([], serves-none g.K.Sink g.D.Door c.args.out.now c.args.door.now c.from_residual.result c.args.script.now c.args.service.now.member c.args.service.now.count (p.1 ∙ ap Err p.2))
 
-pub serve-requires-clause-room : goal.serve-requires-clause-room
-serve-requires-clause-room g c =
+pub receive_all-requires-clause-room : goal.receive_all-requires-clause-room
+receive_all-requires-clause-room g c =
     steps-left-fewer c.in_ok-player.player.world most_steps (length (steps_of c.args.script.now.body) + connection_cost * c.args.service.now.count) c.requires.room c.in_ok-player.ensures.room
 
-pub serve-requires-clause-members : goal.serve-requires-clause-members
-serve-requires-clause-members g c =
+pub receive_all-requires-clause-members : goal.receive_all-requires-clause-members
+receive_all-requires-clause-members g c =
     let start = c.in_ok-player.ensures.world ∙ ap (λ h. cluster_of h) c.head.ensures.value in
     ap (λ (w : Cluster). names_in w.facts.members) start ∙ names-start c.args.script.now.head (c.head.ensures.script).head.few
 
@@ -31,7 +32,7 @@ returns-in-Ok g c =
     let player = c.in_ok-player.player in
     let r = c.in-Ok.ensures in (
       r.0,
-      serves-all g.K.Sink g.D.Door player c.serve.new.self c.args.out.now c.serve.new.out c.args.door.now c.serve.new.door c.args.script.now c.args.service.now.member c.args.service.now.count r.0
+      serves-all g.K.Sink g.D.Door player c.receive_all.new.player c.args.out.now c.receive_all.new.out c.args.door.now c.receive_all.new.door c.args.script.now c.args.service.now.member c.args.service.now.count r.0
           (first.world ∙ ap (λ h. cluster_of h) c.head.ensures.value) first.trace (first.summary ∙ ap (λ h. first_summary h) c.head.ensures.value)
           c.into_world.result first.steps first.room first.counted c.requires.room c.into_world.ensures r.1,
     )
@@ -42,7 +43,7 @@ returns-in-Err g c =
     let player = c.in_ok-player.player in
     let r = c.in-Err.ensures in (
       r.0,
-      serves-part g.K.Sink g.D.Door player c.serve.new.self c.args.out.now c.serve.new.out c.args.door.now c.serve.new.door c.args.script.now c.args.service.now.member c.args.service.now.count r.0
+      serves-part g.K.Sink g.D.Door player c.receive_all.new.player c.args.out.now c.receive_all.new.out c.args.door.now c.receive_all.new.door c.args.script.now c.args.service.now.member c.args.service.now.count r.0
           (first.world ∙ ap (λ h. cluster_of h) c.head.ensures.value) first.trace (first.summary ∙ ap (λ h. first_summary h) c.head.ensures.value)
           c.in-Err.error r.1,
     )

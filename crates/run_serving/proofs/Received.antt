@@ -28,17 +28,17 @@ use Rattle.pat_world.proofs.Stepping.{steps-left-behind, steps-left-fewer}
 use Rattle.run_player.specs.declared.player.Player.{Player}
 use Rattle.run_printing.specs.declared.print_error.PrintError.{PrintError}
 use Rattle.run_printing.specs.declared.print_error.PrintError.TheVariants as prints
+use Rattle.run_player.specs.Playing.{Plays}
+use Rattle.run_serving.specs.Receiving.{PrintsSteps, Receives}
+use Rattle.run_serving.specs.Served.{AreServed, AreWhole, Came}
 use Rattle.run_printing.specs.declared.serve_error.ServeError.{ServeError}
 use Rattle.run_printing.specs.declared.serve_error.ServeError.TheVariants.{Door, Memory, Write}
-use Rattle.run_player.specs.Playing.{Plays}
-use Rattle.run_player.specs.Receiving.{PrintsSteps, Receives}
 use Rattle.run_model.specs.Visits.{visits_steps}
-use Rattle.run_player.specs.Served.{AreServed, AreWhole, Came}
 use Rattle.run_printing.specs.Errors.{serve_error}
 use Rattle.run_printing.specs.Showing.{Shows, ShowsWhole, lines_by_step}
 use Rattle.run_player.proofs.Played.{Plays-nothing, Plays-then, PrintsWholeSteps-none, next-text}
-use Rattle.run_player.proofs.Shown.{connection-visiting, lines-visiting, shows-whole, traced-visiting}
-use Rattle.run_player.proofs.Visiting.{Came-stop, Came-then, grown-last, some-come, visits-few, visits_steps-append}
+use Rattle.run_serving.proofs.Shown.{connection-visiting, lines-visiting, shows-whole, traced-visiting}
+use Rattle.run_serving.proofs.Visiting.{Came-stop, Came-then, grown-last, some-come, visits-few, visits_steps-append}
 
 whole-or : (course : Course) (Rises : Type 0) → ((course ≡ Whole → ⊥) → Rises) → (course ≡ Whole) ⊎ Rises
 whole-or Whole Rises rises = inl refl

@@ -11,10 +11,10 @@ use Rattle.pat_door.specs.declared.door.Door.{Ghosts}
 use Rattle.pat_door.specs.Doors.{DoorFacts, grow_last, grow_last_from}
 use Rattle.serve_model.specs.Connections.{Connection, Whole, connection_cost, steps_of_connection}
 use Rattle.pat_serve.proofs.Waiting.{connection-few}
+use Rattle.run_serving.specs.Served.{AreServed, AreWhole, Came}
 use Rattle.run_printing.specs.declared.serve_error.ServeError.{ServeError}
 use Rattle.run_printing.specs.declared.serve_error.ServeError.TheVariants.{Door, Memory}
 use Rattle.run_model.specs.Visits.{after_steps, visits_steps}
-use Rattle.run_player.specs.Served.{AreServed, AreWhole, Came}
 use Rattle.run_player.proofs.Played.{run_events-append}
 
 -- the steps of some connections and then of others

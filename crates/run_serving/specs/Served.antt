@@ -13,6 +13,8 @@ use Rattle.pat_door.specs.Doors.{DoorFacts, Tells}
 use Rattle.serve_model.specs.Connections.{Connection, IsSent, Unread, Whole, bytes_due, steps_of_connection}
 use Rattle.pat_serve.specs.Serving.{IsRead}
 use Rattle.pat_world.specs.Steps.{WorldFacts}
+use Rattle.run_printing.specs.declared.print_error.PrintError.{PrintError}
+use Rattle.run_printing.specs.declared.print_error.PrintError.TheVariants as prints
 use Rattle.run_printing.specs.declared.serve_error.ServeError.{ServeError}
 use Rattle.run_printing.specs.declared.serve_error.ServeError.TheVariants.{Door, Memory, Write}
 use Rattle.run_player.specs.Left.{IsLeftBy}

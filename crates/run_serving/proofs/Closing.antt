@@ -25,17 +25,17 @@ use Rattle.world_model.specs.Room.{most_steps}
 use Rattle.run_player.specs.declared.player.Player.{Player}
 use Rattle.run_printing.specs.declared.print_error.PrintError.{PrintError}
 use Rattle.run_printing.specs.declared.print_error.PrintError.TheVariants as prints
+use Rattle.run_player.specs.Playing.{Plays, PrintsWholeSteps}
+use Rattle.run_serving.specs.Receiving.{Receives, ReceivesAll}
+use Rattle.run_serving.specs.Served.{Came, Serves}
 use Rattle.run_printing.specs.declared.serve_error.ServeError.{ServeError}
 use Rattle.run_printing.specs.declared.serve_error.ServeError.TheVariants.{Door, Memory, Write}
-use Rattle.run_player.specs.Playing.{Plays, PrintsWholeSteps}
-use Rattle.run_player.specs.Receiving.{Receives, ReceivesAll}
 use Rattle.run_model.specs.Run.{lines_of_run, noted_from, printed_from, text_of_run}
 use Rattle.run_model.specs.Visits.{after_steps, served_of, served_steps, visits_steps}
-use Rattle.run_player.specs.Served.{Came, Serves}
 use Rattle.run_printing.specs.Errors.{serve_error}
 use Rattle.run_model.specs.Watches.{first_summary}
 use Rattle.run_player.proofs.Played.{Plays-then, PrintsWholeSteps-none, next-text}
-use Rattle.run_player.proofs.Visiting.{Came-none, Came-stop, visits-few}
+use Rattle.run_serving.proofs.Visiting.{Came-none, Came-stop, visits-few}
 use Rattle.run_player.proofs.Whole.{left-by, text-is}
 
 -- errors of printing are errors of serving

@@ -1,0 +1,4 @@
+pub mod Closing
+pub mod Received
+pub mod Shown
+pub mod Visiting

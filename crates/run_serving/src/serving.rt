@@ -1,0 +1,122 @@
+//! Connections served behind a script.
+ghost use Rattle.std.specs.Prelude.{List, ◌≡◌, ◌+◌, ◌*◌, ◌≤◌, length};
+ghost use Rattle.script_model.specs.Script.{IsMember, names_of};
+ghost use Rattle.cluster_model.specs.Steps.{names_in, steps_of};
+ghost use Rattle.serve_model.specs.Connections.{Connection, connection_cost};
+ghost use Rattle.pat_world.specs.Steps.{HasStepsLeft};
+ghost use Rattle.world_model.specs.Room.{most_steps};
+ghost use Rattle.run_serving.specs.Receiving.{Receives, ReceivesAll};
+ghost use Rattle.run_serving.specs.Served.{Serves};
+
+use crate::ServeError;
+use pat_base::MemberId;
+use pat_door::Door;
+use pat_outside::Sink;
+use pat_serve::serve_one;
+use pat_world::World;
+use run_player::Player;
+use run_printing::{print_closing, show};
+use script_model::Script;
+use std::alloc::Global;
+
+/// Which connections are served.
+#[derive(Clone, Copy, PartialEq, Eq)]
+pub struct Service<'a> {
+    /// The member to whose agent they come.
+    pub member: MemberId,
+    /// Where it listens, as `127.0.0.1:8008`.
+    pub address: &'a [u8],
+    /// How many there are.
+    pub count: u64,
+}
+
+/// Takes the steps of a script from its head on, and prints what happens; then opens the door, and serves connections, one after another:
+/// what each brings comes next in the run, and is printed once it is answered. The closing summary comes last. Each line is written in one
+/// piece. On Ok all connections were served, and it answers the world after the last step; on Err the world is closed. Where memory is
+/// wanting, what was printed are the lines of whole steps, and nothing of the summary; where the door can't be opened or brings no
+/// connection, the lines of all steps, and nothing of the summary.
+pub fn serve<K: Sink, D: Door>(
+    alloc: Global,
+    script: &Script,
+    service: &Service<'_>,
+    door: &mut D,
+    out: &mut K,
+) -> Result<World, ServeError>
+    requires room { length (steps_of script.now.body) + connection_cost * service.now.count ≤ most_steps }
+    requires declared { IsMember (names_of script.now.head) service.now.member }
+    ensures { (visitors : List Connection) × Serves K.Sink D.Door out.old out.new door.old door.new result script.now service.now.member service.now.count visitors }
+{
+    let mut player = Player::new(alloc, script.head())?;
+    match receive_all(&mut player, script, service, door, out) {
+        Ok(()) => Ok(player.into_world()),
+        Err(error) => {
+            player.into_world().close();
+            Err(error)
+        }
+    }
+}
+
+/// The lines of a script, then connections, and then the closing summary.
+fn receive_all<K: Sink, D: Door>(
+    player: &mut Player,
+    script: &Script,
+    service: &Service<'_>,
+    door: &mut D,
+    out: &mut K,
+) -> Result<(), ServeError>
+    requires room { HasStepsLeft player.old.world (length (steps_of script.now.body) + connection_cost * service.now.count) }
+    requires members { names_in player.old.world.cluster.facts.members ≡ names_of script.now.head }
+    requires declared { IsMember (names_of script.now.head) service.now.member }
+    ensures { (visitors : List Connection) × ReceivesAll K.Sink D.Door player.old player.new out.old out.new door.old door.new result (steps_of script.now.body) service.now.member service.now.count visitors }
+{
+    player.play_body(script, out)?;
+    receive(player, service, door, out)?;
+    print_closing(player.alloc, &player.summary.closing(), out)?;
+    Ok(())
+}
+
+/// Opens the door, and serves connections, one after another.
+fn receive<K: Sink, D: Door>(
+    player: &mut Player,
+    service: &Service<'_>,
+    door: &mut D,
+    out: &mut K,
+) -> Result<(), ServeError>
+    requires room { HasStepsLeft player.old.world (connection_cost * service.now.count) }
+    requires declared { IsMember (names_in player.old.world.cluster.facts.members) service.now.member }
+    ensures { (visitors : List Connection) × Receives K.Sink D.Door player.old player.new out.old out.new door.old door.new result service.now.member service.now.count visitors }
+{
+    let Ok(()) = door.open(service.address) else {
+        return Err(ServeError::Door);
+    };
+    for _ in 0..service.count {
+        receive_next(player, service.member, door, out)?;
+    }
+    Ok(())
+}
+
+/// Serves the next connection.
+fn receive_next<K: Sink, D: Door>(
+    player: &mut Player,
+    member: MemberId,
+    door: &mut D,
+    out: &mut K,
+) -> Result<(), ServeError>
+    requires room { HasStepsLeft player.old.world connection_cost }
+    requires declared { IsMember (names_in player.old.world.cluster.facts.members) member }
+    ensures { (visitors : List Connection) × Receives K.Sink D.Door player.old player.new out.old out.new door.old door.new result member 1 visitors }
+{
+    let Ok(()) = door.accept() else {
+        return Err(ServeError::Door);
+    };
+    let mut brought = Vec::new(player.alloc);
+    serve_one(player.alloc, &mut player.world, member, door, &mut brought)?;
+    show(
+        &mut player.summary,
+        &mut player.text,
+        player.trace,
+        &brought,
+        out,
+    )?;
+    Ok(())
+}
