@@ -1,5 +1,5 @@
 -- A connection that was read and answered.
-use Rattle.std.proofs.Common.{◌≡◌, ℕ, ◌≤◌, ◌∷◌, [], Bool, true, false, List, length, Option, Some, None, Ok, Err, Result, append-nil, refl, ◌∙◌, ap, sym, subst}
+use Rattle.std.proofs.Common.{◌≡◌, ℕ, ◌≤◌, ◌∷◌, Bool, true, false, List, length, Option, Some, None, Ok, Err, Result, append-nil, refl, ◌∙◌, ap, sym, subst}
 use Rattle.std.specs.Prelude.{IfSome, option_map}
 use Rattle.std.specs.declared.alloc.AllocError.{AllocError}
 use Rattle.pat_base.specs.declared.member_id.MemberId.{MemberId}
@@ -10,7 +10,7 @@ use Rattle.pat_door.specs.Doors.{DoorFacts, Tells, after_hang_up, after_read, af
 use Rattle.event_book.specs.declared.event.Event.{Event}
 use Rattle.cluster_model.specs.State.{Cluster}
 use Rattle.cluster_model.specs.declared.step.Visit.{Visit}
-use Rattle.pat_world.specs.Steps.{WorldFacts}
+use Rattle.simulation.specs.Steps.{WorldFacts}
 use Rattle.rest_answer.specs.declared.refusal.Refusal.{Refusal}
 use Rattle.rest_answer.specs.declared.refusal.Refusal.TheVariants as refusals
 use Rattle.rest_message.specs.declared.request.Request.{Request}

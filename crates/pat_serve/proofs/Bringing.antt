@@ -1,5 +1,5 @@
 -- Steps that a world takes one after another, with their events step by step.
-use Rattle.std.proofs.Common.{◌≡◌, ℕ, ◌+◌, ◌≤◌, Ok, Err, Result, subst, List, [], ◌∷◌, ◌++◌, length, map, refl, ap, sym, ◌∙◌, append-nil, append_assoc}
+use Rattle.std.proofs.Common.{◌≡◌, ℕ, ◌+◌, ◌≤◌, Ok, Err, Result, subst, List, ◌∷◌, ◌++◌, length, map, refl, ap, sym, ◌∙◌, append-nil, append_assoc}
 use Rattle.std.specs.Prelude.{OnOk}
 use Rattle.std.proofs.lemmas.List.{length-append, map-append}
 use Rattle.pat_base.specs.declared.member_id.MemberId.{MemberId}
@@ -15,9 +15,9 @@ use Rattle.world_model.specs.Emits.{Emits}
 use Rattle.world_model.proofs.Taking.{cluster_over-append, members-stay}
 use Rattle.world_model.specs.Room.{step_cost}
 use Rattle.run_model.specs.Run.{events_by_step}
-use Rattle.pat_world.specs.Steps.{HasStepsLeft, TookSteps, WorldFacts}
-use Rattle.pat_world.proofs.IdleTicks.{run_events-both}
-use Rattle.pat_world.proofs.Stepping.{TookSteps-none, TookSteps-then, steps-left-behind, steps-left-fewer}
+use Rattle.simulation.specs.Steps.{HasStepsLeft, TookSteps, WorldFacts}
+use Rattle.run_model.proofs.Steps.{run_events-both}
+use Rattle.simulation.proofs.Stepping.{TookSteps-none, TookSteps-then, steps-left-behind, steps-left-fewer}
 use Rattle.pat_serve.specs.Serving.{Brings}
 
 events_by_step-append : (world : Cluster) (steps rest : List Step) → events_by_step world (steps ++ rest) ≡ events_by_step world steps ++ events_by_step (cluster_over world (run_events world steps)) rest

@@ -1,5 +1,5 @@
 -- What is replied in steps, one after another.
-use Rattle.std.proofs.Common.{ℕ, ◌≡◌, ◌<◌, ◌+◌, List, [], ◌∷◌, ◌++◌, length, drop, get_or, Option, None, Result, subst, ap, sym, ◌∙◌, append-nil}
+use Rattle.std.proofs.Common.{ℕ, ◌≡◌, ◌<◌, ◌+◌, List, ◌∷◌, ◌++◌, length, drop, get_or, Option, None, Result, subst, ap, sym, ◌∙◌, append-nil}
 use Rattle.std.specs.Option.{option_or}
 use Rattle.std.specs.Prelude.{IfOk, unwrap_or}
 use Rattle.std.specs.declared.alloc.AllocError.{AllocError}
@@ -16,7 +16,7 @@ use Rattle.rest_answer.specs.declared.refusal.Refusal.TheVariants as refusals
 use Rattle.rest_answer.specs.Refusals.{refusal_reply}
 use Rattle.rest_message.specs.declared.reply.Reply.{Reply}
 use Rattle.rest_message.specs.Replies.{ReplyText, reply_text}
-use Rattle.pat_world.proofs.IdleTicks.{run_events-both}
+use Rattle.run_model.proofs.Steps.{run_events-both}
 use Rattle.serve_model.proofs.Replies.{reply_in-append}
 use Rattle.serve_model.specs.Connections.{most_waiting, replied, replied_steps, reply_by, reply_in, unless_replied, waiting_steps}
 

@@ -1,5 +1,5 @@
 -- A reply that is waited for.
-use Rattle.std.proofs.Common.{ℕ, ◌≡◌, ◌+◌, ◌-◌, ◌<◌, ◌≤◌, arith, length, length-append, zero, List, [], ◌∷◌, ◌++◌, Option, Some, None, suc, refl, ap, sym, subst, ◌∙◌, append-nil, append_assoc}
+use Rattle.std.proofs.Common.{ℕ, ◌≡◌, ◌+◌, ◌-◌, ◌<◌, ◌≤◌, arith, length, length-append, zero, List, ◌∷◌, ◌++◌, Option, Some, None, suc, refl, ap, sym, subst, ◌∙◌, append-nil, append_assoc}
 use Rattle.std.specs.Prelude.{unwrap_or}
 use Rattle.pat_base.specs.declared.member_id.MemberId.{MemberId}
 use Rattle.event_book.specs.declared.event.Event.{Event}
@@ -14,7 +14,7 @@ use Rattle.rest_answer.specs.Refusals.{refusal_reply}
 use Rattle.rest_message.specs.Replies.{ReplyText}
 use Rattle.cluster_model.specs.Steps.{names_in}
 use Rattle.script_model.specs.Script.{IsMember}
-use Rattle.pat_world.specs.Steps.{HasStepsLeft, WorldFacts}
+use Rattle.simulation.specs.Steps.{HasStepsLeft, WorldFacts}
 use Rattle.serve_model.specs.Connections.{Connection, Course, Unread, Unwritten, Whole, connection_cost, failure_steps, first_visit, most_waiting, read_steps, replied, reply_in, steps_by, steps_of_connection, unless_replied, waiting_steps}
 use Rattle.pat_serve.specs.Serving.{Brings}
 use Rattle.pat_serve.proofs.Bringing.{Brings-none, Brings-then, brings-declared, room-behind}

@@ -10,7 +10,7 @@ use Rattle.cluster_model.specs.State.{Cluster}
 use Rattle.pat_door.specs.declared.door.Door.{Ghosts}
 use Rattle.pat_door.specs.Doors.{DoorFacts, Tells, after_hang_up, after_write, bytes_here}
 use Rattle.run_model.specs.Run.{events_by_step}
-use Rattle.pat_world.specs.Steps.{TookSteps, WorldFacts}
+use Rattle.simulation.specs.Steps.{TookSteps, WorldFacts}
 use Rattle.rest_answer.specs.declared.refusal.Refusal.{Refusal}
 use Rattle.rest_answer.specs.declared.refusal.Refusal.TheVariants as refusals
 use Rattle.rest_connection.specs.Connections.{IsRequested}

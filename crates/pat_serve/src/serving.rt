@@ -4,7 +4,7 @@ ghost use Rattle.script_model.specs.Script.{IsMember};
 ghost use Rattle.cluster_model.specs.Next.{next_events};
 ghost use Rattle.cluster_model.specs.Steps.{IsStep, names_in};
 ghost use Rattle.pat_door.specs.Doors.{after_hang_up};
-ghost use Rattle.pat_world.specs.Steps.{HasStepsLeft};
+ghost use Rattle.simulation.specs.Steps.{HasStepsLeft};
 ghost use Rattle.rest_message.specs.Replies.{reply_text};
 ghost use Rattle.serve_model.specs.Connections.{Connection, connection_cost, failure_steps, most_waiting, replied, replied_steps, reply_in, steps_of_connection, waiting_steps};
 ghost use Rattle.pat_serve.specs.Serving.{Answers, Brings, Serves};
@@ -15,9 +15,9 @@ use cluster_model::{Step, Visit};
 use event_book::Event;
 use pat_base::MemberId;
 use pat_door::Door;
-use pat_world::World;
 use rest_answer::{Refusal, refusal_reply};
 use rest_message::{Reply, Request};
+use simulation::Simulation;
 use std::alloc::{AllocError, Global};
 
 /// The most ticks of 100 ms for which a reply is waited.
@@ -30,18 +30,18 @@ pub const MOST_WAITING: u64 = 600;
 /// run or is suspended is answered 503 `No agent`, one that isn't replied to in time 503 `No result in time`, and bytes that are no request
 /// 400. Where a write fails, a front of the reply was answered, and where a read does, nothing. On Err, want of memory, the world isn't to
 /// be used any more.
-pub fn serve_one<D: Door>(
+pub fn serve_one<W: Simulation, D: Door>(
     alloc: Global,
-    world: &mut World,
+    world: &mut W,
     member: MemberId,
     door: &mut D,
     events: &mut Vec<Vec<Event>>,
 ) -> Result<(), AllocError>
-    requires room { HasStepsLeft world.old connection_cost }
-    requires declared { IsMember (names_in world.old.cluster.facts.members) member }
+    requires room { HasStepsLeft (W.facts world.old) connection_cost }
+    requires declared { IsMember (names_in (W.facts world.old).cluster.facts.members) member }
     ensures serves { OnOk result ((connection : Connection)
-        × Brings world.old world.new (map (λ v. v.items) events.old.items) (map (λ v. v.items) events.new.items) (steps_of_connection world.old.cluster member connection)
-        × Serves D.Door door.old door.new (D.told door.new) world.old.cluster member connection) }
+        × Brings (W.facts world.old) (W.facts world.new) (map (λ v. v.items) events.old.items) (map (λ v. v.items) events.new.items) (steps_of_connection (W.facts world.old).cluster member connection)
+        × Serves D.Door door.old door.new (D.told door.new) (W.facts world.old).cluster member connection) }
     ensures grows { D.connection_faults door.old ≤ D.connection_faults door.new }
     ensures door { D.door_faults door.new ≡ D.door_faults door.old }
     ensures served { (n : ℕ) → D.serves door.old n → D.serves door.new n }
@@ -52,18 +52,18 @@ pub fn serve_one<D: Door>(
 }
 
 /// Serves the present connection, without ending it.
-fn serve_present<D: Door>(
+fn serve_present<W: Simulation, D: Door>(
     alloc: Global,
-    world: &mut World,
+    world: &mut W,
     member: MemberId,
     door: &mut D,
     events: &mut Vec<Vec<Event>>,
 ) -> Result<(), AllocError>
-    requires room { HasStepsLeft world.old connection_cost }
-    requires declared { IsMember (names_in world.old.cluster.facts.members) member }
+    requires room { HasStepsLeft (W.facts world.old) connection_cost }
+    requires declared { IsMember (names_in (W.facts world.old).cluster.facts.members) member }
     ensures serves { OnOk result ((connection : Connection)
-        × Brings world.old world.new (map (λ v. v.items) events.old.items) (map (λ v. v.items) events.new.items) (steps_of_connection world.old.cluster member connection)
-        × Serves D.Door door.old door.new (option_map after_hang_up (D.told door.new)) world.old.cluster member connection) }
+        × Brings (W.facts world.old) (W.facts world.new) (map (λ v. v.items) events.old.items) (map (λ v. v.items) events.new.items) (steps_of_connection (W.facts world.old).cluster member connection)
+        × Serves D.Door door.old door.new (option_map after_hang_up (D.told door.new)) (W.facts world.old).cluster member connection) }
     ensures grows { D.connection_faults door.old ≤ D.connection_faults door.new }
     ensures door { D.door_faults door.new ≡ D.door_faults door.old }
     ensures served { (n : ℕ) → D.serves door.old n → D.serves door.new n }
@@ -75,17 +75,17 @@ fn serve_present<D: Door>(
 }
 
 /// Answers on the present connection, which asks this or is refused for this.
-fn answer_to<D: Door>(
+fn answer_to<W: Simulation, D: Door>(
     alloc: Global,
-    world: &mut World,
+    world: &mut W,
     member: MemberId,
     asks: Result<Request, Refusal>,
     door: &mut D,
     events: &mut Vec<Vec<Event>>,
 ) -> Result<(), AllocError>
-    requires room { HasStepsLeft world.old connection_cost }
-    requires declared { IsMember (names_in world.old.cluster.facts.members) member }
-    ensures answers { OnOk result ((whole : Bool) × Answers D.Door door.old door.new world.old world.new (map (λ v. v.items) events.old.items) (map (λ v. v.items) events.new.items) member asks whole) }
+    requires room { HasStepsLeft (W.facts world.old) connection_cost }
+    requires declared { IsMember (names_in (W.facts world.old).cluster.facts.members) member }
+    ensures answers { OnOk result ((whole : Bool) × Answers D.Door door.old door.new (W.facts world.old) (W.facts world.new) (map (λ v. v.items) events.old.items) (map (λ v. v.items) events.new.items) member asks whole) }
     ensures grows { D.connection_faults door.old ≤ D.connection_faults door.new }
     ensures door { D.door_faults door.new ≡ D.door_faults door.old }
     ensures served { (n : ℕ) → D.serves door.old n → D.serves door.new n }
@@ -100,17 +100,17 @@ fn answer_to<D: Door>(
 }
 
 /// The reply to what a connection brings: at once, or within the ticks for which it is waited.
-fn reply_to(
+fn reply_to<W: Simulation>(
     alloc: Global,
-    world: &mut World,
+    world: &mut W,
     member: MemberId,
     visit: Visit,
     events: &mut Vec<Vec<Event>>,
 ) -> Result<Reply, AllocError>
-    requires room { HasStepsLeft world.old (most_waiting + 2) }
-    requires declared { IsMember (names_in world.old.cluster.facts.members) member }
-    ensures brings { OnOk result (Brings world.old world.new (map (λ v. v.items) events.old.items) (map (λ v. v.items) events.new.items) (replied_steps world.old.cluster member visit)) }
-    ensures replied { IfOk result (λ reply. reply_text reply ≡ replied world.old.cluster member (replied_steps world.old.cluster member visit)) }
+    requires room { HasStepsLeft (W.facts world.old) (most_waiting + 2) }
+    requires declared { IsMember (names_in (W.facts world.old).cluster.facts.members) member }
+    ensures brings { OnOk result (Brings (W.facts world.old) (W.facts world.new) (map (λ v. v.items) events.old.items) (map (λ v. v.items) events.new.items) (replied_steps (W.facts world.old).cluster member visit)) }
+    ensures replied { IfOk result (λ reply. reply_text reply ≡ replied (W.facts world.old).cluster member (replied_steps (W.facts world.old).cluster member visit)) }
 {
     match bring(alloc, world, member, visit, events)? {
         Some(reply) => Ok(reply),
@@ -119,16 +119,16 @@ fn reply_to(
 }
 
 /// The reply that is waited for.
-fn awaited_reply(
+fn awaited_reply<W: Simulation>(
     alloc: Global,
-    world: &mut World,
+    world: &mut W,
     member: MemberId,
     events: &mut Vec<Vec<Event>>,
 ) -> Result<Reply, AllocError>
-    requires room { HasStepsLeft world.old (most_waiting + 1) }
-    requires declared { IsMember (names_in world.old.cluster.facts.members) member }
-    ensures brings { OnOk result (Brings world.old world.new (map (λ v. v.items) events.old.items) (map (λ v. v.items) events.new.items) (waiting_steps world.old.cluster member most_waiting)) }
-    ensures replied { IfOk result (λ reply. reply_text reply ≡ replied world.old.cluster member (waiting_steps world.old.cluster member most_waiting)) }
+    requires room { HasStepsLeft (W.facts world.old) (most_waiting + 1) }
+    requires declared { IsMember (names_in (W.facts world.old).cluster.facts.members) member }
+    ensures brings { OnOk result (Brings (W.facts world.old) (W.facts world.new) (map (λ v. v.items) events.old.items) (map (λ v. v.items) events.new.items) (waiting_steps (W.facts world.old).cluster member most_waiting)) }
+    ensures replied { IfOk result (λ reply. reply_text reply ≡ replied (W.facts world.old).cluster member (waiting_steps (W.facts world.old).cluster member most_waiting)) }
 {
     let mut left = MOST_WAITING;
     while left > 0 {
@@ -145,63 +145,63 @@ fn awaited_reply(
 }
 
 /// A read or a write of the connection failed.
-fn fail(
+fn fail<W: Simulation>(
     alloc: Global,
-    world: &mut World,
+    world: &mut W,
     member: MemberId,
     events: &mut Vec<Vec<Event>>,
 ) -> Result<(), AllocError>
-    requires room { HasStepsLeft world.old 1 }
-    requires declared { IsMember (names_in world.old.cluster.facts.members) member }
-    ensures { OnOk result (Brings world.old world.new (map (λ v. v.items) events.old.items) (map (λ v. v.items) events.new.items) (failure_steps member)) }
+    requires room { HasStepsLeft (W.facts world.old) 1 }
+    requires declared { IsMember (names_in (W.facts world.old).cluster.facts.members) member }
+    ensures { OnOk result (Brings (W.facts world.old) (W.facts world.new) (map (λ v. v.items) events.old.items) (map (λ v. v.items) events.new.items) (failure_steps member)) }
 {
     bring(alloc, world, member, Visit::Failure, events)?;
     Ok(())
 }
 
 /// What a connection brings, as the next step; what the agent of the member replies in it, if it does.
-fn bring(
+fn bring<W: Simulation>(
     alloc: Global,
-    world: &mut World,
+    world: &mut W,
     member: MemberId,
     visit: Visit,
     events: &mut Vec<Vec<Event>>,
 ) -> Result<Option<Reply>, AllocError>
-    requires room { HasStepsLeft world.old 1 }
-    requires declared { IsMember (names_in world.old.cluster.facts.members) member }
-    ensures brings { OnOk result (Brings world.old world.new (map (λ v. v.items) events.old.items) (map (λ v. v.items) events.new.items) (Step.Connection member visit ∷ [])) }
-    ensures replied { IfOk result (λ reply. option_map reply_text reply ≡ reply_in member (next_events world.old.cluster (Step.Connection member visit))) }
+    requires room { HasStepsLeft (W.facts world.old) 1 }
+    requires declared { IsMember (names_in (W.facts world.old).cluster.facts.members) member }
+    ensures brings { OnOk result (Brings (W.facts world.old) (W.facts world.new) (map (λ v. v.items) events.old.items) (map (λ v. v.items) events.new.items) (Step.Connection member visit ∷ [])) }
+    ensures replied { IfOk result (λ reply. option_map reply_text reply ≡ reply_in member (next_events (W.facts world.old).cluster (Step.Connection member visit))) }
 {
     let step = Step::Connection(member, visit);
     take(alloc, world, member, &step, events)
 }
 
 /// A tick of the default schedule, as the next step.
-fn tick(
+fn tick<W: Simulation>(
     alloc: Global,
-    world: &mut World,
+    world: &mut W,
     member: MemberId,
     events: &mut Vec<Vec<Event>>,
 ) -> Result<Option<Reply>, AllocError>
-    requires { HasStepsLeft world.old 1 }
-    ensures brings { OnOk result (Brings world.old world.new (map (λ v. v.items) events.old.items) (map (λ v. v.items) events.new.items) (Step.Scheduled ∷ [])) }
-    ensures replied { IfOk result (λ reply. option_map reply_text reply ≡ reply_in member (next_events world.old.cluster Step.Scheduled)) }
+    requires { HasStepsLeft (W.facts world.old) 1 }
+    ensures brings { OnOk result (Brings (W.facts world.old) (W.facts world.new) (map (λ v. v.items) events.old.items) (map (λ v. v.items) events.new.items) (Step.Scheduled ∷ [])) }
+    ensures replied { IfOk result (λ reply. option_map reply_text reply ≡ reply_in member (next_events (W.facts world.old).cluster Step.Scheduled)) }
 {
     take(alloc, world, member, &Step::Scheduled, events)
 }
 
 /// One more step; what the agent of the member replies in it, if it does.
-fn take(
+fn take<W: Simulation>(
     alloc: Global,
-    world: &mut World,
+    world: &mut W,
     member: MemberId,
     step: &Step,
     events: &mut Vec<Vec<Event>>,
 ) -> Result<Option<Reply>, AllocError>
-    requires room { HasStepsLeft world.old 1 }
-    requires declared { IsStep world.old.cluster.facts.members step.now }
-    ensures brings { OnOk result (Brings world.old world.new (map (λ v. v.items) events.old.items) (map (λ v. v.items) events.new.items) (step.now ∷ [])) }
-    ensures replied { IfOk result (λ reply. option_map reply_text reply ≡ reply_in member (next_events world.old.cluster step.now)) }
+    requires room { HasStepsLeft (W.facts world.old) 1 }
+    requires declared { IsStep (W.facts world.old).cluster.facts.members step.now }
+    ensures brings { OnOk result (Brings (W.facts world.old) (W.facts world.new) (map (λ v. v.items) events.old.items) (map (λ v. v.items) events.new.items) (step.now ∷ [])) }
+    ensures replied { IfOk result (λ reply. option_map reply_text reply ≡ reply_in member (next_events (W.facts world.old).cluster step.now)) }
 {
     let mut brought = Vec::new(alloc);
     world.step(step, &mut brought)?;

@@ -1,5 +1,5 @@
 -- What many ticks of an idle cluster leave.
-use Rattle.std.proofs.Common.{◌≡◌, ℕ, ◌+◌, ◌*◌, ◌≤◌, ◌<◌, List, [], ◌∷◌, ◌++◌, length, replicate, zero, suc, arith, append_assoc, refl, ap, sym, subst, ◌∙◌}
+use Rattle.std.proofs.Common.{◌≡◌, ℕ, ◌+◌, ◌*◌, ◌≤◌, ◌<◌, List, ◌∷◌, ◌++◌, length, replicate, zero, suc, arith, ap, sym, subst, ◌∙◌}
 use Rattle.pat_base.specs.declared.ticks.Ticks.{Ticks}
 use Rattle.event_book.specs.declared.event.Event.{Event}
 use Rattle.event_book.specs.declared.event.EventKind.TheVariants as kinds
@@ -11,15 +11,16 @@ use Rattle.cluster_model.specs.Next.{next_events, run_events}
 use Rattle.cluster_model.specs.Parts.{event_of, events_then}
 use Rattle.cluster_model.specs.Starting.{cluster_of}
 use Rattle.cluster_model.specs.State.{Cluster}
-use Rattle.pat_world.specs.Book.{StandsFor, left_by}
+use Rattle.simulation.specs.Book.{StandsFor, left_by}
 use Rattle.world_model.specs.Emits.{Emits}
 use Rattle.world_model.specs.Idle.{BringsTicks, IsIdleBefore, IsIdleIn, NothingEnds, NothingIsDue}
 use Rattle.pat_world.specs.OneWriter.{KeepsOneWriter}
 use Rattle.world_model.specs.Room.{HasRoom, HasRoomFor, step_cost}
 use Rattle.lease_runs.proofs.EveryRun.{runs-one}
+use Rattle.run_model.proofs.Steps.{run_events-both}
 use Rattle.world_model.proofs.Idling.{at_moment, idle-after, idle-at, idle-ends, idle-ticks, next-idle, ticked-idle}
 use Rattle.world_model.proofs.Rooms.{HasRoom-cluster_after, HasRoom-fewer}
-use Rattle.pat_world.proofs.Standing.{is-stands}
+use Rattle.simulation.proofs.Standing.{is-stands}
 use Rattle.world_model.proofs.Stillness.{tick-alone}
 use Rattle.world_model.proofs.Taking.{Emits-weaker, cluster_over-append}
 
@@ -91,16 +92,6 @@ idle-before-at step moment now cluster idle = λ later h. idle-at step cluster l
 -- before no moment
 pub idle-before-none : (step : Step) (cluster : Cluster) → IsIdleBefore step 0 cluster
 idle-before-none step cluster = λ now h. absurd (omega (arith, h))
-
--- some steps, and then others
-pub run_events-both : (start : Cluster) (first more : List Step) → run_events start (first ++ more) ≡ run_events start first ++ run_events (cluster_over start (run_events start first)) more
-run_events-both start [] more = refl
-run_events-both start (step ∷ first) more =
-    let taken = next_events start step in
-    let later : Cluster = cluster_over start taken in
-    ap (λ (es : List Event). taken ++ es) (run_events-both later first more)
-    ∙ sym (append_assoc taken (run_events later first) (run_events (cluster_over later (run_events later first)) more))
-    ∙ ap (λ (c : Cluster). (taken ++ run_events later first) ++ run_events c more) (sym (cluster_over-append start taken (run_events later first)))
 
 -- steps of a world that a run brought keep one writer
 pub steps-keep : (world : Cluster) (more : List Step) → KeepsOneWriter world (run_events world more)

@@ -1,8 +1,8 @@
 -- Steps of a world that a run brought keep acknowledged commits.
-use Rattle.std.proofs.Common.{◌≡◌, ℕ, List, [], ◌∷◌, ◌++◌, ◌∙◌, ap, sym, subst}
+use Rattle.std.proofs.Common.{◌≡◌, ℕ, List, ◌∷◌, ◌++◌, ◌∙◌, ap, sym, subst}
 use Rattle.cluster_model.specs.declared.step.Step.{Step}
 use Rattle.script_model.specs.Script.{HeadText, IsHead}
-use Rattle.pat_world.specs.Book.{StandsFor}
+use Rattle.simulation.specs.Book.{StandsFor}
 use Rattle.event_book.specs.declared.event.Event.{Event}
 use Rattle.cluster_model.specs.Cluster.{cluster_over}
 use Rattle.cluster_model.specs.Next.{next_events, run_events}
@@ -12,7 +12,7 @@ use Rattle.commit_runs.specs.Runs.{KeepsCommitsIn, KeepsOrderIn}
 use Rattle.commit_runs.proofs.EveryRun.{runs-in-order, runs-keep}
 use Rattle.world_model.specs.Emits.{Emits}
 use Rattle.pat_world.specs.KeptCommits.{KeepsAcknowledged}
-use Rattle.pat_world.proofs.IdleTicks.{run_events-both}
+use Rattle.run_model.proofs.Steps.{run_events-both}
 use Rattle.run_model.proofs.Steps.{run_events-last}
 
 -- what every run keeps is kept behind one more step, and behind more steps at once

@@ -1,4 +1,3 @@
-pub mod Standing
 pub mod IdleTicks
 pub mod OneWriter
 pub mod Fenced

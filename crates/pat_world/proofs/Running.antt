@@ -1,5 +1,5 @@
 -- In every world that a book brought from a head a view is there exactly where that agent runs.
-use Rattle.std.proofs.Common.{◌≡◌, ℕ, ◌<◌, ◌≤◌, List, [], ◌∷◌, length, Option, Some, None, is_some, option_map, arith, refl, ◌∙◌, ap, sym, subst, inl, inr, suc, zero}
+use Rattle.std.proofs.Common.{◌≡◌, ℕ, ◌<◌, ◌≤◌, List, ◌∷◌, length, Option, Some, None, is_some, option_map, arith, refl, ◌∙◌, ap, sym, subst, inl, inr, suc, zero}
 use Rattle.std.specs.Prelude.{option_and_then, slice_get}
 use Rattle.std.proofs.lemmas.List.{length-map, length-replicate}
 use Rattle.std.proofs.lemmas.Option.{none-some, slice_get_cases, slice_get_past, slice_get_within}
@@ -23,7 +23,7 @@ use Rattle.run_promise.proofs.Members.{counted, few-names, numbered}
 use Rattle.world_model.specs.Running.{agent_runs, runs_now}
 use Rattle.world_model.proofs.Running.{Alike, alike-after, alike-start, member-runs}
 use Rattle.world_stage.specs.AgentViews.{IsViewOf, agent_of}
-use Rattle.pat_world.specs.Book.{StandsFor}
+use Rattle.simulation.specs.Book.{StandsFor}
 use Rattle.pat_base.specs.declared.member_id.TheConstants.{MOST_MEMBERS}
 
 -- what every book keeps of a cluster: how many members there are, and which of them have an agent

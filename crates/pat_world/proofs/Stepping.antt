@@ -1,10 +1,10 @@
 -- The steps that a world took, and those that it may take.
-use Rattle.std.proofs.Common.{◌≡◌, ℕ, ◌+◌, ◌*◌, ◌≤◌, List, arith, sym, subst}
+use Rattle.std.proofs.Common.{◌≡◌, ℕ, ◌+◌, ◌*◌, List, arith, sym, subst}
 use Rattle.script_model.specs.Script.{HeadText}
 use Rattle.event_book.specs.declared.event.Event.{Event}
 use Rattle.cluster_model.specs.Starting.{cluster_of}
 use Rattle.cluster_model.specs.State.{Cluster}
-use Rattle.pat_world.specs.Steps.{HasStepsLeft, TookSteps, IsCounted, WorldFacts}
+use Rattle.simulation.specs.Steps.{HasStepsLeft, TookSteps, IsCounted, WorldFacts}
 use Rattle.world_model.specs.Counted.{AreCounted, counted_by}
 use Rattle.world_model.specs.Emits.{Emits}
 use Rattle.world_model.specs.Room.{HasRoomFor, most_steps, step_cost}
@@ -21,13 +21,6 @@ steps-left-first head cluster is = record { room = subst (λ (c : Cluster). HasR
 -- and nothing is counted farther
 pub is-counted-first : (head : HeadText) (cluster : Cluster) → cluster ≡ cluster_of head → AreCounted cluster (counted_by 0)
 is-counted-first head cluster is = subst (λ (c : Cluster). AreCounted c (counted_by 0)) (sym is) (counted-first head)
-
--- who may take many may take fewer
-pub steps-left-fewer : (world : WorldFacts) (more fewer : ℕ) → fewer ≤ more → HasStepsLeft world more → HasStepsLeft world fewer
-steps-left-fewer world more fewer h left = record {
-  room = record { room = HasRoom-fewer world.cluster (step_cost * more) (step_cost * fewer) (omega (arith, h)) left.room.room };
-  steps = omega (arith, h, left.steps);
-}
 
 -- a step was taken
 pub TookSteps-step : (before after : WorldFacts) (had has events : List Event) → HasStepsLeft before 1 → after.steps ≡ before.steps + 1 → Emits before.cluster after.cluster had has events step_cost → TookSteps before after 1
@@ -49,23 +42,3 @@ TookSteps-idle world later steps count is took = record {
   room = λ more has. subst (λ (c : Cluster). HasRoomFor c more) (sym is) (room-passed world.cluster count more has);
   counted = idle-counted world later steps count is took;
 }
-
--- no step was taken yet
-pub TookSteps-none : (world : WorldFacts) → TookSteps world world 0
-TookSteps-none world = record {
-  steps = omega arith;
-  room = λ more has. record { room = HasRoom-fewer world.cluster (step_cost * (0 + more)) (step_cost * more) (omega arith) has.room };
-  counted = λ counted. counted;
-}
-
--- some were taken, and then others
-pub TookSteps-then : (first second third : WorldFacts) (some more whole : ℕ) → some + more ≡ whole → TookSteps first second some → TookSteps second third more → TookSteps first third whole
-TookSteps-then first second third some more whole is one two = record {
-  steps = omega (arith, is, one.steps, two.steps);
-  room = λ spare has. two.room spare (one.room (more + spare) (record { room = HasRoom-fewer first.cluster (step_cost * (whole + spare)) (step_cost * (some + (more + spare))) (omega (arith, is)) has.room }));
-  counted = λ counted. two.counted (one.counted counted);
-}
-
--- the others are left
-pub steps-left-behind : (before after : WorldFacts) (count more : ℕ) → TookSteps before after count → HasStepsLeft before (count + more) → HasStepsLeft after more
-steps-left-behind before after count more taken left = record { room = taken.room more left.room; steps = omega (arith, taken.steps, left.steps) }

@@ -7,7 +7,7 @@ use Rattle.cluster_model.specs.Next.{run_events}
 use Rattle.cluster_model.specs.Starting.{cluster_of}
 use Rattle.cluster_model.specs.State.{Cluster}
 use Rattle.lease_runs.specs.Fencing.{AreFenced}
-use Rattle.pat_world.specs.Book.{StandsFor}
+use Rattle.simulation.specs.Book.{StandsFor}
 
 -- whichever steps brought a world here from a head: each write under a lease that is granted inside the events that come next finds the leader
 -- key there at that moment, as the grant of that lease left it

@@ -7,7 +7,7 @@ use Rattle.cluster_model.specs.Next.{run_events}
 use Rattle.cluster_model.specs.Starting.{cluster_of}
 use Rattle.cluster_model.specs.State.{Cluster}
 use Rattle.commit_runs.specs.Runs.{KeepsCommitsIn, KeepsOrderIn}
-use Rattle.pat_world.specs.Book.{StandsFor}
+use Rattle.simulation.specs.Book.{StandsFor}
 
 -- whichever steps brought a world here from a head with synchronous mode on: at each moment of their book, and inside the events that come next, each
 -- server that accepts writes has each acknowledged commit, and required lists and sync key are in order, as long as the premises of one writer are met and

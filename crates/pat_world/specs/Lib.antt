@@ -1,6 +1,4 @@
-pub mod Book
 pub mod Fenced
 pub mod KeptCommits
 pub mod OnePrimary
 pub mod OneWriter
-pub mod Steps

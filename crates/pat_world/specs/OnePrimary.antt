@@ -8,7 +8,7 @@ use Rattle.cluster_model.specs.Starting.{cluster_of}
 use Rattle.cluster_model.specs.State.{Cluster}
 use Rattle.rest_law.specs.Finding.{FindsOne}
 use Rattle.lease_parts.specs.Kept.{WhereMet}
-use Rattle.pat_world.specs.Book.{StandsFor}
+use Rattle.simulation.specs.Book.{StandsFor}
 
 -- whichever steps brought a world here from a head: at each moment of their book, and inside the events that come next, at most one member
 -- answers 200 where the primary is looked for, as long as the premises are met

@@ -10,13 +10,13 @@ ghost use Rattle.cluster_model.specs.Parts.{event_of};
 ghost use Rattle.cluster_model.specs.Starting.{cluster_of};
 ghost use Rattle.cluster_model.specs.State.{Cluster};
 ghost use Rattle.cluster_model.specs.Steps.{IsStep};
-ghost use Rattle.pat_world.specs.Book.{StandsFor, left_by, next_of};
+ghost use Rattle.simulation.specs.Book.{StandsFor, left_by, next_of};
 ghost use Rattle.world_model.specs.Idle.{BringsTicks, IsIdleBefore, IsIdleIn, NothingEnds, NothingIsDue};
 ghost use Rattle.pat_world.specs.Fenced.{KeepsFencing};
 ghost use Rattle.pat_world.specs.KeptCommits.{KeepsAcknowledged};
 ghost use Rattle.pat_world.specs.OnePrimary.{KeepsOnePrimary};
 ghost use Rattle.pat_world.specs.OneWriter.{KeepsOneWriter};
-ghost use Rattle.pat_world.specs.Steps.{HasStepsLeft, TookSteps, IsCounted};
+ghost use Rattle.simulation.specs.Steps.{HasStepsLeft, TookSteps, IsCounted};
 ghost use Rattle.world_model.specs.Emits.{Emits};
 ghost use Rattle.world_model.specs.Room.{most_steps, step_cost};
 ghost use Rattle.world_model.specs.Running.{agent_runs};
@@ -53,7 +53,7 @@ pub struct World {
 
 impl Model for World {
     ghost use Rattle.cluster_model.specs.declared.step.Step.TheVariants.{Scheduled, Tick};
-    ghost use Rattle.pat_world.specs.Steps.{WorldFacts};
+    ghost use Rattle.simulation.specs.Steps.{WorldFacts};
     ghost use Rattle.world_model.specs.Idle.{IsIdleBefore};
 
     ghost Value = { WorldFacts };

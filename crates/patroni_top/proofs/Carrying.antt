@@ -1,5 +1,5 @@
 -- How a command was carried out, for each way in which it may go.
-use Rattle.std.proofs.Common.{◌≡◌, ◌≢◌, ◌<◌, ◌*◌, ◌+◌, ℕ, Bool, false, true, List, [], Option, Some, None, Result, Ok, Err, append-nil, arith, nat_lt, refl, sym, subst, ap, ◌∙◌}
+use Rattle.std.proofs.Common.{◌≡◌, ◌≢◌, ◌<◌, ◌*◌, ◌+◌, ℕ, Bool, false, true, List, Option, Some, None, Result, Ok, Err, append-nil, arith, nat_lt, refl, sym, subst, ap, ◌∙◌}
 use Rattle.std.proofs.lemmas.Bool.Decides.{nat_tests}
 use Rattle.pat_base.specs.declared.member_id.MemberId.{MemberId}
 use Rattle.pat_outside.specs.declared.outside.Sink.{Ghosts as SinkGhosts}
@@ -18,7 +18,7 @@ use Rattle.cluster_model.specs.Starting.{cluster_of}
 use Rattle.cluster_model.specs.State.{Cluster}
 use Rattle.cluster_model.specs.Steps.{steps_of}
 use Rattle.serve_model.specs.Connections.{Connection, most_waiting}
-use Rattle.pat_world.specs.Steps.{WorldFacts}
+use Rattle.simulation.specs.Steps.{WorldFacts}
 use Rattle.run_printing.specs.declared.print_error.PrintError.{PrintError}
 use Rattle.run_printing.specs.declared.print_error.PrintError.TheVariants as prints
 use Rattle.run_player.specs.Left.{IsLeftBy}
@@ -272,7 +272,7 @@ module _ {S K D : Type 0} (source : SourceGhosts S) (sink : SinkGhosts K) (door 
           serves-so = makes-so visitors (Some id) found
 
           -- or connections came behind its run, and all was printed
-          pub served-whole : (result : Result (Option WorldFacts) Ending) (world : WorldFacts) → result ≡ Ok (Some world) → ServedSo sink door out then was now (Ok world) script id count visitors → IsCarriedOut source sink door input left out then was now service result
+          pub served-whole : (result : Result (Option WorldFacts) Ending) (world : WorldFacts) → result ≡ Ok (Some world) → ServedSo sink door (λ (w : WorldFacts). w) out then was now (Ok world) script id count visitors → IsCarriedOut source sink door input left out then was now service result
           served-whole result world is s = subst (IsCarriedOut source sink door input left out then was now service) (sym is) (record {
             usage = λ e. cc;
             carries = (
@@ -287,7 +287,7 @@ module _ {S K D : Type 0} (source : SourceGhosts S) (sink : SinkGhosts K) (door 
           })
 
           -- or a part of it
-          pub served-part : (result : Result (Option WorldFacts) Ending) (error : ServeError) → result ≡ Err (ending_of_serve error) → ServedSo sink door out then was now (Err error) script id count visitors → IsCarriedOut source sink door input left out then was now service result
+          pub served-part : (result : Result (Option WorldFacts) Ending) (error : ServeError) → result ≡ Err (ending_of_serve error) → ServedSo sink door (λ (w : WorldFacts). w) out then was now (Err error) script id count visitors → IsCarriedOut source sink door input left out then was now service result
           served-part result error is s =
               let start : Cluster = after_steps (cluster_of script.head) (steps_of script.body) in
               subst (IsCarriedOut source sink door input left out then was now service) (sym is) (stopped input left out then was now service error (

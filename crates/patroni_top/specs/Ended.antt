@@ -5,7 +5,7 @@ use Rattle.pat_outside.specs.declared.outside.Sink.{Ghosts as SinkGhosts}
 use Rattle.pat_outside.specs.Outside.{Known}
 use Rattle.pat_door.specs.declared.door.Door.{Ghosts as DoorGhosts}
 use Rattle.serve_model.specs.Connections.{Connection}
-use Rattle.pat_world.specs.Steps.{WorldFacts}
+use Rattle.simulation.specs.Steps.{WorldFacts}
 use Rattle.run_player.specs.Left.{IsLeftBy}
 use Rattle.patroni_top.specs.declared.ended.Ended.{Ended}
 use Rattle.command_line.specs.declared.ending.Ending.{Ending}

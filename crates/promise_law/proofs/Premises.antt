@@ -1,5 +1,5 @@
 -- The premises that the closing summary tells of are those of the laws of one writer and of kept commits.
-use Rattle.std.proofs.Common.{◌≡◌, ◌≤◌, ℕ, Option, Bool, List, [], ◌∷◌, length, map, zero, suc, refl, subst, sym, ◌∙◌}
+use Rattle.std.proofs.Common.{◌≡◌, ◌≤◌, ℕ, Option, Bool, List, ◌∷◌, length, map, zero, suc, refl, subst, sym, ◌∙◌}
 use Rattle.std.specs.Prelude.{not, ◌&&◌, slice_get}
 use Rattle.std.proofs.lemmas.List.{length-map}
 use mathlib.Core.Path.{fun_ext}
@@ -28,12 +28,6 @@ use Rattle.commit_runs.specs.Runs.{KeepsCommitsIn, first_logs}
 use Rattle.commit_runs.proofs.EveryRun.{runs-in-order, runs-keep}
 use Rattle.cluster_model.specs.State.{Cluster}
 use Rattle.event_book.specs.Writers.{HasOneWriter}
-use Rattle.script_words.specs.declared.fault.Fault.{Fault}
-use Rattle.pat_base.specs.declared.member_id.MemberId.{MemberId}
-use Rattle.serve_model.specs.Connections.{Connection, most_waiting}
-use Rattle.generator_model.proofs.BodyLaws.{generated-IsScript}
-use Rattle.generator_model.specs.Generating.{generated_script}
-use Rattle.generator_model.specs.declared.bounds.TheConstants.{MOST_GENERATED}
 use Rattle.run_model.specs.Run.{closing_of_run, events_by_step, Played, run_of}
 use Rattle.run_model.specs.Watches.{declared_watch, first_summary, is_off, watches_of}
 use Rattle.promise_law.specs.Claims.{KeepsPromises}

@@ -1,5 +1,5 @@
 -- Ticks that bring nothing else print nothing, and are noted at once.
-use Rattle.std.proofs.Common.{◌≡◌, Bool, ℕ, ◌+◌, ◌-◌, ◌≤◌, ◌<◌, List, [], ◌∷◌, ◌++◌, length, Ok, arith, refl, ◌∙◌, ap, sym, subst, suc, zero, replicate}
+use Rattle.std.proofs.Common.{◌≡◌, Bool, ℕ, ◌+◌, ◌-◌, ◌≤◌, ◌<◌, List, ◌∷◌, ◌++◌, length, Ok, arith, refl, ◌∙◌, ap, sym, subst, suc, zero, replicate}
 use Rattle.std.specs.Prelude.{All}
 use Rattle.std.proofs.lemmas.List.{length-replicate}
 use Rattle.std.proofs.lemmas.List.Elements.{All-nil, All-cons}
@@ -18,10 +18,9 @@ use Rattle.cluster_model.specs.Steps.{IsStep}
 use Rattle.summary_model.specs.Passing.{IsTickAlone}
 use Rattle.summary_model.specs.Sights.{noted_steps}
 use Rattle.world_model.specs.Idle.{BringsTicks, IsTick}
-use Rattle.pat_world.specs.Steps.{TookSteps}
-use Rattle.run_player.specs.declared.player.Player.{Player}
+use Rattle.simulation.specs.Steps.{TookSteps}
 use Rattle.run_printing.specs.declared.print_error.PrintError.TheVariants.{Write}
-use Rattle.run_player.specs.Playing.{Idles, Plays}
+use Rattle.run_player.specs.Playing.{Idles, PlayerFacts, Plays}
 use Rattle.run_model.specs.Run.{events_by_step, noted_from, printed_from, traced_after, traced_over}
 
 -- a tick changes nothing of what is traced
@@ -63,7 +62,7 @@ ticks-many step world zero = refl
 ticks-many step world (suc count) = ap suc (ticks-many step (cluster_over world (next_events world step)) count)
 
 -- so the player played these steps
-pub Plays-idle : {K : Type 0} {sink : Ghosts K} {before after : Player} {step : Step} {count left : ℕ} (out : K) → IsTick step → Idles before after step count left → Plays {X = Unit {0}} sink before after out out (Ok tt) (replicate (count - left) step)
+pub Plays-idle : {K : Type 0} {sink : Ghosts K} {before after : PlayerFacts} {step : Step} {count left : ℕ} (out : K) → IsTick step → Idles before after step count left → Plays {X = Unit {0}} sink before after out out (Ok tt) (replicate (count - left) step)
 Plays-idle {sink = sink} {before = before} {after = after} {step = step} {count = count} {left = left} out is idles = record {
   world = idles.world;
   trace = idles.trace ∙ sym (traced-same step before.trace (count - left) is);
@@ -90,7 +89,7 @@ ticks-first step left h =
     ap (λ (n : ℕ). replicate n step) next
 
 -- what is taken at once of some ticks
-pub idles : (before after : Player) (step : Step) (count ticks : ℕ) → ticks ≤ count → BringsTicks before.world.cluster step ticks → after.world.cluster ≡ cluster_over before.world.cluster (run_events before.world.cluster (replicate ticks step)) → after.trace ≡ before.trace
+pub idles : (before after : PlayerFacts) (step : Step) (count ticks : ℕ) → ticks ≤ count → BringsTicks before.world.cluster step ticks → after.world.cluster ≡ cluster_over before.world.cluster (run_events before.world.cluster (replicate ticks step)) → after.trace ≡ before.trace
     → ((steps : List (List Event)) → length steps ≡ ticks → All IsTickAlone steps → after.summary ≡ noted_steps before.summary steps) → TookSteps before.world after.world ticks → Idles before after step count (count - ticks)
 idles before after step count ticks within brings world trace summary taken =
     let start = before.world.cluster in

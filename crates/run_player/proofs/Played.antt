@@ -1,5 +1,5 @@
 -- Steps that were played, one after another: what is left is behind what was done.
-use Rattle.std.proofs.Common.{◌≡◌, Bool, ℕ, ◌+◌, List, [], ◌∷◌, ◌++◌, length, drop, Some, Result, Ok, Err, arith, append_assoc, append-nil, length-append, refl, ◌∙◌, ap, sym, subst, suc, zero}
+use Rattle.std.proofs.Common.{◌≡◌, Bool, ℕ, ◌+◌, List, ◌∷◌, ◌++◌, length, drop, Some, Result, Ok, Err, arith, append_assoc, append-nil, length-append, refl, ◌∙◌, ap, sym, subst, suc, zero}
 use Rattle.std.proofs.lemmas.Option.{none-some, same_Some}
 use Rattle.std.specs.Prelude.{IsErrOf, slice_get}
 use Rattle.pat_base.specs.declared.name.Name.{Name}
@@ -19,16 +19,15 @@ use Rattle.cluster_model.specs.Cluster.{cluster_over}
 use Rattle.cluster_model.specs.Next.{next_events, run_events}
 use Rattle.cluster_model.specs.State.{Cluster}
 use Rattle.summary_model.specs.Sights.{SummaryFacts, noted_step}
-use Rattle.pat_world.specs.Steps.{HasStepsLeft, TookSteps}
+use Rattle.simulation.specs.Steps.{HasStepsLeft, TookSteps}
 use Rattle.world_model.specs.Room.{step_cost}
 use Rattle.world_model.specs.Emits.{Emits}
-use Rattle.pat_world.proofs.Stepping.{TookSteps-none, TookSteps-then, steps-left-behind, steps-left-fewer}
+use Rattle.simulation.proofs.Stepping.{TookSteps-none, TookSteps-then, steps-left-behind, steps-left-fewer}
 use Rattle.pat_base.proofs.Lists.{drop-get}
 use Rattle.world_model.proofs.Taking.{members-stay, cluster_over-append}
-use Rattle.run_player.specs.declared.player.Player.{Player}
 use Rattle.run_printing.specs.declared.print_error.PrintError.{PrintError}
 use Rattle.run_printing.specs.declared.print_error.PrintError.TheVariants.{Memory, Write}
-use Rattle.run_player.specs.Playing.{Plays, PrintsWholeSteps}
+use Rattle.run_player.specs.Playing.{PlayerFacts, Plays, PrintsWholeSteps}
 use Rattle.run_model.specs.Run.{noted_from, printed_from, traced_after, traced_over}
 
 -- a call that stops says the same of its sink, whatever it would have answered
@@ -50,11 +49,11 @@ pub PrintsWholeSteps-none : {K : Type 0} (sink : Ghosts K) (out : K) (cluster : 
 PrintsWholeSteps-none sink out cluster trace steps = record { done = []; more = steps; parts = refl; grew = Grew-nothing (sink.content out) }
 
 -- what a step hands out into an empty buffer is all that it prints
-step-text : (before : Player) (next : Cluster) (step : Step) (had has : List Event) → Emits before.world.cluster next had has (next_events before.world.cluster step) step_cost → had ≡ [] → lines_of before.trace has ≡ printed_from before.world.cluster before.trace (step ∷ [])
+step-text : (before : PlayerFacts) (next : Cluster) (step : Step) (had has : List Event) → Emits before.world.cluster next had has (next_events before.world.cluster step) step_cost → had ≡ [] → lines_of before.trace has ≡ printed_from before.world.cluster before.trace (step ∷ [])
 step-text before next step had has took empty =
     ap (lines_of before.trace) (took.event ∙ ap (λ l. l ++ next_events before.world.cluster step) empty) ∙ sym (append-nil (lines_of before.trace (next_events before.world.cluster step)))
 
-pub Plays-step : {K X : Type 0} {sink : Ghosts K} {before after : Player} {out then : K} {step : Step} {had has seen : List Event} {text : List ℕ} {x : X} → Emits before.world.cluster after.world.cluster had has (next_events before.world.cluster step) step_cost → TookSteps before.world after.world 1 → had ≡ [] → seen ≡ has
+pub Plays-step : {K X : Type 0} {sink : Ghosts K} {before after : PlayerFacts} {out then : K} {step : Step} {had has seen : List Event} {text : List ℕ} {x : X} → Emits before.world.cluster after.world.cluster had has (next_events before.world.cluster step) step_cost → TookSteps before.world after.world 1 → had ≡ [] → seen ≡ has
     → after.summary ≡ noted_step before.summary seen → text ≡ lines_of before.trace has → after.trace ≡ traced_after before.trace step → Prints sink out then failed (Ok x) text → Plays {X = Unit {0}} sink before after out then (Ok tt) (step ∷ [])
 Plays-step {sink = sink} {before = before} {after = after} {out = out} {then = then} {step = step} {had = had} {has = has} took taken empty sees noted same traced printed = record {
   world = took.state ∙ ap (cluster_over before.world.cluster) (sym (append-nil (next_events before.world.cluster step)));
@@ -66,7 +65,7 @@ Plays-step {sink = sink} {before = before} {after = after} {out = out} {then = t
 }
 
 -- a step whose lines the sink doesn't take
-pub Plays-step-stop : {K X Y : Type 0} {sink : Ghosts K} {before after : Player} {out then : K} {step : Step} {had has : List Event} {text : List ℕ} {error : Failed} (final : Result Y PrintError) → Emits before.world.cluster after.world.cluster had has (next_events before.world.cluster step) step_cost → had ≡ [] → text ≡ lines_of before.trace has
+pub Plays-step-stop : {K X Y : Type 0} {sink : Ghosts K} {before after : PlayerFacts} {out then : K} {step : Step} {had has : List Event} {text : List ℕ} {error : Failed} (final : Result Y PrintError) → Emits before.world.cluster after.world.cluster had has (next_events before.world.cluster step) step_cost → had ≡ [] → text ≡ lines_of before.trace has
     → Prints {X = X} sink out then failed (Err error) text → final ≡ Err Write → Plays sink before after out then final (step ∷ [])
 Plays-step-stop {Y = Y} {sink = sink} {before = before} {after = after} {out = out} {then = then} {step = step} {had = had} {has = has} {text = text} final took empty same printed stops = rw stops (record {
   world = tt;
@@ -79,7 +78,7 @@ Plays-step-stop {Y = Y} {sink = sink} {before = before} {after = after} {out = o
 })
 
 -- a step for which memory is wanting prints nothing
-pub Plays-none : {K X : Type 0} {sink : Ghosts K} {before after : Player} {out : K} (final : Result X PrintError) (steps : List Step) → final ≡ Err Memory → Plays sink before after out out final steps
+pub Plays-none : {K X : Type 0} {sink : Ghosts K} {before after : PlayerFacts} {out : K} (final : Result X PrintError) (steps : List Step) → final ≡ Err Memory → Plays sink before after out out final steps
 Plays-none {X = X} {sink = sink} {before = before} {out = out} final steps stops = rw stops (record {
   world = tt;
   trace = tt;
@@ -124,7 +123,7 @@ noted_from-append summary world (step ∷ steps) rest =
     ap (λ c. noted_from (noted_from noted next steps) c rest) (cluster_over-append world events (run_events next steps)) ∙ noted_from-append noted next steps rest
 
 -- some steps were played, and then others
-pub Plays-nothing : {K : Type 0} (sink : Ghosts K) (player : Player) (out : K) → Plays {X = Unit {0}} sink player player out out (Ok tt) []
+pub Plays-nothing : {K : Type 0} (sink : Ghosts K) (player : PlayerFacts) (out : K) → Plays {X = Unit {0}} sink player player out out (Ok tt) []
 Plays-nothing sink player out = record {
   world = refl;
   trace = refl;
@@ -134,14 +133,14 @@ Plays-nothing sink player out = record {
   whole = λ e. absurd (ok-is-no-error e);
 }
 
-pub next-text : (before after : Player) (piece rest : List Step) → after.world.cluster ≡ cluster_over before.world.cluster (run_events before.world.cluster piece) → after.trace ≡ traced_over before.trace piece
+pub next-text : (before after : PlayerFacts) (piece rest : List Step) → after.world.cluster ≡ cluster_over before.world.cluster (run_events before.world.cluster piece) → after.trace ≡ traced_over before.trace piece
     → printed_from before.world.cluster before.trace piece ++ printed_from after.world.cluster after.trace rest ≡ printed_from before.world.cluster before.trace (piece ++ rest)
 next-text before after piece rest world trace =
     ap (λ c. printed_from before.world.cluster before.trace piece ++ printed_from c after.trace rest) world
     ∙ ap (λ t. printed_from before.world.cluster before.trace piece ++ printed_from (cluster_over before.world.cluster (run_events before.world.cluster piece)) t rest) trace
     ∙ sym (printed_from-append before.world.cluster before.trace piece rest)
 
-pub Plays-then : {K X : Type 0} {sink : Ghosts K} {before between after : Player} {out mid then : K} {x : X} {steps piece : List Step} → Plays {X = Unit {0}} sink before between out mid (Ok tt) steps → Plays sink between after mid then (Ok x) piece → Plays {X = Unit {0}} sink before after out then (Ok tt) (steps ++ piece)
+pub Plays-then : {K X : Type 0} {sink : Ghosts K} {before between after : PlayerFacts} {out mid then : K} {x : X} {steps piece : List Step} → Plays {X = Unit {0}} sink before between out mid (Ok tt) steps → Plays sink between after mid then (Ok x) piece → Plays {X = Unit {0}} sink before after out then (Ok tt) (steps ++ piece)
 Plays-then {sink = sink} {before = before} {between = between} {after = after} {out = out} {then = then} {steps = steps} {piece = piece} p q = record {
   world = q.world ∙ ap (λ c. cluster_over c (run_events c piece)) p.world ∙ run_events-append before.world.cluster steps piece;
   trace = q.trace ∙ ap (λ t. traced_over t piece) p.trace ∙ sym (traced_over-append before.trace steps piece);
@@ -152,7 +151,7 @@ Plays-then {sink = sink} {before = before} {between = between} {after = after} {
 }
 
 -- some steps were played, and the next ones stop in their midst: those behind them aren't begun
-Plays-stop : {K X Y : Type 0} {sink : Ghosts K} {before between after : Player} {out mid then : K} {error : PrintError} {steps piece : List Step} (final : Result Y PrintError) (rest : List Step) → Plays {X = Unit {0}} sink before between out mid (Ok tt) steps → Plays {X = X} sink between after mid then (Err error) piece → final ≡ Err error
+Plays-stop : {K X Y : Type 0} {sink : Ghosts K} {before between after : PlayerFacts} {out mid then : K} {error : PrintError} {steps piece : List Step} (final : Result Y PrintError) (rest : List Step) → Plays {X = Unit {0}} sink before between out mid (Ok tt) steps → Plays {X = X} sink between after mid then (Err error) piece → final ≡ Err error
     → Plays sink before after out then final (steps ++ (piece ++ rest))
 Plays-stop {Y = Y} {sink = sink} {before = before} {between = between} {out = out} {mid = mid} {then = then} {error = error} {steps = steps} {piece = piece} final rest p q stops = rw stops (record {
   world = tt;
@@ -172,23 +171,23 @@ Plays-stop {Y = Y} {sink = sink} {before = before} {between = between} {out = ou
 })
 
 -- of the steps of a whole, these are left
-pub record Playing {K : Type 0} (sink : Ghosts K) (start now : Player) (out then : K) (whole left : List Step) : Type 0 where
+pub record Playing {K : Type 0} (sink : Ghosts K) (start now : PlayerFacts) (out then : K) (whole left : List Step) : Type 0 where
   pub done : List Step
   pub parts : done ++ left ≡ whole
   pub plays : Plays {X = Unit {0}} sink start now out then (Ok tt) done
 
-pub Playing-start : {K : Type 0} (sink : Ghosts K) (start : Player) (out : K) (whole : List Step) → Playing sink start start out out whole whole
+pub Playing-start : {K : Type 0} (sink : Ghosts K) (start : PlayerFacts) (out : K) (whole : List Step) → Playing sink start start out out whole whole
 Playing-start sink start out whole = record { done = []; parts = refl; plays = Plays-nothing sink start out }
 
 -- there is room for the next piece
-pub Playing-room : {K : Type 0} {sink : Ghosts K} {start now : Player} {out then : K} {whole left : List Step} (piece rest : List Step) → Playing sink start now out then whole left → left ≡ piece ++ rest → HasStepsLeft start.world (length whole) → HasStepsLeft now.world (length piece)
+pub Playing-room : {K : Type 0} {sink : Ghosts K} {start now : PlayerFacts} {out then : K} {whole left : List Step} (piece rest : List Step) → Playing sink start now out then whole left → left ≡ piece ++ rest → HasStepsLeft start.world (length whole) → HasStepsLeft now.world (length piece)
 Playing-room {start = start} {now = now} {whole = whole} {left = left} piece rest p is room =
     let all : length p.done + length left ≡ length whole = sym (length-append p.done left) ∙ ap length p.parts in
     let behind : HasStepsLeft now.world (length left) = steps-left-behind start.world now.world (length p.done) (length left) p.plays.taken (subst (HasStepsLeft start.world) (sym all) room) in
     steps-left-fewer now.world (length left) (length piece) (omega (arith, ap length is, length-append piece rest)) behind
 
 -- meanwhile the members stay
-pub Playing-members : {K : Type 0} {sink : Ghosts K} {start now : Player} {out then : K} {whole left : List Step} → Playing sink start now out then whole left → now.world.cluster.facts.members ≡ start.world.cluster.facts.members
+pub Playing-members : {K : Type 0} {sink : Ghosts K} {start now : PlayerFacts} {out then : K} {whole left : List Step} → Playing sink start now out then whole left → now.world.cluster.facts.members ≡ start.world.cluster.facts.members
 Playing-members {start = start} {now = now} {whole = whole} {left = left} p =
     ap (λ (c : Cluster). c.facts.members) p.plays.world ∙ members-stay start.world.cluster (run_events start.world.cluster p.done)
 
@@ -198,7 +197,7 @@ line-declared members [] i line all is = absurd (none-some line is)
 line-declared members (first ∷ body) zero line all is = subst (IsLine members) (same_Some first line is) all.0
 line-declared members (first ∷ body) (suc i) line all is = line-declared members body i line all.1 is
 
-pub Playing-more : {K X : Type 0} {sink : Ghosts K} {start before after : Player} {out mid then : K} {x : X} {whole left piece : List Step} (rest : List Step)
+pub Playing-more : {K X : Type 0} {sink : Ghosts K} {start before after : PlayerFacts} {out mid then : K} {x : X} {whole left piece : List Step} (rest : List Step)
     → Playing sink start before out mid whole left → left ≡ piece ++ rest → Plays sink before after mid then (Ok x) piece → Playing sink start after out then whole rest
 Playing-more {piece = piece} rest p is q = record {
   done = p.done ++ piece;
@@ -206,12 +205,12 @@ Playing-more {piece = piece} rest p is q = record {
   plays = Plays-then p.plays q;
 }
 
-pub Playing-end : {K : Type 0} {sink : Ghosts K} {start now : Player} {out then : K} {whole left : List Step} → Playing sink start now out then whole left → left ≡ [] → Plays {X = Unit {0}} sink start now out then (Ok tt) whole
+pub Playing-end : {K : Type 0} {sink : Ghosts K} {start now : PlayerFacts} {out then : K} {whole left : List Step} → Playing sink start now out then whole left → left ≡ [] → Plays {X = Unit {0}} sink start now out then (Ok tt) whole
 Playing-end {sink = sink} {start = start} {now = now} {out = out} {then = then} p none =
     subst (λ (l : List Step). Plays {X = Unit {0}} sink start now out then (Ok tt) l) (sym (append-nil p.done) ∙ ap (λ l. p.done ++ l) (sym none) ∙ p.parts) p.plays
 
 -- a call that stops in the midst of the next piece
-pub Playing-stop : {K X Y : Type 0} {sink : Ghosts K} {start before after : Player} {out mid then : K} {error : PrintError} {whole left piece : List Step} (final : Result Y PrintError) (rest : List Step)
+pub Playing-stop : {K X Y : Type 0} {sink : Ghosts K} {start before after : PlayerFacts} {out mid then : K} {error : PrintError} {whole left piece : List Step} (final : Result Y PrintError) (rest : List Step)
     → Playing sink start before out mid whole left → left ≡ piece ++ rest → Plays {X = X} sink before after mid then (Err error) piece → final ≡ Err error → Plays sink start after out then final whole
 Playing-stop {sink = sink} {start = start} {after = after} {out = out} {then = then} final rest p is q stops =
     subst (λ (l : List Step). Plays sink start after out then final l) (ap (λ l. p.done ++ l) (sym is) ∙ p.parts) (Plays-stop final rest p.plays q stops)

@@ -8,9 +8,9 @@ use Rattle.cluster_model.specs.Cluster.{cluster_over}
 use Rattle.cluster_model.specs.Next.{run_events}
 use Rattle.summary_model.specs.Sights.{SummaryFacts}
 use Rattle.summary_model.specs.SummaryText.{closing_text}
-use Rattle.pat_world.specs.Steps.{HasStepsLeft, IsCounted, TookSteps, WorldFacts}
-use Rattle.pat_world.proofs.Standing.{is-stands}
-use Rattle.pat_world.proofs.Stepping.{steps-left-behind}
+use Rattle.simulation.specs.Steps.{HasStepsLeft, IsCounted, TookSteps, WorldFacts}
+use Rattle.simulation.proofs.Standing.{is-stands}
+use Rattle.simulation.proofs.Stepping.{steps-left-behind}
 use Rattle.world_model.specs.Room.{most_steps}
 use Rattle.run_player.specs.Left.{IsLeftBy}
 use Rattle.run_model.specs.Run.{noted_from, printed_from, summary_of_run, text_of_run}

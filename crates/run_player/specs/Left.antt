@@ -1,8 +1,8 @@
 -- The world that a run leaves.
 use Rattle.std.specs.Prelude.{◌≡◌, ◌-◌, length}
 use Rattle.cluster_model.specs.Starting.{cluster_of}
-use Rattle.pat_world.specs.Book.{StandsFor}
-use Rattle.pat_world.specs.Steps.{HasStepsLeft, IsCounted, WorldFacts}
+use Rattle.simulation.specs.Book.{StandsFor}
+use Rattle.simulation.specs.Steps.{HasStepsLeft, IsCounted, WorldFacts}
 use Rattle.world_model.specs.Room.{most_steps}
 use Rattle.run_model.specs.Run.{Played, run_of}
 

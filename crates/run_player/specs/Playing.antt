@@ -8,11 +8,22 @@ use Rattle.cluster_model.specs.Cluster.{cluster_over}
 use Rattle.cluster_model.specs.Next.{run_events}
 use Rattle.cluster_model.specs.State.{Cluster}
 use Rattle.world_model.specs.Idle.{BringsTicks}
-use Rattle.pat_world.specs.Steps.{TookSteps}
+use Rattle.summary_model.specs.Sights.{SummaryFacts}
+use Rattle.simulation.specs.Steps.{TookSteps, WorldFacts}
 use Rattle.run_player.specs.declared.player.Player.{Player}
 use Rattle.run_printing.specs.declared.print_error.PrintError.{PrintError}
 use Rattle.run_printing.specs.declared.print_error.PrintError.TheVariants.{Memory, Write}
 use Rattle.run_model.specs.Run.{noted_from, printed_from, traced_over}
+
+-- what is known of a player: its world, whether messages are traced, and what the summary keeps
+pub record PlayerFacts : Type 0 where
+  pub world : WorldFacts
+  pub trace : Bool
+  pub summary : SummaryFacts
+
+-- a player of a world of which this is known
+abbrev pub player_of : {W : Type 0} → (W → WorldFacts) → Player W → PlayerFacts
+player_of facts player = record { world = facts player.world; trace = player.trace; summary = player.summary }
 
 -- the lines of the first of these steps were printed, each step's whole, and nothing else
 pub record PrintsWholeSteps {K : Type 0} (sink : Ghosts K) (out then : K) (cluster : Cluster) (trace : Bool) (steps : List Step) : Type 0 where
@@ -23,7 +34,7 @@ pub record PrintsWholeSteps {K : Type 0} (sink : Ghosts K) (out then : K) (clust
 
 -- the player took these steps: its world, its trace and its summary are what they leave, its world counts them, and their lines were
 -- printed; where memory is wanting, those of the first of them, whole
-pub record Plays {K X : Type 0} (sink : Ghosts K) (before after : Player) (out then : K) (result : Result X PrintError) (steps : List Step) : Type 0 where
+pub record Plays {K X : Type 0} (sink : Ghosts K) (before after : PlayerFacts) (out then : K) (result : Result X PrintError) (steps : List Step) : Type 0 where
   pub world : OnOk result (after.world.cluster ≡ cluster_over before.world.cluster (run_events before.world.cluster steps))
   pub trace : OnOk result (after.trace ≡ traced_over before.trace steps)
   pub summary : OnOk result (after.summary ≡ noted_from before.summary before.world.cluster steps)
@@ -33,7 +44,7 @@ pub record Plays {K X : Type 0} (sink : Ghosts K) (before after : Player) (out t
 
 -- of so many ticks of one kind the player took some at once, and these are left: the world, which counts the steps, and the summary are
 -- what these leave, each of which brought its tick and nothing else
-pub record Idles (before after : Player) (step : Step) (count left : ℕ) : Type 0 where
+pub record Idles (before after : PlayerFacts) (step : Step) (count left : ℕ) : Type 0 where
   pub within : left ≤ count
   pub ticks : BringsTicks before.world.cluster step (count - left)
   pub world : after.world.cluster ≡ cluster_over before.world.cluster (run_events before.world.cluster (replicate (count - left) step))

@@ -9,26 +9,26 @@ ghost use Rattle.cluster_model.specs.Steps.{IsStep, names_in, steps_of, steps_of
 ghost use Rattle.summary_model.specs.SummaryText.{closing_text};
 ghost use Rattle.world_model.specs.Idle.{IsTick};
 ghost use Rattle.world_model.specs.Room.{most_steps};
-ghost use Rattle.pat_world.specs.Steps.{HasStepsLeft, IsCounted, TookSteps};
-ghost use Rattle.run_player.specs.Playing.{Idles, Plays, PrintsWholeSteps};
+ghost use Rattle.simulation.specs.Steps.{HasStepsLeft, IsCounted, TookSteps};
+ghost use Rattle.run_player.specs.Playing.{Idles, Plays, PrintsWholeSteps, player_of};
 ghost use Rattle.run_model.specs.Run.{noted_from, printed_from, traced_after};
 ghost use Rattle.run_model.specs.Watches.{first_summary};
 
 use cluster_model::Step;
 use event_book::Event;
 use pat_outside::{Discard, Sink};
-use pat_world::World;
 use run_printing::{
     PrintError, first_summary, note, note_ticks, print_closing, print_lines, set_text,
 };
 use script_model::{Command, Head, Line, Script};
+use simulation::Simulation;
 use std::alloc::{AllocError, Global};
 use summary::Summary;
 
 /// Takes steps in a world, and prints what happens. It can't be dropped, since a world can't: `into_world` gives that back.
-pub struct Player {
+pub struct Player<W> {
     pub alloc: Global,
-    pub world: World,
+    pub world: W,
     /// Whether messages are traced.
     pub trace: bool,
     /// What the steps so far come to in the closing summary.
@@ -39,19 +39,19 @@ pub struct Player {
     pub text: String,
 }
 
-impl Player {
+impl<W: Simulation> Player<W> {
     /// The player of the world of this head, in which no step was taken. It fails only for want of memory.
-    pub fn new(alloc: Global, head: &Head) -> Result<Player, AllocError>
-        ensures world { IfOk result (λ player. player.world.cluster ≡ cluster_of head.now) }
-        ensures steps { IfOk result (λ player. player.world.steps ≡ 0) }
-        ensures room { IfOk result (λ player. HasStepsLeft player.world most_steps) }
-        ensures counted { IfOk result (λ player. IsCounted player.world) }
+    pub fn new(alloc: Global, head: &Head) -> Result<Player<W>, AllocError>
+        ensures world { IfOk result (λ player. (W.facts player.world).cluster ≡ cluster_of head.now) }
+        ensures steps { IfOk result (λ player. (W.facts player.world).steps ≡ 0) }
+        ensures room { IfOk result (λ player. HasStepsLeft (W.facts player.world) most_steps) }
+        ensures counted { IfOk result (λ player. IsCounted (W.facts player.world)) }
         ensures trace { IfOk result (λ player. player.trace ≡ false) }
         ensures summary { IfOk result (λ player. player.summary ≡ first_summary head.now) }
     {
         let summary = first_summary(alloc, head)?;
         // the world comes last, since nothing that fails may leave it behind
-        let world = World::new(alloc, head)?;
+        let world = W::begin(alloc, head)?;
         Ok(Player {
             alloc,
             world,
@@ -63,7 +63,7 @@ impl Player {
     }
 
     /// The world after the steps that were taken.
-    pub fn into_world(self) -> World
+    pub fn into_world(self) -> W
         ensures { result ≡ self.world }
     {
         let Player {
@@ -79,13 +79,13 @@ impl Player {
 
     /// The lines of a script, one after another, and then the closing summary.
     pub(crate) fn play<K: Sink>(&mut self, script: &Script, out: &mut K) -> Result<(), PrintError>
-        requires room { HasStepsLeft self.old.world (length (steps_of script.now.body)) }
-        requires members { names_in self.old.world.cluster.facts.members ≡ names_of script.now.head }
-        ensures world { OnOk result (self.new.world.cluster ≡ cluster_over self.old.world.cluster (run_events self.old.world.cluster (steps_of script.now.body))) }
-        ensures taken { OnOk result (TookSteps self.old.world self.new.world (length (steps_of script.now.body))) }
+        requires room { HasStepsLeft (W.facts self.old.world) (length (steps_of script.now.body)) }
+        requires members { names_in (W.facts self.old.world).cluster.facts.members ≡ names_of script.now.head }
+        ensures world { OnOk result ((W.facts self.new.world).cluster ≡ cluster_over (W.facts self.old.world).cluster (run_events (W.facts self.old.world).cluster (steps_of script.now.body))) }
+        ensures taken { OnOk result (TookSteps (W.facts self.old.world) (W.facts self.new.world) (length (steps_of script.now.body))) }
         ensures printed { Prints K.Sink out.old out.new PrintError.Write result
-            (printed_from self.old.world.cluster self.old.trace (steps_of script.now.body) ++ closing_text (noted_from self.old.summary self.old.world.cluster (steps_of script.now.body)).watch.closing) }
-        ensures whole { IsErrOf result PrintError.Memory → PrintsWholeSteps K.Sink out.old out.new self.old.world.cluster self.old.trace (steps_of script.now.body) }
+            (printed_from (W.facts self.old.world).cluster self.old.trace (steps_of script.now.body) ++ closing_text (noted_from self.old.summary (W.facts self.old.world).cluster (steps_of script.now.body)).watch.closing) }
+        ensures whole { IsErrOf result PrintError.Memory → PrintsWholeSteps K.Sink out.old out.new (W.facts self.old.world).cluster self.old.trace (steps_of script.now.body) }
     {
         self.play_body(script, out)?;
         print_closing(self.alloc, &self.summary.closing(), out)
@@ -93,12 +93,12 @@ impl Player {
 
     /// The lines of a script, one after another, in silence, and then the closing summary.
     pub(crate) fn drill<K: Sink>(&mut self, script: &Script, out: &mut K) -> Result<(), PrintError>
-        requires room { HasStepsLeft self.old.world (length (steps_of script.now.body)) }
-        requires members { names_in self.old.world.cluster.facts.members ≡ names_of script.now.head }
-        ensures world { OnOk result (self.new.world.cluster ≡ cluster_over self.old.world.cluster (run_events self.old.world.cluster (steps_of script.now.body))) }
-        ensures taken { OnOk result (TookSteps self.old.world self.new.world (length (steps_of script.now.body))) }
+        requires room { HasStepsLeft (W.facts self.old.world) (length (steps_of script.now.body)) }
+        requires members { names_in (W.facts self.old.world).cluster.facts.members ≡ names_of script.now.head }
+        ensures world { OnOk result ((W.facts self.new.world).cluster ≡ cluster_over (W.facts self.old.world).cluster (run_events (W.facts self.old.world).cluster (steps_of script.now.body))) }
+        ensures taken { OnOk result (TookSteps (W.facts self.old.world) (W.facts self.new.world) (length (steps_of script.now.body))) }
         ensures printed { Prints K.Sink out.old out.new PrintError.Write result
-            (closing_text (noted_from self.old.summary self.old.world.cluster (steps_of script.now.body)).watch.closing) }
+            (closing_text (noted_from self.old.summary (W.facts self.old.world).cluster (steps_of script.now.body)).watch.closing) }
         ensures memory { IsErrOf result PrintError.Memory → out.new ≡ out.old }
     {
         self.play_body(script, &mut Discard)?;
@@ -108,9 +108,9 @@ impl Player {
     /// Takes the steps of a script's lines, one line after another, and prints what happens, each line in one piece. On Err it may have
     /// taken some of them: where memory is wanting, what was printed are the lines of whole steps.
     pub fn play_body<K: Sink>(&mut self, script: &Script, out: &mut K) -> Result<(), PrintError>
-        requires room { HasStepsLeft self.old.world (length (steps_of script.now.body)) }
-        requires members { names_in self.old.world.cluster.facts.members ≡ names_of script.now.head }
-        ensures { Plays K.Sink self.old self.new out.old out.new result (steps_of script.now.body) }
+        requires room { HasStepsLeft (W.facts self.old.world) (length (steps_of script.now.body)) }
+        requires members { names_in (W.facts self.old.world).cluster.facts.members ≡ names_of script.now.head }
+        ensures { Plays K.Sink (player_of W.facts self.old) (player_of W.facts self.new) out.old out.new result (steps_of script.now.body) }
     {
         for place in 0..script.len() {
             self.play_line(line_at(script, place), out)?;
@@ -119,9 +119,9 @@ impl Player {
     }
 
     fn play_line<K: Sink>(&mut self, line: &Line, out: &mut K) -> Result<(), PrintError>
-        requires room { HasStepsLeft self.old.world (length (steps_of_line line.now)) }
-        requires declared { IsLine (names_in self.old.world.cluster.facts.members) line.now }
-        ensures { Plays K.Sink self.old self.new out.old out.new result (steps_of_line line.now) }
+        requires room { HasStepsLeft (W.facts self.old.world) (length (steps_of_line line.now)) }
+        requires declared { IsLine (names_in (W.facts self.old.world).cluster.facts.members) line.now }
+        ensures { Plays K.Sink (player_of W.facts self.old) (player_of W.facts self.new) out.old out.new result (steps_of_line line.now) }
     {
         match line {
             Line::Run(count) => self.play_ticks(*count, &Step::Scheduled, out),
@@ -137,9 +137,9 @@ impl Player {
         step: &Step,
         out: &mut K,
     ) -> Result<(), PrintError>
-        requires room { HasStepsLeft self.old.world count }
+        requires room { HasStepsLeft (W.facts self.old.world) count }
         requires tick { IsTick step.now }
-        ensures { Plays K.Sink self.old self.new out.old out.new result (replicate count step.now) }
+        ensures { Plays K.Sink (player_of W.facts self.old) (player_of W.facts self.new) out.old out.new result (replicate count step.now) }
     {
         let mut left = count;
         while left > 0 {
@@ -152,8 +152,8 @@ impl Player {
     /// Takes those of so many ticks of one kind at once that are known to bring nothing else, and answers how many are left.
     fn idle(&mut self, step: &Step, count: u64) -> Result<u64, AllocError>
         requires tick { IsTick step.now }
-        requires room { HasStepsLeft self.old.world count }
-        ensures { IfOk result (Idles self.old self.new step.now count) }
+        requires room { HasStepsLeft (W.facts self.old.world) count }
+        ensures { IfOk result (Idles (player_of W.facts self.old) (player_of W.facts self.new) step.now count) }
     {
         let ticks = self.world.idle_for(step, count);
         note_ticks(&mut self.summary, ticks)?;
@@ -161,9 +161,9 @@ impl Player {
     }
 
     fn play_step<K: Sink>(&mut self, step: &Step, out: &mut K) -> Result<(), PrintError>
-        requires room { HasStepsLeft self.old.world 1 }
-        requires declared { IsStep self.old.world.cluster.facts.members step.now }
-        ensures { Plays K.Sink self.old self.new out.old out.new result (step.now ∷ []) }
+        requires room { HasStepsLeft (W.facts self.old.world) 1 }
+        requires declared { IsStep (W.facts self.old.world).cluster.facts.members step.now }
+        ensures { Plays K.Sink (player_of W.facts self.old) (player_of W.facts self.new) out.old out.new result (step.now ∷ []) }
     {
         self.events.clear();
         self.world.step(step, &mut self.events)?;

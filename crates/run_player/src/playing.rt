@@ -10,21 +10,25 @@ ghost use Rattle.run_model.specs.Run.{played_of, text_of_run};
 
 use crate::player::Player;
 use pat_outside::Sink;
-use pat_world::World;
 use run_printing::PrintError;
 use script_model::Script;
+use simulation::Simulation;
 use std::alloc::Global;
 
 /// Takes the steps of a script from its head on, and prints what happens and the closing summary, each line in one piece. On Ok it
 /// answers the world after the last step; on Err the world is closed. Where memory is wanting, what was printed are the lines of whole
 /// steps, and nothing of the summary.
-pub fn play<K: Sink>(alloc: Global, script: &Script, out: &mut K) -> Result<World, PrintError>
+pub fn play<W: Simulation, K: Sink>(
+    alloc: Global,
+    script: &Script,
+    out: &mut K,
+) -> Result<W, PrintError>
     requires { length (steps_of script.now.body) ≤ most_steps }
     ensures printed { Prints K.Sink out.old out.new PrintError.Write result (text_of_run (played_of script.now)) }
     ensures whole { IsErrOf result PrintError.Memory → PrintsWholeSteps K.Sink out.old out.new (cluster_of script.now.head) false (steps_of script.now.body) }
-    ensures world { IfOk result (IsLeftBy (played_of script.now)) }
+    ensures world { IfOk result (λ world. IsLeftBy (played_of script.now) (W.facts world)) }
 {
-    let mut player = Player::new(alloc, script.head())?;
+    let mut player = Player::<W>::new(alloc, script.head())?;
     match player.play(script, out) {
         Ok(()) => Ok(player.into_world()),
         Err(error) => {

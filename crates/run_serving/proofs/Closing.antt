@@ -1,5 +1,5 @@
 -- A script that was played, connections that were served, and the closing summary.
-use Rattle.std.proofs.Common.{◌≡◌, Bool, false, ℕ, ◌+◌, ◌*◌, ◌≤◌, List, [], ◌++◌, length, Result, Ok, Err, arith, append_assoc, append-nil, length-append, refl, ◌∙◌, ap, sym, subst}
+use Rattle.std.proofs.Common.{◌≡◌, Bool, false, ℕ, ◌+◌, ◌*◌, ◌≤◌, List, ◌++◌, length, Result, Ok, Err, arith, append_assoc, append-nil, length-append, refl, ◌∙◌, ap, sym, subst}
 use Rattle.std.specs.Prelude.{IsErrOf}
 use Rattle.pat_base.specs.declared.member_id.MemberId.{MemberId}
 use Rattle.pat_outside.specs.declared.outside.Sink.{Ghosts as SinkGhosts}
@@ -17,15 +17,14 @@ use Rattle.script_model.specs.Script.{IsMember, ScriptText}
 use Rattle.world_model.proofs.Taking.{members-stay}
 use Rattle.pat_door.specs.declared.door.Door.{Ghosts as DoorGhosts}
 use Rattle.serve_model.specs.Connections.{Connection, connection_cost}
-use Rattle.pat_world.specs.Steps.{HasStepsLeft, IsCounted, TookSteps, WorldFacts}
+use Rattle.simulation.specs.Steps.{HasStepsLeft, IsCounted, TookSteps, WorldFacts}
 use Rattle.summary_model.specs.declared.answers.Closing.{Closing}
 use Rattle.summary_model.specs.Sights.{SummaryFacts}
 use Rattle.summary_model.specs.SummaryText.{closing_text}
 use Rattle.world_model.specs.Room.{most_steps}
-use Rattle.run_player.specs.declared.player.Player.{Player}
 use Rattle.run_printing.specs.declared.print_error.PrintError.{PrintError}
 use Rattle.run_printing.specs.declared.print_error.PrintError.TheVariants as prints
-use Rattle.run_player.specs.Playing.{Plays, PrintsWholeSteps}
+use Rattle.run_player.specs.Playing.{PlayerFacts, Plays, PrintsWholeSteps}
 use Rattle.run_serving.specs.Receiving.{Receives, ReceivesAll}
 use Rattle.run_serving.specs.Served.{Came, Serves}
 use Rattle.run_printing.specs.declared.serve_error.ServeError.{ServeError}
@@ -51,7 +50,7 @@ pub no-door : (error : PrintError) → serve_error error ≡ Door → ⊥
 no-door prints.Write e = cc
 no-door prints.Memory e = cc
 
-module _ {K D : Type 0} (sink : SinkGhosts K) (door : DoorGhosts D) (start : Player) (out : K) (was : D) (steps : List Step) (id : MemberId) (count : ℕ) where
+module _ {K D : Type 0} (sink : SinkGhosts K) (door : DoorGhosts D) (start : PlayerFacts) (out : K) (was : D) (steps : List Step) (id : MemberId) (count : ℕ) where
   abbrev all : List Connection → List Step
   all visitors = served_steps start.world.cluster steps id visitors
 
@@ -65,7 +64,7 @@ module _ {K D : Type 0} (sink : SinkGhosts K) (door : DoorGhosts D) (start : Pla
   all-none = append-nil steps
 
   -- the script stops in its midst: no connection comes
-  pub stops-in-script : (now : Player) (then : K) (error : PrintError) (final : Result (Unit {0}) ServeError) → Plays {X = Unit {0}} sink start now out then (Err error) steps → final ≡ Err (serve_error error)
+  pub stops-in-script : (now : PlayerFacts) (then : K) (error : PrintError) (final : Result (Unit {0}) ServeError) → Plays {X = Unit {0}} sink start now out then (Err error) steps → final ≡ Err (serve_error error)
       → ReceivesAll sink door start now out then was was final steps id count []
   stops-in-script now then error final p stops = rw stops (record {
     world = tt;
@@ -80,7 +79,7 @@ module _ {K D : Type 0} (sink : SinkGhosts K) (door : DoorGhosts D) (start : Pla
       same : {other : ServeError} → IsErrOf {T = Unit {0}} (Err (serve_error error)) other → serve_error error ≡ other
       same e = cc
 
-  module _ (between now : Player) (mid then : K) (later : D) (visitors : List Connection) (p : Plays {X = Unit {0}} sink start between out mid (Ok tt) steps) where
+  module _ (between now : PlayerFacts) (mid then : K) (later : D) (visitors : List Connection) (p : Plays {X = Unit {0}} sink start between out mid (Ok tt) steps) where
     abbrev visits : List Step
     visits = visits_steps between.world.cluster id visitors
 
@@ -115,7 +114,7 @@ module _ {K D : Type 0} (sink : SinkGhosts K) (door : DoorGhosts D) (start : Pla
     })
 
   -- all connections were served: then the closing summary is printed
-  module _ (between now last : Player) (mid then end : K) (later : D) (visitors : List Connection) (p : Plays {X = Unit {0}} sink start between out mid (Ok tt) steps) (r : Receives {X = Unit {0}} sink door between now mid then was later (Ok tt) id count visitors) where
+  module _ (between now last : PlayerFacts) (mid then end : K) (later : D) (visitors : List Connection) (p : Plays {X = Unit {0}} sink start between out mid (Ok tt) steps) (r : Receives {X = Unit {0}} sink door between now mid then was later (Ok tt) id count visitors) where
     abbrev played : Plays {X = Unit {0}} sink start now out then (Ok tt) (steps ++ visits_steps between.world.cluster id visitors)
     played = Plays-then p r.plays
 
@@ -188,7 +187,7 @@ served-few cluster steps id count visitors room few =
     omega (arith, room, few, length-append steps visits, visits-few (after_steps cluster steps) id visitors)
 
 -- a player that has just begun did so: the run is the whole
-module _ {K D : Type 0} (sink : SinkGhosts K) (door : DoorGhosts D) (first last : Player) (out then : K) (was now : D) (script : ScriptText) (id : MemberId) (count : ℕ) (visitors : List Connection)
+module _ {K D W : Type 0} (sink : SinkGhosts K) (door : DoorGhosts D) (facts : W → WorldFacts) (first last : PlayerFacts) (out then : K) (was now : D) (script : ScriptText) (id : MemberId) (count : ℕ) (visitors : List Connection)
     (begins : first.world.cluster ≡ cluster_of script.head) (untraced : first.trace ≡ false) (noted : first.summary ≡ first_summary script.head) where
   steps-are : served_steps first.world.cluster (steps_of script.body) id visitors ≡ (served_of script id visitors).steps
   steps-are = ap (λ (c : Cluster). served_steps c (steps_of script.body) id visitors) begins
@@ -212,13 +211,13 @@ module _ {K D : Type 0} (sink : SinkGhosts K) (door : DoorGhosts D) (first last 
   came-of result came = subst (λ (c : Cluster). Came door was now result (after_steps c (steps_of script.body)) id count visitors) begins came
 
   -- all of it was done
-  pub serves-all : (world : WorldFacts) → first.world.steps ≡ 0 → HasStepsLeft first.world most_steps → IsCounted first.world → length (steps_of script.body) + connection_cost * count ≤ most_steps → world ≡ last.world
-      → ReceivesAll {X = Unit {0}} sink door first last out then was now (Ok tt) (steps_of script.body) id count visitors → Serves sink door out then was now (Ok world) script id count visitors
+  pub serves-all : (world : W) → first.world.steps ≡ 0 → HasStepsLeft first.world most_steps → IsCounted first.world → length (steps_of script.body) + connection_cost * count ≤ most_steps → facts world ≡ last.world
+      → ReceivesAll {X = Unit {0}} sink door first last out then was now (Ok tt) (steps_of script.body) id count visitors → Serves sink door facts out then was now (Ok world) script id count visitors
   serves-all world none room counted fits is r = record {
-    printed = subst (λ (t : List ℕ). Prints {X = WorldFacts} sink out then Write (Ok world) t) text-of (Prints-ok Write world r.printed);
+    printed = subst (λ (t : List ℕ). Prints {X = W} sink out then Write (Ok world) t) text-of (Prints-ok Write world r.printed);
     whole = λ e. absurd (no-memory e);
     halted = λ e. absurd (no-fault e);
-    world = left-by script.head (served_of script id visitors).steps first.world last.world world
+    world = left-by script.head (served_of script id visitors).steps first.world last.world (facts world)
         (subst (λ (l : List Step). length l ≤ most_steps) steps-are (served-few first.world.cluster (steps_of script.body) id count visitors fits r.came.few)) begins none room counted
         (subst (λ (l : List Step). last.world.cluster ≡ after_steps first.world.cluster l) steps-are r.world) (subst (λ (l : List Step). TookSteps first.world last.world (length l)) steps-are r.taken) is;
     came = came-ok (came-of (Ok tt) r.came);
@@ -243,9 +242,9 @@ module _ {K D : Type 0} (sink : SinkGhosts K) (door : DoorGhosts D) (first last 
       }
 
   -- or a part of it
-  pub serves-part : (error : ServeError) → ReceivesAll {X = Unit {0}} sink door first last out then was now (Err error) (steps_of script.body) id count visitors → Serves sink door out then was now (Err error) script id count visitors
+  pub serves-part : (error : ServeError) → ReceivesAll {X = Unit {0}} sink door first last out then was now (Err error) (steps_of script.body) id count visitors → Serves sink door facts out then was now (Err error) script id count visitors
   serves-part error r = record {
-    printed = subst (λ (t : List ℕ). Prints {X = WorldFacts} sink out then Write (Err error) t) text-of (Prints-other r.printed);
+    printed = subst (λ (t : List ℕ). Prints {X = W} sink out then Write (Err error) t) text-of (Prints-other r.printed);
     whole = λ e. whole-of (r.whole (other e));
     halted = λ e. subst (λ (t : List ℕ). Grew (sink.content out) (sink.content then) t) lines-of (r.halted (other e));
     world = tt;
@@ -255,21 +254,21 @@ module _ {K D : Type 0} (sink : SinkGhosts K) (door : DoorGhosts D) (first last 
       other : {X Y : Type 0} {fault : ServeError} → IsErrOf {T = X} (Err error) fault → IsErrOf {T = Y} (Err error) fault
       other e = ap Err cc
 
-      Prints-other : {bytes : List ℕ} → Prints {X = Unit {0}} sink out then Write (Err error) bytes → Prints {X = WorldFacts} sink out then Write (Err error) bytes
+      Prints-other : {bytes : List ℕ} → Prints {X = Unit {0}} sink out then Write (Err error) bytes → Prints {X = W} sink out then Write (Err error) bytes
       Prints-other p = record { ok = tt; part = p.part; write = λ e. p.write (ap Err cc); grows = p.grows; room = p.room }
 
-      came-err : Came {X = Unit {0}} door was now (Err error) (after_steps (cluster_of script.head) (steps_of script.body)) id count visitors → Came {X = WorldFacts} door was now (Err error) (after_steps (cluster_of script.head) (steps_of script.body)) id count visitors
+      came-err : Came {X = Unit {0}} door was now (Err error) (after_steps (cluster_of script.head) (steps_of script.body)) id count visitors → Came {X = W} door was now (Err error) (after_steps (cluster_of script.head) (steps_of script.body)) id count visitors
       came-err c = Came-stop door was now error (Err error) (after_steps (cluster_of script.head) (steps_of script.body)) id count count visitors (omega arith) refl c
 
 -- who is declared in a script is so in a player that played it
-pub plays-declared : {K : Type 0} {sink : SinkGhosts K} {start now : Player} {out then : K} {steps : List Step} {names : List Name} (id : MemberId) → Plays {X = Unit {0}} sink start now out then (Ok tt) steps → names_in start.world.cluster.facts.members ≡ names → IsMember names id
+pub plays-declared : {K : Type 0} {sink : SinkGhosts K} {start now : PlayerFacts} {out then : K} {steps : List Step} {names : List Name} (id : MemberId) → Plays {X = Unit {0}} sink start now out then (Ok tt) steps → names_in start.world.cluster.facts.members ≡ names → IsMember names id
     → IsMember (names_in now.world.cluster.facts.members) id
 plays-declared {start = start} {steps = steps} id p named is =
     subst (λ (l : List Name). IsMember l id) (sym (ap (λ (c : Cluster). names_in c.facts.members) p.world ∙ ap (λ l. names_in l) (members-stay start.world.cluster (run_events start.world.cluster steps)) ∙ named)) is
 
 -- memory was wanting before anything was played
-pub serves-none : {K D : Type 0} (sink : SinkGhosts K) (door : DoorGhosts D) (out : K) (was : D) (final : Result WorldFacts ServeError) (script : ScriptText) (id : MemberId) (count : ℕ) → final ≡ Err Memory → Serves sink door out out was was final script id count []
-serves-none sink door out was final script id count stops = rw stops (record {
+pub serves-none : {K D W : Type 0} (sink : SinkGhosts K) (door : DoorGhosts D) (facts : W → WorldFacts) (out : K) (was : D) (final : Result W ServeError) (script : ScriptText) (id : MemberId) (count : ℕ) → final ≡ Err Memory → Serves sink door out out was was final script id count []
+serves-none {W = W} sink door facts out was final script id count stops = rw stops (record {
   printed = Prints-none sink out Write Memory (Err Memory) (text_of_run (served_of script id [])) refl memory-no-write;
   whole = λ e. PrintsWholeSteps-none sink out (cluster_of script.head) false (served_of script id []).steps;
   halted = λ e. absurd (memory-no-door e);
@@ -280,7 +279,7 @@ serves-none sink door out was final script id count stops = rw stops (record {
     memory-no-write : Memory ≡ Write → ⊥
     memory-no-write e = cc
 
-    memory-no-door : IsErrOf {T = WorldFacts} {E = ServeError} (Err Memory) Door → ⊥
+    memory-no-door : IsErrOf {T = W} {E = ServeError} (Err Memory) Door → ⊥
     memory-no-door e = cc
 
     memory-is-no-door : Memory ≡ Door → ⊥

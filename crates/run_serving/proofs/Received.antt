@@ -1,5 +1,5 @@
 -- Connections that a player served.
-use Rattle.std.proofs.Common.{◌≡◌, ◌≢◌, Bool, ℕ, ◌+◌, ◌-◌, ◌*◌, ◌<◌, ◌≤◌, inl, inr, List, [], ◌∷◌, ◌++◌, length, map, Some, None, Result, Ok, Err, arith, append_assoc, append-nil, refl, ◌∙◌, ap, sym, subst}
+use Rattle.std.proofs.Common.{◌≡◌, ◌≢◌, Bool, ℕ, ◌+◌, ◌-◌, ◌*◌, ◌<◌, ◌≤◌, inl, inr, List, ◌∷◌, ◌++◌, length, map, Some, None, Result, Ok, Err, arith, append_assoc, append-nil, refl, ◌∙◌, ap, sym, subst}
 use Rattle.std.specs.Prelude.{IsErrOf, IsOk, OnOk, ◌⊎◌}
 use Rattle.std.proofs.lemmas.Bool.{false≢true}
 use Rattle.std.proofs.lemmas.List.Elements.{All-nil, All-cons}
@@ -23,12 +23,11 @@ use Rattle.pat_door.specs.Doors.{DoorFacts, Tells, accept_first, after_accept, b
 use Rattle.serve_model.specs.Connections.{Connection, Course, Unread, Unwritten, Whole, connection_cost, steps_of_connection}
 use Rattle.pat_serve.specs.Serving.{Brings, Serves}
 use Rattle.run_model.specs.Run.{events_by_step, printed_from}
-use Rattle.pat_world.specs.Steps.{HasStepsLeft}
-use Rattle.pat_world.proofs.Stepping.{steps-left-behind, steps-left-fewer}
-use Rattle.run_player.specs.declared.player.Player.{Player}
+use Rattle.simulation.specs.Steps.{HasStepsLeft}
+use Rattle.simulation.proofs.Stepping.{steps-left-behind, steps-left-fewer}
 use Rattle.run_printing.specs.declared.print_error.PrintError.{PrintError}
 use Rattle.run_printing.specs.declared.print_error.PrintError.TheVariants as prints
-use Rattle.run_player.specs.Playing.{Plays}
+use Rattle.run_player.specs.Playing.{PlayerFacts, Plays}
 use Rattle.run_serving.specs.Receiving.{PrintsSteps, Receives}
 use Rattle.run_serving.specs.Served.{AreServed, AreWhole, Came}
 use Rattle.run_printing.specs.declared.serve_error.ServeError.{ServeError}
@@ -109,7 +108,7 @@ Came-one (Err error) c never = record {
 }
 
 -- what a connection brought was shown: all, or as far as that went
-module _ {K : Type 0} (sink : SinkGhosts K) (before after : Player) (out then : K) (id : MemberId) (visitor : Connection) (had brought : List (List Event)) where
+module _ {K : Type 0} (sink : SinkGhosts K) (before after : PlayerFacts) (out then : K) (id : MemberId) (visitor : Connection) (had brought : List (List Event)) where
   abbrev visits : List Step
   visits = steps_of_connection before.world.cluster id visitor
 
@@ -176,7 +175,7 @@ module _ {K : Type 0} (sink : SinkGhosts K) (before after : Player) (out then : 
       door-is prints.Memory e = cc
 
 -- no connection came
-pub Receives-none : {K D : Type 0} (sink : SinkGhosts K) (door : DoorGhosts D) (before after : Player) (out : K) (was now : D) (error : ServeError) (final : Result (Unit {0}) ServeError) (id : MemberId) (count : ℕ) → final ≡ Err error → error ≢ Write
+pub Receives-none : {K D : Type 0} (sink : SinkGhosts K) (door : DoorGhosts D) (before after : PlayerFacts) (out : K) (was now : D) (error : ServeError) (final : Result (Unit {0}) ServeError) (id : MemberId) (count : ℕ) → final ≡ Err error → error ≢ Write
     → Came {X = Unit {0}} door was now (Err error) before.world.cluster id count [] → Receives sink door before after out out was now final id count []
 Receives-none sink door before after out was now error final id count stops other came = rw stops (record {
   plays = tt;
@@ -189,7 +188,7 @@ Receives-none sink door before after out was now error final id count stops othe
 })
 
 -- more may have been to come
-pub Receives-stop : {K D : Type 0} {sink : SinkGhosts K} {door : DoorGhosts D} {before after : Player} {out then : K} {was now : D} {id : MemberId} {count whole : ℕ} {visitors : List Connection} (error : ServeError) (final : Result (Unit {0}) ServeError) → count ≤ whole → final ≡ Err error
+pub Receives-stop : {K D : Type 0} {sink : SinkGhosts K} {door : DoorGhosts D} {before after : PlayerFacts} {out then : K} {was now : D} {id : MemberId} {count whole : ℕ} {visitors : List Connection} (error : ServeError) (final : Result (Unit {0}) ServeError) → count ≤ whole → final ≡ Err error
     → Receives {X = Unit {0}} sink door before after out then was now (Err error) id count visitors → Receives sink door before after out then was now final id whole visitors
 Receives-stop {door = door} {before = before} {was = was} {now = now} {id = id} {count = count} {whole = whole} {visitors = visitors} error final fewer stops r = rw stops (record {
   plays = tt;
@@ -198,7 +197,7 @@ Receives-stop {door = door} {before = before} {was = was} {now = now} {id = id} 
 })
 
 -- the door is open, and nobody came yet
-pub Receives-start : {K D : Type 0} (sink : SinkGhosts K) (door : DoorGhosts D) (before : Player) (out : K) (was now : D) (id : MemberId) → door.told now ≡ door.told was → door.door_faults was ≤ door.door_faults now → door.connection_faults now ≡ door.connection_faults was
+pub Receives-start : {K D : Type 0} (sink : SinkGhosts K) (door : DoorGhosts D) (before : PlayerFacts) (out : K) (was now : D) (id : MemberId) → door.told now ≡ door.told was → door.door_faults was ≤ door.door_faults now → door.connection_faults now ≡ door.connection_faults was
     → ((n : ℕ) → door.serves was n → door.serves now n) → Receives {X = Unit {0}} sink door before before out out was now (Ok tt) id 0 []
 Receives-start sink door before out was now id same grows line serves = record {
   plays = Plays-nothing sink before out;
@@ -226,7 +225,7 @@ Receives-start sink door before out was now id same grows line serves = record {
     no-door e = cc
 
 -- some came, and then others
-pub Receives-then : {K D : Type 0} {sink : SinkGhosts K} {door : DoorGhosts D} {start between after : Player} {out mid then : K} {was during now : D} {id : MemberId} {some count whole : ℕ} {first more : List Connection} (result : Result (Unit {0}) ServeError) → some + count ≡ whole
+pub Receives-then : {K D : Type 0} {sink : SinkGhosts K} {door : DoorGhosts D} {start between after : PlayerFacts} {out mid then : K} {was during now : D} {id : MemberId} {some count whole : ℕ} {first more : List Connection} (result : Result (Unit {0}) ServeError) → some + count ≡ whole
     → Receives {X = Unit {0}} sink door start between out mid was during (Ok tt) id some first → Receives sink door between after mid then during now result id count more → Receives sink door start after out then was now result id whole (first ++ more)
 Receives-then {sink = sink} {door = door} {start = start} {between = between} {after = after} {out = out} {mid = mid} {then = then} {was = was} {during = during} {now = now} {id = id} {some = some} {count = count} {whole = whole} {first = first} {more = more} result all p q = record {
   plays = both result q.plays;
@@ -259,7 +258,7 @@ Receives-then {sink = sink} {door = door} {start = start} {between = between} {a
     both (Err e) plays = tt
 
 -- as many steps are left as the connections that are still to come bring at most
-pub room-behind : {K D : Type 0} {sink : SinkGhosts K} {door : DoorGhosts D} {start now : Player} {out then : K} {was during : D} {id : MemberId} {visitors : List Connection} (some count : ℕ) → some ≤ count
+pub room-behind : {K D : Type 0} {sink : SinkGhosts K} {door : DoorGhosts D} {start now : PlayerFacts} {out then : K} {was during : D} {id : MemberId} {visitors : List Connection} (some count : ℕ) → some ≤ count
     → Receives {X = Unit {0}} sink door start now out then was during (Ok tt) id some visitors → HasStepsLeft start.world (connection_cost * count) → HasStepsLeft now.world (connection_cost * (count - some))
 room-behind {start = start} {now = now} {id = id} {visitors = visitors} some count fewer r room =
     let steps : List Step = visits_steps start.world.cluster id visitors in
@@ -304,7 +303,7 @@ accepted door was mid now cluster id visitor some after grows line accepts serve
 }
 
 -- what it brought was printed in part
-pub receives-one : {K D : Type 0} (sink : SinkGhosts K) (door : DoorGhosts D) (before after : Player) (out then : K) (was now : D) (id : MemberId) (visitor : Connection) (final : Result (Unit {0}) ServeError) → (IsErrOf final Door → ⊥)
+pub receives-one : {K D : Type 0} (sink : SinkGhosts K) (door : DoorGhosts D) (before after : PlayerFacts) (out then : K) (was now : D) (id : MemberId) (visitor : Connection) (final : Result (Unit {0}) ServeError) → (IsErrOf final Door → ⊥)
     → PrintsSteps {X = Unit {0}} sink before out then final (visits_steps before.world.cluster id (visitor ∷ [])) → OnOk final (Plays {X = Unit {0}} sink before after out then (Ok tt) (visits_steps before.world.cluster id (visitor ∷ [])))
     → {mid : D} → Comes door was mid now before.world.cluster id visitor → Receives sink door before after out then was now final id 1 (visitor ∷ [])
 receives-one sink door before after out then was now id visitor final never printed plays come = record { plays = plays; prints = printed; came = Came-one final come never }
@@ -320,12 +319,12 @@ pub shows-so : {K X : Type 0} {sink : SinkGhosts K} {before after : SummaryFacts
 shows-so {sink = sink} {before = before} {after = after} {trace = trace} {out = out} {then = then} {result = result} items is shown = subst (λ l. Shows sink before after trace out then result (map items l)) is shown
 
 -- so many, by another word
-pub Receives-so : {K D X : Type 0} {sink : SinkGhosts K} {door : DoorGhosts D} {before after : Player} {out then : K} {was now : D} {result : Result X ServeError} {id : MemberId} {count same : ℕ} {visitors : List Connection} → count ≡ same
+pub Receives-so : {K D X : Type 0} {sink : SinkGhosts K} {door : DoorGhosts D} {before after : PlayerFacts} {out then : K} {was now : D} {result : Result X ServeError} {id : MemberId} {count same : ℕ} {visitors : List Connection} → count ≡ same
     → Receives sink door before after out then was now result id count visitors → Receives sink door before after out then was now result id same visitors
 Receives-so {sink = sink} {door = door} {before = before} {after = after} {out = out} {then = then} {was = was} {now = now} {result = result} {id = id} {visitors = visitors} is r = subst (λ (n : ℕ). Receives sink door before after out then was now result id n visitors) is r
 
 -- meanwhile the members stay
-pub received-members : {K D : Type 0} {sink : SinkGhosts K} {door : DoorGhosts D} {start now : Player} {out then : K} {was during : D} {id : MemberId} {some : ℕ} {visitors : List Connection} → Receives {X = Unit {0}} sink door start now out then was during (Ok tt) id some visitors
+pub received-members : {K D : Type 0} {sink : SinkGhosts K} {door : DoorGhosts D} {start now : PlayerFacts} {out then : K} {was during : D} {id : MemberId} {some : ℕ} {visitors : List Connection} → Receives {X = Unit {0}} sink door start now out then was during (Ok tt) id some visitors
     → IsMember (names_in start.world.cluster.facts.members) id → IsMember (names_in now.world.cluster.facts.members) id
 received-members {start = start} {id = id} {visitors = visitors} r is =
     subst (λ (l : List Member). IsMember (names_in l) id) (sym (ap (λ (c : Cluster). c.facts.members) r.plays.world ∙ members-stay start.world.cluster (run_events start.world.cluster (visits_steps start.world.cluster id visitors)))) is

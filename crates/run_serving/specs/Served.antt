@@ -1,5 +1,5 @@
 -- A run with connections behind its script: which came, and what was sent on each.
-use Rattle.std.specs.Prelude.{ℕ, ◌≡◌, ◌≢◌, ◌≤◌, false, List, [], ◌∷◌, ◌++◌, length, All, Some, None, Result, Err, IfOk, OnOk, IsErrOf, MatchResult, ◌⊎◌, ◌+◌}
+use Rattle.std.specs.Prelude.{ℕ, ◌≡◌, ◌≢◌, ◌≤◌, false, List, ◌∷◌, ◌++◌, length, All, Some, None, Result, Err, IfOk, OnOk, IsErrOf, MatchResult, ◌⊎◌, ◌+◌}
 use Rattle.pat_base.specs.declared.member_id.MemberId.{MemberId}
 use Rattle.pat_outside.specs.declared.outside.Sink.{Ghosts as SinkGhosts}
 use Rattle.pat_outside.specs.Outside.{Grew, Rose}
@@ -12,8 +12,7 @@ use Rattle.pat_door.specs.declared.door.Door.{Ghosts as DoorGhosts}
 use Rattle.pat_door.specs.Doors.{DoorFacts, Tells}
 use Rattle.serve_model.specs.Connections.{Connection, IsSent, Unread, Whole, bytes_due, steps_of_connection}
 use Rattle.pat_serve.specs.Serving.{IsRead}
-use Rattle.pat_world.specs.Steps.{WorldFacts}
-use Rattle.run_printing.specs.declared.print_error.PrintError.{PrintError}
+use Rattle.simulation.specs.Steps.{WorldFacts}
 use Rattle.run_printing.specs.declared.print_error.PrintError.TheVariants as prints
 use Rattle.run_printing.specs.declared.serve_error.ServeError.{ServeError}
 use Rattle.run_printing.specs.declared.serve_error.ServeError.TheVariants.{Door, Memory, Write}
@@ -51,9 +50,9 @@ pub record Came {D X : Type 0} (door : DoorGhosts D) (was now : D) (result : Res
   pub serves : (more : ℕ) → door.serves was (count + more) → MatchResult result (λ _. door.serves now more) (λ error. error ≢ Door)
 
 -- a script was played, and so many connections were to be served behind it: these were, and the run with them was printed
-pub record Serves {K D : Type 0} (sink : SinkGhosts K) (door : DoorGhosts D) (out then : K) (was now : D) (result : Result WorldFacts ServeError) (script : ScriptText) (id : MemberId) (count : ℕ) (visitors : List Connection) : Type 0 where
+pub record Serves {K D W : Type 0} (sink : SinkGhosts K) (door : DoorGhosts D) (facts : W → WorldFacts) (out then : K) (was now : D) (result : Result W ServeError) (script : ScriptText) (id : MemberId) (count : ℕ) (visitors : List Connection) : Type 0 where
   pub printed : Prints sink out then Write result (text_of_run (served_of script id visitors))
   pub whole : IsErrOf result Memory → PrintsWholeSteps sink out then (cluster_of script.head) false (served_of script id visitors).steps
   pub halted : IsErrOf result Door → Grew (sink.content out) (sink.content then) (lines_of_run (served_of script id visitors))
-  pub world : IfOk result (IsLeftBy (served_of script id visitors))
+  pub world : IfOk result (λ world. IsLeftBy (served_of script id visitors) (facts world))
   pub came : Came door was now result (after_steps (cluster_of script.head) (steps_of script.body)) id count visitors

@@ -3,8 +3,9 @@ ghost use Rattle.std.specs.Prelude.{List, ◌≡◌, ◌+◌, ◌*◌, ◌≤◌
 ghost use Rattle.script_model.specs.Script.{IsMember, names_of};
 ghost use Rattle.cluster_model.specs.Steps.{names_in, steps_of};
 ghost use Rattle.serve_model.specs.Connections.{Connection, connection_cost};
-ghost use Rattle.pat_world.specs.Steps.{HasStepsLeft};
+ghost use Rattle.simulation.specs.Steps.{HasStepsLeft};
 ghost use Rattle.world_model.specs.Room.{most_steps};
+ghost use Rattle.run_player.specs.Playing.{player_of};
 ghost use Rattle.run_serving.specs.Receiving.{Receives, ReceivesAll};
 ghost use Rattle.run_serving.specs.Served.{Serves};
 
@@ -13,10 +14,10 @@ use pat_base::MemberId;
 use pat_door::Door;
 use pat_outside::Sink;
 use pat_serve::serve_one;
-use pat_world::World;
 use run_player::Player;
 use run_printing::{print_closing, show};
 use script_model::Script;
+use simulation::Simulation;
 use std::alloc::Global;
 
 /// Which connections are served.
@@ -35,18 +36,18 @@ pub struct Service<'a> {
 /// piece. On Ok all connections were served, and it answers the world after the last step; on Err the world is closed. Where memory is
 /// wanting, what was printed are the lines of whole steps, and nothing of the summary; where the door can't be opened or brings no
 /// connection, the lines of all steps, and nothing of the summary.
-pub fn serve<K: Sink, D: Door>(
+pub fn serve<W: Simulation, K: Sink, D: Door>(
     alloc: Global,
     script: &Script,
     service: &Service<'_>,
     door: &mut D,
     out: &mut K,
-) -> Result<World, ServeError>
+) -> Result<W, ServeError>
     requires room { length (steps_of script.now.body) + connection_cost * service.now.count ≤ most_steps }
     requires declared { IsMember (names_of script.now.head) service.now.member }
-    ensures { (visitors : List Connection) × Serves K.Sink D.Door out.old out.new door.old door.new result script.now service.now.member service.now.count visitors }
+    ensures { (visitors : List Connection) × Serves K.Sink D.Door W.facts out.old out.new door.old door.new result script.now service.now.member service.now.count visitors }
 {
-    let mut player = Player::new(alloc, script.head())?;
+    let mut player = Player::<W>::new(alloc, script.head())?;
     match receive_all(&mut player, script, service, door, out) {
         Ok(()) => Ok(player.into_world()),
         Err(error) => {
@@ -57,17 +58,17 @@ pub fn serve<K: Sink, D: Door>(
 }
 
 /// The lines of a script, then connections, and then the closing summary.
-fn receive_all<K: Sink, D: Door>(
-    player: &mut Player,
+fn receive_all<W: Simulation, K: Sink, D: Door>(
+    player: &mut Player<W>,
     script: &Script,
     service: &Service<'_>,
     door: &mut D,
     out: &mut K,
 ) -> Result<(), ServeError>
-    requires room { HasStepsLeft player.old.world (length (steps_of script.now.body) + connection_cost * service.now.count) }
-    requires members { names_in player.old.world.cluster.facts.members ≡ names_of script.now.head }
+    requires room { HasStepsLeft (W.facts player.old.world) (length (steps_of script.now.body) + connection_cost * service.now.count) }
+    requires members { names_in (W.facts player.old.world).cluster.facts.members ≡ names_of script.now.head }
     requires declared { IsMember (names_of script.now.head) service.now.member }
-    ensures { (visitors : List Connection) × ReceivesAll K.Sink D.Door player.old player.new out.old out.new door.old door.new result (steps_of script.now.body) service.now.member service.now.count visitors }
+    ensures { (visitors : List Connection) × ReceivesAll K.Sink D.Door (player_of W.facts player.old) (player_of W.facts player.new) out.old out.new door.old door.new result (steps_of script.now.body) service.now.member service.now.count visitors }
 {
     player.play_body(script, out)?;
     receive(player, service, door, out)?;
@@ -76,15 +77,15 @@ fn receive_all<K: Sink, D: Door>(
 }
 
 /// Opens the door, and serves connections, one after another.
-fn receive<K: Sink, D: Door>(
-    player: &mut Player,
+fn receive<W: Simulation, K: Sink, D: Door>(
+    player: &mut Player<W>,
     service: &Service<'_>,
     door: &mut D,
     out: &mut K,
 ) -> Result<(), ServeError>
-    requires room { HasStepsLeft player.old.world (connection_cost * service.now.count) }
-    requires declared { IsMember (names_in player.old.world.cluster.facts.members) service.now.member }
-    ensures { (visitors : List Connection) × Receives K.Sink D.Door player.old player.new out.old out.new door.old door.new result service.now.member service.now.count visitors }
+    requires room { HasStepsLeft (W.facts player.old.world) (connection_cost * service.now.count) }
+    requires declared { IsMember (names_in (W.facts player.old.world).cluster.facts.members) service.now.member }
+    ensures { (visitors : List Connection) × Receives K.Sink D.Door (player_of W.facts player.old) (player_of W.facts player.new) out.old out.new door.old door.new result service.now.member service.now.count visitors }
 {
     let Ok(()) = door.open(service.address) else {
         return Err(ServeError::Door);
@@ -96,15 +97,15 @@ fn receive<K: Sink, D: Door>(
 }
 
 /// Serves the next connection.
-fn receive_next<K: Sink, D: Door>(
-    player: &mut Player,
+fn receive_next<W: Simulation, K: Sink, D: Door>(
+    player: &mut Player<W>,
     member: MemberId,
     door: &mut D,
     out: &mut K,
 ) -> Result<(), ServeError>
-    requires room { HasStepsLeft player.old.world connection_cost }
-    requires declared { IsMember (names_in player.old.world.cluster.facts.members) member }
-    ensures { (visitors : List Connection) × Receives K.Sink D.Door player.old player.new out.old out.new door.old door.new result member 1 visitors }
+    requires room { HasStepsLeft (W.facts player.old.world) connection_cost }
+    requires declared { IsMember (names_in (W.facts player.old.world).cluster.facts.members) member }
+    ensures { (visitors : List Connection) × Receives K.Sink D.Door (player_of W.facts player.old) (player_of W.facts player.new) out.old out.new door.old door.new result member 1 visitors }
 {
     let Ok(()) = door.accept() else {
         return Err(ServeError::Door);

@@ -4,7 +4,7 @@ use Rattle.pat_outside.specs.Prints.{Prints}
 use Rattle.script_model.specs.Script.{ScriptText, spelling_of}
 use Rattle.cluster_model.specs.Steps.{steps_of}
 use Rattle.world_model.specs.Room.{most_steps}
-use Rattle.pat_world.specs.Steps.{WorldFacts}
+use Rattle.simulation.specs.Steps.{WorldFacts}
 use Rattle.run_printing.specs.declared.print_error.PrintError.TheVariants.{Write}
 use Rattle.run_player.specs.Left.{IsLeftBy}
 use Rattle.run_model.specs.Run.{played_of, summary_of_run}

@@ -1,7 +1,8 @@
-use Rattle.std.proofs.Common.{◌+◌, ◌-◌, ◌*◌, ◌++◌, ◌∙◌, [], Err, Ok, arith, ap, refl}
+use Rattle.std.proofs.Common.{◌+◌, ◌-◌, ◌*◌, ◌++◌, ◌∙◌, Err, Ok, arith, ap, refl}
 use Rattle.std.proofs.lemmas.Result.{err_from_is_err_and}
 use Rattle.serve_model.specs.Connections.{connection_cost}
-use Rattle.pat_world.proofs.Stepping.{steps-left-fewer}
+use Rattle.simulation.proofs.Stepping.{steps-left-fewer}
+use Rattle.run_player.specs.Playing.{player_of}
 use Rattle.run_serving.proofs.Received.{Receives-none, Receives-so, Receives-start, Receives-stop, Receives-then, door-is-no-write, err-is-not-ok, received-members, room-behind}
 use Rattle.run_serving.proofs.Visiting.{Came-refused}
 use Rattle.run_serving.proofs.serving.receive.Goals as goal
@@ -12,19 +13,19 @@ pub returns-in_default : goal.returns-in_default
 returns-in_default g c =
     let e = c.in_default.ensures in (
       [],
-      Receives-none g.K.Sink g.D.Door c.args.player.now c.args.player.now c.args.out.now c.args.door.now c.open.new.self Door (Err Door) c.args.service.now.member c.args.service.now.count refl door-is-no-write
-          (Came-refused g.D.Door c.args.door.now c.open.new.self c.args.player.now.world.cluster c.args.service.now.member c.args.service.now.count e.same e.failed e.grows e.line
+      Receives-none g.K.Sink g.D.Door (player_of g.W.Simulation.facts c.args.player.now) (player_of g.W.Simulation.facts c.args.player.now) c.args.out.now c.args.door.now (player_of g.W.Simulation.facts c.open.new.self) Door (Err Door) c.args.service.now.member c.args.service.now.count refl door-is-no-write
+          (Came-refused g.D.Door c.args.door.now (player_of g.W.Simulation.facts c.open.new.self) (player_of g.W.Simulation.facts c.args.player.now).world.cluster c.args.service.now.member c.args.service.now.count e.same e.failed e.grows e.line
           (λ more serves. err-is-not-ok (Unit {0}) c.in_default.field-0 (e.served (c.args.service.now.count + more) serves).0)),
     )
 
 pub loop-init : goal.loop-init
 loop-init g c =
     let e = c.in-Ok.ensures in
-    ([], Receives-start g.K.Sink g.D.Door c.args.player.now c.args.out.now c.args.door.now c.open.new.self c.args.service.now.member e.same e.grows e.line (λ n serves. (e.served n serves).1))
+    ([], Receives-start g.K.Sink g.D.Door (player_of g.W.Simulation.facts c.args.player.now) c.args.out.now c.args.door.now (player_of g.W.Simulation.facts c.open.new.self) c.args.service.now.member e.same e.grows e.line (λ n serves. (e.served n serves).1))
 
 pub receive_next-requires-clause-room : goal.receive_next-requires-clause-room
 receive_next-requires-clause-room g c =
-    steps-left-fewer c.loop.player.world (connection_cost * (c.args.service.now.count - c.loop.counter)) connection_cost (omega (arith, c.loop-test.true))
+    steps-left-fewer (player_of g.W.Simulation.facts c.loop.player).world (connection_cost * (c.args.service.now.count - c.loop.counter)) connection_cost (omega (arith, c.loop-test.true))
     (room-behind c.loop.counter c.args.service.now.count (omega (arith, c.loop-test.true)) c.loop.invariant.1 c.requires.room)
 
 pub receive_next-requires-clause-declared : goal.receive_next-requires-clause-declared

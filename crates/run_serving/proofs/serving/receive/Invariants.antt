@@ -1,7 +1,8 @@
 use Rattle.std.proofs.Common.{List, Ok}
 use Rattle.serve_model.specs.Connections.{Connection}
 use Rattle.run_serving.specs.Receiving.{Receives}
+use Rattle.run_player.specs.Playing.{player_of}
 use Rattle.run_serving.proofs.serving.receive.Given as goal
 
 abbrev pub invariant-loop : goal.invariant-loop
-invariant-loop g l = (visitors : List Connection) × Receives {X = Unit {0}} g.K.Sink g.D.Door l.fn.player l.player l.fn.out l.out l.fn.door l.door (Ok tt) l.service.member l.counter visitors
+invariant-loop g l = (visitors : List Connection) × Receives {X = Unit {0}} g.K.Sink g.D.Door (player_of g.W.Simulation.facts l.fn.player) (player_of g.W.Simulation.facts l.player) l.fn.out l.out l.fn.door l.door (Ok tt) l.service.member l.counter visitors

@@ -3,7 +3,7 @@ use Rattle.cluster_model.specs.declared.step.Step.TheVariants as steps
 use Rattle.cluster_model.specs.Acknowledging.{AreAcknowledged}
 use Rattle.cluster_model.specs.Next.{run_events}
 use Rattle.cluster_model.specs.State.{Cluster}
-use Rattle.pat_world.specs.Steps.{WorldFacts}
+use Rattle.simulation.specs.Steps.{WorldFacts}
 use Rattle.world_model.proofs.Idling.{at_moment, idle-commits}
 use Rattle.pat_world.proofs.IdleTicks.{brings-ticks, idle-passed, passed, steps-keep, steps-stand}
 use Rattle.pat_world.proofs.KeptCommits.{steps-keep-commits}

@@ -1,5 +1,5 @@
 use Rattle.std.proofs.Common.{arith, ap}
-use Rattle.pat_world.specs.Steps.{WorldFacts}
+use Rattle.simulation.specs.Steps.{WorldFacts}
 use Rattle.pat_world.proofs.world.World.idle_ticks.Goals as goal
 
 pub returns-then-left-most-clause-idle : goal.returns-then-left-most-clause-idle

@@ -1,8 +1,7 @@
-use Rattle.std.proofs.Common.{[]}
 use Rattle.cluster_model.specs.declared.step.Step.TheVariants as steps
 use Rattle.cluster_model.specs.Starting.{cluster_of}
+use Rattle.simulation.proofs.Standing.{is-stands}
 use Rattle.pat_world.proofs.IdleTicks.{idle-before-none}
-use Rattle.pat_world.proofs.Standing.{is-stands}
 use Rattle.pat_world.proofs.Stepping.{is-counted-first, steps-left-first}
 use Rattle.pat_world.proofs.world.World.new.Goals as goal
 

@@ -2,8 +2,8 @@ use Rattle.std.proofs.lemmas.Result.{on_ok_weaker}
 use Rattle.world_model.specs.Room.{step_cost}
 use Rattle.pat_world.proofs.Fenced.{step-fenced}
 use Rattle.pat_world.proofs.KeptCommits.{step-keeps-commits}
+use Rattle.simulation.proofs.Standing.{step-stands}
 use Rattle.pat_world.proofs.OneWriter.{one-primary, step-keeps}
-use Rattle.pat_world.proofs.Standing.{step-stands}
 use Rattle.pat_world.proofs.Stepping.{TookSteps-step}
 use Rattle.pat_world.proofs.world.World.step.Goals as goal
 

@@ -1,7 +1,7 @@
 use Rattle.std.proofs.Common.{◌+◌, ap, arith, ◌∙◌}
 use Rattle.std.proofs.lemmas.Result.{on_ok_weaker}
 use Rattle.cluster_model.specs.declared.step.Step.TheVariants as steps
-use Rattle.pat_world.specs.Steps.{WorldFacts}
+use Rattle.simulation.specs.Steps.{WorldFacts}
 use Rattle.world_model.proofs.Idling.{at_moment}
 use Rattle.pat_world.proofs.IdleTicks.{idle-passed, tick-noted}
 use Rattle.pat_world.proofs.world.World.tick.Goals as goal

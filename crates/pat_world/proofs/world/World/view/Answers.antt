@@ -1,5 +1,5 @@
 use Rattle.std.proofs.Common.{subst}
-use Rattle.pat_world.specs.Steps.{WorldFacts}
+use Rattle.simulation.specs.Steps.{WorldFacts}
 use Rattle.world_stage.specs.AgentViews.{IsViewOf}
 use Rattle.pat_world.proofs.Running.{view-runs}
 use Rattle.pat_world.proofs.world.World.view.Goals as goal

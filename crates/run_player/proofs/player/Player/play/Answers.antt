@@ -1,4 +1,4 @@
-use Rattle.std.proofs.Common.{◌++◌, [], Err, append-nil, ap, ◌∙◌, sym, subst}
+use Rattle.std.proofs.Common.{◌++◌, Err, append-nil, ap, ◌∙◌, sym, subst}
 use Rattle.std.proofs.lemmas.Result.{err_from_is_err_and}
 use Rattle.pat_outside.specs.Outside.{Grew}
 use Rattle.pat_outside.specs.Prints.{Prints}
@@ -9,6 +9,7 @@ use Rattle.summary_model.specs.Sights.{SummaryFacts}
 use Rattle.summary_model.specs.SummaryText.{closing_text}
 use Rattle.run_printing.specs.declared.print_error.PrintError.TheVariants.{Write}
 use Rattle.run_model.specs.Run.{printed_from}
+use Rattle.run_player.specs.Playing.{player_of}
 use Rattle.run_player.proofs.Played.{same-error}
 use Rattle.run_player.proofs.player.Player.play.Goals as goal
 
@@ -20,7 +21,7 @@ returns-in_err-play_body-clause-printed g c =
 
 pub returns-clause-printed : goal.returns-clause-printed
 returns-clause-printed g c =
-    let player = c.args.self.now in
+    let player = (player_of g.W.Simulation.facts c.args.self.now) in
     let final = c.print_closing.result in
     subst (λ (s : SummaryFacts). Prints g.K.Sink c.args.out.now c.print_closing.new.out Write final (printed_from player.world.cluster player.trace (steps_of c.args.script.now.body) ++ closing_text s.watch.closing))
     c.in_ok-play_body.ensures.summary
@@ -37,5 +38,5 @@ returns-clause-whole g c = λ e. record {
   done = steps_of c.args.script.now.body;
   more = [];
   parts = append-nil (steps_of c.args.script.now.body);
-  grew = subst (λ out. Grew (g.K.Sink.content c.args.out.now) (g.K.Sink.content out) (printed_from c.args.self.now.world.cluster c.args.self.now.trace (steps_of c.args.script.now.body))) (sym (c.print_closing.ensures.memory e)) c.in_ok-play_body.ensures.printed.ok;
+  grew = subst (λ out. Grew (g.K.Sink.content c.args.out.now) (g.K.Sink.content out) (printed_from (player_of g.W.Simulation.facts c.args.self.now).world.cluster (player_of g.W.Simulation.facts c.args.self.now).trace (steps_of c.args.script.now.body))) (sym (c.print_closing.ensures.memory e)) c.in_ok-play_body.ensures.printed.ok;
 }

@@ -1,6 +1,7 @@
 use Rattle.std.proofs.Common.{ap, ◌∙◌, Err}
 use Rattle.std.proofs.lemmas.Result.{err_from_is_err_and}
 use Rattle.event_book.specs.Text.{lines_of}
+use Rattle.run_player.specs.Playing.{player_of}
 use Rattle.run_player.proofs.Played.{Plays-none, Plays-step, Plays-step-stop}
 use Rattle.run_player.proofs.player.Player.play_step.Goals as goal
 
@@ -26,9 +27,9 @@ returns-in_err-print_lines g c =
     let final = c.from_residual-in_err-print_lines.result in
     let p = err_from_is_err_and final c.from_residual-in_err-print_lines.ensures.1 in
     Plays-step-stop final c.in_ok-step.ensures.emits c.clear.ensures.items
-    (c.as_bytes.ensures.value ∙ c.in_ok-set_text.ensures ∙ ap (lines_of c.args.self.now.trace) c.deref-2.ensures.value) c.in_err-print_lines.ensures (p.1 ∙ ap Err p.2)
+    (c.as_bytes.ensures.value ∙ c.in_ok-set_text.ensures ∙ ap (lines_of (player_of g.W.Simulation.facts c.args.self.now).trace) c.deref-2.ensures.value) c.in_err-print_lines.ensures (p.1 ∙ ap Err p.2)
 
 pub returns : goal.returns
 returns g c =
     Plays-step c.in_ok-step.ensures.emits c.in_ok-step.ensures.taken c.clear.ensures.items c.deref.ensures.value c.in_ok-note.ensures
-    (c.as_bytes.ensures.value ∙ c.in_ok-set_text.ensures ∙ ap (lines_of c.args.self.now.trace) c.deref-2.ensures.value) c.traced_after-self.ensures c.in_ok-print_lines.ensures
+    (c.as_bytes.ensures.value ∙ c.in_ok-set_text.ensures ∙ ap (lines_of (player_of g.W.Simulation.facts c.args.self.now).trace) c.deref-2.ensures.value) c.traced_after-self.ensures c.in_ok-print_lines.ensures

@@ -1,5 +1,5 @@
 -- Worlds and the books that they stand for.
-use Rattle.std.proofs.Common.{◌≡◌, ℕ, List, [], ◌∷◌, ◌++◌, ◌∙◌, ap, sym, refl}
+use Rattle.std.proofs.Common.{◌≡◌, ℕ, List, ◌∷◌, ◌++◌, ◌∙◌, ap, sym, refl}
 use Rattle.pg_model.specs.Facts.{ServerFacts}
 use Rattle.event_book.specs.declared.event.Event.{Event}
 use Rattle.event_book.specs.Facts.{Facts, facts_over}
@@ -8,7 +8,7 @@ use Rattle.event_book.specs.Required.{required_in, confirmed_in}
 use Rattle.event_book.specs.Writers.{writes_in}
 use Rattle.event_book.proofs.Told.{logs-told, writes-told, required-told, confirmed-told, acknowledged-told}
 use Rattle.cluster_model.specs.declared.step.Step.{Step}
-use Rattle.pat_world.specs.Book.{StandsFor, left_by, next_of}
+use Rattle.simulation.specs.Book.{StandsFor, left_by, next_of}
 use Rattle.cluster_model.specs.Cluster.{cluster_after, cluster_over}
 use Rattle.cluster_model.specs.State.{Cluster}
 use Rattle.cluster_model.specs.Next.{next_events}
