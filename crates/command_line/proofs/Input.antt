@@ -1,5 +1,5 @@
 -- Input that is read up to one byte more than a script may have.
-use Rattle.std.proofs.Common.{◌≡◌, ℕ, ◌<◌, ◌+◌, ◌-◌, ◌^◌, min, nat_lt, List, length, take, drop, Some, None, Ok, true, arith, refl, ◌∙◌, ap, sym, subst, take_all, inl, inr}
+use Rattle.std.proofs.Common.{◌≡◌, ℕ, ◌<◌, ◌+◌, ◌-◌, ◌^◌, min, nat_lt, List, [], length, take, drop, Some, None, Ok, true, arith, refl, ◌∙◌, ap, sym, subst, take_all, inl, inr}
 use Rattle.std.proofs.lemmas.List.{length-take, drop_all}
 use Rattle.std.proofs.lemmas.Bool.Decides.{nat_tests}
 use Rattle.std.proofs.lemmas.Bool.{cases_lt}

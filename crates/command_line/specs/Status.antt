@@ -1,5 +1,5 @@
 -- Exit statuses, and what is said of each on the error output.
-use Rattle.std.specs.Prelude.{ℕ, ◌≡◌, ◌≤◌, ◌⊎◌, List, ◌++◌, Some, None, Err, length, codes}
+use Rattle.std.specs.Prelude.{ℕ, ◌≡◌, ◌≤◌, ◌⊎◌, List, [], ◌++◌, Some, None, Err, length, codes}
 use Rattle.std.specs.Fmt.{decimal}
 use Rattle.pat_outside.specs.declared.outside.Sink.{Ghosts}
 use Rattle.pat_outside.specs.declared.transfer.ReadError.{ReadError}

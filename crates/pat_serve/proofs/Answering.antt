@@ -1,5 +1,5 @@
 -- A connection that was read and answered.
-use Rattle.std.proofs.Common.{◌≡◌, ℕ, ◌≤◌, ◌∷◌, Bool, true, false, List, length, Option, Some, None, Ok, Err, Result, append-nil, refl, ◌∙◌, ap, sym, subst}
+use Rattle.std.proofs.Common.{◌≡◌, ℕ, ◌≤◌, ◌∷◌, Bool, true, false, List, [], length, Option, Some, None, Ok, Err, Result, append-nil, refl, ◌∙◌, ap, sym, subst}
 use Rattle.std.specs.Prelude.{IfSome, option_map}
 use Rattle.std.specs.declared.alloc.AllocError.{AllocError}
 use Rattle.pat_base.specs.declared.member_id.MemberId.{MemberId}

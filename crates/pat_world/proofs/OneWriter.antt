@@ -1,5 +1,5 @@
 -- A step of a world that a run brought keeps one writer, whom alone a load balancer finds.
-use Rattle.std.proofs.Common.{◌≡◌, ℕ, List, ◌∷◌, ◌++◌, ◌∙◌, ap, sym}
+use Rattle.std.proofs.Common.{◌≡◌, ℕ, List, [], ◌∷◌, ◌++◌, ◌∙◌, ap, sym}
 use Rattle.cluster_model.specs.declared.step.Step.{Step}
 use Rattle.event_book.specs.declared.event.Event.{Event}
 use Rattle.cluster_model.specs.Next.{next_events, run_events}

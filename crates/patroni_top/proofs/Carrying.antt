@@ -1,5 +1,5 @@
 -- How a command was carried out, for each way in which it may go.
-use Rattle.std.proofs.Common.{◌≡◌, ◌≢◌, ◌<◌, ◌*◌, ◌+◌, ℕ, Bool, false, true, List, Option, Some, None, Result, Ok, Err, append-nil, arith, nat_lt, refl, sym, subst, ap, ◌∙◌}
+use Rattle.std.proofs.Common.{◌≡◌, ◌≢◌, ◌<◌, ◌*◌, ◌+◌, ℕ, Bool, false, true, List, [], Option, Some, None, Result, Ok, Err, append-nil, arith, nat_lt, refl, sym, subst, ap, ◌∙◌}
 use Rattle.std.proofs.lemmas.Bool.Decides.{nat_tests}
 use Rattle.pat_base.specs.declared.member_id.MemberId.{MemberId}
 use Rattle.pat_outside.specs.declared.outside.Sink.{Ghosts as SinkGhosts}

@@ -1,5 +1,5 @@
 -- How a command ends.
-use Rattle.std.specs.Prelude.{ℕ, ◌≡◌, ◌≤◌, ◌⊎◌, Bool, false, List, length, Option, Some, Result, Ok, Err, IsTrue}
+use Rattle.std.specs.Prelude.{ℕ, ◌≡◌, ◌≤◌, ◌⊎◌, Bool, false, List, [], length, Option, Some, Result, Ok, Err, IsTrue}
 use Rattle.pat_outside.specs.declared.outside.Sink.{Ghosts as SinkGhosts}
 use Rattle.pat_outside.specs.declared.outside.Source.{Ghosts as SourceGhosts}
 use Rattle.pat_outside.specs.Outside.{Known, Rose, Grew, GrewByPrefix, Consumed}

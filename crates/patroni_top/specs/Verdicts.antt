@@ -1,5 +1,5 @@
 -- What comes of the words of a command line by the input and by who connects.
-use Rattle.std.specs.Prelude.{ℕ, ◌≡◌, ◌*◌, nat_lt, if◌then◌else◌, List, Option, Some, None, Result, Ok, Err, IfSome}
+use Rattle.std.specs.Prelude.{ℕ, ◌≡◌, ◌*◌, nat_lt, if◌then◌else◌, List, [], Option, Some, None, Result, Ok, Err, IfSome}
 use Rattle.pat_base.specs.declared.member_id.MemberId.{MemberId}
 use Rattle.script_words.specs.declared.fault.Fault.{Fault}
 use Rattle.script_grammar.specs.declared.limit.Limit.{Limit}

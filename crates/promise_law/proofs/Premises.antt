@@ -1,5 +1,5 @@
 -- The premises that the closing summary tells of are those of the laws of one writer and of kept commits.
-use Rattle.std.proofs.Common.{◌≡◌, ◌≤◌, ℕ, Option, Bool, List, ◌∷◌, length, map, zero, suc, refl, subst, sym, ◌∙◌}
+use Rattle.std.proofs.Common.{◌≡◌, ◌≤◌, ℕ, Option, Bool, List, [], ◌∷◌, length, map, zero, suc, refl, subst, sym, ◌∙◌}
 use Rattle.std.specs.Prelude.{not, ◌&&◌, slice_get}
 use Rattle.std.proofs.lemmas.List.{length-map}
 use mathlib.Core.Path.{fun_ext}

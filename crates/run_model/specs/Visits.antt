@@ -1,5 +1,5 @@
 -- The steps that connections bring behind a script.
-use Rattle.std.specs.Prelude.{List, ◌∷◌, ◌++◌}
+use Rattle.std.specs.Prelude.{List, [], ◌∷◌, ◌++◌}
 use Rattle.pat_base.specs.declared.member_id.MemberId.{MemberId}
 use Rattle.script_model.specs.Script.{ScriptText}
 use Rattle.cluster_model.specs.declared.step.Step.{Step}

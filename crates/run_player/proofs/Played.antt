@@ -1,5 +1,5 @@
 -- Steps that were played, one after another: what is left is behind what was done.
-use Rattle.std.proofs.Common.{◌≡◌, Bool, ℕ, ◌+◌, List, ◌∷◌, ◌++◌, length, drop, Some, Result, Ok, Err, arith, append_assoc, append-nil, length-append, refl, ◌∙◌, ap, sym, subst, suc, zero}
+use Rattle.std.proofs.Common.{◌≡◌, Bool, ℕ, ◌+◌, List, [], ◌∷◌, ◌++◌, length, drop, Some, Result, Ok, Err, arith, append_assoc, append-nil, length-append, refl, ◌∙◌, ap, sym, subst, suc, zero}
 use Rattle.std.proofs.lemmas.Option.{none-some, same_Some}
 use Rattle.std.specs.Prelude.{IsErrOf, slice_get}
 use Rattle.pat_base.specs.declared.name.Name.{Name}

@@ -1,12 +1,7 @@
 //! Why connections weren't all served.
 ghost use Rattle.std.specs.Prelude.{◌≡◌};
-<<<<<<<< HEAD:crates/run_printing/src/serve_error.rt
 ghost use Rattle.run_printing.specs.Errors.{serve_error};
 ghost use Rattle.run_printing.specs.declared.serve_error.ServeError.TheVariants.{Memory};
-========
-ghost use Rattle.run_serving.specs.Served.{serve_error};
-ghost use Rattle.run_serving.specs.declared.serve_error.ServeError.TheVariants.{Memory};
->>>>>>>> 59b6d442a26bb318ace9e3453ec2b4ba87e80c7d:crates/run_serving/src/serve_error.rt
 
 use crate::PrintError;
 use std::alloc::AllocError;

@@ -1,5 +1,5 @@
 -- A script that was played, connections that were served, and the closing summary.
-use Rattle.std.proofs.Common.{◌≡◌, Bool, false, ℕ, ◌+◌, ◌*◌, ◌≤◌, List, ◌++◌, length, Result, Ok, Err, arith, append_assoc, append-nil, length-append, refl, ◌∙◌, ap, sym, subst}
+use Rattle.std.proofs.Common.{◌≡◌, Bool, false, ℕ, ◌+◌, ◌*◌, ◌≤◌, List, [], ◌++◌, length, Result, Ok, Err, arith, append_assoc, append-nil, length-append, refl, ◌∙◌, ap, sym, subst}
 use Rattle.std.specs.Prelude.{IsErrOf}
 use Rattle.pat_base.specs.declared.member_id.MemberId.{MemberId}
 use Rattle.pat_outside.specs.declared.outside.Sink.{Ghosts as SinkGhosts}

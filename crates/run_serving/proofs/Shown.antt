@@ -1,5 +1,5 @@
 -- What the steps of connections brought, as it is printed.
-use Rattle.std.proofs.Common.{◌≡◌, Bool, ℕ, ◌+◌, List, ◌∷◌, ◌++◌, zero, suc, Option, Some, None, refl, ◌∙◌, ap, sym, subst}
+use Rattle.std.proofs.Common.{◌≡◌, Bool, ℕ, ◌+◌, List, [], ◌∷◌, ◌++◌, zero, suc, Option, Some, None, refl, ◌∙◌, ap, sym, subst}
 use Rattle.std.specs.Prelude.{All}
 use Rattle.std.proofs.lemmas.List.Elements.{All-nil, All-cons, All-append, All-head, All-tail}
 use Rattle.pat_base.specs.declared.member_id.MemberId.{MemberId}

@@ -1,5 +1,5 @@
 -- A run with connections behind its script: which came, and what was sent on each.
-use Rattle.std.specs.Prelude.{ℕ, ◌≡◌, ◌≢◌, ◌≤◌, false, List, ◌∷◌, ◌++◌, length, All, Some, None, Result, Err, IfOk, OnOk, IsErrOf, MatchResult, ◌⊎◌, ◌+◌}
+use Rattle.std.specs.Prelude.{ℕ, ◌≡◌, ◌≢◌, ◌≤◌, false, List, [], ◌∷◌, ◌++◌, length, All, Some, None, Result, Err, IfOk, OnOk, IsErrOf, MatchResult, ◌⊎◌, ◌+◌}
 use Rattle.pat_base.specs.declared.member_id.MemberId.{MemberId}
 use Rattle.pat_outside.specs.declared.outside.Sink.{Ghosts as SinkGhosts}
 use Rattle.pat_outside.specs.Outside.{Grew, Rose}

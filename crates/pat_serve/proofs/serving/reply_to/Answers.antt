@@ -1,4 +1,4 @@
-use Rattle.std.proofs.Common.{◌+◌, ◌∷◌, ◌∙◌, arith, ap, sym}
+use Rattle.std.proofs.Common.{◌+◌, ◌∷◌, ◌∙◌, arith, ap, sym, []}
 use Rattle.std.specs.Prelude.{option_map}
 use Rattle.std.proofs.lemmas.Result.{err_from_is_err_and, on_ok_weaker}
 use Rattle.cluster_model.specs.declared.step.Step.TheVariants as steps

@@ -1,4 +1,4 @@
-use Rattle.std.proofs.Common.{◌+◌, ◌-◌, ◌*◌, ◌++◌, ◌∙◌, Err, Ok, arith, ap, refl}
+use Rattle.std.proofs.Common.{◌+◌, ◌-◌, ◌*◌, ◌++◌, ◌∙◌, Err, Ok, arith, ap, refl, []}
 use Rattle.std.proofs.lemmas.Result.{err_from_is_err_and}
 use Rattle.serve_model.specs.Connections.{connection_cost}
 use Rattle.simulation.proofs.Stepping.{steps-left-fewer}

@@ -1,4 +1,4 @@
-use Rattle.std.proofs.Common.{◌+◌, ◌*◌, ◌∙◌, Err, length, arith, ap, refl}
+use Rattle.std.proofs.Common.{◌+◌, ◌*◌, ◌∙◌, Err, length, arith, ap, refl, []}
 use Rattle.std.proofs.lemmas.Result.{err_from_is_err_and}
 use Rattle.cluster_model.specs.Steps.{steps_of}
 use Rattle.serve_model.specs.Connections.{connection_cost}

@@ -1,4 +1,4 @@
-use Rattle.std.proofs.Common.{◌+◌, ◌∙◌, ◌∷◌, Err, Ok, arith, ap, map, refl}
+use Rattle.std.proofs.Common.{◌+◌, ◌∙◌, ◌∷◌, Err, Ok, arith, ap, map, refl, []}
 use Rattle.std.proofs.lemmas.Result.{err_from_is_err_and}
 use Rattle.run_serving.specs.declared.serve_error.ServeError.TheVariants.{Door, Memory}
 use Rattle.run_player.specs.declared.player.Player.{Player}

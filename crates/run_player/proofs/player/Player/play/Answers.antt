@@ -1,4 +1,4 @@
-use Rattle.std.proofs.Common.{◌++◌, Err, append-nil, ap, ◌∙◌, sym, subst}
+use Rattle.std.proofs.Common.{◌++◌, Err, append-nil, ap, ◌∙◌, sym, subst, []}
 use Rattle.std.proofs.lemmas.Result.{err_from_is_err_and}
 use Rattle.pat_outside.specs.Outside.{Grew}
 use Rattle.pat_outside.specs.Prints.{Prints}

@@ -1,4 +1,4 @@
-use Rattle.std.proofs.Common.{◌-◌, ◌∷◌, replicate, ap, append-nil, ◌∙◌, Err, refl, sym, subst, arith}
+use Rattle.std.proofs.Common.{◌-◌, ◌∷◌, replicate, ap, append-nil, ◌∙◌, Err, refl, sym, subst, arith, []}
 use Rattle.std.proofs.lemmas.List.{length-replicate}
 use Rattle.std.proofs.lemmas.Result.{err_from_is_err_and}
 use Rattle.cluster_model.specs.declared.step.Step.{Step}
