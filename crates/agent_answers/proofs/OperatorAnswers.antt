@@ -16,8 +16,8 @@ use Rattle.lease_store.specs.declared.txn.Txn.TheVariants as txns
 use Rattle.lease_store.specs.declared.value.FailoverKey.{FailoverKey}
 use Rattle.wal_model.specs.declared.entry.HistoryPoint.{HistoryPoint}
 use Rattle.pg_model.specs.Running.{is_primary}
-use Rattle.cluster_config.specs.KeyValues.{failover_in}
-use Rattle.cluster_config.specs.Snapshots.{SnapshotFacts}
+use Rattle.cluster_view.specs.KeyValues.{failover_in}
+use Rattle.cluster_view.specs.Snapshots.{SnapshotFacts}
 use Rattle.operator_answers.specs.declared.answer_text.Text.TheVariants as texts
 use Rattle.operator_answers.specs.Statuses.{service_unavailable, ok}
 use Rattle.event_book.specs.declared.message.Body.TheVariants as bodies

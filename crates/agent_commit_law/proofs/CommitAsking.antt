@@ -12,8 +12,8 @@ use Rattle.pat_base.specs.declared.member_id.MemberId.{MemberId}
 use Rattle.pat_base.specs.declared.peer_answer.PeerAnswer.{PeerAnswer}
 use Rattle.pat_base.specs.declared.ticks.Ticks.{Ticks}
 use Rattle.wal_model.specs.declared.entry.HistoryPoint.{HistoryPoint}
-use Rattle.cluster_config.specs.Naming.{candidate_of}
-use Rattle.cluster_config.specs.Snapshots.{SnapshotFacts, entry_in, settings_by, settings_of_entry, settings_in}
+use Rattle.cluster_view.specs.Naming.{candidate_of}
+use Rattle.cluster_view.specs.Snapshots.{SnapshotFacts, entry_in, settings_by, settings_of_entry, settings_in}
 use Rattle.lease_law.proofs.Tools.{some-is, none-some}
 use Rattle.agent_model.specs.declared.knowledge.Knowledge.{Knowledge}
 use Rattle.agent_model.specs.declared.knowledge.Question.{Question}

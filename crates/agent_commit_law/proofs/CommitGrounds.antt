@@ -13,9 +13,9 @@ use Rattle.wal_model.specs.declared.entry.Entry.{Entry}
 use Rattle.wal_model.specs.Log.{end_of}
 use Rattle.pg_model.specs.declared.status.ServerStatus.{ServerStatus}
 use Rattle.pg_model.specs.Facts.{entries_of}
-use Rattle.cluster_config.specs.KeyValues.{sync_by, sync_of_entry, sync_in}
-use Rattle.cluster_config.specs.Naming.{is_standby}
-use Rattle.cluster_config.specs.Snapshots.{SnapshotFacts, entry_in}
+use Rattle.cluster_view.specs.KeyValues.{sync_by, sync_of_entry, sync_in}
+use Rattle.cluster_view.specs.Naming.{is_standby}
+use Rattle.cluster_view.specs.Snapshots.{SnapshotFacts, entry_in}
 use Rattle.lease_law.proofs.Tools.{some-is, none-some, eq-from}
 use Rattle.event_book.specs.Functions.{set_members}
 use Rattle.sync_state.specs.Published.{standbys_of, published_in}

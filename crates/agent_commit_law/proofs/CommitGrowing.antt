@@ -8,14 +8,14 @@ use Rattle.pat_base.specs.declared.member_id.MemberId.{MemberId}
 use Rattle.pat_base.specs.declared.name.Name.{Name}
 use Rattle.pat_base.specs.declared.server_state.Required.{Required}
 use Rattle.pat_base.specs.declared.server_state.Required.TheVariants as requireds
-use Rattle.cluster_config.specs.declared.view.LeaderView.{LeaderView}
-use Rattle.cluster_config.specs.KeyValues.{config_in}
-use Rattle.cluster_config.specs.Snapshots.{SnapshotFacts}
+use Rattle.cluster_view.specs.declared.view.LeaderView.{LeaderView}
+use Rattle.cluster_view.specs.KeyValues.{config_in}
+use Rattle.cluster_view.specs.Snapshots.{SnapshotFacts}
 use Rattle.event_book.specs.Functions.{set_members}
 use Rattle.lease_law.proofs.Tools.{both as no-both, none-some, not-false}
 use Rattle.commit_actions.specs.Keys.{Confirmers, Nobody, All, AtLeast, Narrows}
 use Rattle.commit_actions.specs.Past.{confirmers_in}
-use Rattle.cluster_config.specs.Naming.{is_one_of}
+use Rattle.cluster_view.specs.Naming.{is_one_of}
 use Rattle.sync_state.specs.Published.{published_in}
 use Rattle.sync_state.specs.Sets.{nobody, set_of}
 use Rattle.sync_state.specs.Standbys.{required_members}

@@ -13,7 +13,7 @@ use Rattle.lease_store.specs.declared.txn.Txn.TheVariants as txns
 use Rattle.lease_store.specs.Writes.{nobody}
 use Rattle.wal_model.specs.declared.entry.HistoryPoint.{HistoryPoint}
 use Rattle.pg_model.specs.declared.status.ServerStatus.{ServerStatus}
-use Rattle.cluster_config.specs.Snapshots.{SnapshotFacts}
+use Rattle.cluster_view.specs.Snapshots.{SnapshotFacts}
 use Rattle.event_book.specs.declared.agent_note.AgentNote.TheVariants as agent_notes
 use Rattle.event_book.specs.declared.message.Body.{Body}
 use Rattle.event_book.specs.declared.message.Body.TheVariants as bodies

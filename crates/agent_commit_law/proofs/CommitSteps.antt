@@ -7,9 +7,9 @@ use Rattle.pat_base.specs.declared.ticks.Ticks.{Ticks}
 use Rattle.lease_store.specs.declared.granted.Granted.{Granted}
 use Rattle.lease_store.specs.declared.value.SyncKey.{SyncKey}
 use Rattle.lease_store.specs.Writes.{nobody}
-use Rattle.cluster_config.specs.KeyValues.{config_in, sync_in}
-use Rattle.cluster_config.specs.Snapshots.{SnapshotFacts}
-use Rattle.cluster_config.specs.declared.view.LeaderView.{LeaderView}
+use Rattle.cluster_view.specs.KeyValues.{config_in, sync_in}
+use Rattle.cluster_view.specs.Snapshots.{SnapshotFacts}
+use Rattle.cluster_view.specs.declared.view.LeaderView.{LeaderView}
 use Rattle.event_book.specs.declared.agent_note.AgentNote.TheVariants as agent_notes
 use Rattle.event_book.specs.declared.reason.Reason.TheVariants.{StartTooLong, WatchdogNotArmed}
 use Rattle.sync_state.specs.Plans.{change_of, plan_on, plan_off}

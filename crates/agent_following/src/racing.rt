@@ -14,7 +14,7 @@ use agent_turn::{
     Role, Turn, all_answered, answers_until, ask_all, info_of, is_paused, may_create, view_of,
     word_of,
 };
-use cluster_config::RoleWord;
+use cluster_view::RoleWord;
 use event_book::{AgentNote, Body};
 use leader_race::{may_race, wins};
 use lease_store::Txn;

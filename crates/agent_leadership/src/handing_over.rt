@@ -5,7 +5,7 @@ ghost use Rattle.agent_turn.specs.Turns.{ComesTo, HasLeft, Spent, reached};
 ghost use Rattle.agent_model.specs.Agents.{Ending, IsWithin, Leader};
 ghost use Rattle.pat_base.specs.declared.member_id.TheConstants.{MOST_MEMBERS};
 ghost use Rattle.agent_model.specs.HandingOver.{check_answered, checking, checks, clearing, duties, failover_duty, handover_judged, hands_over, is_done, is_near, is_standby_in, is_successor, judged_if_leading, leader_revision, may_follow_in_sync, names_another, position_of, successor_by, whom_answered};
-ghost use Rattle.cluster_config.specs.Naming.{is_member};
+ghost use Rattle.cluster_view.specs.Naming.{is_member};
 ghost use Rattle.leader_race.specs.Peers.{member_where};
 ghost use Rattle.agent_turn.specs.Roles.{role_of};
 ghost use Rattle.agent_model.specs.declared.why.Why.TheVariants as whys;
@@ -16,7 +16,7 @@ use agent_model::{Answers, Knowledge, Output, PendingQuestion, Question, SyncRea
 use agent_turn::{
     Role, Turn, all_answered, answers_until, ask_all, ask_one, is_paused, is_settled,
 };
-use cluster_config::{Snapshot, candidate_of, is_standby};
+use cluster_view::{Snapshot, candidate_of, is_standby};
 use event_book::{AgentNote, Body};
 use leader_key::Writer;
 use leader_race::{earlier, may_fail_over};

@@ -7,7 +7,7 @@ ghost use Rattle.agent_model.specs.Table.{step};
 
 use agent_model::{Knowledge, Machine, Question, Settling, SyncRead};
 use agent_turn::{Turn, expected_of, sync_read_if, view_of, waiting_for};
-use cluster_config::{LeaderView, RoleWord};
+use cluster_view::{LeaderView, RoleWord};
 use event_book::Body;
 use lease_store::Txn;
 use pat_base::{MemberSet, Required, Ticks};

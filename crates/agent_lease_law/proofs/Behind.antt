@@ -6,7 +6,7 @@ use Rattle.pat_base.specs.declared.ticks.Ticks.{Ticks}
 use Rattle.pat_base.specs.ServerState.{live}
 use Rattle.lease_store.specs.declared.granted.Granted.{Granted}
 use Rattle.lease_store.specs.declared.txn.Txn.TheVariants as txns
-use Rattle.cluster_config.specs.Snapshots.{SnapshotFacts}
+use Rattle.cluster_view.specs.Snapshots.{SnapshotFacts}
 use Rattle.event_book.specs.declared.agent_note.AgentNote.TheVariants as agent_notes
 use Rattle.event_book.specs.declared.message.Body.TheVariants as bodies
 use Rattle.event_book.specs.declared.reason.Reason.TheVariants.{StartTooLong, WatchdogNotArmed}

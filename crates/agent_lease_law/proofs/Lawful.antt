@@ -7,7 +7,7 @@ use Rattle.pat_base.specs.ServerState.{live}
 use Rattle.lease_store.specs.declared.txn.Expected.{Expected}
 use Rattle.lease_store.specs.declared.txn.Txn.{Txn}
 use Rattle.lease_store.specs.declared.txn.Txn.TheVariants as txns
-use Rattle.cluster_config.specs.Snapshots.{SnapshotFacts}
+use Rattle.cluster_view.specs.Snapshots.{SnapshotFacts}
 use Rattle.event_book.specs.declared.message.Body.{Body}
 use Rattle.event_book.specs.declared.message.Body.TheVariants as bodies
 use Rattle.leader_key.specs.Watchdog.{WatchdogFacts}

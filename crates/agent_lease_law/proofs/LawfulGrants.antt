@@ -5,7 +5,7 @@ use Rattle.pat_base.specs.declared.member_set.MemberSet.{MemberSet}
 use Rattle.pat_base.specs.declared.ticks.Ticks.{Ticks}
 use Rattle.lease_store.specs.declared.granted.Granted.{Granted}
 use Rattle.lease_store.specs.declared.value.KeyEntry.{KeyEntry}
-use Rattle.cluster_config.specs.Snapshots.{SnapshotFacts, failsafe_by, failsafe_of_entry}
+use Rattle.cluster_view.specs.Snapshots.{SnapshotFacts, failsafe_by, failsafe_of_entry}
 use Rattle.leader_key.specs.declared.watchdog.Mode.{Mode}
 use Rattle.leader_key.specs.Watchdog.{WatchdogFacts, IsLeaseSpan, greatest_margin, timeout_of, is_armable, fed}
 use Rattle.lease_law.specs.Leases.{LeaderSeen, FailsafeKey}

@@ -10,7 +10,7 @@ use Rattle.pat_base.specs.ServerState.{live}
 use Rattle.lease_store.specs.declared.granted.Granted.{Granted}
 use Rattle.lease_store.specs.declared.key.Key.TheVariants as keys
 use Rattle.wal_model.specs.declared.entry.HistoryPoint.{HistoryPoint}
-use Rattle.cluster_config.specs.Snapshots.{SnapshotFacts, entry_in}
+use Rattle.cluster_view.specs.Snapshots.{SnapshotFacts, entry_in}
 use Rattle.leader_key.specs.Watchdog.{IsLeaseSpan}
 use Rattle.lease_law.specs.Leases.{LeaderSeen, FailsafeKey}
 use Rattle.lease_law.specs.States.{Machine as MachineSeen, State}

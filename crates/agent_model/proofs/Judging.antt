@@ -3,11 +3,11 @@ use Rattle.std.proofs.Common.{ℕ, ◌≡◌, Bool, true, false, if◌then◌els
 use Rattle.pat_base.specs.declared.ineligibility.Ineligibility.{Ineligibility}
 use Rattle.pat_base.specs.declared.peer_answer.PeerAnswer.{PeerAnswer}
 use Rattle.pat_base.specs.declared.ticks.Ticks.{Ticks}
-use Rattle.cluster_config.specs.declared.view.AgentView.{AgentView}
-use Rattle.cluster_config.specs.declared.view.RoleWord.{RoleWord}
-use Rattle.cluster_config.specs.Snapshots.{SnapshotFacts}
+use Rattle.cluster_view.specs.declared.view.AgentView.{AgentView}
+use Rattle.cluster_view.specs.declared.view.RoleWord.{RoleWord}
+use Rattle.cluster_view.specs.Snapshots.{SnapshotFacts}
 use Rattle.leader_race.specs.Outcome.{outcome_of}
-use Rattle.cluster_config.specs.declared.view.LeaderView.{LeaderView}
+use Rattle.cluster_view.specs.declared.view.LeaderView.{LeaderView}
 use Rattle.sync_state.specs.declared.steps.Plan.{Plan}
 use Rattle.sync_state.specs.Candidates.{candidates_in}
 use Rattle.sync_state.specs.Plans.{plan_of}

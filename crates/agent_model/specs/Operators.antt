@@ -16,10 +16,10 @@ use Rattle.lease_store.specs.declared.value.FailoverKey.{FailoverKey}
 use Rattle.lease_store.specs.declared.value.KeyEntry.{KeyEntry}
 use Rattle.pg_model.specs.Running.{is_primary}
 use Rattle.pg_model.specs.Status.{status_restarted, status_wiped}
-use Rattle.cluster_config.specs.declared.snapshot.LeaderEntry.{LeaderEntry}
-use Rattle.cluster_config.specs.KeyValues.{failover_in}
-use Rattle.cluster_config.specs.Naming.{is_member}
-use Rattle.cluster_config.specs.Snapshots.{SnapshotFacts, entry_in, leader_in}
+use Rattle.cluster_view.specs.declared.snapshot.LeaderEntry.{LeaderEntry}
+use Rattle.cluster_view.specs.KeyValues.{failover_in}
+use Rattle.cluster_view.specs.Naming.{is_member}
+use Rattle.cluster_view.specs.Snapshots.{SnapshotFacts, entry_in, leader_in}
 use Rattle.operator_answers.specs.declared.answer_text.Text.{Text}
 use Rattle.operator_answers.specs.declared.answer_text.Text.TheVariants as texts
 use Rattle.operator_answers.specs.Statuses.{ok, conflict, service_unavailable}

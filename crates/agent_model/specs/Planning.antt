@@ -7,12 +7,12 @@ use Rattle.lease_store.specs.declared.txn.Txn.{Txn}
 use Rattle.lease_store.specs.declared.txn.Txn.TheVariants as txns
 use Rattle.lease_store.specs.Writes.{nobody}
 use Rattle.event_book.specs.declared.message.Body.TheVariants as bodies
-use Rattle.cluster_config.specs.declared.view.LeaderView.{LeaderView}
-use Rattle.cluster_config.specs.Snapshots.{SnapshotFacts}
+use Rattle.cluster_view.specs.declared.view.LeaderView.{LeaderView}
+use Rattle.cluster_view.specs.Snapshots.{SnapshotFacts}
 use Rattle.sync_state.specs.declared.steps.Plan.{Plan}
 use Rattle.sync_state.specs.declared.steps.Plan.TheVariants as plans
 use Rattle.sync_state.specs.Plans.{plan_of}
-use Rattle.cluster_config.specs.declared.view.RoleWord.TheVariants as words
+use Rattle.cluster_view.specs.declared.view.RoleWord.TheVariants as words
 use Rattle.agent_model.specs.declared.knowledge.Knowledge.{Knowledge}
 use Rattle.agent_model.specs.declared.machine.Machine.{Machine}
 use Rattle.agent_model.specs.declared.knowledge.Question.TheVariants.{Syncing}

@@ -9,9 +9,9 @@ use Rattle.pg_model.specs.declared.status.ServerStatus.{ServerStatus}
 use Rattle.pg_model.specs.Facts.{is_down}
 use Rattle.event_book.specs.declared.agent_note.AgentNote.TheVariants as agent_notes
 use Rattle.event_book.specs.declared.message.Body.TheVariants as bodies
-use Rattle.cluster_config.specs.declared.view.AgentView.{AgentView}
-use Rattle.cluster_config.specs.declared.view.RoleWord.TheVariants as words
-use Rattle.cluster_config.specs.Snapshots.{SnapshotFacts}
+use Rattle.cluster_view.specs.declared.view.AgentView.{AgentView}
+use Rattle.cluster_view.specs.declared.view.RoleWord.TheVariants as words
+use Rattle.cluster_view.specs.Snapshots.{SnapshotFacts}
 use Rattle.leader_race.specs.Eligibility.{eligibility_of}
 use Rattle.leader_race.specs.Outcome.{outcome_of}
 use Rattle.agent_model.specs.declared.knowledge.Knowledge.{Knowledge}

@@ -10,9 +10,9 @@ use Rattle.lease_store.specs.declared.txn.Expected.{Expected}
 use Rattle.lease_store.specs.declared.txn.Expected.TheVariants.{Absent, Revision}
 use Rattle.lease_store.specs.declared.value.SyncKey.{SyncKey}
 use Rattle.lease_store.specs.declared.value.KeyEntry.{KeyEntry}
-use Rattle.cluster_config.specs.KeyValues.{sync_by}
-use Rattle.cluster_config.specs.Naming.{is_failover_to, is_named}
-use Rattle.cluster_config.specs.Snapshots.{SnapshotFacts, entry_in}
+use Rattle.cluster_view.specs.KeyValues.{sync_by}
+use Rattle.cluster_view.specs.Naming.{is_failover_to, is_named}
+use Rattle.cluster_view.specs.Snapshots.{SnapshotFacts, entry_in}
 use Rattle.agent_model.specs.declared.knowledge.Knowledge.{Knowledge}
 use Rattle.agent_model.specs.declared.knowledge.SyncRead.{SyncRead}
 

@@ -1,8 +1,8 @@
 -- What an agent shows of itself and of its server.
 use Rattle.std.specs.Prelude.{is_some, None}
 use Rattle.pat_base.specs.declared.ticks.Ticks.{Ticks}
-use Rattle.cluster_config.specs.declared.view.AgentView.{AgentView}
-use Rattle.cluster_config.specs.declared.view.RoleWord.{RoleWord}
+use Rattle.cluster_view.specs.declared.view.AgentView.{AgentView}
+use Rattle.cluster_view.specs.declared.view.RoleWord.{RoleWord}
 use Rattle.agent_model.specs.declared.knowledge.Knowledge.{Knowledge}
 use Rattle.agent_model.specs.declared.machine.Machine.{Machine}
 use Rattle.agent_model.specs.Agents.{Outcome, word_of}

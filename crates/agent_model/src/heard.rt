@@ -1,6 +1,6 @@
 //! What an agent hears.
 
-use cluster_config::Snapshot;
+use cluster_view::Snapshot;
 use lease_store::{Expected, Granted, Key, OperatorAction};
 use pat_base::{MemberId, PeerAnswer};
 

@@ -1,7 +1,7 @@
 //! All that an agent knows beside its role.
 
 use crate::{Answers, Operating, Who};
-use cluster_config::Snapshot;
+use cluster_view::Snapshot;
 use lease_store::{Config, FailoverKey, SyncKey};
 use pat_base::{Lsn, MemberSet, Ticks};
 

@@ -3,7 +3,7 @@ use Rattle.std.proofs.Common.{◌≡◌, ℕ, ◌+◌, ◌&&◌, ◌||◌, Bool,
 use Rattle.pat_base.specs.declared.ticks.Ticks.{Ticks}
 use Rattle.lease_store.specs.declared.granted.Granted.{Granted}
 use Rattle.leader_key.specs.Watchdog.{is_armable, fed}
-use Rattle.cluster_config.specs.Snapshots.{SnapshotFacts, failsafe_in}
+use Rattle.cluster_view.specs.Snapshots.{SnapshotFacts, failsafe_in}
 use Rattle.event_book.specs.declared.agent_note.AgentNote.TheVariants as agent_notes
 use Rattle.event_book.specs.declared.reason.Reason.TheVariants.{StartTooLong, WatchdogNotArmed}
 use Rattle.pat_base.specs.ServerState.{live}

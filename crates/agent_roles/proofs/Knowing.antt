@@ -13,7 +13,7 @@ use Rattle.lease_store.specs.declared.granted.Granted.{Granted}
 use Rattle.lease_store.specs.declared.key.Key.TheVariants as keys
 use Rattle.lease_store.specs.declared.value.KeyEntry.{KeyEntry}
 use Rattle.wal_model.specs.declared.entry.HistoryPoint.{HistoryPoint}
-use Rattle.cluster_config.specs.Snapshots.{SnapshotFacts, entry_in, failsafe_by, failsafe_of_entry, failsafe_in, settings_by, settings_of_entry}
+use Rattle.cluster_view.specs.Snapshots.{SnapshotFacts, entry_in, failsafe_by, failsafe_of_entry, failsafe_in, settings_by, settings_of_entry}
 use Rattle.event_book.specs.declared.agent_note.AgentNote.TheVariants as agent_notes
 use Rattle.event_book.specs.declared.reason.Reason.TheVariants.{StartTooLong, WatchdogNotArmed}
 use Rattle.lease_law.specs.Leases.{LeaderSeen, FailsafeKey}
@@ -50,7 +50,7 @@ use Rattle.agent_model.specs.Pausing.{is_paused, may_start_behind, disabling_wat
 use Rattle.lease_store.specs.Defaults.{default_config}
 use Rattle.lease_store.specs.declared.value.Value.{Value}
 use Rattle.lease_store.specs.declared.value.Value.TheVariants as values
-use Rattle.cluster_config.specs.KeyValues.{config_in}
+use Rattle.cluster_view.specs.KeyValues.{config_in}
 use Rattle.agent_model.specs.declared.machine.Machine.{Machine}
 use Rattle.lease_store.specs.declared.config.Config.{Config}
 

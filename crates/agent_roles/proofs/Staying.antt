@@ -4,7 +4,7 @@ use Rattle.std.proofs.lemmas.Bool.{false_from_ne_true}
 use Rattle.pat_base.specs.declared.ticks.Ticks.{Ticks}
 use Rattle.lease_store.specs.declared.key.Key.TheVariants as keys
 use Rattle.wal_model.specs.declared.entry.HistoryPoint.{HistoryPoint}
-use Rattle.cluster_config.specs.Snapshots.{SnapshotFacts, entry_in, settings_in}
+use Rattle.cluster_view.specs.Snapshots.{SnapshotFacts, entry_in, settings_in}
 use Rattle.agent_model.specs.declared.heard.Heard.{Heard}
 use Rattle.agent_model.specs.declared.why.Why.{Why}
 use Rattle.agent_model.specs.declared.why.Why.TheVariants.{HandOver, Lost}
@@ -16,7 +16,7 @@ use Rattle.agent_roles.proofs.Knowing.{alone-of, ends-of, step-onward, told-paus
 use Rattle.agent_roles.proofs.Living.{no-way}
 use Rattle.agent_model.proofs.Rows.{before-by}
 use Rattle.agent_model.specs.Pausing.{is_paused}
-use Rattle.cluster_config.specs.KeyValues.{config_in}
+use Rattle.cluster_view.specs.KeyValues.{config_in}
 use Rattle.lease_store.specs.declared.config.Config.{Config}
 
 -- what comes before an input leaves what is waited for

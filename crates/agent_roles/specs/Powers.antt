@@ -4,7 +4,7 @@ use Rattle.pat_base.specs.ServerState.{live}
 use Rattle.pat_base.specs.declared.ticks.Ticks.{Ticks}
 use Rattle.lease_store.specs.declared.granted.Granted.{Granted}
 use Rattle.leader_key.specs.Watchdog.{fed, is_armable}
-use Rattle.cluster_config.specs.Snapshots.{SnapshotFacts, failsafe_in}
+use Rattle.cluster_view.specs.Snapshots.{SnapshotFacts, failsafe_in}
 use Rattle.agent_model.specs.declared.knowledge.Knowledge.{Knowledge}
 use Rattle.agent_model.specs.declared.knowledge.PendingQuestion.{PendingQuestion}
 use Rattle.agent_model.specs.Acting.{is_hold_active, is_refusing}

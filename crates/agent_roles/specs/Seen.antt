@@ -5,8 +5,8 @@ use Rattle.pat_base.specs.declared.ticks.Ticks.{Ticks}
 use Rattle.pat_base.specs.ServerState.{live}
 use Rattle.lease_store.specs.declared.key.Key.TheVariants as keys
 use Rattle.lease_store.specs.declared.value.KeyEntry.{KeyEntry}
-use Rattle.cluster_config.specs.declared.snapshot.LeaderEntry.{LeaderEntry}
-use Rattle.cluster_config.specs.Snapshots.{SnapshotFacts, entry_in, leader_in, failsafe_by}
+use Rattle.cluster_view.specs.declared.snapshot.LeaderEntry.{LeaderEntry}
+use Rattle.cluster_view.specs.Snapshots.{SnapshotFacts, entry_in, leader_in, failsafe_by}
 use Rattle.lease_law.specs.Leases.{LeaderSeen, FailsafeKey}
 use Rattle.event_book.specs.Functions.{set_members}
 use Rattle.lease_law.specs.States.{Agent as AgentSeen, Machine as MachineSeen}

@@ -9,7 +9,7 @@ ghost use Rattle.lease_store.specs.declared.granted.Granted.{Granted};
 ghost use Rattle.lease_store.specs.declared.key.Key.{Key};
 ghost use Rattle.lease_store.specs.declared.txn.Expected.{Expected};
 ghost use Rattle.wal_model.specs.declared.entry.HistoryPoint.{HistoryPoint};
-ghost use Rattle.cluster_config.specs.Snapshots.{SnapshotFacts};
+ghost use Rattle.cluster_view.specs.Snapshots.{SnapshotFacts};
 ghost use Rattle.agent_model.specs.declared.heard.Heard.{Heard};
 ghost use Rattle.agent_model.specs.declared.heard.Heard.TheVariants as heard;
 ghost use Rattle.agent_model.specs.Agents.{Outcome, EndsAlone, HasCounted};

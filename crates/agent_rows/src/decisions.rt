@@ -15,7 +15,7 @@ use agent_leadership::{
 };
 use agent_model::{PendingQuestion, Question};
 use agent_turn::{Role, Turn, belongs, inform, is_lease_of, is_paused, is_write_of};
-use cluster_config::Snapshot;
+use cluster_view::Snapshot;
 use leader_key::Lease;
 use lease_store::Granted;
 use pat_base::Ticks;

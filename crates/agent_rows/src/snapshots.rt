@@ -14,7 +14,7 @@ use agent_turn::{
     Role, Turn, inform, is_active, is_hold_active, is_paused, may_start_behind, sync_read_in,
 };
 use agent_upkeep::{awaits_read, renew};
-use cluster_config::{LeaderEntry, Snapshot};
+use cluster_view::{LeaderEntry, Snapshot};
 use pat_base::MemberId;
 use wal_model::History;
 

@@ -18,7 +18,7 @@ use Rattle.wal_model.specs.declared.entry.HistoryPoint.{HistoryPoint}
 use Rattle.pg_model.specs.declared.status.ServerStatus.{ServerStatus}
 use Rattle.pg_model.specs.Running.{is_primary}
 use Rattle.pg_model.specs.Status.{status_wiped}
-use Rattle.cluster_config.specs.Snapshots.{SnapshotFacts, leader_in, settings_in}
+use Rattle.cluster_view.specs.Snapshots.{SnapshotFacts, leader_in, settings_in}
 use Rattle.event_book.specs.declared.agent_note.AgentNote.TheVariants as agent_notes
 use Rattle.event_book.specs.declared.message.Body.TheVariants as bodies
 use Rattle.event_book.specs.declared.reason.Reason.{Reason}

@@ -11,8 +11,8 @@ use Rattle.lease_store.specs.declared.config.Config.{Config}
 use Rattle.lease_store.specs.declared.granted.Granted.{Granted}
 use Rattle.pg_model.specs.declared.status.ServerStatus.{ServerStatus}
 use Rattle.pg_model.specs.Facts.{is_down}
-use Rattle.cluster_config.specs.Naming.{is_candidate, is_failover_to, is_named}
-use Rattle.cluster_config.specs.Snapshots.{SnapshotFacts}
+use Rattle.cluster_view.specs.Naming.{is_candidate, is_failover_to, is_named}
+use Rattle.cluster_view.specs.Snapshots.{SnapshotFacts}
 use Rattle.leader_key.specs.declared.watchdog.Mode.{Mode}
 use Rattle.leader_key.specs.declared.watchdog.Mode.TheVariants as modes
 use Rattle.agent_model.specs.declared.heard.Heard.TheVariants as heards

@@ -11,8 +11,8 @@ use Rattle.lease_store.specs.declared.txn.Txn.{Txn}
 use Rattle.lease_store.specs.declared.txn.Txn.TheVariants as txns
 use Rattle.pg_model.specs.declared.status.ServerStatus.{ServerStatus}
 use Rattle.pg_model.specs.Facts.{is_down}
-use Rattle.cluster_config.specs.Naming.{is_candidate, is_failover_to, is_named}
-use Rattle.cluster_config.specs.Snapshots.{SnapshotFacts, leader_in}
+use Rattle.cluster_view.specs.Naming.{is_candidate, is_failover_to, is_named}
+use Rattle.cluster_view.specs.Snapshots.{SnapshotFacts, leader_in}
 use Rattle.event_book.specs.declared.message.Body.TheVariants as bodies
 use Rattle.leader_key.specs.Watchdog.{WatchdogFacts, is_armable}
 use Rattle.leader_key.specs.declared.watchdog.Mode.TheVariants as modes

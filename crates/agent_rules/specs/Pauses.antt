@@ -2,8 +2,8 @@
 use Rattle.std.specs.Prelude.{◌≡◌, ◌⊎◌, true, All}
 use Rattle.pat_base.specs.declared.server_state.State.TheVariants as states
 use Rattle.lease_store.specs.declared.action.OperatorRequest.TheVariants as requests
-use Rattle.cluster_config.specs.KeyValues.{failover_in}
-use Rattle.cluster_config.specs.Naming.{is_candidate}
+use Rattle.cluster_view.specs.KeyValues.{failover_in}
+use Rattle.cluster_view.specs.Naming.{is_candidate}
 use Rattle.agent_model.specs.declared.heard.Heard.{Heard}
 use Rattle.agent_model.specs.declared.heard.Heard.TheVariants as heards
 use Rattle.agent_model.specs.declared.output.Output.{Output}

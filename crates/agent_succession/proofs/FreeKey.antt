@@ -12,11 +12,11 @@ use Rattle.pat_base.specs.declared.ineligibility.Ineligibility.{Ineligibility}
 use Rattle.wal_model.specs.declared.entry.HistoryPoint.{HistoryPoint}
 use Rattle.pg_model.specs.Facts.{is_down}
 use Rattle.event_book.specs.declared.message.Body.TheVariants as bodies
-use Rattle.cluster_config.specs.declared.snapshot.LeaderEntry.{LeaderEntry}
-use Rattle.cluster_config.specs.declared.view.AgentView.{AgentView}
-use Rattle.cluster_config.specs.KeyValues.{failover_in}
-use Rattle.cluster_config.specs.Naming.{is_candidate}
-use Rattle.cluster_config.specs.Snapshots.{SnapshotFacts, leader_in}
+use Rattle.cluster_view.specs.declared.snapshot.LeaderEntry.{LeaderEntry}
+use Rattle.cluster_view.specs.declared.view.AgentView.{AgentView}
+use Rattle.cluster_view.specs.KeyValues.{failover_in}
+use Rattle.cluster_view.specs.Naming.{is_candidate}
+use Rattle.cluster_view.specs.Snapshots.{SnapshotFacts, leader_in}
 use Rattle.leader_race.specs.Bars.{first_bar}
 use Rattle.leader_race.specs.Eligibility.{eligibility_of}
 use Rattle.leader_race.specs.Outcome.{unless, outcome_of}

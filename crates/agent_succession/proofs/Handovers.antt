@@ -9,7 +9,7 @@ use Rattle.pat_base.specs.declared.peer_answer.PeerAnswer.{PeerAnswer}
 use Rattle.pat_base.specs.declared.ticks.Ticks.{Ticks}
 use Rattle.lease_store.specs.declared.value.FailoverKey.{FailoverKey}
 use Rattle.lease_law.proofs.Tools.{le-from, none-some, some-is}
-use Rattle.cluster_config.specs.Naming.{is_standby}
+use Rattle.cluster_view.specs.Naming.{is_standby}
 use Rattle.leader_race.specs.Eligibility.{may_fail_over}
 use Rattle.leader_race.specs.Peers.{earlier, first_of, member_where}
 use Rattle.event_book.specs.declared.agent_note.AgentNote.TheVariants as agent_notes

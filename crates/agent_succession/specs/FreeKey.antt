@@ -10,7 +10,7 @@ use Rattle.leader_race.specs.Eligibility.{eligibility_of}
 use Rattle.leader_race.specs.Outcome.{outcome_of}
 use Rattle.event_book.specs.declared.agent_note.AgentNote.TheVariants as agent_notes
 use Rattle.event_book.specs.declared.message.Body.TheVariants as bodies
-use Rattle.cluster_config.specs.Snapshots.{SnapshotFacts, leader_in, settings_in}
+use Rattle.cluster_view.specs.Snapshots.{SnapshotFacts, leader_in, settings_in}
 use Rattle.agent_model.specs.declared.heard.Heard.{Heard}
 use Rattle.agent_model.specs.declared.heard.Heard.TheVariants.{Wake, ReadAnswered, Granted as HeardGranted, Answered}
 use Rattle.agent_model.specs.declared.knowledge.Knowledge.{Knowledge}

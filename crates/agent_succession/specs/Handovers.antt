@@ -6,7 +6,7 @@ use Rattle.pat_base.specs.declared.lsn.Lsn.{Lsn}
 use Rattle.pat_base.specs.declared.member_id.MemberId.{MemberId}
 use Rattle.pat_base.specs.declared.peer_answer.PeerAnswer.{PeerAnswer}
 use Rattle.lease_store.specs.declared.value.FailoverKey.{FailoverKey}
-use Rattle.cluster_config.specs.Naming.{is_standby}
+use Rattle.cluster_view.specs.Naming.{is_standby}
 use Rattle.leader_race.specs.Eligibility.{may_fail_over}
 use Rattle.agent_model.specs.declared.knowledge.SyncRead.{SyncRead}
 use Rattle.agent_model.specs.declared.output.Output.TheVariants as outputs

@@ -6,7 +6,7 @@ ghost use Rattle.pat_base.specs.declared.peer_answer.PeerAnswer.{PeerAnswer};
 ghost use Rattle.pat_base.specs.declared.ticks.Ticks.{Ticks};
 ghost use Rattle.pat_base.specs.declared.ineligibility.Ineligibility.{Ineligibility};
 ghost use Rattle.wal_model.specs.declared.entry.HistoryPoint.{HistoryPoint};
-ghost use Rattle.cluster_config.specs.Snapshots.{SnapshotFacts};
+ghost use Rattle.cluster_view.specs.Snapshots.{SnapshotFacts};
 ghost use Rattle.leader_race.specs.Eligibility.{eligibility_of};
 ghost use Rattle.leader_race.specs.Outcome.{outcome_of};
 ghost use Rattle.agent_model.specs.declared.heard.Heard.{Heard};

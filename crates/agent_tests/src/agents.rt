@@ -1,6 +1,6 @@
 //! Inputs of agents, worked by hand.
 use agent_model::{Heard, Machine, Output, Replication, Who};
-use cluster_config::{RoleWord, Snapshot};
+use cluster_view::{RoleWord, Snapshot};
 use event_book::{Body, Reason};
 use ha_loop::{Agent, Outputs};
 use leader_key::{Mode, Watchdog};

@@ -4,7 +4,7 @@ ghost use Rattle.agent_model.specs.Agents.{IsSound};
 ghost use Rattle.agent_model.specs.Snapshots.{informed, known_with};
 
 use agent_model::Knowledge;
-use cluster_config::Snapshot;
+use cluster_view::Snapshot;
 use pat_base::MemberSet;
 
 /// A snapshot is the newest: its settings hold from now on, its failsafe key's members are known, and nothing is waited for.

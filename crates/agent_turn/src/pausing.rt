@@ -6,7 +6,7 @@ ghost use Rattle.agent_model.specs.Pausing.{ends_forks, is_paused, is_replica, i
 use crate::Outputs;
 use crate::role::Role;
 use agent_model::{Knowledge, Machine, Output};
-use cluster_config::{Snapshot, is_candidate};
+use cluster_view::{Snapshot, is_candidate};
 use leader_key::{Armed, Lease, Writer};
 use lease_store::{Config, FailoverKey, Granted};
 use pat_base::{MemberId, State, Ticks};

@@ -1,10 +1,10 @@
 //! What an agent reads of the sync key, and whom commits come to wait for (Patroni documentation, "Replication modes").
 ghost use Rattle.std.specs.Prelude.{option_copied, ◌≡◌};
-ghost use Rattle.cluster_config.specs.KeyValues.{sync_by};
+ghost use Rattle.cluster_view.specs.KeyValues.{sync_by};
 ghost use Rattle.agent_model.specs.Synchronous.{expected_of, is_named_if, is_strict, may_lead_in_sync, sync_read_by, sync_read_if, sync_read_in, sync_read_of_entry, unnamed, waiting_for};
 
 use agent_model::{Knowledge, SyncRead};
-use cluster_config::{Snapshot, is_failover_to, is_named};
+use cluster_view::{Snapshot, is_failover_to, is_named};
 use lease_store::{Config, Expected, Key, KeyEntry, SyncKey, Value};
 use pat_base::{MemberId, MemberSet, Required};
 

@@ -6,7 +6,7 @@ ghost use Rattle.agent_model.specs.Views.{view_of};
 
 use crate::role::Role;
 use agent_model::{Knowledge, Machine};
-use cluster_config::{AgentView, RoleWord};
+use cluster_view::{AgentView, RoleWord};
 use pat_base::Ticks;
 
 /// What an agent in this role shows at a moment, with its newest snapshot.

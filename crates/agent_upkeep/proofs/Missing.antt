@@ -4,7 +4,7 @@ use Rattle.std.specs.List.{slice_get}
 use Rattle.std.proofs.lemmas.Option.{slice_get-get_or}
 use Rattle.pat_base.proofs.Lists.{drop-get}
 use Rattle.wal_model.specs.declared.entry.HistoryPoint.{HistoryPoint}
-use Rattle.cluster_config.specs.Snapshots.{SnapshotFacts, has_row}
+use Rattle.cluster_view.specs.Snapshots.{SnapshotFacts, has_row}
 use Rattle.agent_model.specs.Snapshots.{missing_point}
 
 -- its row is missing

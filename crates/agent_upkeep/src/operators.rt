@@ -13,7 +13,7 @@ ghost use Rattle.agent_model.specs.Acting.{waiting};
 use crate::waiting::{awaits_number, awaits_read};
 use agent_model::{Knowledge, Operating, Operation, Output, Told};
 use agent_turn::{Role, Turn, inform, is_active, is_write_of};
-use cluster_config::Snapshot;
+use cluster_view::Snapshot;
 use event_book::Body;
 use lease_store::{
     Config, FailoverKey, FailoverKind, Granted, Key, KeyEntry, OperatorRequest, Txn,

@@ -7,7 +7,7 @@ ghost use Rattle.agent_model.specs.Snapshots.{missing_point, missing_row, renewa
 
 use agent_model::{Knowledge, Question};
 use agent_turn::{Turn, info_of};
-use cluster_config::Snapshot;
+use cluster_view::Snapshot;
 use event_book::Body;
 use lease_store::{HistoryRow, Txn};
 use pat_base::{Lsn, MemberId, State, Ticks};

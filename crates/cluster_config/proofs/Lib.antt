@@ -6,5 +6,4 @@ mod MergeSteps
 mod PatchLaws
 mod ReadingLaws
 mod SettingLaws
-mod SnapshotLaws
 pub mod TextLaws

@@ -2,8 +2,5 @@ pub mod ConfigFaults
 pub mod ConfigLaws
 pub mod ConfigMerging
 pub mod ConfigReading
-pub mod KeyValues
-pub mod Naming
 pub mod SettingTable
 pub mod SettingValues
-pub mod Snapshots

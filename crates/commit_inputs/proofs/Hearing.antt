@@ -12,8 +12,8 @@ use Rattle.lease_store.specs.declared.value.Value.{Value}
 use Rattle.lease_store.specs.declared.value.Value.TheVariants as values
 use Rattle.lease_store.specs.Defaults.{default_config}
 use Rattle.lease_store.specs.KeyOrder.{key_cmp}
-use Rattle.cluster_config.specs.KeyValues.{sync_by, sync_of_entry}
-use Rattle.cluster_config.specs.Snapshots.{SnapshotFacts, settings_by, settings_of_entry}
+use Rattle.cluster_view.specs.KeyValues.{sync_by, sync_of_entry}
+use Rattle.cluster_view.specs.Snapshots.{SnapshotFacts, settings_by, settings_of_entry}
 use Rattle.event_book.specs.declared.event.Event.{Event}
 use Rattle.event_book.specs.declared.link.LinkEnd.{LinkEnd}
 use Rattle.event_book.specs.declared.link.LinkEnd.TheVariants as ends

@@ -18,7 +18,7 @@ use Rattle.pat_base.specs.declared.peer_answer.PeerAnswer.{PeerAnswer}
 use Rattle.lease_store.specs.declared.granted.Granted.{Granted}
 use Rattle.lease_store.specs.declared.key.Key.{Key}
 use Rattle.lease_store.specs.declared.txn.Expected.{Expected}
-use Rattle.cluster_config.specs.Snapshots.{SnapshotFacts}
+use Rattle.cluster_view.specs.Snapshots.{SnapshotFacts}
 use Rattle.script_model.specs.Script.{HeadText}
 use Rattle.lease_store.specs.declared.action.OperatorAction.{OperatorAction}
 use Rattle.lease_store.specs.declared.txn.Txn.TheVariants as txns

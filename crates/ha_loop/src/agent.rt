@@ -24,7 +24,7 @@ ghost use Rattle.agent_model.specs.Wake.{due_from, is_due};
 use agent_model::{Answers, Heard, Knowledge, Machine, Who};
 use agent_rows::{due_from, is_due, take_input};
 use agent_turn::{Outputs, Role, Turn, view_of, word_of};
-use cluster_config::{AgentView, Snapshot};
+use cluster_view::{AgentView, Snapshot};
 use lease_store::{Config, OperatorAction};
 use pat_base::{MemberSet, State, Ticks};
 use std::marker::Model;

@@ -2,7 +2,7 @@
 use crate::checks::has_text;
 use crate::health::reply_to;
 use crate::views::replica;
-use cluster_config::AgentView;
+use cluster_view::AgentView;
 use rest_message::{Reply, Verb};
 use rest_paths::Routes;
 use std::alloc::{AllocError, Global};

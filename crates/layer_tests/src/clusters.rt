@@ -3,7 +3,8 @@ ghost use Rattle.std.specs.Prelude.{◌≡◌};
 ghost use Rattle.lease_store.specs.Writes.{ttl_of};
 
 use crate::checks::has;
-use cluster_config::{AgentView, ConfigText, RoleWord, Snapshot};
+use cluster_config::ConfigText;
+use cluster_view::{AgentView, RoleWord, Snapshot};
 use lease_store::{ConfigValue, Expected, MemberInfo, Store, StoreRefusal, Txn};
 use pat_base::{Host, Lsn, MemberId, MemberSet, Name, State, Tags, Ticks, Word};
 use std::alloc::Global;

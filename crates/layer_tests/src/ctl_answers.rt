@@ -1,7 +1,7 @@
 //! What the words of each command come to, worked by hand.
 use crate::ctl_checks::has;
 use crate::ctl_clusters::{FIRST, SECOND, led, quiet};
-use cluster_config::Snapshot;
+use cluster_view::Snapshot;
 use pat_base::MemberId;
 use patronictl::{CtlAnswer, ctl_answer};
 use rest_message::{Request, Verb};

@@ -2,7 +2,7 @@
 ghost use Rattle.std.specs.Prelude.{◌≡◌};
 ghost use Rattle.lease_store.specs.declared.value.Value.TheVariants as values;
 
-use cluster_config::Snapshot;
+use cluster_view::Snapshot;
 use lease_store::{ConfigValue, HistoryRow, Key, KeyEntry, MemberInfo, SyncKey, Value};
 use pat_base::{Host, Lsn, MemberId, MemberSet, Name, Tags, Ticks, Word};
 use std::alloc::Global;

@@ -2,7 +2,8 @@
 use crate::checks::has;
 use crate::stores::{create, info, renew, snapshot_of, store_of};
 use crate::views::{A, END, NOW, name, replica};
-use cluster_config::{AgentView, ConfigText, Snapshot};
+use cluster_config::ConfigText;
+use cluster_view::{AgentView, Snapshot};
 use lease_store::ConfigValue;
 use pat_base::{Host, Lsn, State, Tags, Ticks, Word};
 use rest_facts::health_of_view;

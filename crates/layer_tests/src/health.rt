@@ -3,7 +3,7 @@
 
 use crate::checks::has;
 use crate::clusters::{ONLY_B, SYNCHRONOUS, follower, led_by_a};
-use cluster_config::{AgentView, RoleWord};
+use cluster_view::{AgentView, RoleWord};
 use pat_base::{MemberSet, State, Ticks};
 use rest_answer::{Answer, answer};
 use rest_message::{Reply, Verb};

@@ -2,7 +2,7 @@
 
 use crate::checks::{has, is_same};
 use crate::clusters::{A, B, C, END, ONLY_B, SYNCHRONOUS, leader, led_by_a};
-use cluster_config::{LeaderView, Snapshot};
+use cluster_view::{LeaderView, Snapshot};
 use pat_base::{Lsn, MemberSet, Required};
 use std::process::Abort;
 use sync_state::{Plan, named, plan};

@@ -5,7 +5,7 @@ use crate::clusters::{
     A, B, END, NOW, ONLY_B, SYNCHRONOUS, TTL, ask, configuration, create, info, name, store_of,
     touch,
 };
-use cluster_config::{LeaderEntry, Snapshot};
+use cluster_view::{LeaderEntry, Snapshot};
 use lease_store::{ConfigValue, Expected, FailoverKey, HistoryRow, Key, Store, StoreRefusal, Txn};
 use pat_base::{Host, Ticks};
 use std::alloc::Global;

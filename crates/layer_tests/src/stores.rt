@@ -3,7 +3,7 @@ ghost use Rattle.std.specs.Prelude.{◌≤◌, ◌^◌};
 ghost use Rattle.lease_store.specs.Writes.{ttl_of};
 
 use crate::views::{NOW, TAGS, name};
-use cluster_config::Snapshot;
+use cluster_view::Snapshot;
 use lease_store::{ConfigValue, Expected, HistoryRow, MemberInfo, Store, Txn};
 use pat_base::{Host, Lsn, MemberId, MemberSet, Name, Ticks, Word};
 use std::alloc::Global;

@@ -1,7 +1,7 @@
 //! The tables that `list` and `history` print, worked by hand.
 use crate::ctl_checks::has;
 use crate::ctl_clusters::{billing, led, quiet};
-use cluster_config::Snapshot;
+use cluster_view::Snapshot;
 use patronictl::{CtlAnswer, ctl_answer};
 use std::alloc::{AllocError, Global};
 use std::process::Abort;

@@ -1,5 +1,5 @@
 //! What the agent of a member shows, for the cases of several files.
-use cluster_config::{AgentView, RoleWord, Snapshot};
+use cluster_view::{AgentView, RoleWord, Snapshot};
 use pat_base::{Lsn, MemberId, Name, State, Tags, Ticks};
 use std::process::Abort;
 

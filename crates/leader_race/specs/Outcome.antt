@@ -4,10 +4,10 @@ use Rattle.std.specs.Option.{option_map}
 use Rattle.pat_base.specs.declared.ineligibility.Ineligibility.{Ineligibility}
 use Rattle.pat_base.specs.declared.ineligibility.Ineligibility.TheVariants as bars
 use Rattle.pat_base.specs.declared.peer_answer.PeerAnswer.{PeerAnswer}
-use Rattle.cluster_config.specs.declared.view.AgentView.{AgentView}
-use Rattle.cluster_config.specs.KeyValues.{failover_in, active_sync_in}
-use Rattle.cluster_config.specs.Naming.{is_candidate}
-use Rattle.cluster_config.specs.Snapshots.{SnapshotFacts}
+use Rattle.cluster_view.specs.declared.view.AgentView.{AgentView}
+use Rattle.cluster_view.specs.KeyValues.{failover_in, active_sync_in}
+use Rattle.cluster_view.specs.Naming.{is_candidate}
+use Rattle.cluster_view.specs.Snapshots.{SnapshotFacts}
 use Rattle.leader_race.specs.declared.racer.Racer.{Racer}
 use Rattle.leader_race.specs.declared.racer.Rule.TheVariants as rules
 use Rattle.leader_race.specs.Bars.{first_bar}

@@ -4,7 +4,7 @@ use Rattle.pat_base.specs.declared.lsn.Lsn.{Lsn}
 use Rattle.pat_base.specs.declared.member_id.MemberId.{MemberId}
 use Rattle.lease_store.specs.declared.value.SyncKey.{SyncKey}
 use Rattle.pat_base.specs.declared.peer_answer.PeerAnswer.{PeerAnswer}
-use Rattle.cluster_config.specs.Naming.{is_standby}
+use Rattle.cluster_view.specs.Naming.{is_standby}
 use Rattle.leader_race.specs.declared.racer.Racer.{Racer}
 use Rattle.leader_race.specs.declared.racer.Rule.{Rule}
 use Rattle.leader_race.specs.declared.racer.Rule.TheVariants as rules

@@ -4,7 +4,7 @@ ghost use Rattle.std.specs.Result.{result_err};
 ghost use Rattle.leader_race.specs.Eligibility.{not_running, may_fail_over, no_failover, paused, other_candidate, not_sync, is_behind_by, too_far_behind, not_listed, holding, eligibility_of};
 
 use crate::bars::{bar_where, first_bar, judged};
-use cluster_config::{AgentView, Snapshot, candidate_of, is_candidate, is_failover_to, is_named};
+use cluster_view::{AgentView, Snapshot, candidate_of, is_candidate, is_failover_to, is_named};
 use lease_store::{FailoverKey, SyncKey};
 use pat_base::{Ineligibility, Lsn, MemberId, MemberSet, State, Tags, Ticks};
 

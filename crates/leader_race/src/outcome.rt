@@ -7,7 +7,7 @@ ghost use Rattle.leader_race.specs.Peers.{counts, is_standby_if, is_compared, is
 use crate::bars::{first_bar, judged};
 use crate::eligibility::may_fail_over;
 use crate::racer::{Racer, Rule};
-use cluster_config::{AgentView, Snapshot, is_candidate, is_standby};
+use cluster_view::{AgentView, Snapshot, is_candidate, is_standby};
 use lease_store::SyncKey;
 use pat_base::{Ineligibility, Lsn, MemberId, PeerAnswer};
 

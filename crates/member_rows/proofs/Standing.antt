@@ -13,9 +13,9 @@ use Rattle.pat_base.specs.declared.name.Name.{Name}
 use Rattle.pat_base.specs.MemberId.{member_of}
 use Rattle.pat_base.proofs.Members.{member_of-number, number-member_of}
 use Rattle.lease_store.specs.declared.value.MemberInfo.{MemberInfo}
-use Rattle.cluster_config.specs.Snapshots.{SnapshotFacts}
+use Rattle.cluster_view.specs.Snapshots.{SnapshotFacts}
 use Rattle.member_rows.specs.Laws.{is_row_of}
-use Rattle.cluster_config.specs.KeyValues.{info_in}
+use Rattle.cluster_view.specs.KeyValues.{info_in}
 use Rattle.member_rows.specs.Rows.{declared_in, row_by, row_in, row_numbered, row_of, rows_by_number, rows_of}
 use Rattle.member_rows.specs.declared.rows.Row.{Row}
 use Rattle.member_rows.proofs.Placing.{all-fold, count-fold}

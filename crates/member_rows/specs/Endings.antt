@@ -6,7 +6,7 @@ use Rattle.lease_store.specs.declared.value.HistoryRow.{HistoryRow}
 use Rattle.lease_store.specs.declared.value.KeyEntry.{KeyEntry}
 use Rattle.lease_store.specs.declared.value.Value.{Value}
 use Rattle.lease_store.specs.declared.value.Value.TheVariants as values
-use Rattle.cluster_config.specs.Snapshots.{SnapshotFacts}
+use Rattle.cluster_view.specs.Snapshots.{SnapshotFacts}
 
 -- why timelines end here
 abbrev pub end_reason : List ℕ

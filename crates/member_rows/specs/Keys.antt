@@ -2,9 +2,9 @@
 use Rattle.std.specs.Prelude.{ℕ, ◌==◌, ◌-◌, Bool, false, Option, Some, None}
 use Rattle.pat_base.specs.declared.lsn.Lsn.{Lsn}
 use Rattle.pat_base.specs.declared.member_id.MemberId.{MemberId}
-use Rattle.cluster_config.specs.declared.snapshot.LeaderEntry.{LeaderEntry}
-use Rattle.cluster_config.specs.KeyValues.{status_in, sync_in}
-use Rattle.cluster_config.specs.Snapshots.{SnapshotFacts, leader_in}
+use Rattle.cluster_view.specs.declared.snapshot.LeaderEntry.{LeaderEntry}
+use Rattle.cluster_view.specs.KeyValues.{status_in, sync_in}
+use Rattle.cluster_view.specs.Snapshots.{SnapshotFacts, leader_in}
 use Rattle.member_rows.specs.declared.keys.ClusterKeys.{ClusterKeys}
 
 -- who leads, who replicates synchronously, and where the leader's log ends

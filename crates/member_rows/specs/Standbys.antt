@@ -2,7 +2,7 @@
 use Rattle.std.specs.Prelude.{Bool, false, Option, Some, None}
 use Rattle.pat_base.specs.declared.member_id.MemberId.{MemberId}
 use Rattle.lease_store.specs.declared.value.SyncKey.{SyncKey}
-use Rattle.cluster_config.specs.Naming.{is_standby}
+use Rattle.cluster_view.specs.Naming.{is_standby}
 
 -- a sync key is there, and names the member as standby
 abbrev pub names_standby : Option SyncKey → MemberId → Bool

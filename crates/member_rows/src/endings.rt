@@ -3,7 +3,7 @@ ghost use Rattle.std.specs.Prelude.{◌≡◌, ◌++◌, IfOk, OnOk};
 ghost use Rattle.std.specs.Option.{option_to_list};
 ghost use Rattle.member_rows.specs.Endings.{ended_by, endings};
 
-use cluster_config::Snapshot;
+use cluster_view::Snapshot;
 use lease_store::{HistoryRow, Value};
 use std::alloc::{AllocError, Global};
 

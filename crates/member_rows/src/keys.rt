@@ -2,7 +2,7 @@
 ghost use Rattle.std.specs.Prelude.{◌≡◌};
 ghost use Rattle.member_rows.specs.Keys.{keys_in, leads, lag_bytes};
 
-use cluster_config::{LeaderEntry, Snapshot};
+use cluster_view::{LeaderEntry, Snapshot};
 use lease_store::SyncKey;
 use pat_base::{Lsn, MemberId};
 

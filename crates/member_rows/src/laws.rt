@@ -6,10 +6,10 @@ ghost use Rattle.pat_base.specs.declared.host.Host.{Host};
 ghost use Rattle.pat_base.specs.declared.member_id.MemberId.{MemberId};
 ghost use Rattle.pat_base.specs.declared.name.Name.{Name};
 ghost use Rattle.lease_store.specs.declared.value.MemberInfo.{MemberInfo};
-ghost use Rattle.cluster_config.specs.Snapshots.{IsRead, SnapshotFacts};
+ghost use Rattle.cluster_view.specs.Snapshots.{IsRead, SnapshotFacts};
 ghost use Rattle.member_rows.specs.Endings.{endings};
 ghost use Rattle.member_rows.specs.Laws.{is_row_of};
-ghost use Rattle.cluster_config.specs.KeyValues.{info_in};
+ghost use Rattle.cluster_view.specs.KeyValues.{info_in};
 ghost use Rattle.member_rows.specs.Rows.{declared_in, is_before, row_in, rows_of};
 
 /// Each member of the cluster with a member key has just one row, and nothing else has one: each row is that of its member.

@@ -3,7 +3,7 @@ ghost use Rattle.std.specs.Prelude.{◌≡◌, ◌≤◌, length, IfOk, OnOk};
 ghost use Rattle.std.specs.List.{position, position_or_len};
 ghost use Rattle.member_rows.specs.Rows.{with_found, declared_in, row_by, row_in, row_numbered, is_before, placed, rows_of};
 
-use cluster_config::Snapshot;
+use cluster_view::Snapshot;
 use lease_store::MemberInfo;
 use pat_base::{Host, MOST_MEMBERS, MemberId, Name};
 use std::alloc::{AllocError, Global};

@@ -2,7 +2,7 @@
 ghost use Rattle.std.specs.Prelude.{◌≡◌};
 ghost use Rattle.member_rows.specs.Standbys.{names_standby};
 
-use cluster_config::is_standby;
+use cluster_view::is_standby;
 use lease_store::SyncKey;
 use pat_base::MemberId;
 

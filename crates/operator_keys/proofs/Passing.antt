@@ -3,9 +3,9 @@ use Rattle.std.proofs.Common.{◌≡◌, ℕ, Bool, true, false, not, List, ◌�
 use Rattle.std.specs.Option.{option_copied}
 use Rattle.lease_store.specs.declared.value.FailoverKey.{FailoverKey}
 use Rattle.serde_json.specs.Data.{Data}
-use Rattle.cluster_config.specs.declared.view.AgentView.{AgentView}
+use Rattle.cluster_view.specs.declared.view.AgentView.{AgentView}
 use Rattle.cluster_config.specs.ConfigReading.{json_of}
-use Rattle.cluster_config.specs.Snapshots.{SnapshotFacts}
+use Rattle.cluster_view.specs.Snapshots.{SnapshotFacts}
 use Rattle.leader_race.proofs.Barring.{no, no-bar}
 use Rattle.operator_answers.specs.declared.answer_text.Text.{Text}
 use Rattle.operator_keys.specs.declared.asked.Asked.{Asked}

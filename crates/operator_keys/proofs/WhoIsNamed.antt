@@ -16,12 +16,12 @@ use Rattle.lease_store.specs.declared.value.FailoverKey.{FailoverKey}
 use Rattle.lease_store.specs.declared.value.MemberInfo.{MemberInfo}
 use Rattle.lease_store.specs.declared.value.SyncKey.{SyncKey}
 use Rattle.serde_json.specs.Data.{Data}
-use Rattle.cluster_config.specs.declared.snapshot.LeaderEntry.{LeaderEntry}
-use Rattle.cluster_config.specs.declared.view.AgentView.{AgentView}
+use Rattle.cluster_view.specs.declared.snapshot.LeaderEntry.{LeaderEntry}
+use Rattle.cluster_view.specs.declared.view.AgentView.{AgentView}
 use Rattle.cluster_config.specs.ConfigReading.{json_of}
-use Rattle.cluster_config.specs.KeyValues.{config_in, failover_in, active_sync_in, info_in}
-use Rattle.cluster_config.specs.Naming.{is_standby}
-use Rattle.cluster_config.specs.Snapshots.{SnapshotFacts, leader_in}
+use Rattle.cluster_view.specs.KeyValues.{config_in, failover_in, active_sync_in, info_in}
+use Rattle.cluster_view.specs.Naming.{is_standby}
+use Rattle.cluster_view.specs.Snapshots.{SnapshotFacts, leader_in}
 use Rattle.leader_race.specs.Eligibility.{may_fail_over}
 use Rattle.leader_race.proofs.Barring.{no, no-bar}
 use Rattle.operator_answers.specs.declared.answer_text.Text.TheVariants as texts

@@ -6,9 +6,9 @@ use Rattle.lease_store.specs.declared.key.Key.{Key}
 use Rattle.lease_store.specs.declared.key.Key.TheVariants as keys
 use Rattle.lease_store.specs.declared.value.MemberInfo.{MemberInfo}
 use Rattle.lease_store.specs.declared.value.Value.{Value}
-use Rattle.cluster_config.specs.declared.snapshot.LeaderEntry.{LeaderEntry}
-use Rattle.cluster_config.specs.KeyValues.{info_by, info_in}
-use Rattle.cluster_config.specs.Snapshots.{SnapshotFacts, leader_in}
+use Rattle.cluster_view.specs.declared.snapshot.LeaderEntry.{LeaderEntry}
+use Rattle.cluster_view.specs.KeyValues.{info_by, info_in}
+use Rattle.cluster_view.specs.Snapshots.{SnapshotFacts, leader_in}
 use Rattle.leader_race.specs.Eligibility.{may_fail_over}
 use Rattle.operator_keys.specs.declared.asked.Named.{Named}
 use Rattle.operator_keys.specs.declared.asked.Named.TheVariants as named

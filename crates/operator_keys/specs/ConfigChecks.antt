@@ -9,9 +9,9 @@ use Rattle.lease_store.specs.declared.value.Value.TheVariants as values
 use Rattle.lease_store.specs.Defaults.{default_settings}
 use Rattle.lease_store.specs.Settings.{Settings}
 use Rattle.cluster_config.specs.declared.config_fault.ConfigFault.{ConfigFault}
-use Rattle.cluster_config.specs.declared.view.AgentView.{AgentView}
+use Rattle.cluster_view.specs.declared.view.AgentView.{AgentView}
 use Rattle.cluster_config.specs.ConfigReading.{config_patched, config_replaced}
-use Rattle.cluster_config.specs.Snapshots.{SnapshotFacts, entry_in}
+use Rattle.cluster_view.specs.Snapshots.{SnapshotFacts, entry_in}
 use Rattle.operator_answers.specs.declared.answer_text.Text.TheVariants as texts
 use Rattle.operator_keys.specs.declared.config_checks.ConfigChange.{ConfigChange}
 use Rattle.operator_keys.specs.declared.config_checks.ConfigChange.TheVariants as changes

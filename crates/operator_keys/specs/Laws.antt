@@ -5,8 +5,8 @@ use Rattle.pat_base.specs.declared.host.Host.{Host}
 use Rattle.pat_base.specs.declared.name.Name.{Name}
 use Rattle.pat_base.specs.Name.{name_bytes}
 use Rattle.lease_store.specs.declared.value.MemberInfo.{MemberInfo}
-use Rattle.cluster_config.specs.KeyValues.{info_in}
-use Rattle.cluster_config.specs.Snapshots.{SnapshotFacts, leader_in}
+use Rattle.cluster_view.specs.KeyValues.{info_in}
+use Rattle.cluster_view.specs.Snapshots.{SnapshotFacts, leader_in}
 use Rattle.leader_race.specs.Eligibility.{may_fail_over}
 use Rattle.operator_keys.specs.Candidates.{leads}
 

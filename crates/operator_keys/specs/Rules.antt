@@ -3,10 +3,10 @@ use Rattle.std.specs.Prelude.{◌&&◌, not, is_some, is_none, Bool, true, false
 use Rattle.lease_store.specs.declared.value.FailoverKey.{FailoverKey}
 use Rattle.lease_store.specs.declared.value.MemberInfo.{MemberInfo}
 use Rattle.lease_store.specs.declared.value.SyncKey.{SyncKey}
-use Rattle.cluster_config.specs.declared.snapshot.LeaderEntry.{LeaderEntry}
-use Rattle.cluster_config.specs.KeyValues.{config_in, failover_in, active_sync_in}
-use Rattle.cluster_config.specs.Naming.{is_standby}
-use Rattle.cluster_config.specs.Snapshots.{SnapshotFacts, leader_in}
+use Rattle.cluster_view.specs.declared.snapshot.LeaderEntry.{LeaderEntry}
+use Rattle.cluster_view.specs.KeyValues.{config_in, failover_in, active_sync_in}
+use Rattle.cluster_view.specs.Naming.{is_standby}
+use Rattle.cluster_view.specs.Snapshots.{SnapshotFacts, leader_in}
 use Rattle.leader_race.specs.Eligibility.{may_fail_over}
 use Rattle.operator_answers.specs.declared.answer_text.Text.TheVariants as texts
 use Rattle.operator_keys.specs.declared.asked.Asked.{Asked}

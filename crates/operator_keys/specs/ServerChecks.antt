@@ -3,9 +3,9 @@ use Rattle.std.specs.Prelude.{◌||◌, not, Bool, true, false, Option}
 use Rattle.pat_base.specs.declared.server_state.State.{State}
 use Rattle.pat_base.specs.declared.server_state.State.TheVariants as states
 use Rattle.pat_base.specs.ServerState.{live}
-use Rattle.cluster_config.specs.declared.view.AgentView.{AgentView}
-use Rattle.cluster_config.specs.declared.view.RoleWord.{RoleWord}
-use Rattle.cluster_config.specs.declared.view.RoleWord.TheVariants as roles
+use Rattle.cluster_view.specs.declared.view.AgentView.{AgentView}
+use Rattle.cluster_view.specs.declared.view.RoleWord.{RoleWord}
+use Rattle.cluster_view.specs.declared.view.RoleWord.TheVariants as roles
 use Rattle.operator_answers.specs.declared.answer_text.Text.TheVariants as texts
 use Rattle.operator_keys.specs.declared.refusal.Refused.{Refused}
 use Rattle.operator_keys.specs.Refusals.{refused_where}

@@ -4,7 +4,7 @@ ghost use Rattle.leader_race.specs.Eligibility.{may_fail_over};
 ghost use Rattle.operator_keys.specs.Candidates.{leads, names_leader, info_of, may_take_over, may_take_over_by, anyone_may_take_over};
 
 use crate::asked::Named;
-use cluster_config::{LeaderEntry, Snapshot, info_by};
+use cluster_view::{LeaderEntry, Snapshot, info_by};
 use leader_race::may_fail_over;
 use lease_store::{Key, MemberInfo, Value};
 use pat_base::{MemberId, Tags};

@@ -9,7 +9,7 @@ use crate::body::body_of;
 use crate::failing_over::{failover_refusal, switchover_refusal};
 use crate::refusal::judged;
 use crate::{CheckFault, Refused};
-use cluster_config::{AgentView, Snapshot};
+use cluster_view::{AgentView, Snapshot};
 use lease_store::FailoverKey;
 use operator_answers::{SERVICE_UNAVAILABLE, Text};
 use serde_json::Value;

@@ -8,7 +8,8 @@ ghost use Rattle.operator_keys.specs.Refusals.{Answers};
 
 use crate::checks::seen_by;
 use crate::{CheckFault, Refused};
-use cluster_config::{AgentView, ConfigFault, ConfigText, Snapshot};
+use cluster_config::{ConfigFault, ConfigText};
+use cluster_view::{AgentView, Snapshot};
 use lease_store::{ConfigValue, Key, KeyEntry, Value};
 use operator_answers::{BAD_REQUEST, Text};
 use std::alloc::Global;

@@ -6,7 +6,7 @@ use crate::Refused;
 use crate::asked::{Asked, Named};
 use crate::candidates::{anyone_may_take_over, info_of, names_leader};
 use crate::refusal::{first_refusal, refused_where};
-use cluster_config::{LeaderEntry, Snapshot, is_standby};
+use cluster_view::{LeaderEntry, Snapshot, is_standby};
 use leader_race::may_fail_over;
 use lease_store::{FailoverKey, MemberInfo, SyncKey};
 use operator_answers::{BAD_REQUEST, PRECONDITION_FAILED, SERVICE_UNAVAILABLE, Text};

@@ -5,7 +5,7 @@ ghost use Rattle.operator_keys.specs.ServerChecks.{is_running, has_key, restart_
 
 use crate::Refused;
 use crate::refusal::{judged, refused_where};
-use cluster_config::{AgentView, RoleWord};
+use cluster_view::{AgentView, RoleWord};
 use operator_answers::{SERVICE_UNAVAILABLE, Text};
 use pat_base::State;
 

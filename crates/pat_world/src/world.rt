@@ -22,7 +22,7 @@ ghost use Rattle.world_model.specs.Room.{most_steps, step_cost};
 ghost use Rattle.world_model.specs.Running.{agent_runs};
 ghost use Rattle.world_stage.specs.AgentViews.{IsViewOf};
 
-use cluster_config::AgentView;
+use cluster_view::AgentView;
 use cluster_model::Step;
 use event_book::{Event, EventKind};
 use pat_base::{MemberId, Ticks};

@@ -1,5 +1,5 @@
 //! Runs over objects in memory, and what they are checked against.
-use cluster_config::Snapshot;
+use cluster_view::Snapshot;
 use lease_store::{Key, MemberInfo, Value};
 use pat_base::{Host, MemberId, State};
 use pat_door::MemoryDoor;

@@ -3,7 +3,7 @@ use Rattle.std.proofs.Common.{◌≤◌, length, codes, arith, length-append}
 use Rattle.std.proofs.lemmas.List.{length-take}
 use Rattle.pat_base.specs.declared.name.Name.{Name}
 use Rattle.pat_base.specs.Name.{name_bytes}
-use Rattle.cluster_config.specs.Snapshots.{SnapshotFacts}
+use Rattle.cluster_view.specs.Snapshots.{SnapshotFacts}
 use Rattle.text_table.specs.Laws.{HasRoom, rule_of}
 use Rattle.text_table.proofs.Widths.{headings-have-room}
 use Rattle.patronictl.specs.Members.{cluster_title, member_columns, member_table}

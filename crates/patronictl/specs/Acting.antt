@@ -1,8 +1,8 @@
 -- What comes of each command (Patroni documentation, "patronictl").
 use Rattle.std.specs.Prelude.{ℕ, List, [], ◌∷◌, map, codes, option_map, Option, Some, None, string_bytes}
 use Rattle.pat_base.specs.declared.member_id.MemberId.{MemberId}
-use Rattle.cluster_config.specs.declared.snapshot.LeaderEntry.{LeaderEntry}
-use Rattle.cluster_config.specs.Snapshots.{SnapshotFacts, leader_in}
+use Rattle.cluster_view.specs.declared.snapshot.LeaderEntry.{LeaderEntry}
+use Rattle.cluster_view.specs.Snapshots.{SnapshotFacts, leader_in}
 use Rattle.rest_message.specs.Requests.{RequestText, request_text}
 use Rattle.rest_pages.specs.Configuration.{configuration_text}
 use Rattle.text_table.specs.Tables.{table_lines}

@@ -1,7 +1,7 @@
 -- What the words of a command come to (Patroni documentation, "patronictl").
 use Rattle.std.specs.Prelude.{ℕ, List, [], ◌∷◌, ◌++◌, map, codes, Result, Ok, Err, string_bytes}
 use Rattle.pat_base.specs.declared.member_id.MemberId.{MemberId}
-use Rattle.cluster_config.specs.Snapshots.{SnapshotFacts}
+use Rattle.cluster_view.specs.Snapshots.{SnapshotFacts}
 use Rattle.rest_message.specs.Requests.{RequestText, request_text}
 use Rattle.ctl_command.specs.Commands.{CommandText}
 use Rattle.ctl_command.specs.FaultTexts.{fault_text}

@@ -2,7 +2,7 @@
 use Rattle.std.specs.Prelude.{ℕ, List, [], ◌∷◌, map, codes, None}
 use Rattle.std.specs.Fmt.{decimal}
 use Rattle.lease_store.specs.declared.value.HistoryRow.{HistoryRow}
-use Rattle.cluster_config.specs.Snapshots.{SnapshotFacts}
+use Rattle.cluster_view.specs.Snapshots.{SnapshotFacts}
 use Rattle.member_rows.specs.Endings.{end_reason, endings}
 use Rattle.text_table.specs.Tables.{ColumnText, TableText, column}
 use Rattle.text_table.specs.declared.alignment.Alignment.TheVariants as sides

@@ -1,7 +1,7 @@
 -- The lines of members and of timelines.
 use Rattle.std.specs.Prelude.{ℕ, List}
 use Rattle.lease_store.specs.declared.value.HistoryRow.{HistoryRow}
-use Rattle.cluster_config.specs.Snapshots.{SnapshotFacts}
+use Rattle.cluster_view.specs.Snapshots.{SnapshotFacts}
 use Rattle.member_rows.specs.Keys.{keys_in}
 use Rattle.member_rows.specs.declared.rows.Row.{Row}
 use Rattle.text_table.specs.Tables.{TableText, row_line, slots_of}

@@ -1,6 +1,6 @@
 //! What comes of each command.
 ghost use Rattle.std.specs.Prelude.{◌≡◌, [], ◌∷◌, IfOk, option_map, string_bytes};
-ghost use Rattle.cluster_config.specs.Snapshots.{leader_in};
+ghost use Rattle.cluster_view.specs.Snapshots.{leader_in};
 ghost use Rattle.ctl_command.specs.Seen.{seen_command};
 ghost use Rattle.ctl_command.specs.Settings.{setting_text};
 ghost use Rattle.rest_message.specs.Requests.{request_text};
@@ -15,7 +15,7 @@ use crate::history::history_table;
 use crate::members::member_table;
 use crate::names::name_in;
 use crate::setting_body::setting_body;
-use cluster_config::{LeaderEntry, Snapshot};
+use cluster_view::{LeaderEntry, Snapshot};
 use ctl_command::{Command, Setting};
 use pat_base::MemberId;
 use rest_message::Request;

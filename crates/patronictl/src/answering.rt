@@ -5,7 +5,7 @@ ghost use Rattle.patronictl.specs.Acting.{acted_by};
 ghost use Rattle.patronictl.specs.Answers.{Prints, answer_told, ctl_answer, fault_line, told_of};
 
 use crate::{Acted, CtlAnswer, act};
-use cluster_config::Snapshot;
+use cluster_view::Snapshot;
 use ctl_command::{Command, CtlFault};
 use std::alloc::{AllocError, Global};
 

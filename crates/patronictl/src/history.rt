@@ -3,7 +3,7 @@ ghost use Rattle.std.specs.Prelude.{◌≡◌, ◌++◌, IfOk, OnOk, map};
 ghost use Rattle.patronictl.specs.History.{history_cells, history_table, history_without_rows};
 
 use crate::names::name_in;
-use cluster_config::Snapshot;
+use cluster_view::Snapshot;
 use lease_store::HistoryRow;
 use member_rows::{END_REASON, endings_of};
 use std::alloc::{AllocError, Global};

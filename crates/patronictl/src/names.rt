@@ -2,7 +2,7 @@
 ghost use Rattle.std.specs.Prelude.{◌≡◌, IfOk, string_bytes};
 ghost use Rattle.patronictl.specs.Names.{name_in, name_of};
 
-use cluster_config::Snapshot;
+use cluster_view::Snapshot;
 use member_rows::declared_in;
 use pat_base::{Host, MemberId, Name};
 use std::alloc::{AllocError, Global};

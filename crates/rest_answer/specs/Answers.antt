@@ -3,8 +3,8 @@ use Rattle.std.specs.Prelude.{ℕ, Bool, true, false, List, Option, Result, Ok, 
 use Rattle.serde_json.specs.Data.{object}
 use Rattle.serde_json.specs.Written.{compact_text}
 use Rattle.lease_store.specs.declared.action.OperatorRequest.{OperatorRequest}
-use Rattle.cluster_config.specs.declared.view.AgentView.{AgentView}
-use Rattle.cluster_config.specs.Snapshots.{SnapshotFacts}
+use Rattle.cluster_view.specs.declared.view.AgentView.{AgentView}
+use Rattle.cluster_view.specs.Snapshots.{SnapshotFacts}
 use Rattle.operator_answers.specs.AnswerTexts.{answer_text}
 use Rattle.operator_keys.specs.declared.refusal.Refused.{Refused}
 use Rattle.operator_answers.specs.Statuses.{not_found}

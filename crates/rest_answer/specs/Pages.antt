@@ -3,8 +3,8 @@ use Rattle.std.specs.Prelude.{Bool, true, false, Option, Some, None}
 use Rattle.serde_json.specs.Data.{Data, array, object}
 use Rattle.serde_json.specs.View.{items_of}
 use Rattle.serde_json.specs.Written.{compact_text}
-use Rattle.cluster_config.specs.declared.view.AgentView.{AgentView}
-use Rattle.cluster_config.specs.Snapshots.{SnapshotFacts}
+use Rattle.cluster_view.specs.declared.view.AgentView.{AgentView}
+use Rattle.cluster_view.specs.Snapshots.{SnapshotFacts}
 use Rattle.operator_answers.specs.AnswerTexts.{answer_text}
 use Rattle.operator_answers.specs.declared.answer_text.Text.TheVariants.{NoStoreAnswer}
 use Rattle.operator_answers.specs.Statuses.{ok, service_unavailable}

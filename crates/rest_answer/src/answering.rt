@@ -9,7 +9,7 @@ use crate::decisions::change_on;
 use crate::pages::page_reply;
 use crate::replies::{json_reply, status_reply, text_reply};
 use crate::status::METHOD_NOT_ALLOWED;
-use cluster_config::AgentView;
+use cluster_view::AgentView;
 use operator_answers::NOT_FOUND;
 use operator_keys::CheckFault;
 use rest_facts::health_of_view;

@@ -7,7 +7,7 @@ ghost use Rattle.operator_keys.specs.declared.refusal.Refused.{Refused};
 ghost use Rattle.operator_keys.specs.Refusals.{Answers};
 ghost use Rattle.rest_answer.specs.Decisions.{asking_for, change_on};
 
-use cluster_config::AgentView;
+use cluster_view::AgentView;
 use lease_store::{ConfigValue, FailoverKey, FailoverKind, OperatorRequest};
 use operator_answers::{NOT_FOUND, Text};
 use operator_keys::{

@@ -1,8 +1,8 @@
 //! Laws of answers. Each is a function without a body whose contract is what is proved. A view stands beside the newest snapshot that its
 //! agent accepted.
 ghost use Rattle.std.specs.Prelude.{ℕ, ◌≡◌, List, Option, None, true, false};
-ghost use Rattle.cluster_config.specs.declared.view.AgentView.{AgentView};
-ghost use Rattle.cluster_config.specs.Snapshots.{SnapshotFacts};
+ghost use Rattle.cluster_view.specs.declared.view.AgentView.{AgentView};
+ghost use Rattle.cluster_view.specs.Snapshots.{SnapshotFacts};
 ghost use Rattle.operator_answers.specs.Statuses.{not_found};
 ghost use Rattle.rest_health.specs.declared.endpoint.Endpoint.{Endpoint};
 ghost use Rattle.rest_paths.specs.declared.asking.Ask.TheVariants.{NotAllowed, NotFound};

@@ -5,7 +5,7 @@ ghost use Rattle.rest_message.specs.Replies.{reply_text};
 
 use crate::replies::{json_reply, status_reply, text_reply};
 use crate::status::BAD_GATEWAY;
-use cluster_config::{AgentView, Snapshot};
+use cluster_view::{AgentView, Snapshot};
 use operator_answers::{OK, SERVICE_UNAVAILABLE, Text};
 use rest_message::Reply;
 use rest_pages::{cluster_text, config_text, failsafe_text, history_text, patroni_text};

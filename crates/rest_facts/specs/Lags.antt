@@ -2,8 +2,8 @@
 use Rattle.std.specs.Prelude.{ℕ, ◌-◌, nat_le, Bool, true, false, List, Option, Some, None, option_and_then}
 use Rattle.pat_base.specs.declared.lsn.Lsn.{Lsn}
 use Rattle.pat_base.specs.SizeText.{size_of}
-use Rattle.cluster_config.specs.KeyValues.{status_in}
-use Rattle.cluster_config.specs.Snapshots.{SnapshotFacts}
+use Rattle.cluster_view.specs.KeyValues.{status_in}
+use Rattle.cluster_view.specs.Snapshots.{SnapshotFacts}
 
 -- the limit that the value of a parameter lag sets: none where there is no parameter, or it is no size
 abbrev pub limit_of : Option (List ℕ) → Option ℕ

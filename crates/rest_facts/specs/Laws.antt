@@ -8,10 +8,10 @@ use Rattle.lease_store.specs.declared.config.Config.{Config}
 use Rattle.lease_store.specs.declared.value.SyncKey.{SyncKey}
 use Rattle.rest_health.specs.declared.endpoint.Endpoint.{Endpoint}
 use Rattle.rest_health.specs.declared.endpoint.Endpoint.TheVariants as paths
-use Rattle.cluster_config.specs.declared.view.AgentView.{AgentView}
-use Rattle.cluster_config.specs.KeyValues.{sync_in}
-use Rattle.cluster_config.specs.Naming.{is_standby}
-use Rattle.cluster_config.specs.Snapshots.{SnapshotFacts}
+use Rattle.cluster_view.specs.declared.view.AgentView.{AgentView}
+use Rattle.cluster_view.specs.KeyValues.{sync_in}
+use Rattle.cluster_view.specs.Naming.{is_standby}
+use Rattle.cluster_view.specs.Snapshots.{SnapshotFacts}
 use Rattle.rest_facts.specs.Lags.{limit_of, status_on}
 use Rattle.rest_facts.specs.Members.{has_key}
 use Rattle.rest_facts.specs.Turns.{config_on, primary_span, other_span}

@@ -4,11 +4,11 @@ use Rattle.pat_base.specs.declared.member_id.MemberId.{MemberId}
 use Rattle.pat_base.specs.declared.server_state.State.{State}
 use Rattle.pat_base.specs.declared.server_state.State.TheVariants as states
 use Rattle.lease_store.specs.declared.value.SyncKey.{SyncKey}
-use Rattle.cluster_config.specs.declared.view.RoleWord.{RoleWord}
-use Rattle.cluster_config.specs.declared.view.RoleWord.TheVariants as roles
-use Rattle.cluster_config.specs.KeyValues.{sync_in}
-use Rattle.cluster_config.specs.Naming.{is_standby}
-use Rattle.cluster_config.specs.Snapshots.{SnapshotFacts}
+use Rattle.cluster_view.specs.declared.view.RoleWord.{RoleWord}
+use Rattle.cluster_view.specs.declared.view.RoleWord.TheVariants as roles
+use Rattle.cluster_view.specs.KeyValues.{sync_in}
+use Rattle.cluster_view.specs.Naming.{is_standby}
+use Rattle.cluster_view.specs.Snapshots.{SnapshotFacts}
 
 -- a server in this state runs as the primary
 abbrev pub is_primary : State → Bool

@@ -4,8 +4,8 @@ use Rattle.pat_base.specs.declared.ticks.Ticks.{Ticks}
 use Rattle.pat_base.specs.declared.ticks.TheConstants.{TICKS_OF_SECOND}
 use Rattle.lease_store.specs.Defaults.{default_config}
 use Rattle.lease_store.specs.declared.config.Config.{Config}
-use Rattle.cluster_config.specs.KeyValues.{config_in}
-use Rattle.cluster_config.specs.Snapshots.{SnapshotFacts}
+use Rattle.cluster_view.specs.KeyValues.{config_in}
+use Rattle.cluster_view.specs.Snapshots.{SnapshotFacts}
 
 -- the settings of the newest snapshot, and the defaults before the first
 abbrev pub config_on : Option SnapshotFacts → Config

@@ -6,7 +6,7 @@ ghost use Rattle.rest_facts.specs.Checks.{facts_of_view, health_of_view};
 use crate::freshness::{TTLS_OF_OTHERS, config_on, is_fresh};
 use crate::lag::{is_within_limit, limit_of, status_on};
 use crate::server::{has_key, is_primary, is_replica, is_standby_on};
-use cluster_config::AgentView;
+use cluster_view::AgentView;
 use pat_base::Ticks;
 use rest_health::{Endpoint, Facts, health};
 

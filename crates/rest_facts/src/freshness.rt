@@ -3,7 +3,7 @@ ghost use Rattle.std.specs.Prelude.{◌≡◌, option_copied};
 ghost use Rattle.lease_store.specs.declared.config.Config.{Config};
 ghost use Rattle.rest_facts.specs.Turns.{config_on, is_fresh};
 
-use cluster_config::Snapshot;
+use cluster_view::Snapshot;
 use lease_store::Config;
 use pat_base::Ticks;
 

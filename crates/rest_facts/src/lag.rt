@@ -2,7 +2,7 @@
 ghost use Rattle.std.specs.Prelude.{◌≡◌, option_copied};
 ghost use Rattle.rest_facts.specs.Lags.{limit_of, status_on, is_within, is_within_limit};
 
-use cluster_config::Snapshot;
+use cluster_view::Snapshot;
 use pat_base::{Lsn, Size};
 
 /// How many bytes a member may lag, by the parameter `lag` of a query. No parameter sets no limit, and nor does a value that is no

@@ -6,8 +6,8 @@ ghost use Rattle.rest_health.specs.declared.endpoint.Endpoint.{Endpoint};
 ghost use Rattle.rest_health.specs.declared.endpoint.Endpoint.TheVariants as paths;
 ghost use Rattle.rest_health.specs.Laws.{IsOkWhere, is_for_primaries, is_for_replicas};
 ghost use Rattle.rest_health.specs.Statuses.{ok, unavailable};
-ghost use Rattle.cluster_config.specs.declared.view.AgentView.{AgentView};
-ghost use Rattle.cluster_config.specs.Snapshots.{SnapshotFacts};
+ghost use Rattle.cluster_view.specs.declared.view.AgentView.{AgentView};
+ghost use Rattle.cluster_view.specs.Snapshots.{SnapshotFacts};
 ghost use Rattle.rest_facts.specs.Checks.{health_of_view};
 ghost use Rattle.rest_facts.specs.Laws.{HoldsKey, Leads, TakesLoad, IsNamed, KeepsUp, TakesTurns, counts_lag};
 

@@ -2,7 +2,7 @@
 ghost use Rattle.std.specs.Prelude.{◌≡◌, option_copied};
 ghost use Rattle.rest_facts.specs.Members.{is_primary, is_replica, has_key, is_standby_on};
 
-use cluster_config::{RoleWord, Snapshot, is_standby};
+use cluster_view::{RoleWord, Snapshot, is_standby};
 use pat_base::{MemberId, State};
 
 /// Whether a server in this state runs as the primary.

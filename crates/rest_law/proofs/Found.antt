@@ -9,8 +9,8 @@ use Rattle.pat_base.specs.ServerState.{writes}
 use Rattle.pg_model.specs.Facts.{ServerFacts, fresh}
 use Rattle.script_model.specs.Script.{HeadText, names_of}
 use Rattle.member_options.specs.declared.member_option.MemberOptions.{MemberOptions}
-use Rattle.cluster_config.specs.declared.view.AgentView.{AgentView}
-use Rattle.cluster_config.specs.Snapshots.{SnapshotFacts}
+use Rattle.cluster_view.specs.declared.view.AgentView.{AgentView}
+use Rattle.cluster_view.specs.Snapshots.{SnapshotFacts}
 use Rattle.event_book.specs.declared.event.Event.{Event}
 use Rattle.event_book.specs.declared.member.Member.{Member}
 use Rattle.event_book.specs.Facts.{Facts, facts_over}

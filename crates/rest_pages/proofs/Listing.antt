@@ -15,7 +15,7 @@ use Rattle.pat_base.specs.Host.{host_bytes}
 use Rattle.pat_base.specs.MemberId.{member_of}
 use Rattle.pat_base.specs.Name.{name_bytes}
 use Rattle.pat_base.proofs.Members.{member_of-number, number-member_of}
-use Rattle.cluster_config.specs.Snapshots.{SnapshotFacts}
+use Rattle.cluster_view.specs.Snapshots.{SnapshotFacts}
 use Rattle.rest_pages.specs.Failsafe.{host_members, listed_by, listed_numbered, listed_of, lists_member, with_host}
 use Rattle.rest_pages.specs.Laws.{HasOwnName}
 use Rattle.member_rows.specs.Rows.{declared_in, with_found}

@@ -7,7 +7,7 @@ use Rattle.lease_store.specs.declared.value.Value.TheVariants as values
 use Rattle.lease_store.specs.Kinds.{IsOfKind}
 use Rattle.lease_store.specs.Settings.{Settings}
 use Rattle.lease_store.proofs.Keeping.{kind_found}
-use Rattle.cluster_config.specs.Snapshots.{IsRead, SnapshotFacts, entry_in}
+use Rattle.cluster_view.specs.Snapshots.{IsRead, SnapshotFacts, entry_in}
 use Rattle.rest_pages.specs.Configuration.{configuration_text, text_by, text_of_entry}
 
 -- a value of the configuration's kind is a configuration

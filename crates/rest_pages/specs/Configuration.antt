@@ -4,7 +4,7 @@ use Rattle.lease_store.specs.declared.key.Key.TheVariants as keys
 use Rattle.lease_store.specs.declared.value.KeyEntry.{KeyEntry}
 use Rattle.lease_store.specs.declared.value.Value.{Value}
 use Rattle.lease_store.specs.declared.value.Value.TheVariants as values
-use Rattle.cluster_config.specs.Snapshots.{SnapshotFacts, entry_in}
+use Rattle.cluster_view.specs.Snapshots.{SnapshotFacts, entry_in}
 
 -- the text of a value of the configuration's key
 abbrev pub text_by : Value → List ℕ

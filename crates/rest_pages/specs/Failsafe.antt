@@ -10,9 +10,9 @@ use Rattle.pat_base.specs.declared.name.Name.{Name}
 use Rattle.pat_base.specs.Host.{host_bytes}
 use Rattle.pat_base.specs.MemberId.{member_of}
 use Rattle.pat_base.specs.Name.{name_bytes}
-use Rattle.cluster_config.specs.KeyValues.{config_in}
-use Rattle.cluster_config.specs.Naming.{is_one_of}
-use Rattle.cluster_config.specs.Snapshots.{SnapshotFacts, failsafe_in}
+use Rattle.cluster_view.specs.KeyValues.{config_in}
+use Rattle.cluster_view.specs.Naming.{is_one_of}
+use Rattle.cluster_view.specs.Snapshots.{SnapshotFacts, failsafe_in}
 use Rattle.member_rows.specs.Rows.{declared_in}
 
 -- the set, if there is one, lists the member

@@ -13,9 +13,9 @@ use Rattle.pat_base.specs.declared.word.Word.{Word}
 use Rattle.pat_base.specs.declared.word.Word.TheVariants as words
 use Rattle.pat_base.specs.Name.{name_bytes}
 use Rattle.pat_base.specs.Word.{word_text}
-use Rattle.cluster_config.specs.declared.view.AgentView.{AgentView}
-use Rattle.cluster_config.specs.KeyValues.{config_in, sync_in}
-use Rattle.cluster_config.specs.Snapshots.{SnapshotFacts}
+use Rattle.cluster_view.specs.declared.view.AgentView.{AgentView}
+use Rattle.cluster_view.specs.KeyValues.{config_in, sync_in}
+use Rattle.cluster_view.specs.Snapshots.{SnapshotFacts}
 use Rattle.member_rows.specs.Standbys.{names_standby}
 use Rattle.rest_pages.specs.Tags.{with_tags}
 

@@ -2,7 +2,7 @@
 ghost use Rattle.std.specs.Prelude.{◌≡◌, option_copied};
 ghost use Rattle.rest_pages.specs.Configuration.{text_by, text_of_entry, configuration_text};
 
-use cluster_config::Snapshot;
+use cluster_view::Snapshot;
 use lease_store::{Key, KeyEntry, Value};
 
 /// The body of `/config`: the text of the configuration, as it stands in the key store.

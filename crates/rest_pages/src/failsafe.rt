@@ -5,7 +5,7 @@ ghost use Rattle.json_build.specs.Objects.{object_members};
 ghost use Rattle.rest_pages.specs.Failsafe.{lists_member, listed_in, listed_numbered, listed_of, with_host, host_members, failsafe_data};
 ghost use Rattle.member_rows.specs.Rows.{with_found};
 
-use cluster_config::Snapshot;
+use cluster_view::Snapshot;
 use json_build::Object;
 use member_rows::declared_in;
 use pat_base::{Host, MOST_MEMBERS, MemberId, MemberSet, Name};

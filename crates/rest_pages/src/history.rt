@@ -6,7 +6,7 @@ ghost use Rattle.serde_json.specs.Written.{compact_text};
 ghost use Rattle.json_build.specs.Lists.{list_items};
 ghost use Rattle.rest_pages.specs.History.{with_leader, ending_items, ending_data, history_items};
 
-use cluster_config::Snapshot;
+use cluster_view::Snapshot;
 use json_build::List;
 use lease_store::HistoryRow;
 use member_rows::{END_REASON, declared_in, endings_of};

@@ -6,7 +6,7 @@ ghost use Rattle.json_build.specs.Objects.{object_members};
 ghost use Rattle.rest_pages.specs.Patroni.{named_members, pauses, is_sync_standby, role_text, server_word, streams, with_last_read, with_streaming, location_members, replica_members, with_position, with_xlog, patroni_members, patroni_members_of};
 
 use crate::tags::put_tags;
-use cluster_config::{AgentView, Snapshot};
+use cluster_view::{AgentView, Snapshot};
 use json_build::Object;
 use member_rows::names_standby;
 use pat_base::{Lsn, MemberId, Name, State, Ticks, Word};

@@ -5,9 +5,9 @@ use Rattle.pat_base.specs.declared.lsn.Lsn.{Lsn}
 use Rattle.pat_base.specs.declared.member_id.MemberId.{MemberId}
 use Rattle.pat_base.specs.declared.member_set.MemberSet.{MemberSet}
 use Rattle.lease_store.specs.declared.value.SyncKey.{SyncKey}
-use Rattle.cluster_config.specs.declared.view.LeaderView.{LeaderView}
-use Rattle.cluster_config.specs.KeyValues.{config_in, sync_in}
-use Rattle.cluster_config.specs.Snapshots.{SnapshotFacts}
+use Rattle.cluster_view.specs.declared.view.LeaderView.{LeaderView}
+use Rattle.cluster_view.specs.KeyValues.{config_in, sync_in}
+use Rattle.cluster_view.specs.Snapshots.{SnapshotFacts}
 use Rattle.sync_state.specs.declared.steps.Plan.{Plan}
 use Rattle.sync_state.specs.declared.steps.Plan.TheVariants as plans
 use Rattle.sync_state.specs.Candidates.{may_sync, wanted_in}

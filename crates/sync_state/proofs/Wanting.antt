@@ -14,10 +14,10 @@ use Rattle.pat_base.specs.declared.member_id.MemberId.{MemberId}
 use Rattle.pat_base.specs.declared.name.Name.{Name}
 use Rattle.pat_base.specs.MemberId.{member_of}
 use Rattle.pat_base.proofs.Members.{member_of-number, number-member_of}
-use Rattle.cluster_config.specs.declared.view.LeaderView.{LeaderView}
-use Rattle.cluster_config.specs.KeyValues.{config_in}
-use Rattle.cluster_config.specs.Naming.{is_one_of}
-use Rattle.cluster_config.specs.Snapshots.{SnapshotFacts}
+use Rattle.cluster_view.specs.declared.view.LeaderView.{LeaderView}
+use Rattle.cluster_view.specs.KeyValues.{config_in}
+use Rattle.cluster_view.specs.Naming.{is_one_of}
+use Rattle.cluster_view.specs.Snapshots.{SnapshotFacts}
 use Rattle.sync_state.specs.declared.candidates.Candidate.{Candidate}
 use Rattle.sync_state.specs.Candidates.{may_sync, name_in, connected_end, candidate_by, candidate_where, candidate_in, candidate_numbered, candidates_in, candidate_cmp, comes_before, candidates_before, is_wanted, wanted_in}
 use Rattle.sync_state.specs.Laws.{HaveOwnNames}

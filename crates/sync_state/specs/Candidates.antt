@@ -15,10 +15,10 @@ use Rattle.lease_store.specs.declared.key.Key.TheVariants as keys
 use Rattle.lease_store.specs.declared.value.KeyEntry.{KeyEntry}
 use Rattle.lease_store.specs.declared.value.Value.{Value}
 use Rattle.lease_store.specs.declared.value.Value.TheVariants as values
-use Rattle.cluster_config.specs.declared.view.LeaderView.{LeaderView}
-use Rattle.cluster_config.specs.KeyValues.{config_in}
-use Rattle.cluster_config.specs.Naming.{is_one_of}
-use Rattle.cluster_config.specs.Snapshots.{SnapshotFacts, entry_in}
+use Rattle.cluster_view.specs.declared.view.LeaderView.{LeaderView}
+use Rattle.cluster_view.specs.KeyValues.{config_in}
+use Rattle.cluster_view.specs.Naming.{is_one_of}
+use Rattle.cluster_view.specs.Snapshots.{SnapshotFacts, entry_in}
 use Rattle.sync_state.specs.declared.candidates.Candidate.{Candidate}
 use Rattle.sync_state.specs.Published.{published_in}
 use Rattle.sync_state.specs.Sets.{set_of}

@@ -3,9 +3,9 @@ use Rattle.std.specs.Prelude.{Bool, false, Option, Some, None}
 use Rattle.pat_base.specs.declared.member_id.MemberId.{MemberId}
 use Rattle.pat_base.specs.declared.member_set.MemberSet.{MemberSet}
 use Rattle.lease_store.specs.declared.value.SyncKey.{SyncKey}
-use Rattle.cluster_config.specs.KeyValues.{sync_in}
-use Rattle.cluster_config.specs.Naming.{is_named}
-use Rattle.cluster_config.specs.Snapshots.{SnapshotFacts}
+use Rattle.cluster_view.specs.KeyValues.{sync_in}
+use Rattle.cluster_view.specs.Naming.{is_named}
+use Rattle.cluster_view.specs.Snapshots.{SnapshotFacts}
 use Rattle.sync_state.specs.Sets.{nobody}
 
 -- a sync key names the member, as leader or as standby, if there is a key

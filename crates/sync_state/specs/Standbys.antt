@@ -4,8 +4,8 @@ use Rattle.pat_base.specs.declared.lsn.Lsn.{Lsn}
 use Rattle.pat_base.specs.declared.member_set.MemberSet.{MemberSet}
 use Rattle.pat_base.specs.declared.server_state.Required.{Required}
 use Rattle.pat_base.specs.declared.server_state.Required.TheVariants as required
-use Rattle.cluster_config.specs.declared.view.LeaderView.{LeaderView}
-use Rattle.cluster_config.specs.Snapshots.{SnapshotFacts}
+use Rattle.cluster_view.specs.declared.view.LeaderView.{LeaderView}
+use Rattle.cluster_view.specs.Snapshots.{SnapshotFacts}
 use Rattle.sync_state.specs.declared.steps.Standbys.{Standbys}
 use Rattle.sync_state.specs.Candidates.{wanted_in}
 use Rattle.sync_state.specs.Published.{published_in}

@@ -2,7 +2,7 @@
 ghost use Rattle.std.specs.Prelude.{◌≡◌};
 ghost use Rattle.sync_state.specs.Published.{named_by, named_in, standbys_of, published_in};
 
-use cluster_config::{Snapshot, is_named};
+use cluster_view::{Snapshot, is_named};
 use lease_store::SyncKey;
 use pat_base::{MemberId, MemberSet};
 

@@ -5,7 +5,7 @@ ghost use Rattle.sync_state.specs.Plans.{change_of, plan_off, plan_on, plan_of};
 use crate::member_sets::{are_same, both, either, is_within};
 use crate::standbys::standbys_of;
 use crate::steps::{Plan, Standbys};
-use cluster_config::{LeaderView, Snapshot};
+use cluster_view::{LeaderView, Snapshot};
 use lease_store::SyncKey;
 
 /// What the leader is to do next about its synchronous standbys, by its view and a snapshot: the first row that applies.

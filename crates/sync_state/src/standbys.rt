@@ -7,7 +7,7 @@ use crate::candidates::{candidates, wanted};
 use crate::member_sets::nobody;
 use crate::naming::published;
 use crate::steps::Standbys;
-use cluster_config::{LeaderView, Snapshot};
+use cluster_view::{LeaderView, Snapshot};
 use pat_base::{Lsn, MOST_MEMBERS, MemberId, MemberSet, Required};
 
 /// The standbys of the leader, by its view and a snapshot.

@@ -1,7 +1,7 @@
 //! The agents of members, each at the place of its member. An agent can't be dropped: one that ends is wrecked.
 ghost use Rattle.std.specs.Prelude.{ℕ, ◌≡◌, ◌≤◌, ◌<◌, ◌+◌, [], List, Option, Some, None, All, IfSome, IfOk, length, map, option_and_then, option_copied, option_map};
 ghost use Rattle.pat_base.specs.Changes.{with_changed};
-ghost use Rattle.cluster_config.specs.declared.view.AgentView.{AgentView};
+ghost use Rattle.cluster_view.specs.declared.view.AgentView.{AgentView};
 ghost use Rattle.agent_model.specs.Agents.{AgentFacts, IsWithin, most_messages, word_of};
 ghost use Rattle.agent_model.specs.Views.{view_of};
 ghost use Rattle.pat_base.specs.Moments.{latest};
@@ -14,7 +14,7 @@ ghost use Rattle.world_model.specs.Apart.{agents_apart};
 ghost use Rattle.world_model.specs.Room.{HasNumbers};
 
 use agent_model::{Heard, Machine, Who};
-use cluster_config::AgentView;
+use cluster_view::AgentView;
 use event_book::{AgentEvent, EventKind, Member, WatchdogEvent};
 use ha_loop::{Agent, Outputs};
 use member_options::MemberOptions;

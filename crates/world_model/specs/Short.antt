@@ -7,7 +7,7 @@ use Rattle.lease_store.specs.Writes.{ttl_of}
 use Rattle.event_book.specs.declared.message.Body.{Body}
 use Rattle.event_book.specs.declared.message.Body.TheVariants as bodies
 use Rattle.event_book.specs.Flight.{Flight, InFlightFacts}
-use Rattle.cluster_config.specs.Snapshots.{IsRead}
+use Rattle.cluster_view.specs.Snapshots.{IsRead}
 
 -- a request asks for leases that the key store can write
 abbrev pub IsShort : Body → Type 0

@@ -6,7 +6,7 @@ use Rattle.script_model.specs.declared.line.Command.{Command}
 use Rattle.script_model.specs.declared.line.Command.TheVariants as commands
 use Rattle.cluster_model.specs.State.{Cluster}
 use Rattle.cluster_model.specs.Commands.{kinds_of}
-use Rattle.cluster_config.specs.Snapshots.{SnapshotFacts}
+use Rattle.cluster_view.specs.Snapshots.{SnapshotFacts}
 use Rattle.patronictl.specs.Answers.{CtlTold, ctl_answer}
 use Rattle.cluster_model.specs.Hearing.{snapshot_at}
 use Rattle.cluster_model.specs.Next.{command_events, command_kind, ctl_events, ctl_told_at}

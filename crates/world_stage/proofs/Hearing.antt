@@ -12,7 +12,7 @@ use Rattle.lease_store.specs.Copied.{items_if}
 use Rattle.wal_model.specs.declared.entry.HistoryPoint.{HistoryPoint}
 use Rattle.pg_model.specs.Facts.{ServerFacts}
 use Rattle.pg_cluster.specs.Servers.{without_spare}
-use Rattle.cluster_config.specs.Snapshots.{IsRead}
+use Rattle.cluster_view.specs.Snapshots.{IsRead}
 use Rattle.member_options.specs.declared.member_option.MemberOptions.{MemberOptions}
 use Rattle.event_book.specs.declared.member.Member.{Member}
 use Rattle.agent_model.specs.declared.heard.Heard.{Heard}

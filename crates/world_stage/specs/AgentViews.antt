@@ -1,7 +1,7 @@
 -- What the agents of a cluster show.
 use Rattle.std.specs.Prelude.{◌≡◌, Option, None, option_and_then, option_copied, option_map}
 use Rattle.pat_base.specs.declared.member_id.MemberId.{MemberId}
-use Rattle.cluster_config.specs.declared.view.AgentView.{AgentView}
+use Rattle.cluster_view.specs.declared.view.AgentView.{AgentView}
 use Rattle.agent_model.specs.Agents.{Outcome}
 use Rattle.agent_model.specs.Views.{shown}
 use Rattle.cluster_model.specs.Inputs.{moment_of, standing_of}

@@ -1,7 +1,7 @@
 //! Agents: how they are woken, hear, and are shown.
 ghost use Rattle.std.specs.Prelude.{◌≡◌, ◌≤◌, ◌*◌, [], Some, OnOk, IfOk, IfSome, option_copied, option_map, slice_get};
 ghost use Rattle.lease_store.specs.Copied.{items_if};
-ghost use Rattle.cluster_config.specs.Snapshots.{IsRead};
+ghost use Rattle.cluster_view.specs.Snapshots.{IsRead};
 ghost use Rattle.agent_model.specs.declared.heard.Heard.TheVariants as heards;
 ghost use Rattle.agent_model.specs.Agents.{IsWithin};
 ghost use Rattle.agent_model.specs.Outputs.{most_outputs};
@@ -19,7 +19,7 @@ ghost use Rattle.world_stage.specs.AgentViews.{IsViewOf};
 
 use super::Stage;
 use agent_model::{Heard, Machine};
-use cluster_config::{AgentView, Snapshot};
+use cluster_view::{AgentView, Snapshot};
 use event_book::{AgentEvent, AgentProcess, Body, Event, EventKind, LinkEnd, Member, Message};
 use ha_loop::{Agent, Outputs};
 use lease_store::{Copies, Key, KeyEntry, OperatorAction};

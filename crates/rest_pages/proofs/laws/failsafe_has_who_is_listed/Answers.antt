@@ -1,4 +1,4 @@
-use Rattle.cluster_config.specs.Snapshots.{failsafe_in}
+use Rattle.cluster_view.specs.Snapshots.{failsafe_in}
 use Rattle.rest_pages.proofs.Listing.{host-at}
 use Rattle.rest_pages.proofs.laws.failsafe_has_who_is_listed.Goals as goal
 

@@ -8,7 +8,7 @@ use Rattle.lease_store.specs.InKeyOrder.{in_key_order}
 use Rattle.lease_store.specs.KeyOrder.{key_cmp}
 use Rattle.lease_store.specs.Kept.{AreOfKind}
 use Rattle.lease_store.proofs.InOrder.{is_sorted-in_key_order, kinds-in_key_order, find-in_key_order}
-use Rattle.cluster_config.specs.Snapshots.{IsRead}
+use Rattle.cluster_view.specs.Snapshots.{IsRead}
 
 pub read-in_key_order : (entries : List (Key × KeyEntry)) → AreOfKind entries → IsSome (find key_cmp keys.Config entries) → IsRead (in_key_order entries)
 read-in_key_order entries kinds config = record {

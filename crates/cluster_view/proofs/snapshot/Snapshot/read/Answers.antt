@@ -2,9 +2,9 @@ use Rattle.std.proofs.Common.{◌∙◌, ap, sym, subst, List}
 use Rattle.lease_store.specs.declared.key.Key.{Key}
 use Rattle.lease_store.specs.declared.value.KeyEntry.{KeyEntry}
 use Rattle.lease_store.proofs.InOrder.{in_key_order-sorted}
-use Rattle.cluster_config.specs.Snapshots.{IsRead}
-use Rattle.cluster_config.proofs.SnapshotLaws.{read-in_key_order}
-use Rattle.cluster_config.proofs.snapshot.Snapshot.read.Goals as goal
+use Rattle.cluster_view.specs.Snapshots.{IsRead}
+use Rattle.cluster_view.proofs.SnapshotLaws.{read-in_key_order}
+use Rattle.cluster_view.proofs.snapshot.Snapshot.read.Goals as goal
 
 pub returns-in_err-from_slice-clause-in_order : goal.returns-in_err-from_slice-clause-in_order
 returns-in_err-from_slice-clause-in_order c = in_key_order-sorted c.args.entries.items

@@ -11,7 +11,7 @@ use Rattle.lease_store.specs.declared.value.MemberInfo.{MemberInfo}
 use Rattle.lease_store.specs.declared.value.SyncKey.{SyncKey}
 use Rattle.lease_store.specs.declared.value.Value.{Value}
 use Rattle.lease_store.specs.declared.value.Value.TheVariants as values
-use Rattle.cluster_config.specs.Snapshots.{SnapshotFacts, entry_in, settings_in}
+use Rattle.cluster_view.specs.Snapshots.{SnapshotFacts, entry_in, settings_in}
 
 -- what a member tells of itself, by a value of its key
 abbrev pub info_by : Value → Option MemberInfo

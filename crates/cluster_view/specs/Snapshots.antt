@@ -12,7 +12,7 @@ use Rattle.lease_store.specs.declared.value.Value.{Value}
 use Rattle.lease_store.specs.declared.value.Value.TheVariants as values
 use Rattle.lease_store.specs.Kept.{AreOfKind}
 use Rattle.lease_store.specs.KeyOrder.{key_cmp}
-use Rattle.cluster_config.specs.declared.snapshot.LeaderEntry.{LeaderEntry}
+use Rattle.cluster_view.specs.declared.snapshot.LeaderEntry.{LeaderEntry}
 
 -- the cluster's name, the names and hosts of all members in the order of the script, and the keys that were present, with their
 -- values and revisions

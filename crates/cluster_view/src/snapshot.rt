@@ -5,7 +5,7 @@ ghost use Rattle.lease_store.specs.Kept.{AreOfKind};
 ghost use Rattle.lease_store.specs.InKeyOrder.{in_key_order};
 ghost use Rattle.lease_store.specs.KeyOrder.{key_cmp};
 ghost use Rattle.lease_store.specs.declared.key.Key.TheVariants as keys;
-ghost use Rattle.cluster_config.specs.Snapshots.{IsRead, entry_in, leader_by, leader_of_entry, leader_in, settings_by, settings_of_entry, settings_in, failsafe_by, failsafe_of_entry, failsafe_in, has_row};
+ghost use Rattle.cluster_view.specs.Snapshots.{IsRead, entry_in, leader_by, leader_of_entry, leader_in, settings_by, settings_of_entry, settings_in, failsafe_by, failsafe_of_entry, failsafe_in, has_row};
 
 use lease_store::{Config, Copies, Key, KeyEntry, Value, in_key_order, key_entry_at};
 use pat_base::{Host, MemberId, MemberSet, Name, Shared};
@@ -22,7 +22,7 @@ pub struct Snapshot {
 }
 
 impl Model for Snapshot {
-    ghost use Rattle.cluster_config.specs.Snapshots.{SnapshotFacts, IsRead};
+    ghost use Rattle.cluster_view.specs.Snapshots.{SnapshotFacts, IsRead};
 
     ghost Value = { SnapshotFacts };
 

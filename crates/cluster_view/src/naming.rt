@@ -1,6 +1,6 @@
 //! Which member a failover or a sync key names.
 ghost use Rattle.std.specs.Prelude.{◌≡◌};
-ghost use Rattle.cluster_config.specs.Naming.{is_member, candidate_of, is_candidate, is_failover_to, is_standby, is_named};
+ghost use Rattle.cluster_view.specs.Naming.{is_member, candidate_of, is_candidate, is_failover_to, is_standby, is_named};
 
 use lease_store::{FailoverKey, SyncKey};
 use pat_base::MemberId;
