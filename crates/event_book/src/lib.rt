@@ -1,4 +1,4 @@
-//! The book of a run: the list of what happened, what it leaves, and how it is printed.
+//! The book of a run: the list of what happened, and what it leaves.
 #![tactic(auto)]
 
 mod agent_note;
@@ -6,20 +6,13 @@ mod agent_process;
 mod event;
 mod laws;
 mod link;
-mod listing;
 mod member;
 mod message;
 mod name_order;
-mod named_line;
 mod names;
-mod note_printing;
-mod pieces;
-mod printing;
 mod reason;
-mod server_printing;
-mod store_printing;
 
-pub use agent_note::AgentNote;
+pub use agent_note::{AgentNote, AgentNoteText};
 pub use agent_process::AgentProcess;
 pub use event::{
     AgentEvent, Event, EventKind, LinkEvent, LogEvent, MessageEvent, Note, ReplicationEvent,
@@ -27,10 +20,8 @@ pub use event::{
 };
 pub use laws::{links_are_told, restarts_and_wipes_are_told, servers_match_events};
 pub use link::{Link, LinkEnd};
-pub use listing::listed;
 pub use member::{Member, ServerOf};
 pub use message::{Body, Message};
 pub use name_order::put_name;
 pub use names::{Bytes, Names};
-pub use printing::write_line;
 pub use reason::{Basis, Reason};

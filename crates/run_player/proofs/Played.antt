@@ -10,7 +10,7 @@ use Rattle.pat_outside.specs.Prints.{Prints, failed}
 use Rattle.pat_outside.proofs.Contents.{Grew-Grew, Grew-nothing}
 use Rattle.pat_outside.proofs.Printing.{Prints-none, Prints-nothing, Prints-ok, Prints-stop, Prints-then}
 use Rattle.event_book.specs.declared.event.Event.{Event}
-use Rattle.event_book.specs.Text.{lines_of}
+use Rattle.event_text.specs.Text.{lines_of}
 use Rattle.script_model.specs.declared.line.Line.{Line}
 use Rattle.cluster_model.specs.declared.step.Step.{Step}
 use Rattle.script_model.specs.Script.{AllAreLines, IsLine}

@@ -3,7 +3,8 @@ ghost use Rattle.std.specs.Prelude.{◌≡◌, IfOk, OnOk, [], string_bytes};
 ghost use Rattle.event_book.specs.NameLists.{name_cmp};
 ghost use Rattle.summary_model.specs.SummaryText.{closing_text, claims_text, counts_text, with_writer, sorted_from};
 
-use event_book::{listed, put_name};
+use event_book::put_name;
+use event_text::listed;
 use pat_base::Name;
 use std::alloc::{AllocError, Global};
 use summary_model::Closing;

@@ -1,4 +1,0 @@
-use Rattle.event_book.proofs.note_printing.write_note_line.Goals as goal
-
-pub returns-in-OfAgent : goal.returns-in-OfAgent
-returns-in-OfAgent c = rw c.in-OfAgent.is c.write-in-OfAgent.ensures.bytes

@@ -1,4 +1,0 @@
-use Rattle.event_book.proofs.server_printing.write_log_line.Goals as goal
-
-pub returns-in-Rewound : goal.returns-in-Rewound
-returns-in-Rewound c = rw c.in-Rewound.is c.write.ensures.bytes

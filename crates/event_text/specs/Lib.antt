@@ -1,0 +1,5 @@
+pub mod Listing
+pub mod NoteText
+pub mod ServerText
+pub mod StoreText
+pub mod Text

@@ -1,0 +1,93 @@
+//! The printed lines of what happens at the key store.
+ghost use Rattle.std.specs.Prelude.{◌≡◌, ◌++◌, OnOk, string_bytes};
+ghost use Rattle.pat_base.specs.Name.{name_bytes};
+ghost use Rattle.event_text.specs.StoreText.{store_line, granted_line, request_line};
+ghost use Rattle.event_text.specs.Text.{bytes_or_none};
+
+use crate::listing::end_by_list;
+use crate::named_line::write_named_line;
+use event_book::{Member, Names, StoreEvent};
+use lease_store::Txn;
+use pat_base::{Name, Ticks};
+use std::alloc::AllocError;
+
+/// Appends the line of what happens at the key store, if it has one. It fails only for want of memory.
+pub fn write_store_line(
+    line: &mut String,
+    tick: Ticks,
+    event: &StoreEvent,
+) -> Result<(), AllocError>
+    ensures { OnOk result (string_bytes line.new ≡ string_bytes line.old ++ bytes_or_none (store_line tick.0 event.now)) }
+{
+    match event {
+        StoreEvent::Granted {
+            by,
+            txn,
+            standbys,
+            ..
+        } => write_granted_line(line, tick, *by, txn.get(), standbys),
+        StoreEvent::Refused {
+            by,
+            request,
+            key,
+            found,
+            ..
+        } => {
+            let name = by.name;
+            write!(
+                line,
+                "{tick} the {request} of {name} is refused, {key} {found}\n"
+            )
+        }
+        StoreEvent::LeaderExpired { holder } => {
+            let name = holder.name;
+            write!(line, "{tick} the leader key of {name} expires\n")
+        }
+        StoreEvent::Expired { .. } => Ok(()),
+    }
+}
+
+fn write_granted_line(
+    line: &mut String,
+    tick: Ticks,
+    by: Member,
+    txn: &Txn,
+    standbys: &Names,
+) -> Result<(), AllocError>
+    ensures { OnOk result (string_bytes line.new ≡ string_bytes line.old ++ bytes_or_none (granted_line tick.0 (name_bytes by.name) txn.now standbys.now)) }
+{
+    let name = by.name;
+    match txn {
+        Txn::Create { .. } => write_named_line(line, tick, name, " takes the leader key\n"),
+        Txn::Release { .. } => write_named_line(line, tick, name, " releases the leader key\n"),
+        Txn::Claim { .. } => write_named_line(line, tick, name, " claims the sync key\n"),
+        Txn::SetSync { .. } => {
+            write!(line, "{tick} {name} publishes sync standbys ")?;
+            end_by_list(line, "none", standbys.as_slice())
+        }
+        Txn::DropSync { .. } => write_named_line(line, tick, name, " removes the sync key\n"),
+        other => write_request_line(line, tick, name, other),
+    }
+}
+
+/// Appends the line of a granted write of the failover key or of the configuration.
+fn write_request_line(
+    line: &mut String,
+    tick: Ticks,
+    name: Name,
+    txn: &Txn,
+) -> Result<(), AllocError>
+    ensures { OnOk result (string_bytes line.new ≡ string_bytes line.old ++ bytes_or_none (request_line tick.0 (name_bytes name) txn.now)) }
+{
+    match txn {
+        Txn::SetFailover { .. } => write_named_line(line, tick, name, " writes the failover key\n"),
+        Txn::DropFailover { .. } => write_named_line(
+            line,
+            tick,
+            name,
+            " clears the failover key\n",
+        ),
+        Txn::SetConfig { .. } => write_named_line(line, tick, name, " changes the configuration\n"),
+        _ => Ok(()),
+    }
+}
