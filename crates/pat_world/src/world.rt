@@ -22,8 +22,8 @@ ghost use Rattle.world_model.specs.Room.{most_steps, step_cost};
 ghost use Rattle.world_model.specs.Running.{agent_runs};
 ghost use Rattle.world_stage.specs.AgentViews.{IsViewOf};
 
-use cluster_view::AgentView;
 use cluster_model::Step;
+use cluster_view::AgentView;
 use event_book::{Event, EventKind};
 use pat_base::{MemberId, Ticks};
 use script_model::Head;

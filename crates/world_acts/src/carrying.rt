@@ -19,9 +19,9 @@ use crate::telling::{
 use agent_model::{Output, Target};
 use cluster_model::HeardMessage;
 use event_book::{Body, Event, LinkEnd, Member, Message};
-use ha_loop::Outputs;
 use pat_base::{MemberId, PeerAnswer};
 use std::alloc::AllocError;
+use world_agents::Outputs;
 use world_orders::order_kinds::receiver_of;
 use world_stage::Stage;
 

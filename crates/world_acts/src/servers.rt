@@ -1,27 +1,23 @@
 //! What commands and agents do to servers.
 ghost use Rattle.std.specs.Prelude.{◌≡◌, OnOk, Some, option_map, slice_get};
 ghost use Rattle.pat_base.specs.declared.server_state.State.TheVariants as states;
-ghost use Rattle.event_book.specs.Members.{server_of};
 ghost use Rattle.cluster_model.specs.Messages.{begin_events, replica_start_events, server_order_events, server_restart_events, stop_events};
 ghost use Rattle.cluster_model.specs.Next.{promote_events};
 ghost use Rattle.cluster_model.specs.Orders.{declared_member, require_of, server_at, stop_of, upstream_of, wipe_of};
-ghost use Rattle.world_model.specs.Comes.{MayCome};
 ghost use Rattle.world_model.specs.Emits.{Emits};
-ghost use Rattle.world_model.specs.Promoting.{beginning_at};
 ghost use Rattle.world_model.specs.Room.{HasRoom, beginning_cost, promotion_cost, replica_start_cost, server_restart_cost, stopping_cost};
 
 use cluster_model::Beginning;
 use event_book::{Event, EventKind, Member, Note, Reason, ServerEvent, ServerOf};
 use pat_base::{MemberId, Required, State};
 use std::alloc::AllocError;
-use world_fields::losing::loss_of_any;
 use world_fields::members::member_at;
 use world_orders::order_kinds::{
     declared_member, following_of, require_of, stop_of, upstream_of, wipe_of,
 };
 use world_orders::server_commands::{beginning_of, promoted_timeline, restart_of};
 use world_parts::server_changes::is_down;
-use world_stage::Stage;
+use world_stage::{Stage, begin_on};
 
 /// The server of a member is promoted by its operator, where it is a replica, and begins.
 pub fn promote(stage: &mut Stage, member: Member, events: &mut Vec<Event>) -> Result<(), AllocError>
@@ -52,26 +48,6 @@ pub fn begin(stage: &mut Stage, member: Member, events: &mut Vec<Event>) -> Resu
             )
         }
     }
-}
-
-/// The server of a member begins to accept writes on this timeline, which it can. That it lacks an acknowledged commit then is told.
-pub fn begin_on(
-    stage: &mut Stage,
-    member: Member,
-    timeline: u64,
-    events: &mut Vec<Event>,
-) -> Result<(), AllocError>
-    requires room { HasRoom stage.old beginning_cost }
-    requires comes { MayCome stage.old (EventKind.Server (ServerEvent.Began (server_of member) timeline)) }
-    ensures { OnOk result (Emits stage.old stage.new events.old.items events.new.items (beginning_at stage.old member timeline) beginning_cost) }
-{
-    let loss = loss_of_any(stage.alloc(), stage.servers(), member, stage.acknowledged())?;
-    let server = ServerOf::of(member);
-    stage.happen_then(
-        EventKind::Server(ServerEvent::Began { server, timeline }),
-        loss,
-        events,
-    )
 }
 
 /// The server of a member starts as a replica of a leader's, or of none, where it is down.

@@ -3,3 +3,5 @@
 
 pub mod places;
 pub mod requests;
+
+pub use ha_loop::{Agent, Outputs};

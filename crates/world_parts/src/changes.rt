@@ -13,7 +13,9 @@ ghost use Rattle.pat_base.specs.Moments.{latest};
 ghost use Rattle.world_model.specs.Comes.{IsBare};
 
 use crate::processes::{change_process, reset_process};
-use event_book::{AgentProcess, EventKind, LogEvent, MessageEvent, ReplicationEvent, ServerEvent, ServerOf};
+use event_book::{
+    AgentProcess, EventKind, LogEvent, MessageEvent, ReplicationEvent, ServerEvent, ServerOf,
+};
 use lease_store::Store;
 use pat_base::Ticks;
 use std::alloc::AllocError;

@@ -5,8 +5,7 @@ mod ctl;
 mod messages;
 mod requests;
 mod steps;
-mod ticks;
 
 pub use steps::take_step;
-pub use world_acts::idling::{due_from, ends_from};
 pub use world_fields::writing::write_down;
+pub use world_ticks::idling::{due_from, ends_from};

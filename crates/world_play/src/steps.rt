@@ -13,19 +13,19 @@ ghost use Rattle.world_model.specs.Room.{HasRoom, HasRoomFor, command_cost, roun
 use crate::ctl::take_words;
 use crate::messages::{deliver, lose, pass_messages};
 use crate::requests::{make_request, receive_visit};
-use crate::ticks::tick;
 use cluster_model::{Asker, Step};
 use event_book::{Event, EventKind};
 use rest_message::Verb;
 use script_model::Command;
 use std::alloc::AllocError;
-use world_acts::receiving::{all_receive, receive};
 use world_acts::servers::promote;
 use world_acts::wakes::{start_agent, turn, wakes};
 use world_fields::links::{cut_of, join_of};
 use world_orders::server_commands::{commit_of, crash_of, freezing_of, slow_of};
 use world_parts::processes::{kill_of, resume_of, suspend_of};
 use world_stage::Stage;
+use world_ticks::receiving::{all_receive, receive};
+use world_ticks::ticks::tick;
 
 /// The most rounds of one tick.
 const MOST_ROUNDS: usize = 40;

@@ -2,7 +2,9 @@
 #![tactic(auto)]
 
 mod arrival;
+mod beginning;
 mod stage;
 
 pub use arrival::Arrival;
+pub use beginning::begin_on;
 pub use stage::Stage;

@@ -18,7 +18,6 @@ mod printing;
 mod restarts;
 
 use event_book::{AgentProcess, Link, Member};
-use ha_loop::{Agent, Outputs};
 use lease_store::Store;
 use member_options::MemberOptions;
 use pat_base::{Host, MemberId, Name, Shared, Ticks};
@@ -28,6 +27,7 @@ use script_model::{End, Head};
 use std::alloc::{AllocError, Global};
 use std::marker::Model;
 use world_agents::places::{close_all, first_agents};
+use world_agents::{Agent, Outputs};
 use world_fields::links::{CutLinks, link_of};
 use world_fields::members;
 use world_flight::flight::Flight;

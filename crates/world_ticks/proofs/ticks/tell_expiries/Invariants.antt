@@ -1,7 +1,7 @@
 use Rattle.std.proofs.Common.{◌≡◌, ◌++◌, drop}
 use Rattle.cluster_model.specs.Parts.{events_at}
 use Rattle.cluster_model.specs.Ticking.{expiries_of}
-use Rattle.world_play.proofs.ticks.tell_expiries.Given as goal
+use Rattle.world_ticks.proofs.ticks.tell_expiries.Given as goal
 
 -- what is written down, and the expiries of the keys that are left, are all
 abbrev pub invariant-loop-key : goal.invariant-loop-key

@@ -5,8 +5,8 @@ use Rattle.event_book.specs.declared.event.ServerEvent.TheVariants as servers
 use Rattle.event_book.specs.declared.member.ServerOf.{ServerOf}
 use Rattle.world_model.specs.Room.{beginning_cost}
 use Rattle.world_stage.proofs.Promoting.{as-took, completed-comes, completes-begin, completes-end, ended-comes, none-completes, nothing-took, server-took}
-use Rattle.world_play.proofs.Completing.{completion-read}
-use Rattle.world_play.proofs.ticks.complete.Goals as goal
+use Rattle.world_ticks.proofs.Completing.{completion-read}
+use Rattle.world_ticks.proofs.ticks.complete.Goals as goal
 
 pub begin_on-requires-clause-comes : goal.begin_on-requires-clause-comes
 begin_on-requires-clause-comes c =

@@ -8,7 +8,7 @@ use Rattle.pg_model.specs.Facts.{ServerFacts}
 use Rattle.world_model.specs.Comes.{MayCome}
 use Rattle.world_model.specs.Promoting.{loss_of_any}
 use Rattle.world_stage.proofs.Promoting.{began-took}
-use Rattle.world_acts.proofs.servers.begin_on.Goals as goal
+use Rattle.world_stage.proofs.beginning.begin_on.Goals as goal
 
 pub happen_then-requires-clause-first : goal.happen_then-requires-clause-first
 happen_then-requires-clause-first c =

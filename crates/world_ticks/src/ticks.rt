@@ -10,12 +10,11 @@ use event_book::{Event, EventKind, Member, ServerEvent, ServerOf, StoreEvent};
 use lease_store::Key;
 use pat_base::Ticks;
 use std::alloc::AllocError;
-use world_acts::servers::begin_on;
 use world_fields::watchdogs::reset_of;
 use world_fields::writing::write_down;
 use world_orders::order_kinds::declared_member;
 use world_orders::server_commands::completion_of;
-use world_stage::Stage;
+use world_stage::{Stage, begin_on};
 
 /// The clock grows by one, starts and stops of servers that don't write are complete, and the keys that have expired are
 /// dropped. The machines whose watchdogs are due are reset, what expired is told, and starts and stops of

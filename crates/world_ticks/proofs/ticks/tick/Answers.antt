@@ -5,9 +5,9 @@ use Rattle.cluster_model.specs.Orders.{declared_member}
 use Rattle.cluster_model.specs.Parts.{events_at}
 use Rattle.cluster_model.specs.Ticking.{expiries_of}
 use Rattle.world_model.specs.Room.{completions_cost, resets_cost, tick_cost}
-use Rattle.world_play.proofs.Expiring.{tick-took}
+use Rattle.world_ticks.proofs.Expiring.{tick-took}
 use Rattle.world_model.proofs.Rooms.{HasRoom-fewer}
-use Rattle.world_play.proofs.ticks.tick.Goals as goal
+use Rattle.world_ticks.proofs.ticks.tick.Goals as goal
 
 pub happen-requires-clause-room : goal.happen-requires-clause-room
 happen-requires-clause-room c = HasRoom-fewer c.args.stage.now tick_cost 1 (omega arith) c.requires

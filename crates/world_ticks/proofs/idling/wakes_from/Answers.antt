@@ -2,7 +2,7 @@ use Rattle.std.proofs.Common.{ℕ, arith}
 use Rattle.event_book.specs.declared.member.Member.{Member}
 use Rattle.world_model.specs.Idle.{SleepsAt}
 use Rattle.world_model.proofs.Idling.{so-more, so-all}
-use Rattle.world_acts.proofs.idling.wakes_from.Goals as goal
+use Rattle.world_ticks.proofs.idling.wakes_from.Goals as goal
 
 pub loop-place-preserved : goal.loop-place-preserved
 loop-place-preserved c = (

@@ -4,7 +4,7 @@ use Rattle.world_model.specs.Room.{receiving_cost, streaming_cost}
 use Rattle.world_model.proofs.Rest.{EachLeft-end, EachLeft-members, EachLeft-more, EachLeft-place, EachLeft-room}
 use Rattle.world_model.proofs.Rooms.{HasRoom-fewer}
 use Rattle.world_model.proofs.Taking.{Emits-weaker}
-use Rattle.world_acts.proofs.receiving.all_receive.Goals as goal
+use Rattle.world_ticks.proofs.receiving.all_receive.Goals as goal
 
 pub member-member-requires : goal.member-member-requires
 member-member-requires c = omega (arith, c.loop-place-test.true, c.member_count-place-end.ensures.count, ap length (EachLeft-members _ _ _ _ _ _ _ _ _ c.loop-place.invariant))

@@ -1,6 +1,6 @@
 use Rattle.cluster_model.specs.Ticking.{reset_events}
 use Rattle.world_model.proofs.Rest.{EachLeft}
-use Rattle.world_play.proofs.ticks.resets.Given as goal
+use Rattle.world_ticks.proofs.ticks.resets.Given as goal
 
 -- the machines of the members from this place on are still to be reset
 abbrev pub invariant-loop-place : goal.invariant-loop-place
