@@ -1,5 +1,5 @@
 use Rattle.std.proofs.Common.{ap, ◌∙◌}
-use Rattle.cluster_config.specs.Naming.{is_candidate}
+use Rattle.cluster_view.specs.Naming.{is_candidate}
 use Rattle.leader_race.proofs.Winning.{outcome-by}
 use Rattle.leader_race.proofs.outcome.wins.Goals as goal
 
