@@ -7,21 +7,20 @@ use Rattle.run_serving.proofs.Received.{Receives-none, Receives-so, Receives-sta
 use Rattle.run_serving.proofs.Visiting.{Came-refused}
 use Rattle.run_serving.proofs.serving.receive.Goals as goal
 use Rattle.run_printing.specs.declared.serve_error.ServeError.TheVariants.{Door}
-use Rattle.run_player.proofs.player.Player.receive.Goals as goal
 
 pub returns-in_default : goal.returns-in_default
 returns-in_default g c =
     let e = c.in_default.ensures in (
       [],
-      Receives-none g.K.Sink g.D.Door (player_of g.W.Simulation.facts c.args.player.now) (player_of g.W.Simulation.facts c.args.player.now) c.args.out.now c.args.door.now (player_of g.W.Simulation.facts c.open.new.self) Door (Err Door) c.args.service.now.member c.args.service.now.count refl door-is-no-write
-          (Came-refused g.D.Door c.args.door.now (player_of g.W.Simulation.facts c.open.new.self) (player_of g.W.Simulation.facts c.args.player.now).world.cluster c.args.service.now.member c.args.service.now.count e.same e.failed e.grows e.line
+      Receives-none g.K.Sink g.D.Door (player_of g.W.Simulation.facts c.args.player.now) (player_of g.W.Simulation.facts c.args.player.now) c.args.out.now c.args.door.now c.open.new.self Door (Err Door) c.args.service.now.member c.args.service.now.count refl door-is-no-write
+          (Came-refused g.D.Door c.args.door.now c.open.new.self (player_of g.W.Simulation.facts c.args.player.now).world.cluster c.args.service.now.member c.args.service.now.count e.same e.failed e.grows e.line
           (λ more serves. err-is-not-ok (Unit {0}) c.in_default.field-0 (e.served (c.args.service.now.count + more) serves).0)),
     )
 
 pub loop-init : goal.loop-init
 loop-init g c =
     let e = c.in-Ok.ensures in
-    ([], Receives-start g.K.Sink g.D.Door (player_of g.W.Simulation.facts c.args.player.now) c.args.out.now c.args.door.now (player_of g.W.Simulation.facts c.open.new.self) c.args.service.now.member e.same e.grows e.line (λ n serves. (e.served n serves).1))
+    ([], Receives-start g.K.Sink g.D.Door (player_of g.W.Simulation.facts c.args.player.now) c.args.out.now c.args.door.now c.open.new.self c.args.service.now.member e.same e.grows e.line (λ n serves. (e.served n serves).1))
 
 pub receive_next-requires-clause-room : goal.receive_next-requires-clause-room
 receive_next-requires-clause-room g c =

@@ -1,8 +1,7 @@
 use Rattle.std.proofs.Common.{◌+◌, ◌∙◌, ◌∷◌, Err, Ok, arith, ap, map, refl, []}
 use Rattle.std.proofs.lemmas.Result.{err_from_is_err_and}
-use Rattle.run_serving.specs.declared.serve_error.ServeError.TheVariants.{Door, Memory}
-use Rattle.run_player.specs.declared.player.Player.{Player}
-use Rattle.run_player.specs.Playing.{player_of}
+use Rattle.run_printing.specs.declared.serve_error.ServeError.TheVariants.{Door, Memory}
+use Rattle.run_player.specs.Playing.{PlayerFacts, player_of}
 use Rattle.run_serving.proofs.Received.{Receives-none, accepted, door-is-no-write, err-is-not-ok, memory-is-no-write, no-plays, not-door, ok-is-no-door, plays-visit, prints-part, prints-visit, receives-one, shows-so}
 use Rattle.run_serving.proofs.Visiting.{Came-none-since, Came-refused}
 use Rattle.run_serving.proofs.serving.receive_next.Goals as goal
@@ -11,8 +10,8 @@ pub returns-in_default : goal.returns-in_default
 returns-in_default g c =
     let e = c.in_default.ensures in (
       [],
-      Receives-none g.K.Sink g.D.Door (player_of g.W.Simulation.facts c.args.player.now) (player_of g.W.Simulation.facts c.args.player.now) c.args.out.now c.args.door.now (player_of g.W.Simulation.facts c.accept.new.self) Door (Err Door) c.args.member 1 refl door-is-no-write
-          (Came-refused g.D.Door c.args.door.now (player_of g.W.Simulation.facts c.accept.new.self) (player_of g.W.Simulation.facts c.args.player.now).world.cluster c.args.member 1 e.same e.failed e.grows e.line
+      Receives-none g.K.Sink g.D.Door (player_of g.W.Simulation.facts c.args.player.now) (player_of g.W.Simulation.facts c.args.player.now) c.args.out.now c.args.door.now c.accept.new.self Door (Err Door) c.args.member 1 refl door-is-no-write
+          (Came-refused g.D.Door c.args.door.now c.accept.new.self (player_of g.W.Simulation.facts c.args.player.now).world.cluster c.args.member 1 e.same e.failed e.grows e.line
           (λ more serves. err-is-not-ok (Unit {0}) c.in_default.field-0 (e.served (1 + more) serves (omega arith)).0)),
     )
 
@@ -32,8 +31,8 @@ returns-in_err-show g c =
     let p = err_from_is_err_and final c.from_residual-in_err-show.ensures.1 in
     let a = c.in-Ok.ensures in
     let s = c.in_ok-serve_one.ensures in
-    let come = accepted g.D.Door c.args.door.now (player_of g.W.Simulation.facts c.accept.new.self) c.serve_one.new.door (player_of g.W.Simulation.facts c.args.player.now).world.cluster c.args.member s.serves.0 a.some a.after a.grows a.line (λ n serves above. (a.served n serves above).1) s.serves.2 s.grows s.door s.served in
-    let after : Player = record { alloc = (player_of g.W.Simulation.facts c.args.player.now).alloc; world = c.serve_one.new.world; trace = (player_of g.W.Simulation.facts c.args.player.now).trace; summary = c.show.new.summary; events = (player_of g.W.Simulation.facts c.args.player.now).events; text = c.show.new.text } in (
+    let come = accepted g.D.Door c.args.door.now c.accept.new.self c.serve_one.new.door (player_of g.W.Simulation.facts c.args.player.now).world.cluster c.args.member s.serves.0 a.some a.after a.grows a.line (λ n serves above. (a.served n serves above).1) s.serves.2 s.grows s.door s.served in
+    let after : PlayerFacts = record { world = g.W.Simulation.facts c.serve_one.new.world; trace = c.args.player.now.trace; summary = c.show.new.summary } in (
       s.serves.0 ∷ [],
       receives-one g.K.Sink g.D.Door (player_of g.W.Simulation.facts c.args.player.now) after c.args.out.now c.show.new.out c.args.door.now c.serve_one.new.door c.args.member s.serves.0 final
           (not-door c.in_err-show.field-0.0 final (p.1 ∙ ap Err p.2))
@@ -45,8 +44,8 @@ pub returns : goal.returns
 returns g c =
     let a = c.in-Ok.ensures in
     let s = c.in_ok-serve_one.ensures in
-    let come = accepted g.D.Door c.args.door.now (player_of g.W.Simulation.facts c.accept.new.self) c.serve_one.new.door (player_of g.W.Simulation.facts c.args.player.now).world.cluster c.args.member s.serves.0 a.some a.after a.grows a.line (λ n serves above. (a.served n serves above).1) s.serves.2 s.grows s.door s.served in
-    let after : Player = record { alloc = (player_of g.W.Simulation.facts c.args.player.now).alloc; world = c.serve_one.new.world; trace = (player_of g.W.Simulation.facts c.args.player.now).trace; summary = c.show.new.summary; events = (player_of g.W.Simulation.facts c.args.player.now).events; text = c.show.new.text } in (
+    let come = accepted g.D.Door c.args.door.now c.accept.new.self c.serve_one.new.door (player_of g.W.Simulation.facts c.args.player.now).world.cluster c.args.member s.serves.0 a.some a.after a.grows a.line (λ n serves above. (a.served n serves above).1) s.serves.2 s.grows s.door s.served in
+    let after : PlayerFacts = record { world = g.W.Simulation.facts c.serve_one.new.world; trace = c.args.player.now.trace; summary = c.show.new.summary } in (
       s.serves.0 ∷ [],
       receives-one g.K.Sink g.D.Door (player_of g.W.Simulation.facts c.args.player.now) after c.args.out.now c.show.new.out c.args.door.now c.serve_one.new.door c.args.member s.serves.0 (Ok tt) ok-is-no-door
           (prints-visit g.K.Sink (player_of g.W.Simulation.facts c.args.player.now) after c.args.out.now c.show.new.out c.args.member s.serves.0 _ _ (ap (map (λ v. v.items)) c.new-brought.ensures.items) s.serves.1 (shows-so (λ v. v.items) c.deref.ensures.value c.in_ok-show.ensures))

@@ -11,7 +11,6 @@ use Rattle.run_player.specs.Playing.{player_of}
 use Rattle.run_serving.proofs.Closing.{serves-all, serves-none, serves-part}
 use Rattle.run_serving.proofs.serving.serve.Goals as goal
 use Rattle.run_model.specs.Watches.{first_summary}
-use Rattle.run_player.proofs.serving.serve.Goals as goal
 
 pub returns-in_err-player : goal.returns-in_err-player
 returns-in_err-player g c =
