@@ -267,7 +267,7 @@ plays-declared {start = start} {steps = steps} id p named is =
     subst (λ (l : List Name). IsMember l id) (sym (ap (λ (c : Cluster). names_in c.facts.members) p.world ∙ ap (λ l. names_in l) (members-stay start.world.cluster (run_events start.world.cluster steps)) ∙ named)) is
 
 -- memory was wanting before anything was played
-pub serves-none : {K D W : Type 0} (sink : SinkGhosts K) (door : DoorGhosts D) (facts : W → WorldFacts) (out : K) (was : D) (final : Result W ServeError) (script : ScriptText) (id : MemberId) (count : ℕ) → final ≡ Err Memory → Serves sink door out out was was final script id count []
+pub serves-none : {K D W : Type 0} (sink : SinkGhosts K) (door : DoorGhosts D) (facts : W → WorldFacts) (out : K) (was : D) (final : Result W ServeError) (script : ScriptText) (id : MemberId) (count : ℕ) → final ≡ Err Memory → Serves sink door facts out out was was final script id count []
 serves-none {W = W} sink door facts out was final script id count stops = rw stops (record {
   printed = Prints-none sink out Write Memory (Err Memory) (text_of_run (served_of script id [])) refl memory-no-write;
   whole = λ e. PrintsWholeSteps-none sink out (cluster_of script.head) false (served_of script id []).steps;
