@@ -8,7 +8,10 @@ ghost use Rattle.world_model.specs.Comes.{MayCome};
 
 use agent_model::Target;
 use cluster_model::HeardMessage;
-use event_book::{AgentNote, Basis, EventKind, LinkEnd, LogEvent, Member, Note, ReplicationEvent, ServerEvent, ServerOf, WatchdogEvent};
+use event_book::{
+    AgentNote, Basis, EventKind, LinkEnd, LogEvent, Member, Note, ReplicationEvent, ServerEvent,
+    ServerOf, WatchdogEvent,
+};
 use pat_base::{Ineligibility, MemberId, Name, Required, State, Ticks};
 use pg_cluster::Servers;
 use std::alloc::{AllocError, Global};
