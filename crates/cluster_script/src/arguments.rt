@@ -7,7 +7,7 @@ ghost use Rattle.script_grammar.specs.Arguments.{number_in, switch_in, slowed_ca
 ghost use Rattle.pat_base.specs.declared.member_id.TheConstants.{MOST_MEMBERS};
 
 use crate::ctl_line::ctl_line;
-use crate::members::{Members, member_named};
+use crate::members::{Members, member_spelled};
 use crate::rest_line::rest_line;
 use pat_base::{MemberId, Name};
 use script_model::{Command, CommitSize, Delay, End, Keyword, Line, SlowedCall};
@@ -73,12 +73,12 @@ pub fn member_in(members: &Members, word: &[u8]) -> Result<MemberId, Fault>
     requires { length (keys members.now) ≤ MOST_MEMBERS }
     ensures { result ≡ member_in (keys members.now) word.now }
 {
-    let Some(name) = Name::read(word) else {
-        return Err(Fault::BadName);
-    };
-    match member_named(members, name) {
-        None => Err(Fault::UnknownName),
-        Some(member) => Ok(member),
+    if let Some(member) = member_spelled(members, word) {
+        return Ok(member);
+    }
+    match Name::read(word) {
+        None => Err(Fault::BadName),
+        Some(_) => Err(Fault::UnknownName),
     }
 }
 

@@ -1,9 +1,10 @@
 //! A script while its lines are read.
-ghost use Rattle.std.specs.Prelude.{◌≡◌, ◌≤◌, ◌+◌, length, map, Option, None, Some, Ok, IfOk, OnOk, OnErr, IfErr, IfSome};
+ghost use Rattle.std.specs.Prelude.{◌≡◌, ◌≤◌, ◌+◌, length, Option, None, Some, Ok, IfOk, OnOk, OnErr, IfErr, IfSome};
 ghost use Rattle.std.specs.Option.{option_copied};
 ghost use Rattle.indexmap.specs.IndexMap.{keys};
 ghost use Rattle.cluster_config.specs.ConfigReading.{IsConfiguration};
 ghost use Rattle.pat_base.specs.declared.member_id.TheConstants.{MOST_MEMBERS};
+ghost use Rattle.script_words.specs.Lines.{lines_in};
 ghost use Rattle.script_model.specs.Script.{ScriptText, IsScript, config_or_default, base_or_default, member_names, members_in};
 ghost use Rattle.script_grammar.specs.Reading.{Gives, IsNew, base_addition, member_addition, body_addition, addition_of, known_addition, is_config, base_after, members_after, body_after, after_counted, after_line, after_lines, at_line, finished};
 
@@ -17,7 +18,7 @@ use lease_store::ConfigValue;
 use pat_base::Name;
 use script_grammar::{Addition, ScriptFault};
 use script_model::{DEFAULT_BASE, Head, Keyword, Line, Script};
-use script_words::{Fault, cut_word, is_skipped, is_text};
+use script_words::{Fault, cut_line, cut_word, is_skipped, is_text};
 use std::alloc::{AllocError, Global};
 use std::marker::Model;
 
@@ -239,14 +240,20 @@ impl Draft {
         self.add_counted(alloc, number, line)
     }
 
-    /// More lines, in order, of which the first is line 1. The first with a fault ends it.
-    pub fn add_lines(&mut self, alloc: Global, lines: &[&[u8]]) -> Result<(), ScriptFault>
-        ensures { Gives (λ _. self.new) result (after_lines 1 self.old (map (λ line. line.now) lines.now)) }
+    /// The lines of these bytes, in order, of which the first is line 1; and the number of a line behind them. The first with a
+    /// fault ends it.
+    pub fn add_lines(&mut self, alloc: Global, bytes: &[u8]) -> Result<u64, ScriptFault>
+        ensures value { Gives (λ _. self.new) result (after_lines 1 self.old (lines_in bytes.now)) }
+        ensures end { IfOk result (λ end. end ≡ length (lines_in bytes.now) + 1) }
     {
-        for (place, line) in lines.iter().enumerate() {
-            self.add_line(alloc, place as u64 + 1, line)?;
+        let mut number = 1u64;
+        let mut rest = bytes;
+        while let Some((line, behind)) = cut_line(rest) {
+            self.add_line(alloc, number, line)?;
+            number += 1;
+            rest = behind;
         }
-        Ok(())
+        Ok(number)
     }
 
     /// The script, once all lines are read. A fault stands at the line of this number.

@@ -1,76 +1,39 @@
 //! The first words of lines.
 ghost use Rattle.std.specs.Prelude.{◌≡◌};
-ghost use Rattle.script_model.specs.Keywords.{word_of};
 ghost use Rattle.script_grammar.specs.FirstWords.{keyword_of};
 
 use script_model::Keyword;
-
-const KEYWORDS: [Keyword; 25] = [
-    Keyword::Cluster,
-    Keyword::Config,
-    Keyword::Base,
-    Keyword::Member,
-    Keyword::Tick,
-    Keyword::Run,
-    Keyword::Turn,
-    Keyword::Deliver,
-    Keyword::Lose,
-    Keyword::Hold,
-    Keyword::Resume,
-    Keyword::Kill,
-    Keyword::Restart,
-    Keyword::Crash,
-    Keyword::Promote,
-    Keyword::Commit,
-    Keyword::Stream,
-    Keyword::Freeze,
-    Keyword::Thaw,
-    Keyword::Cut,
-    Keyword::Join,
-    Keyword::Slow,
-    Keyword::Rest,
-    Keyword::Ctl,
-    Keyword::Trace,
-];
-
-fn word_of(keyword: Keyword) -> &'static [u8]
-    ensures { result.now ≡ word_of keyword }
-{
-    match keyword {
-        Keyword::Cluster => b"cluster",
-        Keyword::Config => b"config",
-        Keyword::Base => b"base",
-        Keyword::Member => b"member",
-        Keyword::Tick => b"tick",
-        Keyword::Run => b"run",
-        Keyword::Turn => b"turn",
-        Keyword::Deliver => b"deliver",
-        Keyword::Lose => b"lose",
-        Keyword::Hold => b"hold",
-        Keyword::Resume => b"resume",
-        Keyword::Kill => b"kill",
-        Keyword::Restart => b"restart",
-        Keyword::Crash => b"crash",
-        Keyword::Promote => b"promote",
-        Keyword::Commit => b"commit",
-        Keyword::Stream => b"stream",
-        Keyword::Freeze => b"freeze",
-        Keyword::Thaw => b"thaw",
-        Keyword::Cut => b"cut",
-        Keyword::Join => b"join",
-        Keyword::Slow => b"slow",
-        Keyword::Rest => b"rest",
-        Keyword::Ctl => b"ctl",
-        Keyword::Trace => b"trace",
-    }
-}
 
 /// The first word that these bytes are.
 pub fn keyword_of(word: &[u8]) -> Option<Keyword>
     ensures { result ≡ keyword_of word.now }
 {
-    KEYWORDS
-        .iter()
-        .copied()
-        .find(|keyword| word == word_of(*keyword))
+    match word {
+        b"cluster" => Some(Keyword::Cluster),
+        b"config" => Some(Keyword::Config),
+        b"base" => Some(Keyword::Base),
+        b"member" => Some(Keyword::Member),
+        b"tick" => Some(Keyword::Tick),
+        b"run" => Some(Keyword::Run),
+        b"turn" => Some(Keyword::Turn),
+        b"deliver" => Some(Keyword::Deliver),
+        b"lose" => Some(Keyword::Lose),
+        b"hold" => Some(Keyword::Hold),
+        b"resume" => Some(Keyword::Resume),
+        b"kill" => Some(Keyword::Kill),
+        b"restart" => Some(Keyword::Restart),
+        b"crash" => Some(Keyword::Crash),
+        b"promote" => Some(Keyword::Promote),
+        b"commit" => Some(Keyword::Commit),
+        b"stream" => Some(Keyword::Stream),
+        b"freeze" => Some(Keyword::Freeze),
+        b"thaw" => Some(Keyword::Thaw),
+        b"cut" => Some(Keyword::Cut),
+        b"join" => Some(Keyword::Join),
+        b"slow" => Some(Keyword::Slow),
+        b"rest" => Some(Keyword::Rest),
+        b"ctl" => Some(Keyword::Ctl),
+        b"trace" => Some(Keyword::Trace),
+        _ => None,
+    }
 }

@@ -1,14 +1,15 @@
 //! The limits of a script. Bytes that pass one are judged by it before any fault of their lines.
-ghost use Rattle.std.specs.Prelude.{◌≡◌, map, IfOk};
+ghost use Rattle.std.specs.Prelude.{◌≡◌, length, IfOk};
 ghost use Rattle.std.specs.Option.{option_copied};
-ghost use Rattle.script_grammar.specs.Limits.{is_member_line, member_line_count, ticks_or_none, ticks_behind, ticks_in_line, ticks_in, limit_of_lines, limit_of};
+ghost use Rattle.script_words.specs.Lines.{lines_in};
+ghost use Rattle.script_grammar.specs.Limits.{is_member_word, member_line_count, ticks_or_none, ticks_behind, ticks_of_words, ticks_in, limit_of_lines, limit_of};
 
 use crate::ScriptLines;
 use crate::first_words::keyword_of;
 use pat_base::MOST_MEMBERS;
 use script_grammar::Limit;
 use script_model::Keyword;
-use script_words::{cut_word, number};
+use script_words::{cut_line, cut_word, number};
 use std::alloc::{AllocError, Global};
 
 /// The most bytes of a script.
@@ -20,18 +21,19 @@ const MOST_LINES: usize = 100_000;
 /// The most ticks, of 100 ms, of all lines `tick N` and `run N` of a script, with those that come beside them.
 const MOST_TICKS: u64 = 1_000_000;
 
-/// Whether a line's first word is `member`.
-fn is_member_line(line: &[u8]) -> bool
-    ensures { result ≡ is_member_line line.now }
-{
-    let (word, _) = cut_word(line);
-    matches!(keyword_of(word), Some(Keyword::Member))
+/// What the limits count of lines: how many they are, those of members, and their ticks, which end at the greatest number of 64
+/// bits.
+#[derive(Clone, Copy)]
+struct LineCounts {
+    lines: usize,
+    members: usize,
+    ticks: u64,
 }
 
-fn member_line_count(lines: &[&[u8]]) -> usize
-    ensures { result ≡ member_line_count (map (λ line. line.now) lines.now) }
+fn is_member_word(keyword: Option<Keyword>) -> bool
+    ensures { result ≡ is_member_word keyword }
 {
-    lines.iter().filter(|line| is_member_line(line)).count()
+    matches!(keyword, Some(Keyword::Member))
 }
 
 fn ticks_or_none(ticks: Option<u64>) -> u64
@@ -49,36 +51,53 @@ fn ticks_behind(rest: Option<&[u8]>) -> u64
     }
 }
 
-/// The ticks of a line.
-fn ticks_in_line(line: &[u8]) -> u64
-    ensures { result ≡ ticks_in_line line.now }
+/// The ticks of a line, from its first word and what stands behind it.
+fn ticks_of_words(keyword: Option<Keyword>, rest: Option<&[u8]>) -> u64
+    ensures { result ≡ ticks_of_words keyword (option_copied rest.entry) }
 {
-    let (word, rest) = cut_word(line);
-    match keyword_of(word) {
+    match keyword {
         Some(Keyword::Tick | Keyword::Run) => ticks_behind(rest),
         _ => 0,
     }
 }
 
-fn ticks_in(lines: &[&[u8]]) -> u64
-    ensures { result ≡ ticks_in (map (λ line. line.now) lines.now) }
-{
-    let mut ticks = 0u64;
-    for line in lines {
-        ticks = ticks.saturating_add(ticks_in_line(line));
+impl LineCounts {
+    /// The counts of the lines of these bytes.
+    fn of(bytes: &[u8]) -> LineCounts
+        ensures lines { result.lines ≡ length (lines_in bytes.now) }
+        ensures members { result.members ≡ member_line_count (lines_in bytes.now) }
+        ensures ticks { result.ticks ≡ ticks_in (lines_in bytes.now) }
+    {
+        let mut lines = 0usize;
+        let mut members = 0usize;
+        let mut ticks = 0u64;
+        let mut rest = bytes;
+        while let Some((line, behind)) = cut_line(rest) {
+            let (word, said) = cut_word(line);
+            let keyword = keyword_of(word);
+            lines += 1;
+            members += usize::from(is_member_word(keyword));
+            ticks = ticks.saturating_add(ticks_of_words(keyword, said));
+            rest = behind;
+        }
+        LineCounts {
+            lines,
+            members,
+            ticks,
+        }
     }
-    ticks
 }
 
-/// The first limit that lines pass, where `waited` ticks of 100 ms come beside those of the lines.
-pub(crate) fn limit_of_lines(lines: &[&[u8]], waited: u64) -> Option<Limit>
-    ensures { result ≡ limit_of_lines waited (map (λ line. line.now) lines.now) }
+/// The first limit that the lines of these bytes pass, where `waited` ticks of 100 ms come beside those of the lines.
+pub(crate) fn limit_of_lines(bytes: &[u8], waited: u64) -> Option<Limit>
+    ensures { result ≡ limit_of_lines waited (lines_in bytes.now) }
 {
-    if lines.len() > MOST_LINES {
+    let counts = LineCounts::of(bytes);
+    if counts.lines > MOST_LINES {
         Some(Limit::Lines)
-    } else if member_line_count(lines) > MOST_MEMBERS {
+    } else if counts.members > MOST_MEMBERS {
         Some(Limit::Members)
-    } else if ticks_in(lines).saturating_add(waited) > MOST_TICKS {
+    } else if counts.ticks.saturating_add(waited) > MOST_TICKS {
         Some(Limit::Ticks)
     } else {
         None
@@ -86,8 +105,7 @@ pub(crate) fn limit_of_lines(lines: &[&[u8]], waited: u64) -> Option<Limit>
 }
 
 /// The first limit that the bytes pass, in the order of `Limit`, whether or not they are a script. `waited` is how many ticks
-/// of 100 ms come beside those of their lines: the limit of ticks is one of both together. Want of memory says nothing of the
-/// bytes.
+/// of 100 ms come beside those of their lines: the limit of ticks is one of both together.
 pub fn limit_passed(alloc: Global, bytes: &[u8], waited: u64) -> Result<Option<Limit>, AllocError>
     ensures { IfOk result (λ limit. limit ≡ limit_of waited bytes.now) }
 {

@@ -1,28 +1,24 @@
-//! The bytes of a script, cut into lines once.
+//! The bytes of a script, which are cut into lines by whoever walks over them.
 use crate::draft::Draft;
 use crate::limits::{MOST_BYTES, limit_of_lines};
 use script_grammar::{Limit, ScriptFault};
 use script_model::Script;
-use script_words::lines_in;
 use std::alloc::{AllocError, Global};
 use std::marker::Model;
 
-/// The bytes of a script, with their lines: they are cut once, for whoever judges the limits and then reads.
+/// The bytes of a script, as lines: for whoever judges the limits and then reads. The lines are kept nowhere, since a list of
+/// them would take more room than the bytes.
 #[derive(Drop)]
 pub struct ScriptLines<'a> {
     bytes: &'a [u8],
-    lines: Vec<&'a [u8]>,
 }
 
 impl<'a> Model for ScriptLines<'a> {
-    ghost use Rattle.std.specs.Prelude.{ℕ, ◌≡◌, List, map};
-    ghost use Rattle.script_words.specs.Lines.{lines_in};
+    ghost use Rattle.std.specs.Prelude.{ℕ, List};
 
     ghost Value = { List ℕ };
 
     ghost view = { λ s. s.bytes.now };
-
-    ghost invariant = { λ s. map (λ line. line.now) s.lines.items ≡ lines_in s.bytes.now };
 }
 
 impl<'a> ScriptLines<'a> {
@@ -31,12 +27,11 @@ impl<'a> ScriptLines<'a> {
     ghost use Rattle.script_grammar.specs.Reading.{Gives, script_of};
     ghost use Rattle.script_model.specs.Script.{IsScript};
 
-    /// The lines of these bytes. It fails only for want of memory.
-    pub fn cut(alloc: Global, bytes: &'a [u8]) -> Result<ScriptLines<'a>, AllocError>
+    /// The lines of these bytes.
+    pub fn cut(_: Global, bytes: &'a [u8]) -> Result<ScriptLines<'a>, AllocError>
         ensures { IfOk result (λ lines. lines ≡ bytes.now) }
     {
-        let lines = lines_in(alloc, bytes)?;
-        Ok(ScriptLines { bytes, lines })
+        Ok(ScriptLines { bytes })
     }
 
     /// The first limit that the bytes pass, in the order of `Limit`, whether or not they are a script. `waited` is how many
@@ -47,7 +42,7 @@ impl<'a> ScriptLines<'a> {
         if self.bytes.len() > MOST_BYTES {
             return Some(Limit::Bytes);
         }
-        limit_of_lines(&self.lines, waited)
+        limit_of_lines(self.bytes, waited)
     }
 
     /// The script that the bytes are, or the first line with a fault and its first fault. Lines are counted from 1; what is
@@ -58,7 +53,7 @@ impl<'a> ScriptLines<'a> {
         ensures script { IfOk result IsScript }
     {
         let mut draft = Draft::new(alloc);
-        draft.add_lines(alloc, &self.lines)?;
-        draft.finish(alloc, self.lines.len() as u64 + 1)
+        let end = draft.add_lines(alloc, self.bytes)?;
+        draft.finish(alloc, end)
     }
 }

@@ -1,11 +1,11 @@
 -- Lines from the front.
-use Rattle.std.proofs.Common.{◌≡◌, ℕ, ◌+◌, ◌-◌, ◌<◌, ◌==◌, Bool, true, false, cond, List, [], ◌∷◌, ◌++◌, length, take, drop, Option, Some, None, arith, append_assoc, refl, ◌∙◌, ap, sym, suc, take_all, length-drop}
+use Rattle.std.proofs.Common.{◌≡◌, ℕ, ◌+◌, ◌-◌, ◌<◌, ◌==◌, Bool, true, false, cond, List, [], ◌∷◌, ◌++◌, length, take, drop, Option, Some, None, arith, refl, ap, suc, take_all, length-drop}
 use Rattle.std.specs.List.{list_all}
 use Rattle.std.proofs.lemmas.Bool.{and_parts}
 use Rattle.std.proofs.lemmas.Bool.Decides.{nat_tests}
 use Rattle.script_words.specs.Lines.{lines_in, first_at, push_byte, one_more, is_in_line}
 
-cut-step : (t : Bool) (b : ℕ) (bs : List ℕ) (o : Option ℕ) (n : ℕ) → ((m : ℕ) → o ≡ Some m → lines_in bs ≡ take m bs ∷ lines_in (drop 1 (drop m bs))) → cond t (Some 0) (one_more o) ≡ Some n → cond t ([] ∷ lines_in bs) (push_byte b (lines_in bs)) ≡ take n (b ∷ bs) ∷ lines_in (drop 1 (drop n (b ∷ bs)))
+cut-step : (t : Bool) (b : ℕ) (bs : List ℕ) (o : Option ℕ) (n : ℕ) → ((m : ℕ) → o ≡ Some m → lines_in bs ≡ take m bs ∷ lines_in (drop (m + 1) bs)) → cond t (Some 0) (one_more o) ≡ Some n → cond t ([] ∷ lines_in bs) (push_byte b (lines_in bs)) ≡ take n (b ∷ bs) ∷ lines_in (drop (n + 1) (b ∷ bs))
 cut-step true b bs o n ih h =
     let z : n ≡ 0 = cc in
     rw z refl
@@ -13,12 +13,18 @@ cut-step false b bs None n ih h = cc
 cut-step false b bs (Some m) n ih h =
     let y : m + 1 ≡ n = cc in
     let z : n ≡ suc m = omega arith in
-    rw (z, ih m refl) refl
+    let after : n + 1 ≡ suc (m + 1) = omega arith in
+    rw (after, z, ih m refl) refl
 
 -- the first line, and then the others
-pub lines_in-first : (bs : List ℕ) (n : ℕ) → first_at 10 bs ≡ Some n → lines_in bs ≡ take n bs ∷ lines_in (drop 1 (drop n bs))
+lines_in-first : (bs : List ℕ) (n : ℕ) → first_at 10 bs ≡ Some n → lines_in bs ≡ take n bs ∷ lines_in (drop (n + 1) bs)
 lines_in-first [] n h = cc
 lines_in-first (b ∷ bs) n h = cut-step (b == 10) b bs (first_at 10 bs) n (λ m e. lines_in-first bs m e) h
+
+pub first-cut : (bs : List ℕ) (n : ℕ) → first_at 10 bs ≡ Some n → lines_in bs ≡ take n bs ∷ lines_in (take (length bs - (n + 1)) (drop (n + 1) bs))
+first-cut bs n h =
+    let all : take (length bs - (n + 1)) (drop (n + 1) bs) ≡ drop (n + 1) bs = take_all (length bs - (n + 1)) (drop (n + 1) bs) (omega (arith, length-drop (n + 1) bs)) in
+    rw all (lines_in-first bs n h)
 
 last-step : (t : Bool) (b : ℕ) (bs : List ℕ) (o : Option ℕ) → (o ≡ None → push_byte b (lines_in bs) ≡ (b ∷ bs) ∷ []) → cond t (Some 0) (one_more o) ≡ None → cond t ([] ∷ lines_in bs) (push_byte b (lines_in bs)) ≡ (b ∷ bs) ∷ []
 last-step true b bs o ih h = cc
@@ -33,11 +39,6 @@ lines_in-last b (c ∷ cs) h = last-step (b == 10) b (c ∷ cs) (first_at 10 (c 
 pub last-line : (bs : List ℕ) → 0 < length bs → first_at 10 bs ≡ None → lines_in bs ≡ bs ∷ []
 last-line [] l h = absurd (omega arith)
 last-line (b ∷ bs) l h = lines_in-last b bs h
-
-pub cut-more : (front more : List (List ℕ)) (bytes rest tail : List ℕ) (n : ℕ) → front ++ lines_in rest ≡ lines_in bytes → first_at 10 rest ≡ Some n → tail ≡ drop n rest → more ≡ front ++ (take n rest ∷ []) → more ++ lines_in (take (length tail - 1) (drop 1 tail)) ≡ lines_in bytes
-cut-more front more bytes rest tail n so end is put =
-    let all : take (length tail - 1) (drop 1 tail) ≡ drop 1 tail = take_all (length tail - 1) (drop 1 tail) (omega (arith, length-drop 1 tail)) in
-    rw (all, put, is) (append_assoc front (take n rest ∷ []) (lines_in (drop 1 (drop n rest))) ∙ ap (λ ls. front ++ ls) (sym (lines_in-first rest n end)) ∙ so)
 
 -- a line is cut again where it was ended
 feeds-apart : (b : ℕ) → is_in_line b ≡ true → (b == 10) ≡ false

@@ -8,7 +8,7 @@ mod tokens;
 mod words;
 
 pub use fault::{Fault, both, fault_text};
-pub use lines::{first_at, is_skipped, is_text, lines_in};
+pub use lines::{cut_line, first_at, is_skipped, is_text};
 pub use numbers::number;
 pub use tokens::is_token;
 pub use words::cut_word;

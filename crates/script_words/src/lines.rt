@@ -1,26 +1,21 @@
 //! Bytes as lines.
-ghost use Rattle.std.specs.Prelude.{◌≡◌, ◌<◌, length, map, IfOk, IfSome};
+ghost use Rattle.std.specs.Prelude.{◌≡◌, ◌<◌, [], ◌∷◌, length, IfNone, IfSome};
 ghost use Rattle.std.specs.Str.{is_utf8};
 ghost use Rattle.script_words.specs.Lines.{lines_in, first_at, is_skipped};
 
-use std::alloc::{AllocError, Global};
-
-/// The lines, each ended by a line feed; the last may lack it.
-pub fn lines_in(alloc: Global, bytes: &[u8]) -> Result<Vec<&[u8]>, AllocError>
-    ensures { IfOk result (λ lines. map (λ line. line.now) lines.items ≡ lines_in bytes.now) }
+/// The first line, and the bytes behind its line feed; the last line may lack it. `None` exactly where there is no byte.
+pub fn cut_line(bytes: &[u8]) -> Option<(&[u8], &[u8])>
+    ensures ended { IfNone result (lines_in bytes.now ≡ []) }
+    ensures lines { IfSome result (λ cut. lines_in bytes.now ≡ cut.0.now ∷ lines_in cut.1.now) }
+    ensures shorter { IfSome result (λ cut. length cut.1.now < length bytes.now) }
 {
-    let mut lines = Vec::new(alloc);
-    let mut rest = bytes;
-    while let Some(end) = first_at(b'\n', rest) {
-        let (line, tail) = rest.split_at(end);
-        lines.push(line)?;
-        rest = &tail[1..];
+    if bytes.is_empty() {
+        return None;
     }
-    if rest.is_empty() {
-        return Ok(lines);
+    match first_at(b'\n', bytes) {
+        Some(end) => Some((&bytes[..end], &bytes[end + 1..])),
+        None => Some((bytes, &[])),
     }
-    lines.push(rest)?;
-    Ok(lines)
 }
 
 /// Where a byte stands first.
