@@ -2,6 +2,6 @@
 //! a run.
 #![tactic(auto)]
 
-mod carrying;
+mod commands;
 
-pub use carrying::carry_out;
+pub use commands::carry_out;

@@ -9,7 +9,7 @@ use Rattle.program_commands.proofs.Endings.{quiet-service}
 use Rattle.command_line.proofs.Input.{keeps-counted, read-counted, refuses-counted}
 use Rattle.command_line.proofs.Naming.{found-in}
 use Rattle.program_commands.proofs.Room.{room-behind}
-use Rattle.program_commands.proofs.carrying.serve_script.Goals as goal
+use Rattle.program_commands.proofs.commands.serve_script.Goals as goal
 
 pub returns-in_err-script : goal.returns-in_err-script
 returns-in_err-script g c =

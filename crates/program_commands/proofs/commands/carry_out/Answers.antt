@@ -11,7 +11,7 @@ use Rattle.command_line.specs.Commands.{Print, Run}
 use Rattle.program_commands.specs.Verdicts.{Formats, Makes, Plays}
 use Rattle.program_commands.proofs.Carrying.{drilled-part, drilled-whole, formatted-part, formatted-whole, generated-part, generated-whole, not-drilled, not-generated, printed-part, printed-whole, refused}
 use Rattle.program_commands.proofs.Room.{room-alone, room-drawn}
-use Rattle.program_commands.proofs.carrying.carry_out.Goals as goal
+use Rattle.program_commands.proofs.commands.carry_out.Goals as goal
 
 pub returns-in_err-script-in-Run : goal.returns-in_err-script-in-Run
 returns-in_err-script-in-Run g c =
