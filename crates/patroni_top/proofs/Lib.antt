@@ -1,4 +1,1 @@
-pub mod Carrying
-pub mod Endings
 pub mod Promised
-pub mod Room

@@ -17,7 +17,7 @@ use Rattle.generator_model.specs.Generating.{generated_script}
 use Rattle.generator_model.specs.declared.bounds.TheConstants.{MOST_GENERATED}
 use Rattle.command_line.specs.Commands.{Command, Drill, Generate, Print, Run, Serve}
 use Rattle.command_line.specs.Members.{member_named}
-use Rattle.patroni_top.specs.Verdicts.{Drills, Formats, IfPlayed, Makes, PastCount, Plays, Verdict, service_of, verdict_by, verdict_in, verdict_of}
+use Rattle.program_commands.specs.Verdicts.{Drills, Formats, IfPlayed, Makes, PastCount, Plays, Verdict, service_of, verdict_by, verdict_in, verdict_of}
 use Rattle.promise_law.proofs.Premises.{keeps-promises}
 
 -- what is played of bytes does, whatever is made of a script

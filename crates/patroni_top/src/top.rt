@@ -3,20 +3,16 @@ ghost use Rattle.std.specs.Prelude.{List, ◌≡◌, ◌↔◌, None, map, strin
 ghost use Rattle.pat_outside.specs.Outside.{Known};
 ghost use Rattle.serve_model.specs.Connections.{Connection};
 ghost use Rattle.promise_law.specs.Claims.{KeepsPromises};
-ghost use Rattle.command_line.specs.Commands.{Serve, command_of, heeded, order_command, reads};
+ghost use Rattle.command_line.specs.Commands.{command_of, heeded, reads};
 ghost use Rattle.command_line.specs.Status.{status_of, message_of, IsReported};
-ghost use Rattle.patroni_top.specs.Ended.{Carries, IsCarriedOut};
-ghost use Rattle.patroni_top.specs.Verdicts.{IfPlayed, Says, verdict_of};
+ghost use Rattle.program_commands.specs.Carried.{Carries};
+ghost use Rattle.program_commands.specs.Verdicts.{IfPlayed, Says, verdict_of};
 
 use crate::Ended;
-use command_line::{
-    Ending, Order, Status, drawn_script, member_named, print_script, report, script_from,
-};
+use command_line::{Ending, Order, Status, report};
 use pat_door::Door;
 use pat_outside::{Sink, Source};
-use pat_world::World;
-use run_player::{drill, play};
-use run_serving::{MOST_WAITING, Service, serve};
+use program_commands::carry_out;
 use std::alloc::Global;
 
 /// The program: all that it does with its words, its input, its two outputs and its door.
@@ -47,7 +43,7 @@ pub fn run<S: Source, K: Sink, E: Sink, D: Door>(
     ensures usage { (result.status ≡ Status.Usage) ↔ (command_of (map string_bytes words.now) ≡ None) }
     // These connections came: the status says what came of the words by the bytes of the input and by them, what was written of that, and
     // what was sent on each; and a run that was played leaves its world.
-    ensures carried { (visitors : List Connection) × Carries S.Source K.Sink D.Door input.old input.new out.old out.new door.old door.new (command_of (map string_bytes words.now)) visitors result }
+    ensures carried { (visitors : List Connection) × Carries S.Source K.Sink D.Door input.old input.new out.old out.new door.old door.new (command_of (map string_bytes words.now)) visitors (record { status = result.status; world = result.world }) }
     // What is played has one writer while the premises are met, keeps commits while synchronous mode is on too, and its summary is true,
     // whoever connects.
     ensures promises { (visitors : List Connection) → Known (heeded (reads (command_of (map string_bytes words.now))) (S.rest input.old)) (λ bytes. IfPlayed KeepsPromises (verdict_of (command_of (map string_bytes words.now)) visitors bytes)) }
@@ -79,69 +75,4 @@ pub fn run<S: Source, K: Sink, E: Sink, D: Door>(
             }
         }
     }
-}
-
-/// Does what a command asks for. On Ok it answers the world after the last step, where a run was played.
-fn carry_out<S: Source, K: Sink, D: Door>(
-    order: Order<'_>,
-    alloc: Global,
-    input: &mut S,
-    out: &mut K,
-    door: &mut D,
-) -> Result<Option<World>, Ending>
-    ensures { IsCarriedOut S.Source K.Sink D.Door input.old input.new out.old out.new door.old door.new (order_command order.entry) result }
-{
-    match order {
-        Order::Run => {
-            let script = script_from(alloc, 0, input)?;
-            let world = play(alloc, &script, out)?;
-            Ok(Some(world))
-        }
-        Order::Serve {
-            member,
-            address,
-            count,
-        } => serve_script(alloc, member, address, count, input, out, door),
-        Order::Print => {
-            let script = script_from(alloc, 0, input)?;
-            print_script(alloc, &script, out)?;
-            Ok(None)
-        }
-        Order::Generate { seed, count } => {
-            let script = drawn_script(alloc, seed, count)?;
-            print_script(alloc, &script, out)?;
-            Ok(None)
-        }
-        Order::Drill { seed, count } => {
-            let script = drawn_script(alloc, seed, count)?;
-            let world = drill(alloc, &script, out)?;
-            Ok(Some(world))
-        }
-    }
-}
-
-/// Reads a script, writes its printed run, and serves so many connections before the closing summary. On Ok it answers the world after the
-/// last step.
-fn serve_script<S: Source, K: Sink, D: Door>(
-    alloc: Global,
-    name: &[u8],
-    address: &[u8],
-    count: u64,
-    input: &mut S,
-    out: &mut K,
-    door: &mut D,
-) -> Result<Option<World>, Ending>
-    ensures { IsCarriedOut S.Source K.Sink D.Door input.old input.new out.old out.new door.old door.new (Serve name.now address.now count) result }
-{
-    let script = script_from(alloc, MOST_WAITING.saturating_mul(count), input)?;
-    let Some(member) = member_named(script.head(), name) else {
-        return Err(Ending::UnknownMember);
-    };
-    let service = Service {
-        member,
-        address,
-        count,
-    };
-    let world = serve(alloc, &script, &service, door, out)?;
-    Ok(Some(world))
 }

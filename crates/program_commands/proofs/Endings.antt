@@ -34,8 +34,8 @@ use Rattle.command_line.specs.declared.ending.Ending.TheVariants as endings
 use Rattle.command_line.specs.declared.status.Status.{Status}
 use Rattle.command_line.specs.declared.status.Status.TheVariants as statuses
 use Rattle.command_line.specs.Commands.{heeded}
-use Rattle.patroni_top.specs.Verdicts.{Drills, EndsWhole, Faulty, Formats, IfPlayed, Makes, NoCommand, PastCount, PastLimit, Plan, Plays, Says, Serves, UnknownMember, Verdict, plan_run, plan_text, service_of, verdict_by, verdict_in}
-use Rattle.patroni_top.specs.Ends.{Ends, IsBroken, IsCut, IsDone, IsFaulty, IsHalted, IsPastLimit, IsServedBy, IsVisited, serving_of}
+use Rattle.program_commands.specs.Verdicts.{Drills, EndsWhole, Faulty, Formats, IfPlayed, Makes, NoCommand, PastCount, PastLimit, Plan, Plays, Says, Serves, UnknownMember, Verdict, plan_run, plan_text, service_of, verdict_by, verdict_in}
+use Rattle.program_commands.specs.Ends.{Ends, IsBroken, IsCut, IsDone, IsFaulty, IsHalted, IsPastLimit, IsServedBy, IsVisited, serving_of}
 use Rattle.command_line.specs.Status.{status_of, ending_of_print, ending_of_serve, Refuses, IsRefusal}
 
 -- an ending that refuses bytes says what comes of them

@@ -31,19 +31,18 @@ use Rattle.run_model.specs.Run.{Played, played_of, summary_of_run, text_of_run}
 use Rattle.run_model.specs.Visits.{after_steps, served_of}
 use Rattle.run_printing.specs.Errors.{serve_error}
 use Rattle.command_line.specs.Limits.{most_read}
-use Rattle.patroni_top.specs.declared.ended.Ended.{Ended}
 use Rattle.command_line.specs.declared.ending.Ending.{Ending}
 use Rattle.command_line.specs.declared.ending.Ending.TheVariants as endings
 use Rattle.command_line.specs.declared.status.Status.{Status}
 use Rattle.command_line.specs.declared.status.Status.TheVariants as statuses
 use Rattle.command_line.specs.Commands.{Command, Drill, Generate, Print, Run, Serve, heeded, plays, reads}
 use Rattle.command_line.specs.Members.{member_named}
-use Rattle.patroni_top.specs.Verdicts.{Drills, EndsWhole, Formats, Makes, NoCommand, PastCount, Plan, Plays, Says, Serves, UnknownMember, Verdict, plan_run, plan_text, service_of, verdict_in, verdict_of_count, verdict_on}
+use Rattle.program_commands.specs.Verdicts.{Drills, EndsWhole, Formats, Makes, NoCommand, PastCount, Plan, Plays, Says, Serves, UnknownMember, Verdict, plan_run, plan_text, service_of, verdict_in, verdict_of_count, verdict_on}
 use Rattle.command_line.specs.Drawing.{CanBeDrawn, RefusesToDraw}
-use Rattle.patroni_top.specs.Ended.{Carries, IsCarriedOut, LeavesWorld, ended_by}
-use Rattle.patroni_top.specs.Ends.{Ends, IsCut, IsVisited, serving_of}
+use Rattle.program_commands.specs.Carried.{Carries, EndedFacts, IsCarriedOut, LeavesWorld, ended_by}
+use Rattle.program_commands.specs.Ends.{Ends, IsCut, IsVisited, serving_of}
 use Rattle.command_line.specs.Status.{IsRefusal, Refuses, ending_of_print, ending_of_serve, status_of}
-use Rattle.patroni_top.proofs.Endings.{Ends-done, Ends-faulty, Ends-past, Ends-refused, Ends-stopped, Ends-wanting, IsQuiet, Reads, plays-only, prints-so, quiet, refusal-says, script-makes, steps-cut}
+use Rattle.program_commands.proofs.Endings.{Ends-done, Ends-faulty, Ends-past, Ends-refused, Ends-stopped, Ends-wanting, IsQuiet, Reads, plays-only, prints-so, quiet, refusal-says, script-makes, steps-cut}
 
 -- an ending in which the input gives no script
 refusal-is : (ending : Ending) → IsRefusal ending → (status_of ending ≢ statuses.Usage) × (status_of ending ≢ statuses.Done)
@@ -124,21 +123,26 @@ drawn-so count plan few = let may : nat_lt MOST_GENERATED count ≡ false = grin
 past-so : (count : ℕ) (plan : Plan) → MOST_GENERATED < count → verdict_of_count count plan ≡ PastCount
 past-so count plan many = let over : nat_lt MOST_GENERATED count ≡ true = grind (arith, nat_tests) in rw over refl
 
-module _ {S K D : Type 0} (source : SourceGhosts S) (sink : SinkGhosts K) (door : DoorGhosts D) where
-  leaves-nothing : (bytes : Option (List ℕ)) (played : Bool) (verdict : List ℕ → Verdict) (ending : Ending) → status_of ending ≢ statuses.Done → LeavesWorld bytes played verdict (ended_by (Err ending))
+-- what is left whose facts are itself
+pub ended-same : (left : Option WorldFacts) → ended_by (λ (w : WorldFacts). w) (Ok left) ≡ record { status = statuses.Done; world = left }
+ended-same None = refl
+ended-same (Some world) = refl
+
+module _ {S K D W : Type 0} (source : SourceGhosts S) (sink : SinkGhosts K) (door : DoorGhosts D) (facts : W → WorldFacts) where
+  leaves-nothing : (bytes : Option (List ℕ)) (played : Bool) (verdict : List ℕ → Verdict) (ending : Ending) → status_of ending ≢ statuses.Done → LeavesWorld bytes played verdict (ended_by facts (Err ending))
   leaves-nothing bytes played verdict ending not = record { done = ((λ some. absurd (no-world some)), λ done. absurd (not done.0)); stands = tt }
 
   -- something was printed, and then a stop came
-  stopped : (input left : S) (out then : K) (was now : D) (command : Command) (error : ServeError) → ((visitors : List Connection) × Carries source sink door input left out then was now (Some command) visitors (ended_by (Err (ending_of_serve error))))
-      → IsCarriedOut source sink door input left out then was now command (Err (ending_of_serve error))
+  stopped : (input left : S) (out then : K) (was now : D) (command : Command) (error : ServeError) → ((visitors : List Connection) × Carries source sink door input left out then was now (Some command) visitors (ended_by facts (Err (ending_of_serve error))))
+      → IsCarriedOut source sink door facts input left out then was now command (Err (ending_of_serve error))
   stopped input left out then was now command error carries = record { usage = stop-no-usage error; carries = carries; says = λ visitors bytes told. stop-says error (verdict_on command visitors bytes) }
 
   -- a command that has nothing to do with the door makes this plan of the bytes that it goes by
   module _ (input left : S) (out then : K) (was : D) (command : Command) (plan : Plan) (makes : Known (heeded (reads (Some command)) (source.rest input)) (λ bytes. verdict_on command [] bytes ≡ Makes plan))
       (read : Reads source sink door input left out was (reads (Some command)) (verdict_on command [])) (visited : (status : Status) → IsVisited source sink door input left out then was was (reads (Some command)) (verdict_on command []) status (Makes plan)) where
     -- all of it was printed
-    pub planned-whole : {X E : Type 0} {x : X} {fault : E} (world : Option WorldFacts) → (reads (Some command) ≡ true → Known (heeded (reads (Some command)) (source.rest input)) (λ bytes. source.rest left ≡ Some []))
-        → Prints sink out then fault (Ok x) (plan_text plan) → LeavesWorld (heeded (reads (Some command)) (source.rest input)) (plays (Some command)) (verdict_on command []) (ended_by (Ok world)) → IsCarriedOut source sink door input left out then was was command (Ok world)
+    pub planned-whole : {X E : Type 0} {x : X} {fault : E} (world : Option W) → (reads (Some command) ≡ true → Known (heeded (reads (Some command)) (source.rest input)) (λ bytes. source.rest left ≡ Some []))
+        → Prints sink out then fault (Ok x) (plan_text plan) → LeavesWorld (heeded (reads (Some command)) (source.rest input)) (plays (Some command)) (verdict_on command []) (ended_by facts (Ok world)) → IsCarriedOut source sink door facts input left out then was was command (Ok world)
     planned-whole world end printed leaves = record {
       usage = λ e. cc;
       carries = ([], record { ends = Ends-done source sink door input left out then was was (reads (Some command)) (verdict_on command []) plan makes read end printed (visited statuses.Done); world = leaves });
@@ -147,10 +151,10 @@ module _ {S K D : Type 0} (source : SourceGhosts S) (sink : SinkGhosts K) (door 
 
     -- or a part of it
     pub planned-part : {X : Type 0} (error : PrintError) → Prints {X = X} sink out then prints.Write (Err error) (plan_text plan) → (error ≡ prints.Memory → IsCut source sink door input left out then was was (reads (Some command)) (verdict_on command []) (Makes plan))
-        → IsCarriedOut source sink door input left out then was was command (Err (ending_of_print error))
+        → IsCarriedOut source sink door facts input left out then was was command (Err (ending_of_print error))
     planned-part error printed whole =
         let how : ServeError = serve_error error in
-        subst (λ (e : Ending). IsCarriedOut source sink door input left out then was was command (Err e)) (sym (print-ends error)) (stopped input left out then was was command how (
+        subst (λ (e : Ending). IsCarriedOut source sink door facts input left out then was was command (Err e)) (sym (print-ends error)) (stopped input left out then was was command how (
           [],
           record {
             ends = Ends-stopped source sink door input left out then was was (reads (Some command)) (verdict_on command []) plan makes read how (record {
@@ -165,14 +169,14 @@ module _ {S K D : Type 0} (source : SourceGhosts S) (sink : SinkGhosts K) (door 
         ))
 
   -- a world that a run left
-  leaves-run : (bytes : Option (List ℕ)) (verdict : List ℕ → Verdict) (plan : Plan) (played : Played) (world : WorldFacts) → Known bytes (λ all. verdict all ≡ Makes plan) → plan_run plan ≡ Some played → IsLeftBy played world → LeavesWorld bytes true verdict (ended_by (Ok (Some world)))
+  leaves-run : (bytes : Option (List ℕ)) (verdict : List ℕ → Verdict) (plan : Plan) (played : Played) (world : W) → Known bytes (λ all. verdict all ≡ Makes plan) → plan_run plan ≡ Some played → IsLeftBy played (facts world) → LeavesWorld bytes true verdict (ended_by facts (Ok (Some world)))
   leaves-run bytes verdict plan played world makes run stands = record {
     done = ((λ some. (refl, refl)), λ done. refl);
-    stands = λ all told. plays-only (λ (p : Played). IsLeftBy p world) (verdict all) plan played (makes all told) run stands;
+    stands = λ all told. plays-only (λ (p : Played). IsLeftBy p (facts world)) (verdict all) plan played (makes all told) run stands;
   }
 
   -- nothing was played
-  leaves-none : (bytes : Option (List ℕ)) (verdict : List ℕ → Verdict) → LeavesWorld bytes false verdict (ended_by (Ok None))
+  leaves-none : (bytes : Option (List ℕ)) (verdict : List ℕ → Verdict) → LeavesWorld bytes false verdict (ended_by facts (Ok None))
   leaves-none bytes verdict = record { done = ((λ some. absurd (no-world some)), λ done. absurd (no-world done.1)); stands = tt }
 
   -- nothing was written of what is told whole or not at all
@@ -183,14 +187,14 @@ module _ {S K D : Type 0} (source : SourceGhosts S) (sink : SinkGhosts K) (door 
   module _ (input left : S) (taken : Consumed (source.rest input) (source.rest left) most_read) where
     -- the script can't be read
     pub refused : (out : K) (was : D) (command : Command) (waited : ℕ) (makes : List Connection → ScriptText → Verdict) → reads (Some command) ≡ true → ((visitors : List Connection) (bytes : List ℕ) → verdict_in waited (makes visitors) bytes ≡ verdict_on command visitors bytes) → ((script : ScriptText) → IsQuiet (makes [] script))
-        → (result : Result (Option WorldFacts) Ending) (ending : Ending) → result ≡ Err ending → IsRefusal ending → Known (source.rest input) (Refuses waited ending)
+        → (result : Result (Option W) Ending) (ending : Ending) → result ≡ Err ending → IsRefusal ending → Known (source.rest input) (Refuses waited ending)
         → (ending ≡ endings.ReadFault → Rose (source.faults input) (source.faults left)) → (source.is_reliable input → ending ≢ endings.ReadFault)
-        → IsCarriedOut source sink door input left out out was was command result
+        → IsCarriedOut source sink door facts input left out out was was command result
     refused out was command waited makes goes same quiets result ending is refusal refuses rose unfailing =
         let says : (visitors : List Connection) → Known (source.rest input) (λ bytes. Says ending (verdict_on command visitors bytes)) =
         λ visitors bytes told. subst (Says ending) (same visitors bytes) (refusal-says waited (makes visitors) ending bytes refusal (refuses bytes told)) in
         let heard : (b : Bool) → b ≡ true → heeded b (source.rest input) ≡ source.rest input = λ b true-is. rw true-is refl in
-        subst (IsCarriedOut source sink door input left out out was was command) (sym is) (record {
+        subst (IsCarriedOut source sink door facts input left out out was was command) (sym is) (record {
           usage = (refusal-is ending refusal).0;
           carries = (
             [],
@@ -212,30 +216,30 @@ module _ {S K D : Type 0} (source : SourceGhosts S) (sink : SinkGhosts K) (door 
       IsRead waited = Known (source.rest input) (λ bytes. (limit_of waited bytes ≡ None) × (script_of bytes ≡ Ok script))
 
       -- and its run is printed, or the script
-      module _ (out then : K) (was : D) (read : IsRead 0) (result : Result (Option WorldFacts) Ending) where
+      module _ (out then : K) (was : D) (read : IsRead 0) (result : Result (Option W) Ending) where
         plays-so : Known (source.rest input) (λ bytes. verdict_on Run [] bytes ≡ Makes (Plays (played_of script)))
         plays-so bytes told = script-makes 0 (λ script. Makes (Plays (played_of script))) bytes script (read bytes told).0 (read bytes told).1
 
         formats-so : Known (source.rest input) (λ bytes. verdict_on Print [] bytes ≡ Makes (Formats script))
         formats-so bytes told = script-makes 0 (λ script. Makes (Formats script)) bytes script (read bytes told).0 (read bytes told).1
 
-        pub printed-whole : (world : WorldFacts) → result ≡ Ok (Some world) → Prints sink out then prints.Write (Ok world) (text_of_run (played_of script)) → IsLeftBy (played_of script) world → IsCarriedOut source sink door input left out then was was Run result
-        printed-whole world is printed stands = subst (IsCarriedOut source sink door input left out then was was Run) (sym is)
+        pub printed-whole : (world : W) → result ≡ Ok (Some world) → Prints sink out then prints.Write (Ok world) (text_of_run (played_of script)) → IsLeftBy (played_of script) (facts world) → IsCarriedOut source sink door facts input left out then was was Run result
+        printed-whole world is printed stands = subst (IsCarriedOut source sink door facts input left out then was was Run) (sym is)
             (planned-whole input left out then was Run (Plays (played_of script)) plays-so (reads-so out was (verdict_on Run [])) (λ status. refl) (Some world) (λ e. end) printed
             (leaves-run (source.rest input) (verdict_on Run []) (Plays (played_of script)) (played_of script) world plays-so refl stands))
 
-        pub printed-part : (error : PrintError) → result ≡ Err (ending_of_print error) → Prints {X = WorldFacts} sink out then prints.Write (Err error) (text_of_run (played_of script))
+        pub printed-part : (error : PrintError) → result ≡ Err (ending_of_print error) → Prints {X = W} sink out then prints.Write (Err error) (text_of_run (played_of script))
             → (error ≡ prints.Memory → PrintsWholeSteps sink out then (cluster_of script.head) false (steps_of script.body))
-            → IsCarriedOut source sink door input left out then was was Run result
-        printed-part error is printed whole = subst (IsCarriedOut source sink door input left out then was was Run) (sym is)
+            → IsCarriedOut source sink door facts input left out then was was Run result
+        printed-part error is printed whole = subst (IsCarriedOut source sink door facts input left out then was was Run) (sym is)
             (planned-part input left out then was Run (Plays (played_of script)) plays-so (reads-so out was (verdict_on Run [])) (λ status. refl) error printed (λ memory. steps-cut source sink door script.head (steps_of script.body) (whole memory)))
 
-        pub formatted-whole : result ≡ Ok None → Prints {X = Unit {0}} sink out then prints.Write (Ok tt) (spelling_of script) → IsCarriedOut source sink door input left out then was was Print result
-        formatted-whole is printed = subst (IsCarriedOut source sink door input left out then was was Print) (sym is)
+        pub formatted-whole : result ≡ Ok None → Prints {X = Unit {0}} sink out then prints.Write (Ok tt) (spelling_of script) → IsCarriedOut source sink door facts input left out then was was Print result
+        formatted-whole is printed = subst (IsCarriedOut source sink door facts input left out then was was Print) (sym is)
             (planned-whole input left out then was Print (Formats script) formats-so (reads-so out was (verdict_on Print [])) (λ status. refl) None (λ e. end) printed (leaves-none (source.rest input) (verdict_on Print [])))
 
-        pub formatted-part : (error : PrintError) → result ≡ Err (ending_of_print error) → Prints {X = Unit {0}} sink out then prints.Write (Err error) (spelling_of script) → (error ≡ prints.Memory → then ≡ out) → IsCarriedOut source sink door input left out then was was Print result
-        formatted-part error is printed memory = subst (IsCarriedOut source sink door input left out then was was Print) (sym is)
+        pub formatted-part : (error : PrintError) → result ≡ Err (ending_of_print error) → Prints {X = Unit {0}} sink out then prints.Write (Err error) (spelling_of script) → (error ≡ prints.Memory → then ≡ out) → IsCarriedOut source sink door facts input left out then was was Print result
+        formatted-part error is printed memory = subst (IsCarriedOut source sink door facts input left out then was was Print) (sym is)
             (planned-part input left out then was Print (Formats script) formats-so (reads-so out was (verdict_on Print [])) (λ status. refl) error printed (λ wanting. untold (Formats script) refl (memory wanting)))
 
       module _ (member address : List ℕ) (count : ℕ) (read : IsRead (most_waiting * count)) where
@@ -249,10 +253,10 @@ module _ {S K D : Type 0} (source : SourceGhosts S) (sink : SinkGhosts K) (door 
         makes-so visitors found is bytes told = script-makes (most_waiting * count) (makes visitors) bytes script (read bytes told).0 (read bytes told).1 ∙ ap (service_of script count visitors) is
 
         -- it declares no member of the name that is to be served
-        pub unknown : (out : K) (was : D) (result : Result (Option WorldFacts) Ending) → result ≡ Err endings.UnknownMember → member_named script.head member ≡ None → IsCarriedOut source sink door input left out out was was service result
+        pub unknown : (out : K) (was : D) (result : Result (Option W) Ending) → result ≡ Err endings.UnknownMember → member_named script.head member ≡ None → IsCarriedOut source sink door facts input left out out was was service result
         unknown out was result is none =
             let says : (visitors : List Connection) → Known (source.rest input) (λ bytes. verdict_on service visitors bytes ≡ UnknownMember) = λ visitors. makes-so visitors None none in
-            subst (IsCarriedOut source sink door input left out out was was service) (sym is) (record {
+            subst (IsCarriedOut source sink door facts input left out out was was service) (sym is) (record {
               usage = λ e. cc;
               carries = (
                 [],
@@ -272,8 +276,8 @@ module _ {S K D : Type 0} (source : SourceGhosts S) (sink : SinkGhosts K) (door 
           serves-so = makes-so visitors (Some id) found
 
           -- or connections came behind its run, and all was printed
-          pub served-whole : (result : Result (Option WorldFacts) Ending) (world : WorldFacts) → result ≡ Ok (Some world) → ServedSo sink door (λ (w : WorldFacts). w) out then was now (Ok world) script id count visitors → IsCarriedOut source sink door input left out then was now service result
-          served-whole result world is s = subst (IsCarriedOut source sink door input left out then was now service) (sym is) (record {
+          pub served-whole : (result : Result (Option W) Ending) (world : W) → result ≡ Ok (Some world) → ServedSo sink door facts out then was now (Ok world) script id count visitors → IsCarriedOut source sink door facts input left out then was now service result
+          served-whole result world is s = subst (IsCarriedOut source sink door facts input left out then was now service) (sym is) (record {
             usage = λ e. cc;
             carries = (
               visitors,
@@ -287,10 +291,10 @@ module _ {S K D : Type 0} (source : SourceGhosts S) (sink : SinkGhosts K) (door 
           })
 
           -- or a part of it
-          pub served-part : (result : Result (Option WorldFacts) Ending) (error : ServeError) → result ≡ Err (ending_of_serve error) → ServedSo sink door (λ (w : WorldFacts). w) out then was now (Err error) script id count visitors → IsCarriedOut source sink door input left out then was now service result
+          pub served-part : (result : Result (Option W) Ending) (error : ServeError) → result ≡ Err (ending_of_serve error) → ServedSo sink door facts out then was now (Err error) script id count visitors → IsCarriedOut source sink door facts input left out then was now service result
           served-part result error is s =
               let start : Cluster = after_steps (cluster_of script.head) (steps_of script.body) in
-              subst (IsCarriedOut source sink door input left out then was now service) (sym is) (stopped input left out then was now service error (
+              subst (IsCarriedOut source sink door facts input left out then was now service) (sym is) (stopped input left out then was now service error (
                 visitors,
                 record {
                   ends = Ends-stopped source sink door input left out then was now true (verdict_on service visitors) served serves-so (reads-so out was (verdict_on service visitors)) error (record {
@@ -314,12 +318,12 @@ module _ {S K D : Type 0} (source : SourceGhosts S) (sink : SinkGhosts K) (door 
     unread out was verdict = record { unread = λ e. refl; consumed = record { some = λ all told. (0, omega arith, told) } }
 
     -- so many lines were to be drawn
-    module _ (seed count : ℕ) (out : K) (was : D) (result : Result (Option WorldFacts) Ending) where
+    module _ (seed count : ℕ) (out : K) (was : D) (result : Result (Option W) Ending) where
       not-drawn : (command : Command) (plan : Plan) → reads (Some command) ≡ false → ((visitors : List Connection) (bytes : List ℕ) → verdict_of_count count plan ≡ verdict_on command visitors bytes) → IsQuiet (Makes plan)
-          → (ending : Ending) → result ≡ Err ending → RefusesToDraw count ending → IsCarriedOut source sink door input input out out was was command result
+          → (ending : Ending) → result ≡ Err ending → RefusesToDraw count ending → IsCarriedOut source sink door facts input input out out was was command result
       not-drawn command plan goes same none endings.PastCount is many =
           let says : (visitors : List Connection) (bytes : List ℕ) → verdict_on command visitors bytes ≡ PastCount = λ visitors bytes. sym (same visitors bytes) ∙ past-so count plan many in
-          subst (IsCarriedOut source sink door input input out out was was command) (sym is) (record {
+          subst (IsCarriedOut source sink door facts input input out out was was command) (sym is) (record {
             usage = λ e. cc;
             carries = (
               [],
@@ -332,7 +336,7 @@ module _ {S K D : Type 0} (source : SourceGhosts S) (sink : SinkGhosts K) (door 
             says = λ visitors bytes told. says visitors bytes;
           })
       not-drawn command plan goes same none endings.Memory is few =
-          subst (IsCarriedOut source sink door input input out out was was command) (sym is) (record {
+          subst (IsCarriedOut source sink door facts input input out out was was command) (sym is) (record {
             usage = λ e. cc;
             carries = (
               [],
@@ -353,10 +357,10 @@ module _ {S K D : Type 0} (source : SourceGhosts S) (sink : SinkGhosts K) (door 
       not-drawn command plan goes same none (endings.NotScript line fault) is never = absurd never
       not-drawn command plan goes same none (endings.Limit limit) is never = absurd never
 
-      pub not-generated : (ending : Ending) → result ≡ Err ending → RefusesToDraw count ending → IsCarriedOut source sink door input input out out was was (Generate seed count) result
+      pub not-generated : (ending : Ending) → result ≡ Err ending → RefusesToDraw count ending → IsCarriedOut source sink door facts input input out out was was (Generate seed count) result
       not-generated = not-drawn (Generate seed count) (Formats (generated_script seed count)) refl (λ visitors bytes. refl) tt
 
-      pub not-drilled : (ending : Ending) → result ≡ Err ending → RefusesToDraw count ending → IsCarriedOut source sink door input input out out was was (Drill seed count) result
+      pub not-drilled : (ending : Ending) → result ≡ Err ending → RefusesToDraw count ending → IsCarriedOut source sink door facts input input out out was was (Drill seed count) result
       not-drilled = not-drawn (Drill seed count) (Drills (played_of (generated_script seed count))) refl (λ visitors bytes. refl) tt
 
       -- and the script is printed, or the summary of its run
@@ -364,49 +368,50 @@ module _ {S K D : Type 0} (source : SourceGhosts S) (sink : SinkGhosts K) (door 
         abbrev script : ScriptText
         script = generated_script seed count
 
-        pub generated-whole : result ≡ Ok None → Prints {X = Unit {0}} sink out then prints.Write (Ok tt) (spelling_of script) → IsCarriedOut source sink door input input out then was was (Generate seed count) result
-        generated-whole is printed = subst (IsCarriedOut source sink door input input out then was was (Generate seed count)) (sym is)
+        pub generated-whole : result ≡ Ok None → Prints {X = Unit {0}} sink out then prints.Write (Ok tt) (spelling_of script) → IsCarriedOut source sink door facts input input out then was was (Generate seed count) result
+        generated-whole is printed = subst (IsCarriedOut source sink door facts input input out then was was (Generate seed count)) (sym is)
             (planned-whole input input out then was (Generate seed count) (Formats script) (λ bytes told. drawn-so count (Formats script) few) (unread out was (verdict_on (Generate seed count) [])) (λ status. refl) None (λ e. absurd (no-world e)) printed
             (leaves-none (Some []) (verdict_on (Generate seed count) [])))
 
-        pub generated-part : (error : PrintError) → result ≡ Err (ending_of_print error) → Prints {X = Unit {0}} sink out then prints.Write (Err error) (spelling_of script) → (error ≡ prints.Memory → then ≡ out) → IsCarriedOut source sink door input input out then was was (Generate seed count) result
-        generated-part error is printed memory = subst (IsCarriedOut source sink door input input out then was was (Generate seed count)) (sym is)
+        pub generated-part : (error : PrintError) → result ≡ Err (ending_of_print error) → Prints {X = Unit {0}} sink out then prints.Write (Err error) (spelling_of script) → (error ≡ prints.Memory → then ≡ out) → IsCarriedOut source sink door facts input input out then was was (Generate seed count) result
+        generated-part error is printed memory = subst (IsCarriedOut source sink door facts input input out then was was (Generate seed count)) (sym is)
             (planned-part input input out then was (Generate seed count) (Formats script) (λ bytes told. drawn-so count (Formats script) few) (unread out was (verdict_on (Generate seed count) [])) (λ status. refl) error printed (λ wanting. untold (Formats script) refl (memory wanting)))
 
-        pub drilled-whole : (world : WorldFacts) → result ≡ Ok (Some world) → Prints sink out then prints.Write (Ok world) (summary_of_run (played_of script)) → IsLeftBy (played_of script) world → IsCarriedOut source sink door input input out then was was (Drill seed count) result
-        drilled-whole world is printed stands = subst (IsCarriedOut source sink door input input out then was was (Drill seed count)) (sym is)
+        pub drilled-whole : (world : W) → result ≡ Ok (Some world) → Prints sink out then prints.Write (Ok world) (summary_of_run (played_of script)) → IsLeftBy (played_of script) (facts world) → IsCarriedOut source sink door facts input input out then was was (Drill seed count) result
+        drilled-whole world is printed stands = subst (IsCarriedOut source sink door facts input input out then was was (Drill seed count)) (sym is)
             (planned-whole input input out then was (Drill seed count) (Drills (played_of script)) (λ bytes told. drawn-so count (Drills (played_of script)) few) (unread out was (verdict_on (Drill seed count) [])) (λ status. refl) (Some world) (λ e. absurd (no-world e)) printed
             (leaves-run (Some []) (verdict_on (Drill seed count) []) (Drills (played_of script)) (played_of script) world (λ bytes told. drawn-so count (Drills (played_of script)) few) refl stands))
 
-        pub drilled-part : (error : PrintError) → result ≡ Err (ending_of_print error) → Prints {X = WorldFacts} sink out then prints.Write (Err error) (summary_of_run (played_of script)) → (error ≡ prints.Memory → then ≡ out) → IsCarriedOut source sink door input input out then was was (Drill seed count) result
-        drilled-part error is printed memory = subst (IsCarriedOut source sink door input input out then was was (Drill seed count)) (sym is)
+        pub drilled-part : (error : PrintError) → result ≡ Err (ending_of_print error) → Prints {X = W} sink out then prints.Write (Err error) (summary_of_run (played_of script)) → (error ≡ prints.Memory → then ≡ out) → IsCarriedOut source sink door facts input input out then was was (Drill seed count) result
+        drilled-part error is printed memory = subst (IsCarriedOut source sink door facts input input out then was was (Drill seed count)) (sym is)
             (planned-part input input out then was (Drill seed count) (Drills (played_of script)) (λ bytes told. drawn-so count (Drills (played_of script)) few) (unread out was (verdict_on (Drill seed count) [])) (λ status. refl) error printed (λ wanting. untold (Drills (played_of script)) refl (memory wanting)))
 
-    -- words that are no command
-    pub unasked : (out : K) (was : D) (words : Option Command) → words ≡ None → (visitors : List Connection) × Carries source sink door input input out out was was words visitors (record { status = statuses.Usage; world = None })
-    unasked out was words is = subst (λ (o : Option Command). (visitors : List Connection) × Carries source sink door input input out out was was o visitors (record { status = statuses.Usage; world = None })) (sym is) (
-      [],
-      record {
-        ends = record {
-          means = refl;
-          unread = λ e. refl;
-          visited = λ bytes told. refl;
-          past_limit = λ reliable bytes told past. absurd past;
-          faulty = λ reliable bytes told faulty. absurd faulty;
-          complete = λ reliable bytes told plan makes. absurd (no-plan plan makes);
-          consumed = record { some = λ all told. (0, omega arith, told) };
-        };
-        world = record { done = ((λ some. absurd (no-world some)), λ done. absurd (not-so done.0)); stands = tt };
-      },
-    )
-      where
-        no-plan : (plan : Plan) → NoCommand ≡ Makes plan → ⊥
-        no-plan plan e = cc
-
-        not-so : statuses.Usage ≡ statuses.Done → ⊥
-        not-so e = cc
-
   -- words that are this command
-  pub asked : (input left : S) (out then : K) (was now : D) (command : Command) (words : Option Command) (result : Result (Option WorldFacts) Ending) (ended : Ended) → Some command ≡ words → ended_by result ≡ ended → IsCarriedOut source sink door input left out then was now command result
+  pub asked : (input left : S) (out then : K) (was now : D) (command : Command) (words : Option Command) (result : Result (Option W) Ending) (ended : EndedFacts) → Some command ≡ words → ended_by facts result ≡ ended → IsCarriedOut source sink door facts input left out then was now command result
       → (visitors : List Connection) × Carries source sink door input left out then was now words visitors ended
   asked input left out then was now command words result ended is so carried = rw (sym is, sym so) carried.carries
+
+module _ {S K D : Type 0} (source : SourceGhosts S) (sink : SinkGhosts K) (door : DoorGhosts D) where
+  -- words that are no command
+  pub unasked : (input : S) (out : K) (was : D) (words : Option Command) → words ≡ None → (visitors : List Connection) × Carries source sink door input input out out was was words visitors (record { status = statuses.Usage; world = None })
+  unasked input out was words is = subst (λ (o : Option Command). (visitors : List Connection) × Carries source sink door input input out out was was o visitors (record { status = statuses.Usage; world = None })) (sym is) (
+    [],
+    record {
+      ends = record {
+        means = refl;
+        unread = λ e. refl;
+        visited = λ bytes told. refl;
+        past_limit = λ reliable bytes told past. absurd past;
+        faulty = λ reliable bytes told faulty. absurd faulty;
+        complete = λ reliable bytes told plan makes. absurd (no-plan plan makes);
+        consumed = record { some = λ all told. (0, omega arith, told) };
+      };
+      world = record { done = ((λ some. absurd (no-world some)), λ done. absurd (not-so done.0)); stands = tt };
+    },
+  )
+    where
+      no-plan : (plan : Plan) → NoCommand ≡ Makes plan → ⊥
+      no-plan plan e = cc
+
+      not-so : statuses.Usage ≡ statuses.Done → ⊥
+      not-so e = cc

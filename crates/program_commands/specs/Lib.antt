@@ -1,3 +1,3 @@
-pub mod Ended
+pub mod Carried
 pub mod Ends
 pub mod Verdicts

@@ -15,7 +15,7 @@ use Rattle.command_line.specs.declared.status.Status.{Status}
 use Rattle.command_line.specs.declared.status.Status.TheVariants as statuses
 use Rattle.command_line.specs.Limits.{most_read}
 use Rattle.command_line.specs.Commands.{heeded}
-use Rattle.patroni_top.specs.Verdicts.{EndsWhole, Faulty, Makes, PastCount, PastLimit, Plan, Serves, UnknownMember, Verdict, plan_text}
+use Rattle.program_commands.specs.Verdicts.{EndsWhole, Faulty, Makes, PastCount, PastLimit, Plan, Serves, UnknownMember, Verdict, plan_text}
 
 -- the input is no script, or declares no such member
 abbrev pub IsFaulty : Verdict → Type 0
