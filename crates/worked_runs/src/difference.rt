@@ -1,4 +1,4 @@
-//! The first line in which two texts differ.
+//! Texts, line by line.
 use std::fmt;
 
 /// The first line in which two texts differ. A text that has fewer lines has none there.
@@ -38,4 +38,16 @@ impl fmt::Display for Difference<'_> {
         let wanted = wanted.unwrap_or("(no line)");
         write!(f, "line {line} is `{told}`, and is to be `{wanted}`")
     }
+}
+
+/// The last lines of a text, as many as another has.
+pub fn last_lines<'a>(text: &'a str, other: &str) -> &'a str {
+    let lines = text.split('\n').count();
+    let mut rest = text;
+    for _ in other.split('\n').count()..lines {
+        if let Some((_, behind)) = rest.split_once('\n') {
+            rest = behind;
+        }
+    }
+    rest
 }
