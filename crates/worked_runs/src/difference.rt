@@ -1,4 +1,4 @@
-//! The first line in which two texts differ.
+//! Texts, line by line.
 use std::fmt;
 
 /// The first line in which two texts differ. A text that has fewer lines has none there.
@@ -9,26 +9,30 @@ pub struct Difference<'a> {
     wanted: Option<&'a str>,
 }
 
-/// The first line in which what is told differs from what is wanted.
-pub fn first_difference<'a>(told: &'a str, wanted: &'a str) -> Difference<'a> {
+/// A line that stands for any line, where it is wanted.
+const ANY: &str = "*";
+
+/// The first line in which what is told differs from what is wanted, if one does.
+pub fn first_difference<'a>(told: &'a str, wanted: &'a str) -> Option<Difference<'a>> {
     let mut line = 1u64;
     let mut lines = wanted.split('\n');
     for told in told.split('\n') {
         let wanted = lines.next();
-        if wanted != Some(told) {
-            return Difference {
+        if wanted != Some(told) && wanted != Some(ANY) {
+            return Some(Difference {
                 line,
                 told: Some(told),
                 wanted,
-            };
+            });
         }
         line = line.saturating_add(1);
     }
-    Difference {
+    let wanted = Some(lines.next()?);
+    Some(Difference {
         line,
         told: None,
-        wanted: lines.next(),
-    }
+        wanted,
+    })
 }
 
 impl fmt::Display for Difference<'_> {
@@ -38,4 +42,16 @@ impl fmt::Display for Difference<'_> {
         let wanted = wanted.unwrap_or("(no line)");
         write!(f, "line {line} is `{told}`, and is to be `{wanted}`")
     }
+}
+
+/// The last lines of a text, as many as another has.
+pub fn last_lines<'a>(text: &'a str, other: &str) -> &'a str {
+    let lines = text.split('\n').count();
+    let mut rest = text;
+    for _ in other.split('\n').count()..lines {
+        if let Some((_, behind)) = rest.split_once('\n') {
+            rest = behind;
+        }
+    }
+    rest
 }

@@ -4,19 +4,35 @@
 //!
 //! - NAME.words: its words, on a line; where there is no such file, the word `run` alone;
 //! - NAME.asked: what is asked on each connection that comes to its door, a line each; NAME.answered has what is answered on each;
-//! - NAME.faults: which calls fail, a line each, as `out 3` for the third write: of `input`, `out`, `err` and `door`.
+//! - NAME.faults: which calls fail, on a line, as `input 1, out 3` for the first read and the third write: of `input`, `out`, `err` and
+//!   `door`; on an empty line none;
+//! - NAME.repeats: lines `COUNT LINE`; this line of the script stands so many times.
 //!
-//! Where another outcome comes a line tells the first difference. The last line tells how many runs agree, and the exit status
+//! Several lines of words or of faults are several runs: the first line of words with the first of faults, and so on; the last line of
+//! the file that has fewer stands for those that it lacks. Their outcomes stand one behind the other, each behind a line as
+//! `$ gen 1 1; out 1` that tells its words and its faults, and with its status, where that isn't 0: all in NAME.refused where one has
+//! another status than 0, and else in NAME.run.
+//!
+//! In place of NAME.run there may be NAME.end, which has the last lines of what is printed. A line `*` of a file with an outcome stands
+//! for any line: what nobody worked by hand isn't held. NAME.views has what the world shows that a
+//! run leaves, by the agent of each member, if it runs: a line `NAME shows` with the body of its page `/patroni`, and for each member of
+//! which its newest snapshot tells a line `NAME reaches OTHER at HOST, which tells` with the host and the tags that this member told of
+//! itself, as the options of a member's line in a script.
+//!
+//! Where another outcome comes a line tells the first difference. The last line tells how many worked runs agree, and the exit status
 //! is 1 where one doesn't.
 #![tactic(auto)]
 
 mod case;
 mod connections;
 mod difference;
+mod faults;
 mod outcome;
+mod repeats;
+mod views;
 
 use case::{case_of, text_or};
-use difference::first_difference;
+use difference::{first_difference, last_lines};
 use outcome::outcome_of;
 use std::process::ExitCode;
 use std::rt::Files;
@@ -50,13 +66,14 @@ fn names<R: Files + AllocGlobal + Clone + Drop>(rt: &R) -> io::Result<Vec<String
 
 /// Whether the worked run of this name has the outcome that the files beside it say.
 fn agrees<R: Files + AllocGlobal + Print>(rt: &R, name: &str) -> io::Result<bool> {
-    let outcome = outcome_of(rt.alloc(), case_of(rt, name)?)?;
+    let outcome = outcome_of(rt.alloc(), &case_of(rt, name)?)?;
     let told = is_as_wanted(rt, name, outcome.ending, outcome.text.as_str())?;
     let answered = is_as_wanted(rt, name, "answered", outcome.answered.as_str())?;
-    Ok(told && answered)
+    let viewed = is_as_wanted(rt, name, "views", outcome.views.as_str())?;
+    Ok(told && answered && viewed)
 }
 
-/// Whether this text is that of a file; a file that is absent has none. Prints the first difference.
+/// Whether this text is that of a file, or ends so; a file that is absent has none. Prints the first difference.
 fn is_as_wanted<R: Files + AllocGlobal + Print>(
     rt: &R,
     name: &str,
@@ -64,10 +81,14 @@ fn is_as_wanted<R: Files + AllocGlobal + Print>(
     told: &str,
 ) -> io::Result<bool> {
     let wanted = text_or(rt, name, ending, "")?;
-    if told == wanted.as_str() {
+    let wanted = wanted.as_str();
+    let told = match ending {
+        "end" => last_lines(told, wanted),
+        _ => told,
+    };
+    let Some(difference) = first_difference(told, wanted) else {
         return Ok(true);
-    }
-    let difference = first_difference(told, wanted.as_str());
+    };
     println!(rt; "{name}.{ending}: {difference}")?;
     Ok(false)
 }
