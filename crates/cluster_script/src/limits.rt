@@ -1,5 +1,5 @@
 //! The limits of a script. Bytes that pass one are judged by it before any fault of their lines.
-ghost use Rattle.std.specs.Prelude.{◌≡◌, length, IfOk};
+ghost use Rattle.std.specs.Prelude.{◌≡◌, length};
 ghost use Rattle.std.specs.Option.{option_copied};
 ghost use Rattle.script_words.specs.Lines.{lines_in};
 ghost use Rattle.script_grammar.specs.Limits.{is_member_word, member_line_count, ticks_or_none, ticks_behind, ticks_of_words, ticks_in, limit_of_lines, limit_of};
@@ -10,7 +10,6 @@ use pat_base::MOST_MEMBERS;
 use script_grammar::Limit;
 use script_model::Keyword;
 use script_words::{cut_line, cut_word, number};
-use std::alloc::{AllocError, Global};
 
 /// The most bytes of a script.
 pub(crate) const MOST_BYTES: usize = 1_048_576;
@@ -106,9 +105,8 @@ pub(crate) fn limit_of_lines(bytes: &[u8], waited: u64) -> Option<Limit>
 
 /// The first limit that the bytes pass, in the order of `Limit`, whether or not they are a script. `waited` is how many ticks
 /// of 100 ms come beside those of their lines: the limit of ticks is one of both together.
-pub fn limit_passed(alloc: Global, bytes: &[u8], waited: u64) -> Result<Option<Limit>, AllocError>
-    ensures { IfOk result (λ limit. limit ≡ limit_of waited bytes.now) }
+pub fn limit_passed(bytes: &[u8], waited: u64) -> Option<Limit>
+    ensures { result ≡ limit_of waited bytes.now }
 {
-    let lines = ScriptLines::cut(alloc, bytes)?;
-    Ok(lines.limit_passed(waited))
+    ScriptLines::of(bytes).limit_passed(waited)
 }

@@ -15,6 +15,5 @@ pub fn read(alloc: Global, bytes: &[u8]) -> Result<Script, ScriptFault>
     ensures value { Gives (λ script. script) result (script_of bytes.now) }
     ensures script { IfOk result IsScript }
 {
-    let lines = ScriptLines::cut(alloc, bytes)?;
-    lines.read(alloc)
+    ScriptLines::of(bytes).read(alloc)
 }

@@ -3,7 +3,7 @@ use crate::draft::Draft;
 use crate::limits::{MOST_BYTES, limit_of_lines};
 use script_grammar::{Limit, ScriptFault};
 use script_model::Script;
-use std::alloc::{AllocError, Global};
+use std::alloc::Global;
 use std::marker::Model;
 
 /// The bytes of a script, as lines: for whoever judges the limits and then reads. The lines are kept nowhere, since a list of
@@ -28,10 +28,10 @@ impl<'a> ScriptLines<'a> {
     ghost use Rattle.script_model.specs.Script.{IsScript};
 
     /// The lines of these bytes.
-    pub fn cut(_: Global, bytes: &'a [u8]) -> Result<ScriptLines<'a>, AllocError>
-        ensures { IfOk result (λ lines. lines ≡ bytes.now) }
+    pub fn of(bytes: &'a [u8]) -> ScriptLines<'a>
+        ensures { result ≡ bytes.now }
     {
-        Ok(ScriptLines { bytes })
+        ScriptLines { bytes }
     }
 
     /// The first limit that the bytes pass, in the order of `Limit`, whether or not they are a script. `waited` is how many

@@ -39,7 +39,7 @@ fn script_in(alloc: Global, waited: u64, bytes: &[u8]) -> Result<Script, Ending>
     ensures refuses { IfErr result (λ ending. Refuses waited ending bytes.now) }
     ensures read { result ≢ Err Ending.ReadFault }
 {
-    let lines = ScriptLines::cut(alloc, bytes)?;
+    let lines = ScriptLines::of(bytes);
     if let Some(limit) = lines.limit_passed(waited) {
         return Err(Ending::Limit(limit));
     }

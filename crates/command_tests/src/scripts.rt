@@ -5,7 +5,7 @@ use pat_outside::ReadError;
 use pg_model::{CommitFault, InState, PgFault};
 use script_grammar::{Limit, ScriptFault};
 use script_words::Fault;
-use std::alloc::{AllocError, Global};
+use std::alloc::Global;
 use std::process::Abort;
 use test_checks::{has, has_words};
 use wal_model::WalFault;
@@ -20,32 +20,31 @@ fn is_read(alloc: Global, bytes: &[u8]) -> bool {
 
 /// Why these bytes are no script.
 fn refused(alloc: Global, bytes: &[u8]) -> Option<ScriptFault> {
-    let script = ScriptLines::cut(alloc, bytes).ok()?;
-    script.read(alloc).err()
+    ScriptLines::of(bytes).read(alloc).err()
 }
 
 /// Which limit these bytes pass, with so many ticks beside their lines.
-fn limit_of(alloc: Global, bytes: &[u8], ticks: u64) -> Result<Option<Limit>, AllocError> {
-    limit_passed(alloc, bytes, ticks)
+fn limit_of(bytes: &[u8], ticks: u64) -> Option<Limit> {
+    limit_passed(bytes, ticks)
 }
 
-/// The same of bytes that were cut into lines.
-fn limit_of_lines(alloc: Global, bytes: &[u8], ticks: u64) -> Result<Option<Limit>, AllocError> {
-    Ok(ScriptLines::cut(alloc, bytes)?.limit_passed(ticks))
+/// The same, asked of the bytes' lines.
+fn limit_of_lines(bytes: &[u8], ticks: u64) -> Option<Limit> {
+    ScriptLines::of(bytes).limit_passed(ticks)
 }
 
 #[test]
 fn a_script_is_read(rt: HostRuntime) {
     let bytes = b"cluster demo\nmember a\nrest a POST /restart {}";
-    has(&rt, &limit_of(rt.alloc(), bytes, 0), &Ok(None));
+    has(&rt, &limit_of(bytes, 0), &None);
     assert!(rt; is_read(rt.alloc(), bytes));
 }
 
 #[test]
 fn a_script_is_refused(rt: HostRuntime) {
     let bytes = b"cluster demo\nmember a\nhold b\nrun 1000001";
-    let limit = limit_of_lines(rt.alloc(), bytes, 0);
-    has(&rt, &limit, &Ok(Some(Limit::Ticks)));
+    let limit = limit_of_lines(bytes, 0);
+    has(&rt, &limit, &Some(Limit::Ticks));
     let (line, fault) = (3, Fault::UnknownName);
     let wanted = ScriptFault::At { line, fault };
     has(&rt, &refused(rt.alloc(), bytes), &Some(wanted));
@@ -55,12 +54,12 @@ fn a_script_is_refused(rt: HostRuntime) {
 #[test]
 fn ticks_beside_the_lines_count(rt: HostRuntime) {
     let bytes = b"cluster demo\nmember a\nrun 1000000";
-    let within = limit_of_lines(rt.alloc(), bytes, 0);
-    has(&rt, &within, &Ok(None));
-    let passed = limit_of_lines(rt.alloc(), bytes, 1);
-    has(&rt, &passed, &Ok(Some(Limit::Ticks)));
-    let most = limit_of(rt.alloc(), b"cluster demo\nmember a", u64::MAX);
-    has(&rt, &most, &Ok(Some(Limit::Ticks)));
+    let within = limit_of_lines(bytes, 0);
+    has(&rt, &within, &None);
+    let passed = limit_of_lines(bytes, 1);
+    has(&rt, &passed, &Some(Limit::Ticks));
+    let most = limit_of(b"cluster demo\nmember a", u64::MAX);
+    has(&rt, &most, &Some(Limit::Ticks));
 }
 
 /// What is printed of faults, where no clause says it.

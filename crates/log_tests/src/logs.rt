@@ -5,7 +5,7 @@ use pat_base::Lsn;
 use std::alloc::{AllocError, Global};
 use std::process::Abort;
 use test_checks::has;
-use wal_model::{Entry, History, HistoryPoint, Wal, WalFault, has_serial, lacks};
+use wal_model::{Entry, History, HistoryPoint, Serials, Wal, WalFault, has_serial, lacks};
 
 fn entry(serial: u64, bytes: u64) -> Entry {
     Entry {
@@ -93,8 +93,40 @@ fn two_logs(rt: HostRuntime) {
 /// Which commits a log of those with the serials 1 and 3 has.
 fn check_serials(rt: &impl Abort, alloc: Global, log: &Wal) {
     assert!(rt; has_serial(log, 3));
-    has(rt, &lacks(log, &[3, 1], alloc), &Ok(false));
-    has(rt, &lacks(log, &[2], alloc), &Ok(true));
+    has(rt, &lacks_some(alloc, log, &[3, 1]), &Ok(false));
+    has(rt, &lacks_some(alloc, log, &[2]), &Ok(true));
+}
+
+/// Whether a log lacks one of the commits of these serials.
+fn lacks_some(alloc: Global, log: &Wal, told: &[u64]) -> Result<bool, AllocError> {
+    let mut serials = Serials::new(alloc);
+    for serial in told {
+        serials.push(*serial)?;
+    }
+    lacks(log, &serials, alloc)
+}
+
+/// Whether a log of the commits of the first serials lacks one of those of the second.
+fn lacks_between(alloc: Global, has: &[u64], told: &[u64]) -> Result<bool, WalFault> {
+    let mut log = Wal::new(alloc);
+    for serial in has {
+        append(&mut log, *serial, 1)?;
+    }
+    Ok(lacks_some(alloc, &log, told)?)
+}
+
+/// Serials that come in two runs and by one: each of a run is looked for.
+#[test]
+fn serials_in_runs(rt: HostRuntime) {
+    let alloc = rt.alloc();
+    assert!(rt; Serials::new(alloc).is_empty());
+    let told = [1, 2, 3, 7, 8, 3];
+    let all = lacks_between(alloc, &[8, 7, 3, 2, 1], &told);
+    has(&rt, &all, &Ok(false));
+    let without_inner = lacks_between(alloc, &[1, 3, 7, 8], &told);
+    has(&rt, &without_inner, &Ok(true));
+    let without_last = lacks_between(alloc, &[1, 2, 3, 7], &told);
+    has(&rt, &without_last, &Ok(true));
 }
 
 /// What is cut off a log in pieces is gone from it alone, wherever the cut lies.

@@ -1,6 +1,7 @@
 pub mod Chains
 pub mod Entries
 pub mod Growth
+pub mod Lookups
 pub mod Points
 pub mod Runs
-pub mod Serials
+pub mod Successions

@@ -3,3 +3,4 @@ pub mod Lacking
 pub mod Log
 pub mod Pieces
 pub mod Sealed
+pub mod Serials

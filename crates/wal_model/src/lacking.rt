@@ -1,10 +1,13 @@
 //! Which commits a log has, by their serials.
-ghost use Rattle.std.specs.Prelude.{ℕ, ◌≡◌, not, ◌||◌, IfOk, OnOk};
+ghost use Rattle.std.specs.Prelude.{ℕ, ◌≡◌, not, ◌||◌, List, IfOk, OnOk};
 ghost use Rattle.std.specs.BTreeSet.{contains};
 ghost use Rattle.std.specs.Ordering.{nat_cmp};
 ghost use Rattle.wal_model.specs.Lacking.{is_entry_of, has_serial, lacks_in};
+ghost use Rattle.wal_model.specs.Serials.{serials_of_run};
+ghost use Rattle.wal_model.specs.declared.entry.Entry.{Entry};
 
-use crate::{Entry, Wal};
+use crate::serial_run::SerialRun;
+use crate::{Entry, Serials, Wal};
 use std::alloc::{AllocError, Global};
 use std::collections::BTreeSet;
 
@@ -34,16 +37,29 @@ pub fn has_serial(log: &Wal, serial: u64) -> bool
 
 /// Whether the log lacks one of these commits: it has no entry of that serial. It takes room for the
 /// serials of the log, walks over both once, and fails only for want of memory.
-pub fn lacks(log: &Wal, acknowledged: &[u64], alloc: Global) -> Result<bool, AllocError>
+pub fn lacks(log: &Wal, acknowledged: &Serials, alloc: Global) -> Result<bool, AllocError>
     ensures { IfOk result (λ lacks. lacks ≡ lacks_in log.now acknowledged.now) }
 {
     let serials = serials_of(log, alloc)?;
-    for serial in acknowledged {
-        if !serials.contains(serial) {
+    let runs = acknowledged.runs();
+    for run in runs {
+        if lacks_of_run(&serials, *run) {
             return Ok(true);
         }
     }
     Ok(false)
+}
+
+/// Whether a log whose entries have these serials lacks a commit of this run.
+fn lacks_of_run(serials: &BTreeSet<u64>, run: SerialRun) -> bool
+    ensures { (log : List Entry) → ((serial : ℕ) → contains nat_cmp serials.now serial ≡ has_serial log serial) → result ≡ lacks_in log (serials_of_run run) }
+{
+    for serial in run.first..run.last {
+        if !serials.contains(&serial) {
+            return true;
+        }
+    }
+    !serials.contains(&run.last)
 }
 
 /// The serials of the entries of a log.

@@ -12,16 +12,17 @@ use event_book::{Event, EventKind, Member, ReplicationEvent, ServerOf};
 use pat_base::Ticks;
 use pg_cluster::Servers;
 use std::alloc::AllocError;
+use wal_model::Serials;
 
 /// A commit of this server is acknowledged: it stands behind those that were, and that is written down.
 pub fn tell_acknowledged(
-    told: &mut Vec<u64>,
+    told: &mut Serials,
     server: ServerOf,
     commit: u64,
     tick: Ticks,
     events: &mut Vec<Event>,
 ) -> Result<(), AllocError>
-    ensures told { OnOk result (told.new.items ≡ told.old.items ++ commit ∷ []) }
+    ensures told { OnOk result (told.new ≡ told.old ++ commit ∷ []) }
     ensures event { OnOk result (events.new.items ≡ events.old.items ++ record { tick = tick; kind = kinds.Replication (replications.Acknowledged server commit) } ∷ []) }
 {
     told.push(commit)?;

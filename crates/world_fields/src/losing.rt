@@ -11,7 +11,7 @@ use event_book::{EventKind, Member, ReplicationEvent, ServerOf};
 use pg_cluster::Servers;
 use pg_model::Server;
 use std::alloc::{AllocError, Global};
-use wal_model::{Wal, has_serial, lacks};
+use wal_model::{Serials, Wal, has_serial, lacks};
 
 /// That the server of a member lacks an acknowledged commit is told, where the test says it.
 fn loss_if(member: Member, is_lacking: bool) -> Option<EventKind>
@@ -60,7 +60,7 @@ pub fn loss_of_any(
     alloc: Global,
     servers: &Servers,
     member: Member,
-    commits: &[u64],
+    commits: &Serials,
 ) -> Result<Option<EventKind>, AllocError>
     ensures kind { IfOk result (λ kind. kind ≡ option_and_then (loss_of_any commits.now member) (slice_get servers.now member.id.number)) }
     ensures comes { IfOk result (λ kind. (cluster : Cluster) → IfSome kind (MayCome cluster)) }
@@ -73,7 +73,7 @@ pub fn loss_of_any(
 }
 
 /// Whether a log, if there is one, lacks one of these commits. It fails only for want of memory.
-fn lacks_any(alloc: Global, log: Option<&Wal>, commits: &[u64]) -> Result<bool, AllocError>
+fn lacks_any(alloc: Global, log: Option<&Wal>, commits: &Serials) -> Result<bool, AllocError>
     ensures { IfOk result (λ is. is ≡ lacks_in (entries_of (option_copied log.entry)) commits.now) }
 {
     match log {

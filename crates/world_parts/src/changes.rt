@@ -19,6 +19,7 @@ use event_book::{
 use lease_store::Store;
 use pat_base::Ticks;
 use std::alloc::AllocError;
+use wal_model::Serials;
 use world_fields::links::CutLinks;
 use world_fields::watchdogs::{change_deadline, change_hold};
 
@@ -122,8 +123,8 @@ pub fn commits_after(commits: u64, kind: &EventKind) -> u64
 }
 
 /// The commits that are acknowledged after a happening. It fails only for want of memory.
-pub fn change_acknowledged(told: &mut Vec<u64>, kind: &EventKind) -> Result<(), AllocError>
-    ensures { OnOk result (told.new.items ≡ acknowledged_after told.old.items kind.now) }
+pub fn change_acknowledged(told: &mut Serials, kind: &EventKind) -> Result<(), AllocError>
+    ensures { OnOk result (told.new ≡ acknowledged_after told.old kind.now) }
 {
     if let EventKind::Replication(ReplicationEvent::Acknowledged { commit, .. }) = kind {
         told.push(*commit)?;

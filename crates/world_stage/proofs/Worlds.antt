@@ -20,7 +20,7 @@ seen w = record {
     deadlines = w.deadlines.items;
     holds = w.holds.items;
     commits = w.commits;
-    acknowledged = w.acknowledged.items;
+    acknowledged = w.acknowledged;
   };
   agents = w.agents.items;
 }

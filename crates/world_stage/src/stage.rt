@@ -26,6 +26,7 @@ use rest_paths::Routes;
 use script_model::{End, Head};
 use std::alloc::{AllocError, Global};
 use std::marker::Model;
+use wal_model::Serials;
 use world_agents::places::{close_all, first_agents};
 use world_agents::{Agent, Outputs};
 use world_fields::links::{CutLinks, link_of};
@@ -62,7 +63,7 @@ pub struct Stage {
     /// The number of the last commit.
     commits: u64,
     /// The commits whose clients were told that they are stored, in order.
-    acknowledged: Vec<u64>,
+    acknowledged: Serials,
     /// Which messages in flight a round has to look at.
     index: FlightIndex,
     /// A buffer for what agents do, empty between two inputs.
@@ -96,7 +97,7 @@ impl Model for Stage {
         deadlines = w.deadlines.items;
         holds = w.holds.items;
         commits = w.commits;
-        acknowledged = w.acknowledged.items;
+        acknowledged = w.acknowledged;
       };
       agents = w.agents.items;
     } };
@@ -150,7 +151,7 @@ impl Stage {
             servers,
             frozen,
             commits: 0,
-            acknowledged: Vec::new(alloc),
+            acknowledged: Serials::new(alloc),
             index,
             outputs: Outputs::new(alloc),
             routes,
@@ -284,10 +285,10 @@ impl Stage {
     }
 
     /// The commits whose clients were told that they are stored, in order.
-    pub fn acknowledged(&self) -> &[u64]
+    pub fn acknowledged(&self) -> &Serials
         ensures { result.now ≡ self.now.facts.acknowledged }
     {
-        self.acknowledged.as_slice()
+        &self.acknowledged
     }
 
     /// The number of the message that was sent last.

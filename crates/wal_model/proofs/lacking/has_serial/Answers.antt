@@ -1,6 +1,6 @@
 use Rattle.std.proofs.Common.{◌≡◌, ◌∙◌, ◌-◌, drop, suc, false, sym, subst, ap, arith}
 use Rattle.wal_model.specs.Lacking.{has_serial, is_entry_of}
-use Rattle.wal_model.proofs.Serials.{has-at, has-none}
+use Rattle.wal_model.proofs.Lookups.{has-at, has-none}
 use Rattle.wal_model.proofs.lacking.has_serial.Goals as goal
 
 pub returns-then-is_entry_of : goal.returns-then-is_entry_of

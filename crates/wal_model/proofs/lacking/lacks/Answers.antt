@@ -1,15 +1,27 @@
-use Rattle.std.proofs.Common.{◌∙◌, sym, get_or, add-one}
-use Rattle.wal_model.proofs.Serials.{lacks-at, lacks-past}
+use Rattle.std.proofs.Common.{◌≡◌, ◌∙◌, ◌||◌, ◌+◌, Bool, true, false, drop, sym, ap}
+use Rattle.wal_model.specs.Lacking.{lacks_in}
+use Rattle.wal_model.specs.Serials.{serials_of_run, serials_in}
+use Rattle.wal_model.proofs.Successions.{lacks-runs}
 use Rattle.wal_model.proofs.lacking.lacks.Goals as goal
 
-pub returns-then-not-contains : goal.returns-then-not-contains
-returns-then-not-contains c =
-    let i = c.loop-serial.serial-index in
-    let serials = c.args.acknowledged.now in
-    sym (lacks-at c.args.log.now serials i c.loop-serial-test.true (sym (c.in_ok-serials.ensures (get_or serials i 0)) ∙ sym c.contains.ensures ∙ c.if-not-contains.true)) ∙ c.loop-serial.invariant
+pub returns-then-lacks_of_run : goal.returns-then-lacks_of_run
+returns-then-lacks_of_run c =
+    let log = c.args.log.now in
+    let runs = c.runs-runs.result.now in
+    let i = c.loop-run.run-index in
+    let run = c.run-item.result in
+    let here : true ≡ lacks_in log (serials_of_run run) = sym c.if-lacks_of_run.true ∙ c.lacks_of_run.ensures log c.in_ok-serials.ensures in
+    ap (λ b. b || lacks_in log (serials_in (drop (i + 1) runs))) here
+    ∙ sym (lacks-runs log runs i run c.loop-run-test.true c.run-item.is)
+    ∙ c.loop-run.invariant
 
-pub loop-serial-preserved : goal.loop-serial-preserved
-loop-serial-preserved c =
-    let i = c.loop-serial.serial-index in
-    let serials = c.args.acknowledged.now in
-    rw add-one (lacks-past c.args.log.now serials i c.loop-serial-test.true (sym (c.in_ok-serials.ensures (get_or serials i 0)) ∙ sym c.contains.ensures ∙ c.if-not-contains.false) ∙ c.loop-serial.invariant)
+pub loop-run-preserved : goal.loop-run-preserved
+loop-run-preserved c =
+    let log = c.args.log.now in
+    let runs = c.runs-runs.result.now in
+    let i = c.loop-run.run-index in
+    let run = c.run-item.result in
+    let here : false ≡ lacks_in log (serials_of_run run) = sym c.if-lacks_of_run.false ∙ c.lacks_of_run.ensures log c.in_ok-serials.ensures in
+    ap (λ b. b || lacks_in log (serials_in (drop (i + 1) runs))) here
+    ∙ sym (lacks-runs log runs i run c.loop-run-test.true c.run-item.is)
+    ∙ c.loop-run.invariant

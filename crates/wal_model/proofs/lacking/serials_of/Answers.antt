@@ -1,6 +1,6 @@
 use Rattle.std.proofs.Common.{◌∙◌, ◌<◌, ◌||◌, length, take, sym, ap, arith, add-one}
 use Rattle.wal_model.specs.Lacking.{has_serial, is_entry_of}
-use Rattle.wal_model.proofs.Serials.{has-more}
+use Rattle.wal_model.proofs.Lookups.{has-more}
 use Rattle.wal_model.proofs.lacking.serials_of.Goals as goal
 
 pub loop-place-preserved : goal.loop-place-preserved

@@ -1,4 +1,4 @@
-use Rattle.wal_model.proofs.Serials.{looked-up, looked-for}
+use Rattle.wal_model.proofs.Lookups.{looked-up, looked-for}
 use Rattle.wal_model.proofs.laws.commits_are_looked_up.Goals as goal
 
 pub returns : goal.returns

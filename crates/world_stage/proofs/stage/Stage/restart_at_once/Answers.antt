@@ -1,5 +1,4 @@
-use Rattle.std.proofs.Common.{◌∙◌, ℕ, List, ap, refl, sym, subst}
-use Rattle.std.specs.Prelude.{option_and_then, slice_get}
+use Rattle.std.proofs.Common.{List, refl, sym, subst}
 use Rattle.std.proofs.lemmas.Result.{on_ok_weaker}
 use Rattle.pg_model.specs.Facts.{ServerFacts}
 use Rattle.cluster_model.specs.declared.beginning.Beginning.TheVariants.{AtOnce}
@@ -8,7 +7,6 @@ use Rattle.cluster_model.specs.Messages.{server_restart_events}
 use Rattle.cluster_model.specs.Parts.{events_of}
 use Rattle.cluster_model.specs.State.{Cluster}
 use Rattle.world_model.specs.Emits.{Emits}
-use Rattle.world_model.specs.Promoting.{loss_of_any}
 use Rattle.world_model.specs.Room.{HasRoom, server_restart_cost}
 use Rattle.world_stage.proofs.Restarting.{BeginsAgain, begins-again-at, begins-took, begun-room}
 use Rattle.world_stage.proofs.Streams.{with_servers}
@@ -26,9 +24,8 @@ happen_if-requires-clause-room c =
 pub returns : goal.returns
 returns c =
     let before = seen c.self.inside in
-    let place = c.args.member.id.number in
     let again = subst (λ (b : Cluster). BeginsAgain b c.args.member (AtOnce c.args.timeline)) (sym c.self.view_is) (begins-again-at c.args.self.now c.args.member (AtOnce c.args.timeline) c.requires.primary c.requires.again) in
-    let lost = c.in_ok-loss.ensures.kind ∙ ap (λ (cs : List ℕ). option_and_then (loss_of_any cs c.args.member) (slice_get c.self.inside.servers place)) c.deref.ensures.value in
+    let lost = c.in_ok-loss.ensures.kind in
     on_ok_weaker c.happen_if.result
     (λ took. subst (λ (b : Cluster). Emits b c.happen_if.new.self c.args.events.now.items c.happen_if.new.events.items (server_restart_events b c.args.member) server_restart_cost) c.self.view_is
     (begins-took before c.happen_if.new.self c.args.member c.args.timeline c.of-server.result c.in_ok-loss.loss c.self.inside.clock c.args.events.now.items c.write_down.new.events.items c.write_down-2.new.events.items c.happen_if.new.events.items again c.of-server.ensures refl lost
