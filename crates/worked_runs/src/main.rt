@@ -31,7 +31,7 @@ mod repeats;
 mod views;
 
 use case::{case_of, text_or};
-use difference::{first_difference, last_lines};
+use difference::{first_difference, lines_more};
 use outcome::outcome_of;
 use std::process::ExitCode;
 use std::rt::Files;
@@ -81,14 +81,15 @@ fn is_as_wanted<R: Files + AllocGlobal + Print>(
 ) -> io::Result<bool> {
     let wanted = text_or(rt, name, ending, "")?;
     let wanted = wanted.as_str();
-    let told = match ending {
-        "end" => last_lines(told, wanted),
-        _ => told,
+    let skipped = match ending {
+        "end" => lines_more(told, wanted),
+        _ => 0,
     };
-    if told == wanted {
-        return Ok(true);
+    match first_difference(told, skipped, wanted) {
+        None => Ok(true),
+        Some(difference) => {
+            println!(rt; "{name}.{ending}: {difference}")?;
+            Ok(false)
+        }
     }
-    let difference = first_difference(told, wanted);
-    println!(rt; "{name}.{ending}: {difference}")?;
-    Ok(false)
 }
