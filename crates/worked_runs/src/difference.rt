@@ -12,11 +12,15 @@ pub struct Difference<'a> {
 /// A line that stands for any line, where it is wanted.
 const ANY: &str = "*";
 
-/// The first line in which what is told differs from what is wanted, if one does.
-pub fn first_difference<'a>(told: &'a str, wanted: &'a str) -> Option<Difference<'a>> {
+/// The first line in which what is told differs, behind as many lines as are skipped, from what is wanted, if there is one.
+pub fn first_difference<'a>(
+    told: &'a str,
+    skipped: usize,
+    wanted: &'a str,
+) -> Option<Difference<'a>> {
     let mut line = 1u64;
     let mut lines = wanted.split('\n');
-    for told in told.split('\n') {
+    for told in told.split('\n').skip(skipped) {
         let wanted = lines.next();
         if wanted != Some(told) && wanted != Some(ANY) {
             return Some(Difference {
@@ -27,12 +31,19 @@ pub fn first_difference<'a>(told: &'a str, wanted: &'a str) -> Option<Difference
         }
         line = line.saturating_add(1);
     }
-    let wanted = Some(lines.next()?);
+    let missing = lines.next()?;
     Some(Difference {
         line,
         told: None,
-        wanted,
+        wanted: Some(missing),
     })
+}
+
+/// How many lines one text has more than another.
+pub fn lines_more(text: &str, other: &str) -> usize {
+    text.split('\n')
+        .count()
+        .saturating_sub(other.split('\n').count())
 }
 
 impl fmt::Display for Difference<'_> {
@@ -42,16 +53,4 @@ impl fmt::Display for Difference<'_> {
         let wanted = wanted.unwrap_or("(no line)");
         write!(f, "line {line} is `{told}`, and is to be `{wanted}`")
     }
-}
-
-/// The last lines of a text, as many as another has.
-pub fn last_lines<'a>(text: &'a str, other: &str) -> &'a str {
-    let lines = text.split('\n').count();
-    let mut rest = text;
-    for _ in other.split('\n').count()..lines {
-        if let Some((_, behind)) = rest.split_once('\n') {
-            rest = behind;
-        }
-    }
-    rest
 }

@@ -32,7 +32,7 @@ mod repeats;
 mod views;
 
 use case::{case_of, text_or};
-use difference::{first_difference, last_lines};
+use difference::{first_difference, lines_more};
 use outcome::outcome_of;
 use std::process::ExitCode;
 use std::rt::Files;
@@ -82,13 +82,15 @@ fn is_as_wanted<R: Files + AllocGlobal + Print>(
 ) -> io::Result<bool> {
     let wanted = text_or(rt, name, ending, "")?;
     let wanted = wanted.as_str();
-    let told = match ending {
-        "end" => last_lines(told, wanted),
-        _ => told,
+    let skipped = match ending {
+        "end" => lines_more(told, wanted),
+        _ => 0,
     };
-    let Some(difference) = first_difference(told, wanted) else {
-        return Ok(true);
-    };
-    println!(rt; "{name}.{ending}: {difference}")?;
-    Ok(false)
+    match first_difference(told, skipped, wanted) {
+        None => Ok(true),
+        Some(difference) => {
+            println!(rt; "{name}.{ending}: {difference}")?;
+            Ok(false)
+        }
+    }
 }
