@@ -4,7 +4,7 @@ use Rattle.pat_base.specs.declared.lsn.Lsn.{Lsn}
 use Rattle.pat_base.specs.declared.server_state.Required.{Required}
 use Rattle.wal_model.specs.declared.entry.Entry.{Entry}
 use Rattle.wal_model.specs.Lacking.{has_serial}
-use Rattle.wal_model.proofs.Serials.{looked-up}
+use Rattle.wal_model.proofs.Lookups.{looked-up}
 use Rattle.event_book.specs.declared.event.Event.{Event}
 use Rattle.event_book.specs.declared.event.EventKind.{EventKind}
 use Rattle.event_book.specs.declared.event.EventKind.TheVariants as kinds

@@ -28,7 +28,7 @@ use Rattle.std.proofs.lemmas.Bool.{cases_eq}
 use Rattle.wal_model.specs.Lacking.{has_serial, lacks_in}
 use Rattle.summary_model.specs.Losses.{may_lose, may_lose_by_server, may_lose_by_log, WriterLacksOf}
 use Rattle.summary_model.specs.Seeing.{LacksOne, WriterLacks}
-use Rattle.wal_model.proofs.Serials.{lacks-some}
+use Rattle.wal_model.proofs.Lookups.{lacks-some}
 use Rattle.summary_law.proofs.Losing.{none-if-hold}
 use Rattle.summary_law.proofs.Standing.{acknowledged-more}
 use Rattle.summary_law.proofs.Writing.{over-more}

@@ -14,7 +14,7 @@ use Rattle.wal_model.specs.Lacking.{has_serial, lacks_in}
 use Rattle.summary_model.specs.Moments.{now_over, IsToldFirst}
 use Rattle.summary_model.specs.Noting.{first_if}
 use Rattle.summary_model.specs.Seeing.{LacksOne, WriterLacks, IsSeen}
-use Rattle.wal_model.proofs.Serials.{has-each, lacks-some}
+use Rattle.wal_model.proofs.Lookups.{has-each, lacks-some}
 use Rattle.summary_law.proofs.Fronts.{told-tested}
 
 lacks-or-has : (logs : Logs) (book : List Event) (server : ℕ) (test : Bool) → lacks_in (entries_at (logs_over logs book) server) (acknowledged_in book) ≡ test → (LacksOne logs book server → ⊥) → (commit : ℕ) → Contains (acknowledged_in book) commit → has_serial (entries_at (logs_over logs book) server) commit ≡ true
