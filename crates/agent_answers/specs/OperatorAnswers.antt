@@ -4,15 +4,15 @@ use Rattle.pat_base.specs.declared.member_id.MemberId.{MemberId}
 use Rattle.pat_base.specs.declared.name.Name.{Name}
 use Rattle.pat_base.specs.declared.ticks.Ticks.{Ticks}
 use Rattle.pat_base.specs.declared.ticks.TheConstants.{TICKS_OF_SECOND}
-use Rattle.lease_store.specs.declared.action.FailoverKind.{FailoverKind}
-use Rattle.lease_store.specs.declared.action.OperatorAction.{OperatorAction}
-use Rattle.lease_store.specs.declared.action.OperatorRequest.{OperatorRequest}
-use Rattle.lease_store.specs.declared.action.OperatorRequest.TheVariants as requests
-use Rattle.lease_store.specs.declared.config.Config.{Config}
-use Rattle.lease_store.specs.declared.key.Key.{Key}
-use Rattle.lease_store.specs.declared.txn.Expected.{Expected}
-use Rattle.lease_store.specs.declared.txn.Txn.{Txn}
-use Rattle.lease_store.specs.declared.txn.Txn.TheVariants as txns
+use Rattle.store_keys.specs.declared.action.FailoverKind.{FailoverKind}
+use Rattle.store_keys.specs.declared.action.OperatorAction.{OperatorAction}
+use Rattle.store_keys.specs.declared.action.OperatorRequest.{OperatorRequest}
+use Rattle.store_keys.specs.declared.action.OperatorRequest.TheVariants as requests
+use Rattle.store_keys.specs.declared.config.Config.{Config}
+use Rattle.store_keys.specs.declared.key.Key.{Key}
+use Rattle.store_keys.specs.declared.txn.Expected.{Expected}
+use Rattle.store_keys.specs.declared.txn.Txn.{Txn}
+use Rattle.store_keys.specs.declared.txn.Txn.TheVariants as txns
 use Rattle.cluster_view.specs.KeyValues.{failover_in}
 use Rattle.cluster_view.specs.Snapshots.{SnapshotFacts}
 use Rattle.operator_answers.specs.declared.answer_text.Text.{Text}

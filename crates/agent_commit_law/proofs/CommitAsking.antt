@@ -1,13 +1,13 @@
 -- With the synchronous mode on in each snapshot, what an agent waits for it asked with the mode on.
 use Rattle.std.proofs.Common.{◌≡◌, ℕ, ◌==◌, nat_le, Bool, true, if◌then◌else◌, List, Option, Some, None, refl, sym, subst, ◌∙◌}
-use Rattle.lease_store.specs.Defaults.{default_config}
-use Rattle.lease_store.specs.declared.action.OperatorRequest.{OperatorRequest}
-use Rattle.lease_store.specs.declared.config.Config.{Config}
+use Rattle.store_keys.specs.Defaults.{default_config}
+use Rattle.store_keys.specs.declared.action.OperatorRequest.{OperatorRequest}
+use Rattle.store_keys.specs.declared.config.Config.{Config}
 use Rattle.lease_store.specs.declared.granted.Granted.{Granted}
-use Rattle.lease_store.specs.declared.key.Key.TheVariants as keys
-use Rattle.lease_store.specs.declared.value.KeyEntry.{KeyEntry}
-use Rattle.lease_store.specs.declared.value.Value.{Value}
-use Rattle.lease_store.specs.declared.value.Value.TheVariants as values
+use Rattle.store_keys.specs.declared.key.Key.TheVariants as keys
+use Rattle.store_keys.specs.declared.value.KeyEntry.{KeyEntry}
+use Rattle.store_keys.specs.declared.value.Value.{Value}
+use Rattle.store_keys.specs.declared.value.Value.TheVariants as values
 use Rattle.pat_base.specs.declared.member_id.MemberId.{MemberId}
 use Rattle.pat_base.specs.declared.peer_answer.PeerAnswer.{PeerAnswer}
 use Rattle.pat_base.specs.declared.ticks.Ticks.{Ticks}

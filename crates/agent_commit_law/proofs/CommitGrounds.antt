@@ -6,9 +6,9 @@ use Rattle.pat_base.specs.declared.member_id.MemberId.{MemberId}
 use Rattle.pat_base.specs.declared.ticks.Ticks.{Ticks}
 use Rattle.pat_base.specs.ServerState.{live}
 use Rattle.lease_store.specs.declared.granted.Granted.{Granted}
-use Rattle.lease_store.specs.declared.key.Key.TheVariants as keys
-use Rattle.lease_store.specs.declared.value.KeyEntry.{KeyEntry}
-use Rattle.lease_store.specs.declared.value.SyncKey.{SyncKey as StoredKey}
+use Rattle.store_keys.specs.declared.key.Key.TheVariants as keys
+use Rattle.store_keys.specs.declared.value.KeyEntry.{KeyEntry}
+use Rattle.store_keys.specs.declared.value.SyncKey.{SyncKey as StoredKey}
 use Rattle.wal_model.specs.declared.entry.Entry.{Entry}
 use Rattle.wal_model.specs.Log.{end_of}
 use Rattle.pg_model.specs.declared.status.ServerStatus.{ServerStatus}

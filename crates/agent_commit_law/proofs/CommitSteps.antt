@@ -5,7 +5,7 @@ use Rattle.pat_base.specs.declared.member_set.MemberSet.{MemberSet}
 use Rattle.pat_base.specs.declared.server_state.Required.TheVariants as requireds
 use Rattle.pat_base.specs.declared.ticks.Ticks.{Ticks}
 use Rattle.lease_store.specs.declared.granted.Granted.{Granted}
-use Rattle.lease_store.specs.declared.value.SyncKey.{SyncKey}
+use Rattle.store_keys.specs.declared.value.SyncKey.{SyncKey}
 use Rattle.lease_store.specs.Writes.{nobody}
 use Rattle.cluster_view.specs.KeyValues.{config_in, sync_in}
 use Rattle.cluster_view.specs.Snapshots.{SnapshotFacts}

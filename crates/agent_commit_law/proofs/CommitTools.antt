@@ -12,7 +12,7 @@ use Rattle.pat_base.specs.declared.member_set.MemberSet.{MemberSet}
 use Rattle.pat_base.specs.declared.server_state.Required.{Required}
 use Rattle.pat_base.specs.declared.server_state.Required.TheVariants as requireds
 use Rattle.pat_base.proofs.MemberBits.{within_both}
-use Rattle.lease_store.specs.declared.config.Config.{Config}
+use Rattle.store_keys.specs.declared.config.Config.{Config}
 use Rattle.cluster_view.specs.declared.view.LeaderView.{LeaderView}
 use Rattle.lease_law.proofs.Tools.{both as no-both, not-false, le-from}
 use Rattle.event_book.specs.Functions.{set_members}

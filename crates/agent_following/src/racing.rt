@@ -17,9 +17,9 @@ use agent_turn::{
 use cluster_view::RoleWord;
 use event_book::{AgentNote, Body};
 use leader_race::{may_race, wins};
-use lease_store::Txn;
 use pat_base::{Ineligibility, State, Ticks};
 use pg_model::ServerStatus;
+use store_keys::Txn;
 
 /// Nobody leads: a server that can start does so as a replica of none, and its agent tells of itself; else the member races,
 /// unless something bars it.

@@ -6,9 +6,9 @@ ghost use Rattle.agent_model.specs.Repairs.{is_upstream, repair_in, repair_of, r
 
 use agent_model::{Output, Repair};
 use agent_turn::{Turn, lets_rewind};
-use lease_store::Config;
 use pat_base::{MemberId, ServerId, State};
 use pg_model::ServerStatus;
+use store_keys::Config;
 
 /// How the log of a server is repaired by this leader's, if it has to be and may be.
 pub fn repair_of(settings: &Config, leader: MemberId, server: &ServerStatus) -> Option<Repair>

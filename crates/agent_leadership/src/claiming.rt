@@ -12,9 +12,9 @@ use agent_model::{Knowledge, Output, Question};
 use agent_turn::{Role, Turn, expected_of, is_named_if, is_paused, is_wanted_by, unnamed};
 use event_book::{AgentNote, Body};
 use leader_key::{Armed, Writer};
-use lease_store::Txn;
 use pat_base::State;
 use pg_model::ServerStatus;
+use store_keys::Txn;
 
 /// An agent with an armed watchdog begins; in synchronous mode it claims the sync key first.
 pub(crate) fn begin_or_claim(armed: Armed, turn: &mut Turn) -> Role

@@ -20,9 +20,9 @@ use cluster_view::{Snapshot, candidate_of, is_standby};
 use event_book::{AgentNote, Body};
 use leader_key::Writer;
 use leader_race::{earlier, may_fail_over};
-use lease_store::{FailoverKey, Txn};
 use pat_base::{Lsn, MemberId, PeerAnswer};
 use pg_model::ServerStatus;
+use store_keys::{FailoverKey, Txn};
 
 /// What a leader owes its cluster with each renewal: what the failover key asks that its turn read, or without one a step with
 /// its synchronous standbys. In a pause these stay as they are.

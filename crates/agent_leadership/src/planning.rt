@@ -9,8 +9,8 @@ use agent_model::{Knowledge, Machine, Question, Settling, SyncRead};
 use agent_turn::{Turn, expected_of, sync_read_if, view_of, waiting_for};
 use cluster_view::{LeaderView, RoleWord};
 use event_book::Body;
-use lease_store::Txn;
 use pat_base::{MemberSet, Required, Ticks};
+use store_keys::Txn;
 use sync_state::{Plan, plan};
 
 /// A leader under the leader key of this revision takes the step that the newest snapshot calls for, if there is one.

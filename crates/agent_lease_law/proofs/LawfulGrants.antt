@@ -4,7 +4,7 @@ use Rattle.std.proofs.lemmas.Bool.Decides.{nat_tests}
 use Rattle.pat_base.specs.declared.member_set.MemberSet.{MemberSet}
 use Rattle.pat_base.specs.declared.ticks.Ticks.{Ticks}
 use Rattle.lease_store.specs.declared.granted.Granted.{Granted}
-use Rattle.lease_store.specs.declared.value.KeyEntry.{KeyEntry}
+use Rattle.store_keys.specs.declared.value.KeyEntry.{KeyEntry}
 use Rattle.cluster_view.specs.Snapshots.{SnapshotFacts, failsafe_by, failsafe_of_entry}
 use Rattle.leader_key.specs.declared.watchdog.Mode.{Mode}
 use Rattle.leader_key.specs.Watchdog.{WatchdogFacts, IsLeaseSpan, greatest_margin, timeout_of, is_armable, fed}

@@ -1,7 +1,7 @@
 -- What an input asks the key store, and what its agent waits for after it.
 use Rattle.std.specs.Prelude.{ℕ, ◌≡◌, ◌⊎◌, ◌≤◌, ◌<◌, true, Some, All, Contains}
 use Rattle.pat_base.specs.declared.ticks.Ticks.{Ticks}
-use Rattle.lease_store.specs.declared.txn.Txn.{Txn}
+use Rattle.store_keys.specs.declared.txn.Txn.{Txn}
 use Rattle.event_book.specs.declared.message.Body.TheVariants as bodies
 use Rattle.lease_law.specs.Past.{query_of, lease_span as span_asked}
 use Rattle.agent_model.specs.declared.knowledge.PendingQuestion.{PendingQuestion}

@@ -24,8 +24,8 @@ use Rattle.agent_model.specs.declared.knowledge.PendingQuestion.{PendingQuestion
 use Rattle.agent_model.specs.Synchronous.{sync_read_if, expected_of, is_named_if, waiting_for}
 use Rattle.pat_base.specs.declared.server_state.Required.{Required}
 use Rattle.pat_base.specs.declared.server_state.Required.TheVariants.{Nobody, All}
-use Rattle.lease_store.specs.declared.txn.Txn.{Txn}
-use Rattle.lease_store.specs.declared.txn.Txn.TheVariants as txns
+use Rattle.store_keys.specs.declared.txn.Txn.{Txn}
+use Rattle.store_keys.specs.declared.txn.Txn.TheVariants as txns
 use Rattle.lease_store.specs.Writes.{nobody}
 use Rattle.sync_state.specs.declared.steps.Plan.{Plan}
 use Rattle.sync_state.specs.declared.steps.Plan.TheVariants as plans
@@ -51,9 +51,9 @@ use Rattle.agent_model.specs.declared.operating.Operation.TheVariants.{FailingOv
 use Rattle.agent_model.specs.declared.operating.Told.{Told}
 use Rattle.agent_model.specs.declared.operating.Told.TheVariants as tolds
 use Rattle.operator_answers.specs.declared.answer_text.Text.TheVariants as texts
-use Rattle.lease_store.specs.declared.action.OperatorRequest.{OperatorRequest}
-use Rattle.lease_store.specs.declared.action.OperatorRequest.TheVariants as requests
-use Rattle.lease_store.specs.declared.value.FailoverKey.{FailoverKey}
+use Rattle.store_keys.specs.declared.action.OperatorRequest.{OperatorRequest}
+use Rattle.store_keys.specs.declared.action.OperatorRequest.TheVariants as requests
+use Rattle.store_keys.specs.declared.value.FailoverKey.{FailoverKey}
 use Rattle.event_book.specs.declared.message.Body.TheVariants as bodies
 use Rattle.cluster_view.specs.Naming.{candidate_of}
 use Rattle.agent_model.specs.Snapshots.{leader_loses_key, unleased_loses_key, renewing, finds_own_key, own_key, asks_as_unleased, starts_behind, starts_if, follow_row, follows, others_key, no_key, led, is_active, awaits_read, read_noted, informed, accepted, read_answered, ends_fork}

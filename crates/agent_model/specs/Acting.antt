@@ -4,8 +4,8 @@ use Rattle.pat_base.specs.declared.member_id.MemberId.{MemberId}
 use Rattle.pat_base.specs.declared.server_id.ServerId.{ServerId}
 use Rattle.pat_base.specs.declared.server_state.Required.{Required}
 use Rattle.pat_base.specs.declared.ticks.Ticks.{Ticks}
-use Rattle.lease_store.specs.declared.config.Config.{Config}
-use Rattle.lease_store.specs.declared.txn.Txn.TheVariants as txns
+use Rattle.store_keys.specs.declared.config.Config.{Config}
+use Rattle.store_keys.specs.declared.txn.Txn.TheVariants as txns
 use Rattle.pg_model.specs.declared.status.ServerStatus.{ServerStatus}
 use Rattle.pg_model.specs.Status.{status_replica_started, status_primary_started, status_stopping, status_following, status_promoted}
 use Rattle.event_book.specs.declared.message.Body.{Body}

@@ -3,7 +3,7 @@ use Rattle.std.specs.Prelude.{ℕ, ◌≡◌, ◌≤◌, ◌<◌, ◌^◌, Bool,
 use Rattle.std.specs.Option.{ForSome}
 use Rattle.pat_base.specs.declared.ticks.Ticks.{Ticks}
 use Rattle.leader_key.specs.Watchdog.{IsLeaseSpan}
-use Rattle.lease_store.specs.Defaults.{default_config}
+use Rattle.store_keys.specs.Defaults.{default_config}
 use Rattle.cluster_view.specs.declared.view.RoleWord.{RoleWord}
 use Rattle.cluster_view.specs.declared.view.RoleWord.TheVariants as words
 use Rattle.pg_model.specs.declared.status.ServerStatus.{ServerStatus}

@@ -5,7 +5,7 @@ use Rattle.pat_base.specs.declared.server_state.State.TheVariants as states
 use Rattle.pat_base.specs.declared.word.Word.{Word}
 use Rattle.pat_base.specs.declared.word.Word.TheVariants as words
 use Rattle.pat_base.specs.ServerState.{writes}
-use Rattle.lease_store.specs.declared.value.MemberInfo.{MemberInfo}
+use Rattle.store_keys.specs.declared.value.MemberInfo.{MemberInfo}
 use Rattle.pg_model.specs.declared.status.ServerStatus.{ServerStatus}
 use Rattle.agent_model.specs.declared.who.Who.{Who}
 

@@ -4,16 +4,16 @@ use Rattle.pat_base.specs.declared.host.Host.{Host}
 use Rattle.pat_base.specs.declared.member_id.MemberId.{MemberId}
 use Rattle.pat_base.specs.declared.name.Name.{Name}
 use Rattle.pat_base.specs.declared.ticks.Ticks.{Ticks}
-use Rattle.lease_store.specs.declared.action.FailoverKind.{FailoverKind}
-use Rattle.lease_store.specs.declared.action.FailoverKind.TheVariants as kinds
-use Rattle.lease_store.specs.declared.action.OperatorRequest.{OperatorRequest}
-use Rattle.lease_store.specs.declared.action.OperatorRequest.TheVariants as requests
-use Rattle.lease_store.specs.declared.config.Config.{Config}
+use Rattle.store_keys.specs.declared.action.FailoverKind.{FailoverKind}
+use Rattle.store_keys.specs.declared.action.FailoverKind.TheVariants as kinds
+use Rattle.store_keys.specs.declared.action.OperatorRequest.{OperatorRequest}
+use Rattle.store_keys.specs.declared.action.OperatorRequest.TheVariants as requests
+use Rattle.store_keys.specs.declared.config.Config.{Config}
 use Rattle.lease_store.specs.declared.granted.Granted.{Granted}
-use Rattle.lease_store.specs.declared.key.Key.TheVariants as keys
-use Rattle.lease_store.specs.declared.txn.Txn.TheVariants as txns
-use Rattle.lease_store.specs.declared.value.FailoverKey.{FailoverKey}
-use Rattle.lease_store.specs.declared.value.KeyEntry.{KeyEntry}
+use Rattle.store_keys.specs.declared.key.Key.TheVariants as keys
+use Rattle.store_keys.specs.declared.txn.Txn.TheVariants as txns
+use Rattle.store_keys.specs.declared.value.FailoverKey.{FailoverKey}
+use Rattle.store_keys.specs.declared.value.KeyEntry.{KeyEntry}
 use Rattle.pg_model.specs.Running.{is_primary}
 use Rattle.pg_model.specs.Status.{status_restarted, status_wiped}
 use Rattle.cluster_view.specs.declared.snapshot.LeaderEntry.{LeaderEntry}

@@ -5,8 +5,8 @@ use Rattle.pat_base.specs.declared.member_id.MemberId.{MemberId}
 use Rattle.pat_base.specs.declared.server_state.State.{State}
 use Rattle.pat_base.specs.declared.server_state.State.TheVariants as states
 use Rattle.pat_base.specs.declared.ticks.Ticks.{Ticks}
-use Rattle.lease_store.specs.declared.config.Config.{Config}
-use Rattle.lease_store.specs.declared.value.FailoverKey.{FailoverKey}
+use Rattle.store_keys.specs.declared.config.Config.{Config}
+use Rattle.store_keys.specs.declared.value.FailoverKey.{FailoverKey}
 use Rattle.cluster_view.specs.KeyValues.{failover_in}
 use Rattle.cluster_view.specs.Naming.{is_candidate}
 use Rattle.cluster_view.specs.Snapshots.{SnapshotFacts}

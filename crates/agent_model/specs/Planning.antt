@@ -3,8 +3,8 @@ use Rattle.std.specs.Prelude.{ℕ, Option, Some, None}
 use Rattle.pat_base.specs.declared.member_set.MemberSet.{MemberSet}
 use Rattle.pat_base.specs.declared.server_state.Required.TheVariants.{Nobody, All}
 use Rattle.pat_base.specs.declared.ticks.Ticks.{Ticks}
-use Rattle.lease_store.specs.declared.txn.Txn.{Txn}
-use Rattle.lease_store.specs.declared.txn.Txn.TheVariants as txns
+use Rattle.store_keys.specs.declared.txn.Txn.{Txn}
+use Rattle.store_keys.specs.declared.txn.Txn.TheVariants as txns
 use Rattle.lease_store.specs.Writes.{nobody}
 use Rattle.event_book.specs.declared.message.Body.TheVariants as bodies
 use Rattle.cluster_view.specs.declared.view.LeaderView.{LeaderView}

@@ -1,8 +1,9 @@
 //! What an agent hears.
 
 use cluster_view::Snapshot;
-use lease_store::{Expected, Granted, Key, OperatorAction};
+use lease_store::Granted;
 use pat_base::{MemberId, PeerAnswer};
+use store_keys::{Expected, Key, OperatorAction};
 
 /// What comes to an agent: a wake, an answer of the key store or of another member to the question of this number in its incarnation, a
 /// question of another member, or what an operator asks.

@@ -2,8 +2,8 @@
 
 use crate::{Answers, Operating, Who};
 use cluster_view::Snapshot;
-use lease_store::{Config, FailoverKey, SyncKey};
 use pat_base::{Lsn, MemberSet, Ticks};
+use store_keys::{Config, FailoverKey, SyncKey};
 
 /// What a leader's required list becomes once its write of the sync key is granted.
 #[derive(Clone, Copy, PartialEq, Eq)]

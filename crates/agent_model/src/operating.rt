@@ -1,8 +1,8 @@
 //! What an agent does for operators, and owes an answer for.
 
-use lease_store::FailoverKind;
 use operator_answers::Text;
 use pat_base::{MemberId, Ticks};
+use store_keys::FailoverKind;
 
 /// What an agent asked the key store for on a request of an operator.
 #[derive(Clone, Copy, PartialEq, Eq)]

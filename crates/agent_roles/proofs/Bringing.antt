@@ -23,7 +23,7 @@ use Rattle.agent_model.specs.Wake.{leader_out_of_reach, unleased_out_of_reach, r
 use Rattle.agent_model.specs.HandingOver.{hands_over}
 use Rattle.agent_model.specs.Operators.{answering, given_up, looked, operated, operating, restarting, telling, wiping}
 use Rattle.agent_model.specs.Table.{refused_any}
-use Rattle.lease_store.specs.declared.action.OperatorAction.{OperatorAction}
+use Rattle.store_keys.specs.declared.action.OperatorAction.{OperatorAction}
 use Rattle.event_book.specs.declared.message.Body.TheVariants as bodies
 use Rattle.agent_roles.proofs.Living.{no-way, stop-live, start-live, follow-live, restart-live, wipe-live}
 use Rattle.agent_model.proofs.Rows.{HandoverRows, ReplyRows, ActRows, dropping, looked-by, given-up-by, refused-any-by, operated-by, before-by, overdue-by, turn-by, wake-by, got-by, refused-by, follow-by, repaired-by, free-by, judged-by, answered-by}

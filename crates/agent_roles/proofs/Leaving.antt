@@ -27,7 +27,7 @@ use Rattle.agent_model.specs.Peers.{asked, keeping, answered}
 use Rattle.agent_model.specs.Wake.{overdue, turned, woken}
 use Rattle.agent_model.specs.Operators.{answering, given_up, looked, operated}
 use Rattle.agent_model.specs.Table.{refused_any}
-use Rattle.lease_store.specs.declared.action.OperatorAction.{OperatorAction}
+use Rattle.store_keys.specs.declared.action.OperatorAction.{OperatorAction}
 use Rattle.agent_roles.proofs.Bringing.{acting-brings, same-role, overdue-brings, turn-brings, got-brings, refused-brings, answer-brings}
 use Rattle.agent_roles.proofs.Living.{no-way}
 use Rattle.agent_model.proofs.Rows.{HandoverRows, ReplyRows, ActRows, looked-by, given-up-by, refused-any-by, operated-by, before-by, overdue-by, turn-by, wake-by, got-by, refused-by, follow-by, free-by, repaired-by, judged-by, answered-by}

@@ -2,7 +2,7 @@
 use Rattle.std.proofs.Common.{◌≡◌, ℕ, false, List, refl, sym, subst, ap, ◌∙◌, inl, inr}
 use Rattle.std.proofs.lemmas.Bool.{false_from_ne_true}
 use Rattle.pat_base.specs.declared.ticks.Ticks.{Ticks}
-use Rattle.lease_store.specs.declared.key.Key.TheVariants as keys
+use Rattle.store_keys.specs.declared.key.Key.TheVariants as keys
 use Rattle.wal_model.specs.declared.entry.HistoryPoint.{HistoryPoint}
 use Rattle.cluster_view.specs.Snapshots.{SnapshotFacts, entry_in, settings_in}
 use Rattle.agent_model.specs.declared.heard.Heard.{Heard}
@@ -17,7 +17,7 @@ use Rattle.agent_roles.proofs.Living.{no-way}
 use Rattle.agent_model.proofs.Rows.{before-by}
 use Rattle.agent_model.specs.Pausing.{is_paused}
 use Rattle.cluster_view.specs.KeyValues.{config_in}
-use Rattle.lease_store.specs.declared.config.Config.{Config}
+use Rattle.store_keys.specs.declared.config.Config.{Config}
 
 -- what comes before an input leaves what is waited for
 ended-waits : (why : Why) (held : ℕ) (o : Outcome) → (has_ended why held o).knows.waited ≡ o.knows.waited

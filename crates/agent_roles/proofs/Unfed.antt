@@ -3,7 +3,7 @@ use Rattle.std.proofs.Common.{ℕ, Bool, true, false, cond, List, [], Option, So
 use Rattle.std.proofs.lemmas.List.Elements.{All-nil, All-push}
 use Rattle.pat_base.specs.ServerState.{live}
 use Rattle.pat_base.specs.declared.ticks.Ticks.{Ticks}
-use Rattle.lease_store.specs.declared.action.OperatorAction.{OperatorAction}
+use Rattle.store_keys.specs.declared.action.OperatorAction.{OperatorAction}
 use Rattle.wal_model.specs.declared.entry.HistoryPoint.{HistoryPoint}
 use Rattle.agent_model.specs.declared.heard.Heard.TheVariants.{Operated, Wake}
 use Rattle.agent_model.specs.declared.knowledge.Knowledge.{Knowledge}

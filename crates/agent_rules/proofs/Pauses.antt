@@ -9,9 +9,9 @@ use Rattle.pat_base.specs.declared.server_state.State.{State}
 use Rattle.pat_base.specs.declared.server_state.State.TheVariants as states
 use Rattle.pat_base.specs.declared.ticks.Ticks.{Ticks}
 use Rattle.pat_base.specs.declared.ineligibility.Ineligibility.{Ineligibility}
-use Rattle.lease_store.specs.declared.action.OperatorRequest.{OperatorRequest}
-use Rattle.lease_store.specs.declared.action.OperatorRequest.TheVariants as requests
-use Rattle.lease_store.specs.declared.config.Config.{Config}
+use Rattle.store_keys.specs.declared.action.OperatorRequest.{OperatorRequest}
+use Rattle.store_keys.specs.declared.action.OperatorRequest.TheVariants as requests
+use Rattle.store_keys.specs.declared.config.Config.{Config}
 use Rattle.lease_store.specs.declared.granted.Granted.{Granted}
 use Rattle.wal_model.specs.declared.entry.HistoryPoint.{HistoryPoint}
 use Rattle.pg_model.specs.Running.{is_primary}

@@ -7,7 +7,7 @@ use Rattle.pat_base.specs.declared.server_state.State.TheVariants as states
 use Rattle.pat_base.specs.declared.ticks.TheConstants.{TICKS_OF_SECOND}
 use Rattle.pat_base.specs.declared.ticks.Ticks.{Ticks}
 use Rattle.pat_base.specs.ServerState.{live}
-use Rattle.lease_store.specs.declared.config.Config.{Config}
+use Rattle.store_keys.specs.declared.config.Config.{Config}
 use Rattle.lease_store.specs.declared.granted.Granted.{Granted}
 use Rattle.pg_model.specs.declared.status.ServerStatus.{ServerStatus}
 use Rattle.pg_model.specs.Facts.{is_down}

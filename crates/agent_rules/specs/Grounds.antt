@@ -5,10 +5,10 @@ use Rattle.pat_base.specs.declared.server_state.State.TheVariants as states
 use Rattle.pat_base.specs.declared.ticks.TheConstants.{TICKS_OF_SECOND}
 use Rattle.pat_base.specs.declared.ticks.Ticks.{Ticks}
 use Rattle.pat_base.specs.ServerState.{live}
-use Rattle.lease_store.specs.declared.action.OperatorRequest.TheVariants as requests
+use Rattle.store_keys.specs.declared.action.OperatorRequest.TheVariants as requests
 use Rattle.lease_store.specs.declared.granted.Granted.{Granted}
-use Rattle.lease_store.specs.declared.txn.Txn.{Txn}
-use Rattle.lease_store.specs.declared.txn.Txn.TheVariants as txns
+use Rattle.store_keys.specs.declared.txn.Txn.{Txn}
+use Rattle.store_keys.specs.declared.txn.Txn.TheVariants as txns
 use Rattle.pg_model.specs.declared.status.ServerStatus.{ServerStatus}
 use Rattle.pg_model.specs.Facts.{is_down}
 use Rattle.cluster_view.specs.Naming.{is_candidate, is_failover_to, is_named}

@@ -1,7 +1,7 @@
 -- What an agent does to its server in a pause (Patroni's documentation, "Pause/Resume mode for the cluster").
 use Rattle.std.specs.Prelude.{◌≡◌, ◌⊎◌, true, All}
 use Rattle.pat_base.specs.declared.server_state.State.TheVariants as states
-use Rattle.lease_store.specs.declared.action.OperatorRequest.TheVariants as requests
+use Rattle.store_keys.specs.declared.action.OperatorRequest.TheVariants as requests
 use Rattle.cluster_view.specs.KeyValues.{failover_in}
 use Rattle.cluster_view.specs.Naming.{is_candidate}
 use Rattle.agent_model.specs.declared.heard.Heard.{Heard}

@@ -7,7 +7,7 @@ use Rattle.pat_base.specs.declared.lsn.Lsn.{Lsn}
 use Rattle.pat_base.specs.declared.member_id.MemberId.{MemberId}
 use Rattle.pat_base.specs.declared.peer_answer.PeerAnswer.{PeerAnswer}
 use Rattle.pat_base.specs.declared.ticks.Ticks.{Ticks}
-use Rattle.lease_store.specs.declared.value.FailoverKey.{FailoverKey}
+use Rattle.store_keys.specs.declared.value.FailoverKey.{FailoverKey}
 use Rattle.lease_law.proofs.Tools.{le-from, none-some, some-is}
 use Rattle.cluster_view.specs.Naming.{is_standby}
 use Rattle.leader_race.specs.Eligibility.{may_fail_over}

@@ -5,7 +5,7 @@ use Rattle.pat_base.specs.declared.peer_answer.PeerAnswer.{PeerAnswer}
 use Rattle.pat_base.specs.declared.ticks.Ticks.{Ticks}
 use Rattle.pat_base.specs.declared.ineligibility.Ineligibility.{Ineligibility}
 use Rattle.lease_store.specs.declared.granted.Granted.{Granted}
-use Rattle.lease_store.specs.declared.txn.Txn.TheVariants as txns
+use Rattle.store_keys.specs.declared.txn.Txn.TheVariants as txns
 use Rattle.leader_race.specs.Eligibility.{eligibility_of}
 use Rattle.leader_race.specs.Outcome.{outcome_of}
 use Rattle.event_book.specs.declared.agent_note.AgentNote.TheVariants as agent_notes

@@ -5,7 +5,7 @@ use Rattle.std.specs.List.{Contains}
 use Rattle.pat_base.specs.declared.lsn.Lsn.{Lsn}
 use Rattle.pat_base.specs.declared.member_id.MemberId.{MemberId}
 use Rattle.pat_base.specs.declared.peer_answer.PeerAnswer.{PeerAnswer}
-use Rattle.lease_store.specs.declared.value.FailoverKey.{FailoverKey}
+use Rattle.store_keys.specs.declared.value.FailoverKey.{FailoverKey}
 use Rattle.cluster_view.specs.Naming.{is_standby}
 use Rattle.leader_race.specs.Eligibility.{may_fail_over}
 use Rattle.agent_model.specs.declared.knowledge.SyncRead.{SyncRead}

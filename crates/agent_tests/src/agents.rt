@@ -4,12 +4,13 @@ use cluster_view::{RoleWord, Snapshot};
 use event_book::{Body, Reason};
 use ha_loop::{Agent, Outputs};
 use leader_key::{Mode, Watchdog};
-use lease_store::{ConfigValue, MemberInfo, OperatorAction, OperatorRequest, Store, Txn};
+use lease_store::Store;
 use pat_base::{Host, MemberId, Name, Required, Tags, Ticks, Word};
 use pg_model::Server;
 use std::alloc::Global;
 use std::process::Abort;
 use std::test::Fail;
+use store_keys::{ConfigValue, MemberInfo, OperatorAction, OperatorRequest, Txn};
 use wal_model::History;
 
 fn who(rt: &impl Abort) -> Who {

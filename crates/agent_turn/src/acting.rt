@@ -18,8 +18,9 @@ use crate::turn::Turn;
 use agent_model::{Output, PendingQuestion, Question, Target, Why};
 use event_book::{AgentNote, Body, Reason};
 use leader_key::{Armed, Lease, Mode, NotArmed, Watchdog, Writer};
-use lease_store::{Granted, Txn};
+use lease_store::Granted;
 use pat_base::{Required, Ticks};
+use store_keys::Txn;
 
 impl Turn<'_> {
     /// Sends this to the key store, and doesn't wait for the answer.

@@ -3,9 +3,9 @@ ghost use Rattle.std.specs.Prelude.{◌≡◌};
 ghost use Rattle.agent_model.specs.Info.{info_of, runs, state_word};
 
 use agent_model::Who;
-use lease_store::MemberInfo;
 use pat_base::{State, Word};
 use pg_model::ServerStatus;
+use store_keys::MemberInfo;
 
 /// What a member tells of itself and of its server.
 pub fn info_of(who: &Who, server: &ServerStatus) -> MemberInfo

@@ -8,8 +8,9 @@ use crate::role::Role;
 use agent_model::{Knowledge, Machine, Output};
 use cluster_view::{Snapshot, is_candidate};
 use leader_key::{Armed, Lease, Writer};
-use lease_store::{Config, FailoverKey, Granted};
+use lease_store::Granted;
 use pat_base::{MemberId, State, Ticks};
+use store_keys::{Config, FailoverKey};
 
 /// Whether the cluster is paused, by the newest snapshot.
 pub fn is_paused(knows: &Knowledge) -> bool

@@ -5,8 +5,8 @@ ghost use Rattle.agent_model.specs.Synchronous.{expected_of, is_named_if, is_str
 
 use agent_model::{Knowledge, SyncRead};
 use cluster_view::{Snapshot, is_failover_to, is_named};
-use lease_store::{Config, Expected, Key, KeyEntry, SyncKey, Value};
 use pat_base::{MemberId, MemberSet, Required};
+use store_keys::{Config, Expected, Key, KeyEntry, SyncKey, Value};
 
 /// The sync key that a snapshot has, with its revision.
 pub fn sync_read_in(snapshot: &Snapshot) -> Option<SyncRead>

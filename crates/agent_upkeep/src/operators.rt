@@ -15,11 +15,10 @@ use agent_model::{Knowledge, Operating, Operation, Output, Told};
 use agent_turn::{Role, Turn, inform, is_active, is_write_of};
 use cluster_view::Snapshot;
 use event_book::Body;
-use lease_store::{
-    Config, FailoverKey, FailoverKind, Granted, Key, KeyEntry, OperatorRequest, Txn,
-};
+use lease_store::Granted;
 use operator_answers::{CONFLICT, OK, SERVICE_UNAVAILABLE, Text};
 use pat_base::{Host, MemberId, Name, State, Ticks};
+use store_keys::{Config, FailoverKey, FailoverKind, Key, KeyEntry, OperatorRequest, Txn};
 
 /// For so many ticks an operator waits for what comes of a switchover or a failover.
 const MOST_OPERATOR_TICKS: u64 = 600;

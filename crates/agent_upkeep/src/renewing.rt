@@ -9,9 +9,9 @@ use agent_model::{Knowledge, Question};
 use agent_turn::{Turn, info_of};
 use cluster_view::Snapshot;
 use event_book::Body;
-use lease_store::{HistoryRow, Txn};
 use pat_base::{Lsn, MemberId, State, Ticks};
 use pg_model::ServerStatus;
+use store_keys::{HistoryRow, Txn};
 use wal_model::{History, HistoryPoint};
 
 /// Asks for the renewal of the leader key that was read.

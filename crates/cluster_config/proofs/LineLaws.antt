@@ -8,9 +8,9 @@ use Rattle.std.proofs.lemmas.Bool.{and_from}
 use Rattle.std.proofs.lemmas.Bool.Decides.{nat_tests}
 use Rattle.std.proofs.lemmas.List.Folds.{list_all-append}
 use Rattle.std.proofs.Math.Bridge.{le_prop}
-use Rattle.lease_store.specs.Defaults.{default_config, default_settings}
-use Rattle.lease_store.specs.Settings.{Settings}
-use Rattle.lease_store.specs.declared.config.Config.{Config}
+use Rattle.store_keys.specs.Defaults.{default_config, default_settings}
+use Rattle.store_keys.specs.Settings.{Settings}
+use Rattle.store_keys.specs.declared.config.Config.{Config}
 use Rattle.serde_json.specs.Data.{Num, unsigned, negative, float, Data, null, boolean, number, string, array, object, Items, no_items, item, Members, no_members, member}
 use Rattle.serde_json.specs.Read.{read}
 use Rattle.serde_json.proofs.OnLiterals.{serde_json_on_literals}

@@ -1,8 +1,8 @@
 -- What a configuration that is read sets is what its text has at the settings' keys.
 use Rattle.std.proofs.Common.{◌≡◌, ℕ, List, Bool, true, false, not, cond, is_some, Option, Some, None, option_map, option_and_then, unwrap_or, find, Ok, nat_lt, true≢false, refl, sym, ap, ◌∙◌, arith}
 use Rattle.std.proofs.lemmas.Bool.Decides.{nat_tests}
-use Rattle.lease_store.specs.Defaults.{default_config}
-use Rattle.lease_store.specs.Settings.{Settings}
+use Rattle.store_keys.specs.Defaults.{default_config}
+use Rattle.store_keys.specs.Settings.{Settings}
 use Rattle.serde_json.specs.Data.{Num, unsigned, negative, float, Data, null, boolean, number, string, array, object}
 use Rattle.serde_json.specs.Find.{as_number}
 use Rattle.serde_json.specs.Written.{has_float}

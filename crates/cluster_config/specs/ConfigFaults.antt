@@ -1,6 +1,6 @@
 -- Why a JSON value is no configuration: its first fault.
 use Rattle.std.specs.Prelude.{ℕ, ◌+◌, ◌*◌, ◌==◌, Bool, true, false, not, is_some, nat_lt, nat_le, find, Option, Some, None, option_map}
-use Rattle.lease_store.specs.declared.config.Config.{Config}
+use Rattle.store_keys.specs.declared.config.Config.{Config}
 use Rattle.serde_json.specs.Data.{Data}
 use Rattle.serde_json.specs.Written.{has_float}
 use Rattle.cluster_config.specs.declared.config_fault.ConfigFault.{ConfigFault}

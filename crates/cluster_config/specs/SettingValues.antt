@@ -2,8 +2,8 @@
 use Rattle.std.specs.Prelude.{◌≡◌, ℕ, Bool, true, false, ◌||◌, List, nat_le, bytes_eq, codes, cond, if◌then◌else◌, Option, Some, None, option_and_then, unwrap_or, refl}
 use Rattle.std.proofs.Common.{zero-le}
 use Rattle.std.proofs.lemmas.Bool.{leb-true}
-use Rattle.lease_store.specs.Defaults.{default_config}
-use Rattle.lease_store.specs.declared.config.Config.{Config}
+use Rattle.store_keys.specs.Defaults.{default_config}
+use Rattle.store_keys.specs.declared.config.Config.{Config}
 use Rattle.serde_json.specs.Data.{Num, unsigned, negative, float, Data, null, boolean, number, string, array, object}
 use Rattle.serde_json.specs.Find.{get, as_number}
 use Rattle.cluster_config.specs.declared.setting.Setting.{Setting}

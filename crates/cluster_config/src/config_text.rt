@@ -9,9 +9,9 @@ use crate::ConfigFault;
 use crate::judging::{fault_of, first_changed};
 use crate::merging::with_patch;
 use crate::setting_value::config_in;
-use lease_store::{Config, ConfigValue};
 use serde_json::{Category, Value};
 use std::alloc::{AllocError, Global};
+use store_keys::{Config, ConfigValue};
 
 /// A configuration as JSON text: how it is read, changed and written (Patroni's documentation, "Dynamic Configuration
 /// Settings" and "Patroni REST API", on `/config`).

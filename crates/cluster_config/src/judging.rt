@@ -8,8 +8,8 @@ use crate::ConfigFault;
 use crate::floats::has_float;
 use crate::setting::{SETTINGS, Setting, SettingRange, range_of};
 use crate::setting_value::{WholeNumber, truth_value, value_at, whole_number};
-use lease_store::Config;
 use serde_json::Value;
+use store_keys::Config;
 
 /// How many synchronous standbys may be asked for until more are built.
 const BUILT_NODE_COUNT: u64 = 1;

@@ -1,6 +1,6 @@
 //! Laws of configurations. Each is a function without a body whose contract is what is proved.
 ghost use Rattle.std.specs.Prelude.{ℕ, Bool, codes, ◌≡◌, ◌+◌, ◌*◌, ◌≤◌, List, length, Some, None, Ok};
-ghost use Rattle.lease_store.specs.Settings.{Settings};
+ghost use Rattle.store_keys.specs.Settings.{Settings};
 ghost use Rattle.serde_json.specs.Data.{Data, Members, null, object, unsigned};
 ghost use Rattle.serde_json.specs.Find.{get_member, as_number};
 ghost use Rattle.cluster_config.specs.ConfigLaws.{number_set, truth_set, IsDistinct, found_along, LeavesAlone};

@@ -8,8 +8,8 @@ use crate::setting::{
     LOOP_WAIT, MAXIMUM_LAG, NODE_COUNT, PRIMARY_START_TIMEOUT, RETRY_TIMEOUT, Setting,
     SettingRange, TTL, setting_name,
 };
-use lease_store::Config;
 use serde_json::Value;
+use store_keys::Config;
 
 /// A whole number of JSON, of at most 64 bits. How far it is below zero doesn't matter here.
 #[derive(Clone, Copy, PartialEq, Eq)]

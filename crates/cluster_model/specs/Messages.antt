@@ -1,10 +1,10 @@
 -- What messages bring: how they are sent, come, and are decided on.
 use Rattle.std.specs.Prelude.{ℕ, ◌+◌, nat_le, Bool, true, false, if◌then◌else◌, List, [], ◌∷◌, Option, Some, None, option_and_then, option_map, length, slice_get}
-use Rattle.lease_store.specs.declared.action.OperatorAction.{OperatorAction}
-use Rattle.lease_store.specs.declared.txn.Txn.{Txn}
-use Rattle.lease_store.specs.declared.txn.Txn.TheVariants as txns
+use Rattle.store_keys.specs.declared.action.OperatorAction.{OperatorAction}
+use Rattle.store_keys.specs.declared.txn.Txn.{Txn}
+use Rattle.store_keys.specs.declared.txn.Txn.TheVariants as txns
 use Rattle.lease_store.specs.Decision.{Decision, Grant, Refusal, decision_on}
-use Rattle.lease_store.specs.TxnKinds.{txn_kind_of}
+use Rattle.store_keys.specs.TxnKinds.{txn_kind_of}
 use Rattle.pat_base.specs.declared.name.Name.{Name}
 use Rattle.event_book.specs.NameLists.{names_of}
 use Rattle.lease_store.specs.Writes.{is_lease}

@@ -1,9 +1,9 @@
 -- Requests to the REST interface of agents: what each comes to, and what is answered.
 use Rattle.std.specs.Prelude.{ℕ, ◌+◌, List, Option, Some, option_and_then, option_map}
 use Rattle.pat_base.specs.declared.ticks.Ticks.{Ticks}
-use Rattle.lease_store.specs.declared.action.OperatorAction.{OperatorAction}
-use Rattle.lease_store.specs.declared.action.OperatorRequest.{OperatorRequest}
-use Rattle.lease_store.specs.Settings.{Settings}
+use Rattle.store_keys.specs.declared.action.OperatorAction.{OperatorAction}
+use Rattle.store_keys.specs.declared.action.OperatorRequest.{OperatorRequest}
+use Rattle.store_keys.specs.Settings.{Settings}
 use Rattle.event_book.specs.declared.event.EventKind.{EventKind}
 use Rattle.event_book.specs.declared.event.EventKind.TheVariants as kinds
 use Rattle.event_book.specs.declared.event.Note.{Note}

@@ -1,7 +1,7 @@
 -- What one more line makes of a draft's parts.
 use Rattle.std.proofs.Common.{◌≡◌, ℕ, true, false, cond, List, Option, Some, None, is_none, Result, Ok, Err, refl, ap, ◌∙◌}
 use Rattle.pat_base.specs.declared.name.Name.{Name}
-use Rattle.lease_store.specs.Settings.{Settings}
+use Rattle.store_keys.specs.Settings.{Settings}
 use Rattle.script_grammar.specs.Draft.{DraftText, draft_of}
 use Rattle.script_words.specs.Faults.{on_ok}
 use Rattle.script_grammar.specs.Reading.{known_addition, next_config, is_config, with_config, with_other, base_after, members_after, body_after, after_counted}

@@ -1,7 +1,7 @@
 -- A draft that is whole.
 use Rattle.std.proofs.Common.{◌≡◌, ℕ, List, [], ◌∷◌, length, Option, Some, Ok, refl, ap}
 use Rattle.pat_base.specs.declared.name.Name.{Name}
-use Rattle.lease_store.specs.Settings.{Settings}
+use Rattle.store_keys.specs.Settings.{Settings}
 use Rattle.script_grammar.specs.Draft.{draft_of}
 use Rattle.script_grammar.specs.Reading.{finished}
 use Rattle.script_model.specs.Script.{MemberText, ScriptText, IsScript, config_or_default, base_or_default}

@@ -5,10 +5,10 @@ ghost use Rattle.cluster_config.specs.ConfigReading.{IsConfiguration};
 ghost use Rattle.script_grammar.specs.Reading.{config_in, next_config};
 
 use cluster_config::{ConfigFault, ConfigText};
-use lease_store::ConfigValue;
 use script_model::Line;
 use script_words::Fault;
 use std::alloc::{AllocError, Global};
+use store_keys::ConfigValue;
 
 /// A configuration: the whole rest of its line.
 fn config_in(alloc: Global, rest: Option<&[u8]>) -> Result<Result<ConfigValue, Fault>, AllocError>

@@ -14,13 +14,13 @@ use crate::first_words::keyword_of;
 use crate::head_lines::{first_line, next_base, next_member, second_cluster};
 use crate::members::Members;
 use indexmap::IndexMap;
-use lease_store::ConfigValue;
 use pat_base::Name;
 use script_grammar::{Addition, ScriptFault};
 use script_model::{DEFAULT_BASE, Head, Keyword, Line, Script};
 use script_words::{Fault, cut_line, cut_word, is_skipped, is_text};
 use std::alloc::{AllocError, Global};
 use std::marker::Model;
+use store_keys::ConfigValue;
 
 /// The longest line of a script, in bytes.
 const LONGEST_LINE: usize = 8_192;

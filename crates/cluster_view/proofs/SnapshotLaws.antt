@@ -1,9 +1,9 @@
 -- What is put in the order of its keys is as a read gives it.
 use Rattle.std.proofs.Common.{List, IsSome, Option, sym, subst}
 use Rattle.std.specs.FinMap.{find}
-use Rattle.lease_store.specs.declared.key.Key.{Key}
-use Rattle.lease_store.specs.declared.key.Key.TheVariants as keys
-use Rattle.lease_store.specs.declared.value.KeyEntry.{KeyEntry}
+use Rattle.store_keys.specs.declared.key.Key.{Key}
+use Rattle.store_keys.specs.declared.key.Key.TheVariants as keys
+use Rattle.store_keys.specs.declared.value.KeyEntry.{KeyEntry}
 use Rattle.lease_store.specs.InKeyOrder.{in_key_order}
 use Rattle.lease_store.specs.KeyOrder.{key_cmp}
 use Rattle.lease_store.specs.Kept.{AreOfKind}

@@ -2,15 +2,15 @@
 use Rattle.std.specs.Prelude.{Bool, true, false, Option, Some, None}
 use Rattle.pat_base.specs.declared.lsn.Lsn.{Lsn}
 use Rattle.pat_base.specs.declared.member_id.MemberId.{MemberId}
-use Rattle.lease_store.specs.Defaults.{default_config}
-use Rattle.lease_store.specs.declared.config.Config.{Config}
-use Rattle.lease_store.specs.declared.key.Key.TheVariants as keys
-use Rattle.lease_store.specs.declared.value.FailoverKey.{FailoverKey}
-use Rattle.lease_store.specs.declared.value.KeyEntry.{KeyEntry}
-use Rattle.lease_store.specs.declared.value.MemberInfo.{MemberInfo}
-use Rattle.lease_store.specs.declared.value.SyncKey.{SyncKey}
-use Rattle.lease_store.specs.declared.value.Value.{Value}
-use Rattle.lease_store.specs.declared.value.Value.TheVariants as values
+use Rattle.store_keys.specs.Defaults.{default_config}
+use Rattle.store_keys.specs.declared.config.Config.{Config}
+use Rattle.store_keys.specs.declared.key.Key.TheVariants as keys
+use Rattle.store_keys.specs.declared.value.FailoverKey.{FailoverKey}
+use Rattle.store_keys.specs.declared.value.KeyEntry.{KeyEntry}
+use Rattle.store_keys.specs.declared.value.MemberInfo.{MemberInfo}
+use Rattle.store_keys.specs.declared.value.SyncKey.{SyncKey}
+use Rattle.store_keys.specs.declared.value.Value.{Value}
+use Rattle.store_keys.specs.declared.value.Value.TheVariants as values
 use Rattle.cluster_view.specs.Snapshots.{SnapshotFacts, entry_in, settings_in}
 
 -- what a member tells of itself, by a value of its key

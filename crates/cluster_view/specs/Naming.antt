@@ -3,8 +3,8 @@ use Rattle.std.specs.Prelude.{◌==◌, ◌&&◌, ◌||◌, is_none, Bool, false
 use Rattle.std.specs.Int.{bit_at}
 use Rattle.pat_base.specs.declared.member_id.MemberId.{MemberId}
 use Rattle.pat_base.specs.declared.member_set.MemberSet.{MemberSet}
-use Rattle.lease_store.specs.declared.value.FailoverKey.{FailoverKey}
-use Rattle.lease_store.specs.declared.value.SyncKey.{SyncKey}
+use Rattle.store_keys.specs.declared.value.FailoverKey.{FailoverKey}
+use Rattle.store_keys.specs.declared.value.SyncKey.{SyncKey}
 
 -- this is the member, if there is one
 abbrev pub is_member : MemberId → Option MemberId → Bool

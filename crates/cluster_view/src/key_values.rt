@@ -3,8 +3,8 @@ ghost use Rattle.std.specs.Prelude.{◌≡◌, option_copied};
 ghost use Rattle.cluster_view.specs.KeyValues.{info_by, info_of_entry, info_in, config_in, failover_by, failover_of_entry, failover_in, sync_by, sync_of_entry, sync_in, status_by, status_of_entry, status_in, active_sync_in};
 
 use crate::Snapshot;
-use lease_store::{Config, FailoverKey, Key, KeyEntry, MemberInfo, SyncKey, Value};
 use pat_base::{Lsn, MemberId};
+use store_keys::{Config, FailoverKey, Key, KeyEntry, MemberInfo, SyncKey, Value};
 
 impl Snapshot {
     /// What a member tells of itself. `None` exactly where its key is absent.

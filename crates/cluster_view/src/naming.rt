@@ -2,8 +2,8 @@
 ghost use Rattle.std.specs.Prelude.{◌≡◌};
 ghost use Rattle.cluster_view.specs.Naming.{is_member, candidate_of, is_candidate, is_failover_to, is_standby, is_named};
 
-use lease_store::{FailoverKey, SyncKey};
 use pat_base::MemberId;
+use store_keys::{FailoverKey, SyncKey};
 
 /// Whom a failover or a switchover names as candidate, if one is asked for and names one.
 pub fn candidate_of(failover: Option<FailoverKey>) -> Option<MemberId>

@@ -4,13 +4,14 @@ ghost use Rattle.std.specs.FinMap.{find, is_sorted};
 ghost use Rattle.lease_store.specs.Kept.{AreOfKind};
 ghost use Rattle.lease_store.specs.InKeyOrder.{in_key_order};
 ghost use Rattle.lease_store.specs.KeyOrder.{key_cmp};
-ghost use Rattle.lease_store.specs.declared.key.Key.TheVariants as keys;
+ghost use Rattle.store_keys.specs.declared.key.Key.TheVariants as keys;
 ghost use Rattle.cluster_view.specs.Snapshots.{IsRead, entry_in, leader_by, leader_of_entry, leader_in, settings_by, settings_of_entry, settings_in, failsafe_by, failsafe_of_entry, failsafe_in, has_row};
 
-use lease_store::{Config, Copies, Key, KeyEntry, Value, in_key_order, key_entry_at};
+use lease_store::{Copies, in_key_order, key_entry_at};
 use pat_base::{Host, MemberId, MemberSet, Name, Shared};
 use std::alloc::{AllocError, Global};
 use std::marker::Model;
+use store_keys::{Config, Key, KeyEntry, Value};
 
 /// What one read of the key store gives: the cluster's name, the names and hosts of all members in the order of the script, and
 /// each key that was present, with its value and its revision.

@@ -1,8 +1,8 @@
 -- The stored sync key as the law sees it, and the number that a transaction writes into it. Both numbers stay shut to proofs, so that none
 -- rests on what they are today.
 use Rattle.std.specs.Prelude.{ℕ}
-use Rattle.lease_store.specs.declared.txn.Txn.{Txn}
-use Rattle.lease_store.specs.declared.value.SyncKey.{SyncKey as StoredKey}
+use Rattle.store_keys.specs.declared.txn.Txn.{Txn}
+use Rattle.store_keys.specs.declared.value.SyncKey.{SyncKey as StoredKey}
 use Rattle.event_book.specs.Functions.{set_members}
 use Rattle.commit_actions.specs.Keys.{SyncKey, strict_quorum}
 

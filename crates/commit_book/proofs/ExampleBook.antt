@@ -3,8 +3,8 @@ use Rattle.std.proofs.Common.{◌≡◌, ℕ, List, Option, Some, refl, arith}
 use Rattle.pat_base.specs.declared.lsn.Lsn.{Lsn}
 use Rattle.pat_base.specs.declared.name.Name.{Name}
 use Rattle.pat_base.specs.declared.server_state.Required.{Required}
-use Rattle.lease_store.specs.Settings.{Settings}
-use Rattle.lease_store.specs.declared.value.MemberInfo.{MemberInfo}
+use Rattle.store_keys.specs.Settings.{Settings}
+use Rattle.store_keys.specs.declared.value.MemberInfo.{MemberInfo}
 use Rattle.event_book.specs.declared.member.Member.{Member}
 use Rattle.event_book.specs.Facts.{start_of}
 use Rattle.event_book.specs.Logs.{Logs}

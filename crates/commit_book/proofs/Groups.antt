@@ -6,15 +6,15 @@ use Rattle.pat_base.specs.declared.name.Name.{Name}
 use Rattle.pat_base.specs.declared.server_state.Required.{Required}
 use Rattle.pat_base.specs.declared.ticks.Ticks.{Ticks}
 use Rattle.lease_store.specs.Decision.{Grant as Granting, decision_on}
-use Rattle.lease_store.specs.Settings.{Settings}
+use Rattle.store_keys.specs.Settings.{Settings}
 use Rattle.lease_store.specs.Writes.{is_lease}
-use Rattle.lease_store.specs.declared.key.Key.{Key}
-use Rattle.lease_store.specs.declared.txn.Expected.{Expected}
-use Rattle.lease_store.specs.declared.txn.Txn.{Txn}
-use Rattle.lease_store.specs.declared.txn.Txn.TheVariants as txns
-use Rattle.lease_store.specs.declared.txn_kind.TxnKind.{TxnKind}
-use Rattle.lease_store.specs.declared.value.HistoryRow.{HistoryRow}
-use Rattle.lease_store.specs.declared.value.MemberInfo.{MemberInfo}
+use Rattle.store_keys.specs.declared.key.Key.{Key}
+use Rattle.store_keys.specs.declared.txn.Expected.{Expected}
+use Rattle.store_keys.specs.declared.txn.Txn.{Txn}
+use Rattle.store_keys.specs.declared.txn.Txn.TheVariants as txns
+use Rattle.store_keys.specs.declared.txn_kind.TxnKind.{TxnKind}
+use Rattle.store_keys.specs.declared.value.HistoryRow.{HistoryRow}
+use Rattle.store_keys.specs.declared.value.MemberInfo.{MemberInfo}
 use Rattle.event_book.specs.declared.event.Event.{Event}
 use Rattle.event_book.specs.declared.event.EventKind.{EventKind}
 use Rattle.event_book.specs.declared.event.EventKind.TheVariants as kinds

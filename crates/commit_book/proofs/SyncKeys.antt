@@ -4,12 +4,12 @@ use Rattle.std.specs.FinMap.{find}
 use Rattle.pat_base.specs.declared.name.Name.{Name}
 use Rattle.lease_store.specs.Kept.{IsKept}
 use Rattle.lease_store.specs.KeyOrder.{key_cmp}
-use Rattle.lease_store.specs.declared.key.Key.TheVariants as keys
-use Rattle.lease_store.specs.declared.txn.Txn.{Txn}
-use Rattle.lease_store.specs.declared.value.KeyEntry.{KeyEntry}
-use Rattle.lease_store.specs.declared.value.SyncKey.{SyncKey as StoredSync}
-use Rattle.lease_store.specs.declared.value.Value.{Value}
-use Rattle.lease_store.specs.declared.value.Value.TheVariants as values
+use Rattle.store_keys.specs.declared.key.Key.TheVariants as keys
+use Rattle.store_keys.specs.declared.txn.Txn.{Txn}
+use Rattle.store_keys.specs.declared.value.KeyEntry.{KeyEntry}
+use Rattle.store_keys.specs.declared.value.SyncKey.{SyncKey as StoredSync}
+use Rattle.store_keys.specs.declared.value.Value.{Value}
+use Rattle.store_keys.specs.declared.value.Value.TheVariants as values
 use Rattle.lease_store.proofs.Keeping.{find_present, kept_after, kept_present}
 use Rattle.lease_store.proofs.OneKey as one_key
 use Rattle.event_book.specs.declared.event.Event.{Event}

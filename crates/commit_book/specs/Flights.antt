@@ -1,7 +1,7 @@
 -- The messages in flight as commits read them are those that the book leaves.
 use Rattle.std.specs.Prelude.{ℕ, ◌≡◌, ◌≤◌, ◌<◌, Bool, true, false, List, [], ◌∷◌, Option, Some, None}
 use Rattle.std.specs.FinMap.{find}
-use Rattle.lease_store.specs.declared.key.Key.TheVariants as keys
+use Rattle.store_keys.specs.declared.key.Key.TheVariants as keys
 use Rattle.lease_store.specs.KeyOrder.{key_cmp}
 use Rattle.event_book.specs.declared.event.Event.{Event}
 use Rattle.event_book.specs.declared.event.EventKind.{EventKind}

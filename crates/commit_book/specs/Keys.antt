@@ -1,10 +1,10 @@
 -- The keys that commits read among the keys that the book leaves.
 use Rattle.std.specs.Prelude.{ℕ, ◌≡◌, Option, Some, None}
 use Rattle.std.specs.FinMap.{find}
-use Rattle.lease_store.specs.declared.key.Key.TheVariants as keys
-use Rattle.lease_store.specs.declared.value.KeyEntry.{KeyEntry}
-use Rattle.lease_store.specs.declared.value.Value.{Value}
-use Rattle.lease_store.specs.declared.value.Value.TheVariants as values
+use Rattle.store_keys.specs.declared.key.Key.TheVariants as keys
+use Rattle.store_keys.specs.declared.value.KeyEntry.{KeyEntry}
+use Rattle.store_keys.specs.declared.value.Value.{Value}
+use Rattle.store_keys.specs.declared.value.Value.TheVariants as values
 use Rattle.lease_store.specs.KeyOrder.{key_cmp}
 use Rattle.event_book.specs.Facts.{Facts}
 use Rattle.lease_law.specs.Past as lease_past

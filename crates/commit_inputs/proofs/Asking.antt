@@ -4,8 +4,8 @@ use Rattle.std.proofs.lemmas.List.Elements.{All-contains}
 use Rattle.pat_base.specs.declared.member_set.MemberSet.{MemberSet}
 use Rattle.pat_base.specs.declared.ticks.Ticks.{Ticks}
 use Rattle.pat_base.specs.Changes.{with_changed}
-use Rattle.lease_store.specs.declared.txn.Txn.{Txn}
-use Rattle.lease_store.specs.declared.txn.Txn.TheVariants as txns
+use Rattle.store_keys.specs.declared.txn.Txn.{Txn}
+use Rattle.store_keys.specs.declared.txn.Txn.TheVariants as txns
 use Rattle.event_book.specs.declared.event.AgentEvent.TheVariants as agents
 use Rattle.event_book.specs.declared.event.Event.{Event}
 use Rattle.event_book.specs.declared.event.EventKind.{EventKind}

@@ -4,13 +4,13 @@ use Rattle.std.specs.FinMap.{find}
 use Rattle.pat_base.specs.declared.member_id.MemberId.{MemberId}
 use Rattle.pat_base.specs.declared.peer_answer.PeerAnswer.{PeerAnswer}
 use Rattle.lease_store.specs.declared.granted.Granted.{Granted}
-use Rattle.lease_store.specs.declared.key.Key.{Key}
-use Rattle.lease_store.specs.declared.key.Key.TheVariants as keys
-use Rattle.lease_store.specs.declared.txn.Expected.{Expected}
-use Rattle.lease_store.specs.declared.value.KeyEntry.{KeyEntry}
-use Rattle.lease_store.specs.declared.value.Value.{Value}
-use Rattle.lease_store.specs.declared.value.Value.TheVariants as values
-use Rattle.lease_store.specs.Defaults.{default_config}
+use Rattle.store_keys.specs.declared.key.Key.{Key}
+use Rattle.store_keys.specs.declared.key.Key.TheVariants as keys
+use Rattle.store_keys.specs.declared.txn.Expected.{Expected}
+use Rattle.store_keys.specs.declared.value.KeyEntry.{KeyEntry}
+use Rattle.store_keys.specs.declared.value.Value.{Value}
+use Rattle.store_keys.specs.declared.value.Value.TheVariants as values
+use Rattle.store_keys.specs.Defaults.{default_config}
 use Rattle.lease_store.specs.KeyOrder.{key_cmp}
 use Rattle.cluster_view.specs.KeyValues.{sync_by, sync_of_entry}
 use Rattle.cluster_view.specs.Snapshots.{SnapshotFacts, settings_by, settings_of_entry}

@@ -16,12 +16,12 @@ use Rattle.pat_base.specs.Changes.{with_changed}
 use Rattle.pat_base.specs.declared.member_id.MemberId.{MemberId}
 use Rattle.pat_base.specs.declared.peer_answer.PeerAnswer.{PeerAnswer}
 use Rattle.lease_store.specs.declared.granted.Granted.{Granted}
-use Rattle.lease_store.specs.declared.key.Key.{Key}
-use Rattle.lease_store.specs.declared.txn.Expected.{Expected}
+use Rattle.store_keys.specs.declared.key.Key.{Key}
+use Rattle.store_keys.specs.declared.txn.Expected.{Expected}
 use Rattle.cluster_view.specs.Snapshots.{SnapshotFacts}
 use Rattle.script_model.specs.Script.{HeadText}
-use Rattle.lease_store.specs.declared.action.OperatorAction.{OperatorAction}
-use Rattle.lease_store.specs.declared.txn.Txn.TheVariants as txns
+use Rattle.store_keys.specs.declared.action.OperatorAction.{OperatorAction}
+use Rattle.store_keys.specs.declared.txn.Txn.TheVariants as txns
 use Rattle.agent_model.specs.declared.heard.Heard.{Heard}
 use Rattle.agent_model.specs.declared.heard.Heard.TheVariants as heards
 use Rattle.agent_model.specs.declared.output.Output.{Output}

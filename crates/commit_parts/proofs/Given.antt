@@ -1,6 +1,6 @@
 -- What the timed lease, and how agents number their questions, give to deliveries to the key store.
 use Rattle.std.proofs.Common.{ℕ, ◌≡◌, ◌≤◌, ◌<◌, true, List, [], length, slice_get, Option, Some, None, refl, ◌∙◌, ap, sym, subst}
-use Rattle.lease_store.specs.declared.txn.Txn.{Txn}
+use Rattle.store_keys.specs.declared.txn.Txn.{Txn}
 use Rattle.event_book.specs.declared.event.Event.{Event}
 use Rattle.event_book.specs.declared.link.LinkEnd.TheVariants as ends
 use Rattle.event_book.specs.declared.member.Member.{Member}

@@ -2,7 +2,7 @@
 use Rattle.std.specs.Prelude.{ℕ, ◌≡◌, ◌<◌, true, false, List, Option, Some, slice_get}
 use Rattle.std.specs.FinMap.{find}
 use Rattle.std.specs.Option.{ForSome}
-use Rattle.lease_store.specs.declared.key.Key.TheVariants as keys
+use Rattle.store_keys.specs.declared.key.Key.TheVariants as keys
 use Rattle.lease_store.specs.KeyOrder.{key_cmp}
 use Rattle.lease_law.specs.Leases.{Question as Asked}
 use Rattle.event_book.specs.declared.link.LinkEnd.{LinkEnd}

@@ -8,7 +8,7 @@ ghost use Rattle.pat_base.specs.declared.server_state.Required.TheVariants as re
 ghost use Rattle.pat_base.specs.declared.server_state.State.{State};
 ghost use Rattle.pat_base.specs.declared.ticks.Ticks.{Ticks};
 ghost use Rattle.pat_base.specs.ServerState.{writes, live};
-ghost use Rattle.lease_store.specs.Settings.{Settings};
+ghost use Rattle.store_keys.specs.Settings.{Settings};
 ghost use Rattle.pg_model.specs.Facts.{ServerFacts};
 ghost use Rattle.pg_model.specs.Replication.{is_met};
 ghost use Rattle.event_book.specs.declared.event.Event.{Event};

@@ -1,7 +1,7 @@
 -- The kinds of messages in words.
 use Rattle.std.specs.Prelude.{ℕ, List, codes}
-use Rattle.lease_store.specs.TxnKinds.{txn_kind_of}
-use Rattle.lease_store.specs.Words.{kind_text}
+use Rattle.store_keys.specs.TxnKinds.{txn_kind_of}
+use Rattle.store_keys.specs.Words.{kind_text}
 use Rattle.event_book.specs.declared.message.Body.{Body}
 use Rattle.event_book.specs.declared.message.Body.TheVariants as bodies
 

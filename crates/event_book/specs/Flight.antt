@@ -6,8 +6,8 @@ use Rattle.std.specs.Map.{remove_entry, lookup}
 use Rattle.pat_base.specs.declared.ticks.Ticks.{Ticks}
 use Rattle.lease_store.specs.Answers.{present_pairs}
 use Rattle.lease_store.specs.declared.granted.Granted.{Granted}
-use Rattle.lease_store.specs.declared.key.Key.{Key}
-use Rattle.lease_store.specs.declared.value.KeyEntry.{KeyEntry}
+use Rattle.store_keys.specs.declared.key.Key.{Key}
+use Rattle.store_keys.specs.declared.value.KeyEntry.{KeyEntry}
 use Rattle.lease_store.specs.Keys.{Keys}
 use Rattle.event_book.specs.declared.event.EventKind.{EventKind}
 use Rattle.event_book.specs.declared.event.EventKind.TheVariants as kinds

@@ -1,5 +1,4 @@
 pub mod Acknowledged
-pub mod Processes
 pub mod Bodies
 pub mod Clock
 pub mod Facts
@@ -10,14 +9,19 @@ pub mod Kept
 pub mod Keys
 pub mod Kinds
 pub mod Links
+pub mod Listing
 pub mod Logs
 pub mod Members
 pub mod NameLists
+pub mod NoteText
 pub mod Premises
+pub mod Processes
 pub mod Reasons
 pub mod Required
+pub mod ServerText
 pub mod Servers
+pub mod StoreText
+pub mod Text
 pub mod Traced
 pub mod Watchdogs
 pub mod Writers
-pub use Rattle.pat_base.specs.MemberId

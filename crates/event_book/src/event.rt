@@ -1,8 +1,8 @@
 //! What can happen. An event stands in the book only where something changed. It has the names that its line prints.
 
 use crate::{AgentNote, Basis, Bytes, Link, Member, Message, Names, Reason, ServerOf};
-use lease_store::{Expected, Key, OperatorAction, Txn, TxnKind};
 use pat_base::{Lsn, Name, Required, Shared, Ticks};
+use store_keys::{Expected, Key, OperatorAction, Txn, TxnKind};
 use wal_model::Entry;
 
 /// A happening, at a moment in ticks of 100 ms.

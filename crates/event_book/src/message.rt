@@ -1,8 +1,8 @@
 //! Messages.
 use crate::LinkEnd;
-use lease_store::{Expected, Key, Txn};
 use pat_base::{PeerAnswer, Ticks};
 use std::fmt;
+use store_keys::{Expected, Key, Txn};
 
 /// A message between an agent and the key store, or between two agents. `incarnation` and `sequence` name the question by the
 /// incarnation of the agent that asks and by the number of the question in that incarnation; an answer has those of its question.

@@ -2,7 +2,7 @@
 use Rattle.std.proofs.Common.{◌≡◌, Bool, ℕ, ◌+◌, ◌<◌, List, ◌++◌, length, drop, get_or, ◌∙◌, ap, sym}
 use Rattle.std.proofs.lemmas.List.{drop_more}
 use Rattle.event_book.specs.declared.event.Event.{Event}
-use Rattle.event_text.specs.Text.{lines_of, line_of, bytes_or_none}
+use Rattle.event_book.specs.Text.{lines_of, line_of, bytes_or_none}
 
 -- the lines from a place on, one and then the others
 pub lines_of-drop : (trace : Bool) (es : List Event) (i : ℕ) (e : Event) → i < length es → e ≡ get_or es i e → lines_of trace (drop i es) ≡ bytes_or_none (line_of trace e) ++ lines_of trace (drop (i + 1) es)

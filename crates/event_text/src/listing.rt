@@ -1,6 +1,6 @@
 //! Lists of names as text.
 ghost use Rattle.std.specs.Prelude.{◌≡◌, ◌++◌, IfOk, OnOk, codes, string_bytes};
-ghost use Rattle.event_text.specs.Listing.{listed, listed_from};
+ghost use Rattle.event_book.specs.Listing.{listed, listed_from};
 
 use pat_base::Name;
 use std::alloc::{AllocError, Global};

@@ -1,8 +1,8 @@
 //! The printed lines of notes.
 ghost use Rattle.std.specs.Prelude.{◌≡◌, ◌++◌, OnOk, string_bytes};
 ghost use Rattle.pat_base.specs.Name.{name_bytes};
-ghost use Rattle.event_text.specs.NoteText.{note_line, reply_line, answered_line, ctl_line};
-ghost use Rattle.event_text.specs.Text.{bytes_or_none};
+ghost use Rattle.event_book.specs.NoteText.{note_line, reply_line, answered_line, ctl_line};
+ghost use Rattle.event_book.specs.Text.{bytes_or_none};
 
 use crate::named_line::write_named_line;
 use event_book::{AgentNoteText, Bytes, Note};

@@ -1,7 +1,7 @@
 //! The printed line of an event.
 ghost use Rattle.std.specs.Prelude.{◌≡◌, ◌++◌, OnOk, codes, string_bytes};
 ghost use Rattle.std.specs.Fmt.{decimal};
-ghost use Rattle.event_text.specs.Text.{bytes_or_none, line_of, message_line, sent_line, agent_line, link_line};
+ghost use Rattle.event_book.specs.Text.{bytes_or_none, line_of, message_line, sent_line, agent_line, link_line};
 
 use crate::named_line::write_named_line;
 use crate::note_printing::write_note_line;

@@ -1,8 +1,8 @@
 //! The printed lines of what happens to watchdogs, servers, their logs and their synchronous replication.
 ghost use Rattle.std.specs.Prelude.{◌≡◌, ◌++◌, OnOk, string_bytes};
 ghost use Rattle.pat_base.specs.Name.{name_bytes};
-ghost use Rattle.event_text.specs.ServerText.{watchdog_line, fed_line, feeding_line, server_line, own_server_line, commit_line, log_line, replication_line, required_line};
-ghost use Rattle.event_text.specs.Text.{bytes_or_none};
+ghost use Rattle.event_book.specs.ServerText.{watchdog_line, fed_line, feeding_line, server_line, own_server_line, commit_line, log_line, replication_line, required_line};
+ghost use Rattle.event_book.specs.Text.{bytes_or_none};
 
 use crate::listing::end_by_list;
 use crate::named_line::write_named_line;

@@ -1,15 +1,15 @@
 //! The printed lines of what happens at the key store.
 ghost use Rattle.std.specs.Prelude.{◌≡◌, ◌++◌, OnOk, string_bytes};
 ghost use Rattle.pat_base.specs.Name.{name_bytes};
-ghost use Rattle.event_text.specs.StoreText.{store_line, granted_line, request_line};
-ghost use Rattle.event_text.specs.Text.{bytes_or_none};
+ghost use Rattle.event_book.specs.StoreText.{store_line, granted_line, request_line};
+ghost use Rattle.event_book.specs.Text.{bytes_or_none};
 
 use crate::listing::end_by_list;
 use crate::named_line::write_named_line;
 use event_book::{Member, Names, StoreEvent};
-use lease_store::Txn;
 use pat_base::{Name, Ticks};
 use std::alloc::AllocError;
+use store_keys::Txn;
 
 /// Appends the line of what happens at the key store, if it has one. It fails only for want of memory.
 pub fn write_store_line(

@@ -9,7 +9,7 @@ use Rattle.script_model.specs.Script.{MemberText, member_names, member_of_entry,
 use Rattle.pat_base.specs.declared.name.Name.{Name}
 use Rattle.script_grammar.proofs.NameLaws.{AreDifferent-push}
 use Rattle.generator_model.specs.Opening.{first_name, second_name, third_name, generated_options, generated_member, generated_members, generated_head}
-use Rattle.lease_store.specs.Settings.{Settings}
+use Rattle.store_keys.specs.Settings.{Settings}
 
 none-AreDifferent : AreDifferent []
 none-AreDifferent i j name p q = cc

@@ -2,7 +2,7 @@
 use Rattle.std.specs.Prelude.{List, [], ◌∷◌, codes, refl}
 use Rattle.pat_base.specs.Name.{name_from}
 use Rattle.pat_base.specs.declared.name.Name.{Name}
-use Rattle.lease_store.specs.Defaults.{default_settings}
+use Rattle.store_keys.specs.Defaults.{default_settings}
 use Rattle.leader_key.specs.declared.watchdog.Mode.TheVariants as modes
 use Rattle.member_options.specs.Options.{unsaid_options}
 use Rattle.member_options.specs.declared.member_option.MemberOptions.{MemberOptions}

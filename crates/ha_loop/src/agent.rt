@@ -25,9 +25,9 @@ use agent_model::{Answers, Heard, Knowledge, Machine, Who};
 use agent_rows::{due_from, is_due, take_input};
 use agent_turn::{Outputs, Role, Turn, view_of, word_of};
 use cluster_view::{AgentView, Snapshot};
-use lease_store::{Config, OperatorAction};
 use pat_base::{MemberSet, State, Ticks};
 use std::marker::Model;
+use store_keys::{Config, OperatorAction};
 use wal_model::History;
 
 /// How many messages an incarnation may send.

@@ -7,7 +7,7 @@ ghost use Rattle.lease_law.specs.Books.{Transition, first_volatile_states, book_
 ghost use Rattle.lease_law.specs.Claims.{AreLawful};
 ghost use Rattle.event_book.specs.Premises.{IsTimely};
 ghost use Rattle.lease_law.specs.States.{Declared};
-ghost use Rattle.lease_store.specs.declared.value.MemberInfo.{MemberInfo};
+ghost use Rattle.store_keys.specs.declared.value.MemberInfo.{MemberInfo};
 ghost use Rattle.pat_base.specs.declared.name.Name.{Name};
 
 /// There are lawful and timely runs in which a server accepts writes.

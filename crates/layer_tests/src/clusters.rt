@@ -5,10 +5,11 @@ ghost use Rattle.lease_store.specs.Writes.{ttl_of};
 use crate::checks::has;
 use cluster_config::ConfigText;
 use cluster_view::{AgentView, RoleWord, Snapshot};
-use lease_store::{ConfigValue, Expected, MemberInfo, Store, StoreRefusal, Txn};
+use lease_store::{Store, StoreRefusal};
 use pat_base::{Host, Lsn, MemberId, MemberSet, Name, State, Tags, Ticks, Word};
 use std::alloc::Global;
 use std::process::Abort;
+use store_keys::{ConfigValue, Expected, MemberInfo, Txn};
 
 pub(crate) const A: MemberId = MemberId { number: 0 };
 

@@ -3,9 +3,9 @@
 use crate::checks::{has, has_words};
 use crate::clusters::configuration;
 use cluster_config::{ConfigFault, ConfigText};
-use lease_store::ConfigValue;
 use std::alloc::Global;
 use std::process::Abort;
+use store_keys::ConfigValue;
 
 /// Holds what a call answers against this: the text of the configuration, or the name of the fault.
 fn is_told(

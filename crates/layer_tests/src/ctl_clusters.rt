@@ -1,12 +1,12 @@
 //! Snapshots for the cases.
 ghost use Rattle.std.specs.Prelude.{◌≡◌};
-ghost use Rattle.lease_store.specs.declared.value.Value.TheVariants as values;
+ghost use Rattle.store_keys.specs.declared.value.Value.TheVariants as values;
 
 use cluster_view::Snapshot;
-use lease_store::{ConfigValue, HistoryRow, Key, KeyEntry, MemberInfo, SyncKey, Value};
 use pat_base::{Host, Lsn, MemberId, MemberSet, Name, Tags, Ticks, Word};
 use std::alloc::Global;
 use std::process::Abort;
+use store_keys::{ConfigValue, HistoryRow, Key, KeyEntry, MemberInfo, SyncKey, Value};
 
 /// The first two members and the third, in the order of the script.
 pub(crate) const FIRST: MemberId = MemberId { number: 0 };

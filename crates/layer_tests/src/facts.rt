@@ -4,12 +4,12 @@ use crate::stores::{create, info, renew, snapshot_of, store_of};
 use crate::views::{A, END, NOW, name, replica};
 use cluster_config::ConfigText;
 use cluster_view::{AgentView, Snapshot};
-use lease_store::ConfigValue;
 use pat_base::{Host, Lsn, State, Tags, Ticks, Word};
 use rest_facts::health_of_view;
 use rest_health::{Endpoint, OK, UNAVAILABLE};
 use std::alloc::Global;
 use std::process::Abort;
+use store_keys::ConfigValue;
 
 /// 16 kB before the leader's end.
 const NEAR: Lsn = Lsn {

@@ -3,7 +3,7 @@
 use crate::checks::{has, has_words, is_same};
 use crate::clusters::{A, B, C, ONLY_B, SYNCHRONOUS, follower, leader, led_by_a};
 use cluster_config::{ConfigFault, ConfigText};
-use lease_store::{Expected, FailoverKey, Key, StoreRefusal};
+use lease_store::StoreRefusal;
 use operator_answers::Text;
 use operator_keys::ConfigChange::{Patch, Replace};
 use operator_keys::{
@@ -13,6 +13,7 @@ use operator_keys::{
 use pat_base::{MemberId, State};
 use std::alloc::Global;
 use std::process::Abort;
+use store_keys::{Expected, FailoverKey, Key};
 
 fn failover_key(leader: Option<MemberId>, candidate: Option<MemberId>) -> FailoverKey {
     FailoverKey { leader, candidate }

@@ -3,11 +3,11 @@ use crate::checks::has_text;
 use crate::stores::{create, info, publish, renew, snapshot_of, store_of, touch};
 use crate::views::{A, B, END, name, replica};
 use cluster_view::{AgentView, Snapshot};
-use lease_store::{Config, ConfigValue, HistoryRow};
 use pat_base::{Host, Lsn, MemberId, MemberSet, Name, State, Tags, Ticks, Word};
 use rest_pages::{cluster_text, config_text, failsafe_text, history_text, patroni_text};
 use std::alloc::{AllocError, Global};
 use std::process::Abort;
+use store_keys::{Config, ConfigValue, HistoryRow};
 
 const C: MemberId = MemberId { number: 2 };
 

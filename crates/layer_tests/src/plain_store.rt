@@ -1,8 +1,9 @@
 //! The key store as a plain program, which the store is held against: a vector of pairs in the order of their keys.
 
-use lease_store::{Expected, Key, KeyEntry, StoreRefusal, SyncKey, Txn, Value};
+use lease_store::StoreRefusal;
 use pat_base::{MemberId, MemberSet, Ticks};
 use std::process::Abort;
+use store_keys::{Expected, Key, KeyEntry, SyncKey, Txn, Value};
 
 /// A store that is searched from its front.
 #[derive(Drop)]

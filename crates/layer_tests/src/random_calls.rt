@@ -4,10 +4,11 @@ use crate::checks::has;
 use crate::clusters::{A, B, C, END, NOW, ask, configuration, info, store_of};
 use crate::plain_store::{PlainStore, is_present};
 use cluster_config::ConfigText;
-use lease_store::{Expected, FailoverKey, HistoryRow, Key, KeyEntry, Store, Txn, Value};
+use lease_store::Store;
 use pat_base::{MemberId, MemberSet, Ticks};
 use std::alloc::Global;
 use std::process::Abort;
+use store_keys::{Expected, FailoverKey, HistoryRow, Key, KeyEntry, Txn, Value};
 
 /// Numbers that follow from a seed.
 #[derive(Drop)]

@@ -6,10 +6,11 @@ use crate::clusters::{
     touch,
 };
 use cluster_view::{LeaderEntry, Snapshot};
-use lease_store::{ConfigValue, Expected, FailoverKey, HistoryRow, Key, Store, StoreRefusal, Txn};
+use lease_store::{Store, StoreRefusal};
 use pat_base::{Host, Ticks};
 use std::alloc::Global;
 use std::process::Abort;
+use store_keys::{ConfigValue, Expected, FailoverKey, HistoryRow, Key, Txn};
 
 /// The store of the defaults in which a took the leader key at tick 1 and renewed it at tick 5.
 fn renewed(rt: &impl Abort, alloc: Global) -> Store {

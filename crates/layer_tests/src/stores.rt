@@ -4,10 +4,11 @@ ghost use Rattle.lease_store.specs.Writes.{ttl_of};
 
 use crate::views::{NOW, TAGS, name};
 use cluster_view::Snapshot;
-use lease_store::{ConfigValue, Expected, HistoryRow, MemberInfo, Store, Txn};
+use lease_store::Store;
 use pat_base::{Host, Lsn, MemberId, MemberSet, Name, Ticks, Word};
 use std::alloc::Global;
 use std::process::Abort;
+use store_keys::{ConfigValue, Expected, HistoryRow, MemberInfo, Txn};
 
 /// How long each lease lasts.
 const TTL: Ticks = Ticks(300);

@@ -1,15 +1,16 @@
 //! Values for who holds the leader key. None of them can be copied or dropped: each transition takes its value apart and answers
 //! the next one, so nothing is released twice, and nobody writes without a lease.
 ghost use Rattle.std.specs.Prelude.{◌≡◌, ◌↔◌, ◌≤◌, IsErr, IfOk, IfErr, IsTrue, None, false};
-ghost use Rattle.lease_store.specs.declared.txn.Txn.{Txn};
+ghost use Rattle.store_keys.specs.declared.txn.Txn.{Txn};
 ghost use Rattle.pat_base.specs.ServerState.{live};
 ghost use Rattle.leader_key.specs.Lease.{lease_revision, armed_revision, writer_revision};
 ghost use Rattle.leader_key.specs.Watchdog.{IsLeaseSpan, IsRefusing, fed};
 ghost use Rattle.pat_base.specs.Moments.{latest};
 
 use crate::Watchdog;
-use lease_store::{Granted, Txn};
+use lease_store::Granted;
 use pat_base::{State, Ticks};
+use store_keys::Txn;
 
 /// The leader key was granted to this member. It must be spent.
 pub struct Lease {

@@ -9,8 +9,8 @@ use Rattle.pat_base.specs.declared.tags.Tags.{Tags}
 use Rattle.pat_base.specs.declared.ticks.Ticks.{Ticks}
 use Rattle.pat_base.specs.declared.ineligibility.Ineligibility.{Ineligibility}
 use Rattle.pat_base.specs.declared.ineligibility.Ineligibility.TheVariants as bars
-use Rattle.lease_store.specs.declared.value.FailoverKey.{FailoverKey}
-use Rattle.lease_store.specs.declared.value.SyncKey.{SyncKey}
+use Rattle.store_keys.specs.declared.value.FailoverKey.{FailoverKey}
+use Rattle.store_keys.specs.declared.value.SyncKey.{SyncKey}
 use Rattle.cluster_view.specs.declared.view.AgentView.{AgentView}
 use Rattle.cluster_view.specs.KeyValues.{config_in, failover_in, status_in, active_sync_in}
 use Rattle.cluster_view.specs.Naming.{candidate_of, is_member, is_candidate, is_failover_to, is_named, is_one_of}

@@ -2,7 +2,7 @@
 use Rattle.std.specs.Prelude.{◌==◌, ◌&&◌, not, nat_lt, int_lt, if◌then◌else◌, Bool, true, false, List, [], ◌∷◌, Option, Some, None}
 use Rattle.pat_base.specs.declared.lsn.Lsn.{Lsn}
 use Rattle.pat_base.specs.declared.member_id.MemberId.{MemberId}
-use Rattle.lease_store.specs.declared.value.SyncKey.{SyncKey}
+use Rattle.store_keys.specs.declared.value.SyncKey.{SyncKey}
 use Rattle.pat_base.specs.declared.peer_answer.PeerAnswer.{PeerAnswer}
 use Rattle.cluster_view.specs.Naming.{is_standby}
 use Rattle.leader_race.specs.declared.racer.Racer.{Racer}

@@ -5,8 +5,8 @@ ghost use Rattle.leader_race.specs.Eligibility.{not_running, may_fail_over, no_f
 
 use crate::bars::{bar_where, first_bar, judged};
 use cluster_view::{AgentView, Snapshot, candidate_of, is_candidate, is_failover_to, is_named};
-use lease_store::{FailoverKey, SyncKey};
 use pat_base::{Ineligibility, Lsn, MemberId, MemberSet, State, Tags, Ticks};
+use store_keys::{FailoverKey, SyncKey};
 
 /// Whether a member may race for a free leader key, by its view and by a snapshot in which that key is free; or what bars
 /// it, by the first rule that applies. The rules are those of Patroni's documentation: "Replication modes" on a log that is

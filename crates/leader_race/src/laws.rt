@@ -2,7 +2,7 @@
 ghost use Rattle.std.specs.Prelude.{◌≡◌, ◌≤◌, Bool, List, ◌∷◌, ◌++◌, Option, Some, None, true, false, IsSome, Contains, int_lt};
 ghost use Rattle.pat_base.specs.declared.member_id.MemberId.{MemberId};
 ghost use Rattle.pat_base.specs.declared.server_state.State.TheVariants as states;
-ghost use Rattle.lease_store.specs.declared.value.SyncKey.{SyncKey};
+ghost use Rattle.store_keys.specs.declared.value.SyncKey.{SyncKey};
 ghost use Rattle.pat_base.specs.declared.peer_answer.PeerAnswer.{PeerAnswer};
 ghost use Rattle.cluster_view.specs.declared.view.AgentView.{AgentView};
 ghost use Rattle.cluster_view.specs.KeyValues.{failover_in, active_sync_in};

@@ -8,8 +8,8 @@ use crate::bars::{first_bar, judged};
 use crate::eligibility::may_fail_over;
 use crate::racer::{Racer, Rule};
 use cluster_view::{AgentView, Snapshot, is_candidate, is_standby};
-use lease_store::SyncKey;
 use pat_base::{Ineligibility, Lsn, MemberId, PeerAnswer};
+use store_keys::SyncKey;
 
 /// Whether a member that may race wins, by the answers of the others, in whatever order they came; or what bars it, by the
 /// first rule that applies, and of the members that bar by that rule the one that the script declares first. An answer of

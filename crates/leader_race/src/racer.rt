@@ -1,7 +1,7 @@
 //! A member that races, and the rules by which the answers of others bar it.
 
-use lease_store::SyncKey;
 use pat_base::{Lsn, MemberId};
+use store_keys::SyncKey;
 
 /// A member that races: what the answers of others are compared with.
 #[derive(Clone, Copy)]

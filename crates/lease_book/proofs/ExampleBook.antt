@@ -1,8 +1,8 @@
 -- A causal book: a create is asked for and granted, and its answer is in flight.
 use Rattle.std.proofs.Common.{◌≡◌, ℕ, List, Some, refl, arith}
 use Rattle.pat_base.specs.declared.name.Name.{Name}
-use Rattle.lease_store.specs.Settings.{Settings}
-use Rattle.lease_store.specs.declared.value.MemberInfo.{MemberInfo}
+use Rattle.store_keys.specs.Settings.{Settings}
+use Rattle.store_keys.specs.declared.value.MemberInfo.{MemberInfo}
 use Rattle.event_book.specs.declared.member.Member.{Member}
 use Rattle.event_book.specs.Facts.{start_of}
 use Rattle.lease_law.specs.Leases.{Answered}

@@ -2,11 +2,11 @@
 use Rattle.std.proofs.Common.{◌≡◌, ℕ, ◌<◌, List, [], ◌∷◌, ◌++◌, Option, Some, refl, ◌∙◌, ap}
 use Rattle.pat_base.specs.declared.name.Name.{Name}
 use Rattle.pat_base.specs.declared.ticks.Ticks.{Ticks}
-use Rattle.lease_store.specs.declared.key.Key.{Key}
-use Rattle.lease_store.specs.declared.txn.Expected.{Expected}
-use Rattle.lease_store.specs.declared.txn.Txn.{Txn}
-use Rattle.lease_store.specs.declared.txn.Txn.TheVariants as txns
-use Rattle.lease_store.specs.declared.txn_kind.TxnKind.{TxnKind}
+use Rattle.store_keys.specs.declared.key.Key.{Key}
+use Rattle.store_keys.specs.declared.txn.Expected.{Expected}
+use Rattle.store_keys.specs.declared.txn.Txn.{Txn}
+use Rattle.store_keys.specs.declared.txn.Txn.TheVariants as txns
+use Rattle.store_keys.specs.declared.txn_kind.TxnKind.{TxnKind}
 use Rattle.lease_store.specs.Writes.{is_lease}
 use Rattle.event_book.specs.declared.event.Event.{Event}
 use Rattle.event_book.specs.declared.event.EventKind.{EventKind}
@@ -22,7 +22,7 @@ use Rattle.event_book.specs.Flight.{InFlightFacts, in_flight}
 use Rattle.event_book.specs.Facts.{Facts, facts_after, facts_over, start_of}
 use Rattle.lease_law.specs.Leases.{Question}
 use Rattle.lease_law.specs.Claims.{BeginsBehind}
-use Rattle.lease_store.specs.Settings.{Settings}
+use Rattle.store_keys.specs.Settings.{Settings}
 use Rattle.lease_law.specs.Past.{Past, first_past, query_of, past_after, past_over}
 use Rattle.event_book.specs.Kinds.{AllAre}
 use Rattle.lease_law.specs.Stores.{IsSpannedTxn, IsSpanned}

@@ -8,7 +8,7 @@ use Rattle.pat_base.specs.declared.ticks.Ticks.{Ticks}
 use Rattle.pat_base.specs.Changes.{changed_at, with_changed}
 use Rattle.pg_model.specs.Facts.{ServerFacts, fresh}
 use Rattle.pg_model.proofs.Lists.{got-set_same, got-set_other}
-use Rattle.lease_store.specs.Settings.{Settings}
+use Rattle.store_keys.specs.Settings.{Settings}
 use Rattle.event_book.specs.declared.agent_process.AgentProcess.{AgentProcess}
 use Rattle.event_book.specs.declared.event.AgentEvent.{AgentEvent}
 use Rattle.event_book.specs.declared.event.AgentEvent.TheVariants as agents

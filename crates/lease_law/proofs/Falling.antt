@@ -1,6 +1,6 @@
 -- The premises only fall.
 use Rattle.std.proofs.Common.{ℕ, List, [], ◌∷◌, ◌++◌, Option, Bool}
-use Rattle.lease_store.specs.Settings.{Settings}
+use Rattle.store_keys.specs.Settings.{Settings}
 use Rattle.event_book.specs.declared.event.Event.{Event}
 use Rattle.event_book.specs.Premises.{Moments, moments_after, first_moments, AreInTime, IsTimely, AreHandsOff, IsHandsOff}
 

@@ -1,6 +1,6 @@
 -- One lawful input of an agent, in time.
 use Rattle.std.proofs.Common.{◌≡◌, ◌⊎◌, ℕ, ◌+◌, ◌≤◌, Bool, true, false, List, Option, Some, None, refl, ◌∙◌, ap, sym, subst, arith, inl, inr}
-use Rattle.lease_store.specs.declared.txn.Expected.TheVariants.{Absent, Revision}
+use Rattle.store_keys.specs.declared.txn.Expected.TheVariants.{Absent, Revision}
 use Rattle.event_book.specs.Functions.{put_at}
 use Rattle.lease_law.specs.Leases.{LeaderSeen, FailsafeKey, Query, Create, Renew, Release, Write, Read, Question, Grant, Answer, FailsafeRequest, Acknowledgement, Requested, Answered, FailsafeRequested, Acknowledged}
 use Rattle.event_book.specs.Premises.{Taking, IsTaken}

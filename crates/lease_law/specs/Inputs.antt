@@ -1,7 +1,7 @@
 -- Which inputs of an agent are lawful, and which are in time.
 use Rattle.std.specs.Prelude.{ℕ, ◌≡◌, ◌⊎◌, ◌+◌, ◌-◌, ◌/◌, ◌≤◌, ◌<◌, Bool, true, false, Option, Some, None}
-use Rattle.lease_store.specs.declared.txn.Expected.{Expected}
-use Rattle.lease_store.specs.declared.txn.Expected.TheVariants.{Absent, Revision}
+use Rattle.store_keys.specs.declared.txn.Expected.{Expected}
+use Rattle.store_keys.specs.declared.txn.Expected.TheVariants.{Absent, Revision}
 use Rattle.lease_law.specs.Leases.{LeaderSeen, FailsafeKey, Query, Create, Renew, Release, Write, Read, Question, Grant, Answer, FailsafeRequest, Acknowledgement, Flying, Requested, Answered, FailsafeRequested, Acknowledged}
 use Rattle.event_book.specs.Premises.{IsTaken, IsOnTime}
 use Rattle.lease_law.specs.States.{FailsafeCheck, Agent, Machine, State, is_ready, Acts}

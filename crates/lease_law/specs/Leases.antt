@@ -1,6 +1,6 @@
 -- The keys of the lease, and the messages about it.
 use Rattle.std.specs.Prelude.{ℕ, Bool, Option}
-use Rattle.lease_store.specs.declared.txn.Expected.{Expected}
+use Rattle.store_keys.specs.declared.txn.Expected.{Expected}
 
 -- the leader key that is there
 pub record LeaderKey : Type 0 where

@@ -3,11 +3,11 @@ ghost use Rattle.std.specs.Prelude.{ℕ, ◌≡◌, ◌+◌, ◌++◌, Bool, tru
 ghost use Rattle.pat_base.specs.declared.name.Name.{Name};
 ghost use Rattle.pat_base.specs.declared.ticks.Ticks.{Ticks};
 ghost use Rattle.lease_store.specs.Decision.{decision_on, Refusal, Grant as Grants};
-ghost use Rattle.lease_store.specs.Settings.{Settings};
-ghost use Rattle.lease_store.specs.declared.key.Key.{Key};
-ghost use Rattle.lease_store.specs.declared.txn.Expected.{Expected};
-ghost use Rattle.lease_store.specs.declared.txn.Txn.{Txn};
-ghost use Rattle.lease_store.specs.declared.txn_kind.TxnKind.{TxnKind};
+ghost use Rattle.store_keys.specs.Settings.{Settings};
+ghost use Rattle.store_keys.specs.declared.key.Key.{Key};
+ghost use Rattle.store_keys.specs.declared.txn.Expected.{Expected};
+ghost use Rattle.store_keys.specs.declared.txn.Txn.{Txn};
+ghost use Rattle.store_keys.specs.declared.txn_kind.TxnKind.{TxnKind};
 ghost use Rattle.event_book.specs.Facts.{Facts, facts_after, start_of};
 ghost use Rattle.event_book.specs.declared.event.Event.{Event};
 ghost use Rattle.event_book.specs.declared.event.EventKind.TheVariants.{Tick as Ticked, Message};

@@ -1,9 +1,9 @@
 -- A message that comes to the key store keeps the law: the store's decision and its answer are one action.
 use Rattle.std.proofs.Common.{ℕ, ◌≡◌, ◌<◌, ◌+◌, ◌++◌, nat_le, Bool, true, false, List, [], length, slice_get, Option, Some, refl, ◌∙◌, ap, sym, subst, arith}
 use Rattle.pat_base.specs.declared.ticks.Ticks.{Ticks}
-use Rattle.lease_store.specs.declared.txn.Txn.{Txn}
+use Rattle.store_keys.specs.declared.txn.Txn.{Txn}
 use Rattle.lease_store.specs.Decision.{Decision, Grant, Refusal, decision_on}
-use Rattle.lease_store.specs.TxnKinds.{txn_kind_of}
+use Rattle.store_keys.specs.TxnKinds.{txn_kind_of}
 use Rattle.event_book.specs.declared.event.Event.{Event}
 use Rattle.event_book.specs.declared.event.EventKind.TheVariants as kinds
 use Rattle.event_book.specs.declared.event.MessageEvent.TheVariants.{Delivered, Lost}

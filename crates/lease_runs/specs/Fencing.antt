@@ -1,7 +1,7 @@
 -- Fencing along a run: who writes under a lease is granted that only while the leader key is as the lease left it.
 use Rattle.std.specs.Prelude.{ℕ, ◌≡◌, List, [], ◌∷◌, Some}
-use Rattle.lease_store.specs.declared.key.Key.TheVariants.{Leader}
-use Rattle.lease_store.specs.declared.value.KeyEntry.{KeyEntry}
+use Rattle.store_keys.specs.declared.key.Key.TheVariants.{Leader}
+use Rattle.store_keys.specs.declared.value.KeyEntry.{KeyEntry}
 use Rattle.lease_store.specs.Decision.{compares_of}
 use Rattle.lease_store.specs.Fencing.{ComparesWith}
 use Rattle.lease_store.specs.Keys.{key_in}

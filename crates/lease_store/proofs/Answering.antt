@@ -4,18 +4,19 @@ use Rattle.std.proofs.lemmas.Bool.Decides.{nat_tests}
 use Rattle.std.specs.FinMap.{find, is_sorted}
 use Rattle.pat_base.specs.declared.ticks.Ticks.{Ticks}
 use Rattle.pat_base.specs.declared.member_id.MemberId.{MemberId}
-use Rattle.lease_store.specs.declared.key.Key.{Key}
-use Rattle.lease_store.specs.declared.key.Key.TheVariants as keys
-use Rattle.lease_store.specs.declared.value.KeyEntry.{KeyEntry}
-use Rattle.lease_store.specs.declared.value.Value.{Value}
-use Rattle.lease_store.specs.declared.value.Value.TheVariants as values
-use Rattle.lease_store.specs.declared.txn.Txn.{Txn}
+use Rattle.store_keys.specs.declared.key.Key.{Key}
+use Rattle.store_keys.specs.declared.key.Key.TheVariants as keys
+use Rattle.store_keys.specs.declared.value.KeyEntry.{KeyEntry}
+use Rattle.store_keys.specs.declared.value.Value.{Value}
+use Rattle.store_keys.specs.declared.value.Value.TheVariants as values
+use Rattle.store_keys.specs.declared.txn.Txn.{Txn}
 use Rattle.lease_store.specs.KeyOrder.{key_cmp}
 use Rattle.lease_store.specs.Kinds.{IsOfKind}
 use Rattle.lease_store.specs.Kept.{AreOfKind, IsLasting, IsKept}
 use Rattle.lease_store.specs.Keys.{Keys, is_present, present, key_in, key_at}
 use Rattle.lease_store.specs.Writes.{writes_of, pairs_over}
-use Rattle.lease_store.specs.Answers.{present_pairs, holder_of, holder_lost}
+use Rattle.lease_store.specs.Answers.{present_pairs, holder_lost}
+use Rattle.store_keys.specs.Holders.{holder_of}
 use Rattle.lease_store.proofs.Keeping.{kept_after, kept_present, kind_found, find_present}
 
 pub kept_written : (revision now : ℕ) (by : MemberId) (txn : Txn) (old mid after : List (Key × KeyEntry)) → mid ≡ old → after ≡ pairs_over revision now mid (writes_of by txn) → IsKept old → IsKept after

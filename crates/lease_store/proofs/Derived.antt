@@ -1,6 +1,6 @@
 -- The order that is derived for keys is that of the store.
 use Rattle.std.proofs.Common.{◌≡◌, rules}
-use Rattle.lease_store.specs.declared.key.Key.{Key}
+use Rattle.store_keys.specs.declared.key.Key.{Key}
 use Rattle.lease_store.specs.Indexed.{key_order}
 use Rattle.lease_store.specs.KeyOrder.{key_cmp}
 

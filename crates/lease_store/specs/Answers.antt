@@ -2,11 +2,10 @@
 use Rattle.std.specs.Prelude.{ℕ, if◌then◌else◌, List, filter, map, not, Option, Some, None, Result, Ok, Err}
 use Rattle.std.specs.FinMap.{find}
 use Rattle.pat_base.specs.declared.member_id.MemberId.{MemberId}
-use Rattle.lease_store.specs.declared.key.Key.{Key}
-use Rattle.lease_store.specs.declared.key.Key.TheVariants as keys
-use Rattle.lease_store.specs.declared.value.KeyEntry.{KeyEntry}
-use Rattle.lease_store.specs.declared.value.Value.{Value}
-use Rattle.lease_store.specs.declared.value.Value.TheVariants as values
+use Rattle.store_keys.specs.declared.key.Key.{Key}
+use Rattle.store_keys.specs.declared.key.Key.TheVariants as keys
+use Rattle.store_keys.specs.declared.value.KeyEntry.{KeyEntry}
+use Rattle.store_keys.specs.Holders.{holder_of}
 use Rattle.lease_store.specs.declared.refusal.StoreRefusal.{StoreRefusal}
 use Rattle.lease_store.specs.declared.refusal.StoreRefusal.TheVariants.{Mismatch}
 use Rattle.lease_store.specs.Decision.{Decision, Grant, Refusal}
@@ -33,11 +32,6 @@ expired_keys store now = absent_keys now store.pairs
 -- the store without its absent keys
 abbrev pub keys_kept : Keys → ℕ → Keys
 keys_kept store now = record store { pairs = present_pairs now store.pairs }
-
--- the member that a value of the leader key names
-abbrev pub holder_of : Value → Option MemberId
-holder_of (values.Leader member) = Some member
-holder_of _ = None
 
 -- the holder, where this entry of the leader key has expired
 abbrev pub holder_lost : ℕ → Option KeyEntry → Option MemberId

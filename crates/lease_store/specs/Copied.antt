@@ -1,7 +1,7 @@
 -- Copies of what the store holds.
 use Rattle.std.specs.Prelude.{◌≡◌, List, [], Option, Some, None, IfSome, Vec}
-use Rattle.lease_store.specs.declared.key.Key.{Key}
-use Rattle.lease_store.specs.declared.value.KeyEntry.{KeyEntry}
+use Rattle.store_keys.specs.declared.key.Key.{Key}
+use Rattle.store_keys.specs.declared.value.KeyEntry.{KeyEntry}
 
 -- these are copies of all pairs, if there are any
 abbrev pub AreCopies : {Z : Type 0} → List (Key × KeyEntry) → Option (Vec (Key × KeyEntry) Z) → Type 0

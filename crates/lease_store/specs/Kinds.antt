@@ -1,9 +1,9 @@
 -- Which values a key may have.
 use Rattle.std.specs.Prelude.{◌≡◌}
-use Rattle.lease_store.specs.declared.key.Key.{Key}
-use Rattle.lease_store.specs.declared.key.Key.TheVariants as keys
-use Rattle.lease_store.specs.declared.value.Value.{Value}
-use Rattle.lease_store.specs.declared.value.Value.TheVariants as values
+use Rattle.store_keys.specs.declared.key.Key.{Key}
+use Rattle.store_keys.specs.declared.key.Key.TheVariants as keys
+use Rattle.store_keys.specs.declared.value.Value.{Value}
+use Rattle.store_keys.specs.declared.value.Value.TheVariants as values
 
 -- the value is of the key's kind. A row of the history stands under its own timeline
 abbrev pub IsOfKind : Key → Value → Type 0

@@ -1,7 +1,6 @@
 pub mod Answers
 pub mod Copied
 pub mod Decision
-pub mod Defaults
 pub mod Fencing
 pub mod Kept
 pub mod KeyOrder
@@ -10,7 +9,4 @@ pub mod InKeyOrder
 pub mod Keys
 pub mod Kinds
 pub mod Places
-pub mod Settings
-pub mod TxnKinds
-pub mod Words
 pub mod Writes

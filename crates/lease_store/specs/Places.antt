@@ -1,8 +1,8 @@
 -- Where a key stands among pairs, or where it would stand.
 use Rattle.std.specs.Prelude.{ℕ, ◌≡◌, ◌+◌, ◌<◌, ◌≤◌, ◌++◌, List, ◌∷◌, length, take, drop, Some, None, IsTrue, slice_index_or}
 use Rattle.std.specs.FinMap.{find, put, is_sorted}
-use Rattle.lease_store.specs.declared.key.Key.{Key}
-use Rattle.lease_store.specs.declared.value.KeyEntry.{KeyEntry}
+use Rattle.store_keys.specs.declared.key.Key.{Key}
+use Rattle.store_keys.specs.declared.value.KeyEntry.{KeyEntry}
 use Rattle.lease_store.specs.KeyOrder.{key_cmp}
 
 -- the key stands at this place: a new value of it goes there

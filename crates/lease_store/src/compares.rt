@@ -6,11 +6,12 @@ ghost use Rattle.lease_store.specs.Keys.{is_present, key_in};
 ghost use Rattle.lease_store.specs.Decision.{found_in, compare_if, decision_by, compares_of};
 ghost use Rattle.lease_store.specs.Answers.{check_result_of};
 
+use crate::StoreRefusal;
 use crate::entries::{Entries, entry_of};
 use crate::order::compare;
-use crate::{Expected, Key, KeyEntry, StoreRefusal, Txn};
 use pat_base::Ticks;
 use std::cmp::Ordering;
+use store_keys::{Expected, Key, KeyEntry, Txn};
 
 /// Whether a key of this expiry is present.
 pub fn is_present(now: Ticks, expiry: Option<Ticks>) -> bool

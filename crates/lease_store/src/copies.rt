@@ -9,9 +9,9 @@ ghost use Rattle.lease_store.specs.KeyOrder.{key_cmp};
 use crate::entries::Entries;
 use crate::leases::{Leases, first_ended};
 use crate::walks::copies_of_present;
-use crate::{Key, KeyEntry};
 use pat_base::{Shared, Ticks};
 use std::alloc::{AllocError, Global};
+use store_keys::{Key, KeyEntry};
 
 /// Copies of pairs, which several own.
 pub type Copies = Shared<Vec<(Key, KeyEntry)>>;

@@ -9,10 +9,10 @@ ghost use Rattle.lease_store.specs.KeyOrder.{key_cmp};
 ghost use Rattle.lease_store.specs.Writes.{without};
 
 use crate::leases::{Leases, add_all, first_ended, remove, supersede};
-use crate::{Key, KeyEntry};
 use pat_base::Ticks;
 use std::alloc::AllocError;
 use std::collections::BTreeMap;
+use store_keys::{Key, KeyEntry};
 
 /// What the store holds at each key.
 pub type Entries = BTreeMap<Key, KeyEntry>;

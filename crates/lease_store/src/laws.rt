@@ -1,11 +1,11 @@
 //! Laws of every run of the store. Each is a function without a body whose contract is what is proved.
 ghost use Rattle.std.specs.Prelude.{ℕ, ◌≤◌, List, IsTrue};
-ghost use Rattle.lease_store.specs.declared.key.Key.TheVariants.{Leader};
+ghost use Rattle.store_keys.specs.declared.key.Key.TheVariants.{Leader};
 ghost use Rattle.lease_store.specs.Decision.{compares_of};
 ghost use Rattle.lease_store.specs.Fencing.{StoreRequest, Call, IsGranted, ComparesWith, keys_after_request, keys_over};
 ghost use Rattle.lease_store.specs.Keys.{Keys, first_keys};
 ghost use Rattle.lease_store.specs.Kept.{IsKept};
-ghost use Rattle.lease_store.specs.Settings.{Settings};
+ghost use Rattle.store_keys.specs.Settings.{Settings};
 ghost use Rattle.lease_store.specs.Writes.{is_lease};
 
 /// What holds of the pairs of a new store holds after all calls: the keys strictly rise, each value is of its key's kind,

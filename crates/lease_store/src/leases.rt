@@ -5,10 +5,10 @@ ghost use Rattle.lease_store.specs.Indexed.{lease_cmp, is_same_expiry, is_lease_
 ghost use Rattle.lease_store.specs.Keys.{is_present};
 
 use crate::compares::is_present;
-use crate::{Key, KeyEntry};
 use pat_base::Ticks;
 use std::alloc::AllocError;
 use std::collections::BTreeSet;
+use store_keys::{Key, KeyEntry};
 
 /// The leases that the keys have: the expiry and the key of each.
 pub type Leases = BTreeSet<(Ticks, Key)>;

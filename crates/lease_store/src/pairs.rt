@@ -5,8 +5,8 @@ ghost use Rattle.lease_store.specs.KeyOrder.{key_cmp};
 ghost use Rattle.lease_store.specs.Places.{IsPlaceOf, IsGapFor};
 
 use crate::order::compare;
-use crate::{Key, KeyEntry};
 use std::cmp::Ordering;
+use store_keys::{Key, KeyEntry};
 
 /// Where a key stands, or where it would stand.
 fn place(pairs: &[(Key, KeyEntry)], key: Key) -> Result<usize, usize>

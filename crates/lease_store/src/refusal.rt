@@ -2,8 +2,8 @@
 ghost use Rattle.std.specs.Prelude.{◌≡◌};
 ghost use Rattle.lease_store.specs.declared.refusal.StoreRefusal.TheVariants.{Memory};
 
-use crate::{Expected, Key};
 use std::alloc::AllocError;
+use store_keys::{Expected, Key};
 use thiserror::Error;
 
 /// Why a request isn't granted. The store is as it was then.

@@ -4,8 +4,8 @@ ghost use Rattle.lease_store.specs.InKeyOrder.{in_key_order, comes_behind, rises
 
 use crate::order::compare;
 use crate::pairs::put;
-use crate::{Key, KeyEntry};
 use std::alloc::{AllocError, Global};
+use store_keys::{Key, KeyEntry};
 
 /// These pairs in the order of their keys; of several of one key the first. Pairs in that order are handed back as they are.
 /// It fails only for want of memory.

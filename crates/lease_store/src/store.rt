@@ -2,7 +2,7 @@
 ghost use Rattle.std.specs.Prelude.{ℕ, ◌≡◌, ◌≤◌, ◌<◌, ◌+◌, ◌^◌, ◌↔◌, ◌≢◌, [], IsTrue, IsSome, IsNone, IfSome, Some, None, OnOk, OnErr, IfOk, option_copied, Err};
 ghost use Rattle.std.specs.FinMap.{find, is_sorted};
 ghost use Rattle.lease_store.specs.Answers.{present_pairs, keys_kept, holder_lost, expired_holder, expired_keys};
-ghost use Rattle.lease_store.specs.declared.txn.Expected.{Expected};
+ghost use Rattle.store_keys.specs.declared.txn.Expected.{Expected};
 ghost use Rattle.lease_store.specs.Decision.{Grant, Refusal, decision_on};
 ghost use Rattle.lease_store.specs.KeyOrder.{key_cmp};
 ghost use Rattle.lease_store.specs.Keys.{Keys, key_at, first_keys};
@@ -17,11 +17,12 @@ use crate::entries::{Entries, drop_absent, entry_of};
 use crate::leases::{Leases, first_expiry};
 use crate::walks::{absent_keys, copies_of_present};
 use crate::writes::{Stamp, grant, is_lease};
-use crate::{ConfigValue, Granted, Key, KeyEntry, StoreRefusal, Txn, Value};
+use crate::{Granted, StoreRefusal};
 use pat_base::{MemberId, Ticks};
 use std::alloc::{AllocError, Global};
 use std::collections::{BTreeMap, BTreeSet};
 use std::marker::Model;
+use store_keys::{ConfigValue, Key, KeyEntry, Txn, Value};
 
 /// The key store that a cluster shares, as Patroni's distributed configuration store (DCS): what it holds at each key, and
 /// the last revision that it granted. Revisions count its granted writes, from 1.

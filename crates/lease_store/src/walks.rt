@@ -4,9 +4,9 @@ ghost use Rattle.lease_store.specs.Answers.{present_pairs, absent_keys};
 
 use crate::compares::is_present;
 use crate::entries::Entries;
-use crate::{Key, KeyEntry};
 use pat_base::Ticks;
 use std::alloc::{AllocError, Global};
+use store_keys::{Key, KeyEntry};
 
 /// The keys that are absent at a moment. It fails only for want of memory.
 pub fn absent_keys(alloc: Global, entries: &Entries, now: Ticks) -> Result<Vec<Key>, AllocError>

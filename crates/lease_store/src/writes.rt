@@ -9,9 +9,9 @@ ghost use Rattle.pat_base.specs.Moments.{latest};
 
 use crate::entries::{Entries, delete, entry_of, put_all};
 use crate::leases::Leases;
-use crate::{ConfigValue, HistoryRow, Key, KeyEntry, MemberInfo, SyncKey, Txn, Value};
 use pat_base::{Lsn, MemberId, MemberSet, Ticks};
 use std::alloc::{AllocError, Global};
+use store_keys::{ConfigValue, HistoryRow, Key, KeyEntry, MemberInfo, SyncKey, Txn, Value};
 
 /// The most keys that one transaction writes.
 const MOST: usize = 5;

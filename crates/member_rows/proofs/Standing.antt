@@ -12,7 +12,7 @@ use Rattle.pat_base.specs.declared.member_id.TheConstants.{MOST_MEMBERS}
 use Rattle.pat_base.specs.declared.name.Name.{Name}
 use Rattle.pat_base.specs.MemberId.{member_of}
 use Rattle.pat_base.proofs.Members.{member_of-number, number-member_of}
-use Rattle.lease_store.specs.declared.value.MemberInfo.{MemberInfo}
+use Rattle.store_keys.specs.declared.value.MemberInfo.{MemberInfo}
 use Rattle.cluster_view.specs.Snapshots.{SnapshotFacts}
 use Rattle.member_rows.specs.Laws.{is_row_of}
 use Rattle.cluster_view.specs.KeyValues.{info_in}

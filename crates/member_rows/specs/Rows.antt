@@ -9,7 +9,7 @@ use Rattle.pat_base.specs.declared.member_id.TheConstants.{MOST_MEMBERS}
 use Rattle.pat_base.specs.declared.name.Name.{Name}
 use Rattle.pat_base.specs.MemberId.{member_of}
 use Rattle.pat_base.specs.Name.{name_bytes}
-use Rattle.lease_store.specs.declared.value.MemberInfo.{MemberInfo}
+use Rattle.store_keys.specs.declared.value.MemberInfo.{MemberInfo}
 use Rattle.cluster_view.specs.KeyValues.{info_in}
 use Rattle.cluster_view.specs.Snapshots.{SnapshotFacts}
 use Rattle.member_rows.specs.declared.rows.Row.{Row}

@@ -4,8 +4,8 @@ ghost use Rattle.std.specs.Option.{option_to_list};
 ghost use Rattle.member_rows.specs.Endings.{ended_by, endings};
 
 use cluster_view::Snapshot;
-use lease_store::{HistoryRow, Value};
 use std::alloc::{AllocError, Global};
+use store_keys::{HistoryRow, Value};
 
 /// Why timelines end here: no target was set for recovery, so a server was promoted at the end of its log.
 pub const END_REASON: &str = "no recovery target specified";

@@ -3,8 +3,8 @@ ghost use Rattle.std.specs.Prelude.{◌≡◌};
 ghost use Rattle.member_rows.specs.Keys.{keys_in, leads, lag_bytes};
 
 use cluster_view::{LeaderEntry, Snapshot};
-use lease_store::SyncKey;
 use pat_base::{Lsn, MemberId};
+use store_keys::SyncKey;
 
 /// What a list of members reads of a snapshot beside the members.
 #[derive(Clone, Copy, PartialEq, Eq)]

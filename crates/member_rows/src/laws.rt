@@ -5,7 +5,7 @@ ghost use Rattle.std.specs.Ordering.{nat_cmp};
 ghost use Rattle.pat_base.specs.declared.host.Host.{Host};
 ghost use Rattle.pat_base.specs.declared.member_id.MemberId.{MemberId};
 ghost use Rattle.pat_base.specs.declared.name.Name.{Name};
-ghost use Rattle.lease_store.specs.declared.value.MemberInfo.{MemberInfo};
+ghost use Rattle.store_keys.specs.declared.value.MemberInfo.{MemberInfo};
 ghost use Rattle.cluster_view.specs.Snapshots.{IsRead, SnapshotFacts};
 ghost use Rattle.member_rows.specs.Endings.{endings};
 ghost use Rattle.member_rows.specs.Laws.{is_row_of};

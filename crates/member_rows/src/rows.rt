@@ -4,9 +4,9 @@ ghost use Rattle.std.specs.List.{position, position_or_len};
 ghost use Rattle.member_rows.specs.Rows.{with_found, declared_in, row_by, row_in, row_numbered, is_before, placed, rows_of};
 
 use cluster_view::Snapshot;
-use lease_store::MemberInfo;
 use pat_base::{Host, MOST_MEMBERS, MemberId, Name};
 use std::alloc::{AllocError, Global};
+use store_keys::MemberInfo;
 
 /// A member that tells of itself in the key store.
 #[derive(Clone, Copy, PartialEq, Eq)]

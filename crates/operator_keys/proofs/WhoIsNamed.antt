@@ -12,9 +12,9 @@ use Rattle.pat_base.specs.declared.name.Name.{Name}
 use Rattle.pat_base.specs.MemberId.{member_of}
 use Rattle.pat_base.specs.Name.{name_bytes}
 use Rattle.pat_base.proofs.Members.{number-member_of}
-use Rattle.lease_store.specs.declared.value.FailoverKey.{FailoverKey}
-use Rattle.lease_store.specs.declared.value.MemberInfo.{MemberInfo}
-use Rattle.lease_store.specs.declared.value.SyncKey.{SyncKey}
+use Rattle.store_keys.specs.declared.value.FailoverKey.{FailoverKey}
+use Rattle.store_keys.specs.declared.value.MemberInfo.{MemberInfo}
+use Rattle.store_keys.specs.declared.value.SyncKey.{SyncKey}
 use Rattle.serde_json.specs.Data.{Data}
 use Rattle.cluster_view.specs.declared.snapshot.LeaderEntry.{LeaderEntry}
 use Rattle.cluster_view.specs.declared.view.AgentView.{AgentView}

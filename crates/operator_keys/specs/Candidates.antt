@@ -2,10 +2,10 @@
 use Rattle.std.specs.Prelude.{◌==◌, ◌&&◌, not, Bool, false, Option, Some, None}
 use Rattle.std.specs.List.{list_any}
 use Rattle.pat_base.specs.declared.member_id.MemberId.{MemberId}
-use Rattle.lease_store.specs.declared.key.Key.{Key}
-use Rattle.lease_store.specs.declared.key.Key.TheVariants as keys
-use Rattle.lease_store.specs.declared.value.MemberInfo.{MemberInfo}
-use Rattle.lease_store.specs.declared.value.Value.{Value}
+use Rattle.store_keys.specs.declared.key.Key.{Key}
+use Rattle.store_keys.specs.declared.key.Key.TheVariants as keys
+use Rattle.store_keys.specs.declared.value.MemberInfo.{MemberInfo}
+use Rattle.store_keys.specs.declared.value.Value.{Value}
 use Rattle.cluster_view.specs.declared.snapshot.LeaderEntry.{LeaderEntry}
 use Rattle.cluster_view.specs.KeyValues.{info_by, info_in}
 use Rattle.cluster_view.specs.Snapshots.{SnapshotFacts, leader_in}

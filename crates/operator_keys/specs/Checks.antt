@@ -1,7 +1,7 @@
 -- The checks of switchovers and failovers: the failover key that a request gives, or what refuses it.
 use Rattle.std.specs.Prelude.{ℕ, Bool, true, false, List, Option, Some, None, Result, Ok, Err}
 use Rattle.std.specs.Option.{option_copied}
-use Rattle.lease_store.specs.declared.value.FailoverKey.{FailoverKey}
+use Rattle.store_keys.specs.declared.value.FailoverKey.{FailoverKey}
 use Rattle.serde_json.specs.Data.{Data}
 use Rattle.cluster_view.specs.declared.view.AgentView.{AgentView}
 use Rattle.cluster_view.specs.Snapshots.{SnapshotFacts}

@@ -2,12 +2,12 @@
 -- API, "Config endpoint").
 use Rattle.std.specs.Prelude.{ℕ, Bool, List, Option, Some, None, Result, Ok, Err}
 use Rattle.std.specs.Option.{option_copied}
-use Rattle.lease_store.specs.declared.key.Key.TheVariants as keys
-use Rattle.lease_store.specs.declared.value.KeyEntry.{KeyEntry}
-use Rattle.lease_store.specs.declared.value.Value.{Value}
-use Rattle.lease_store.specs.declared.value.Value.TheVariants as values
-use Rattle.lease_store.specs.Defaults.{default_settings}
-use Rattle.lease_store.specs.Settings.{Settings}
+use Rattle.store_keys.specs.declared.key.Key.TheVariants as keys
+use Rattle.store_keys.specs.declared.value.KeyEntry.{KeyEntry}
+use Rattle.store_keys.specs.declared.value.Value.{Value}
+use Rattle.store_keys.specs.declared.value.Value.TheVariants as values
+use Rattle.store_keys.specs.Defaults.{default_settings}
+use Rattle.store_keys.specs.Settings.{Settings}
 use Rattle.cluster_config.specs.declared.config_fault.ConfigFault.{ConfigFault}
 use Rattle.cluster_view.specs.declared.view.AgentView.{AgentView}
 use Rattle.cluster_config.specs.ConfigReading.{config_patched, config_replaced}

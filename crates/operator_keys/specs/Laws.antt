@@ -4,7 +4,7 @@ use Rattle.pat_base.specs.declared.member_id.MemberId.{MemberId}
 use Rattle.pat_base.specs.declared.host.Host.{Host}
 use Rattle.pat_base.specs.declared.name.Name.{Name}
 use Rattle.pat_base.specs.Name.{name_bytes}
-use Rattle.lease_store.specs.declared.value.MemberInfo.{MemberInfo}
+use Rattle.store_keys.specs.declared.value.MemberInfo.{MemberInfo}
 use Rattle.cluster_view.specs.KeyValues.{info_in}
 use Rattle.cluster_view.specs.Snapshots.{SnapshotFacts, leader_in}
 use Rattle.leader_race.specs.Eligibility.{may_fail_over}

@@ -1,8 +1,8 @@
 -- By which rules switchovers and failovers are refused (Patroni's documentation of the REST API, "Switchover and failover endpoints").
 use Rattle.std.specs.Prelude.{◌&&◌, not, is_some, is_none, Bool, true, false, [], ◌∷◌, Option, Some, None}
-use Rattle.lease_store.specs.declared.value.FailoverKey.{FailoverKey}
-use Rattle.lease_store.specs.declared.value.MemberInfo.{MemberInfo}
-use Rattle.lease_store.specs.declared.value.SyncKey.{SyncKey}
+use Rattle.store_keys.specs.declared.value.FailoverKey.{FailoverKey}
+use Rattle.store_keys.specs.declared.value.MemberInfo.{MemberInfo}
+use Rattle.store_keys.specs.declared.value.SyncKey.{SyncKey}
 use Rattle.cluster_view.specs.declared.snapshot.LeaderEntry.{LeaderEntry}
 use Rattle.cluster_view.specs.KeyValues.{config_in, failover_in, active_sync_in}
 use Rattle.cluster_view.specs.Naming.{is_standby}

@@ -6,8 +6,8 @@ ghost use Rattle.operator_keys.specs.Candidates.{leads, names_leader, info_of, m
 use crate::asked::Named;
 use cluster_view::{LeaderEntry, Snapshot, info_by};
 use leader_race::may_fail_over;
-use lease_store::{Key, MemberInfo, Value};
 use pat_base::{MemberId, Tags};
+use store_keys::{Key, MemberInfo, Value};
 
 /// Whether the member leads.
 pub(crate) fn leads(member: MemberId, leader: Option<LeaderEntry>) -> bool

@@ -10,10 +10,10 @@ use crate::failing_over::{failover_refusal, switchover_refusal};
 use crate::refusal::judged;
 use crate::{CheckFault, Refused};
 use cluster_view::{AgentView, Snapshot};
-use lease_store::FailoverKey;
 use operator_answers::{SERVICE_UNAVAILABLE, Text};
 use serde_json::Value;
 use std::alloc::Global;
+use store_keys::FailoverKey;
 
 /// The failover key by which a switchover is asked for, by the body of its request and by what the agent shows that has it
 /// to carry out; or why it is refused, by the first rule that applies (Patroni's documentation of the REST API, on `POST

@@ -1,6 +1,6 @@
 //! The check of changes of the configuration.
 ghost use Rattle.std.specs.Prelude.{◌≡◌, Result, option_copied};
-ghost use Rattle.lease_store.specs.Settings.{Settings};
+ghost use Rattle.store_keys.specs.Settings.{Settings};
 ghost use Rattle.cluster_config.specs.declared.config_fault.ConfigFault.{ConfigFault};
 ghost use Rattle.cluster_config.specs.ConfigReading as reading;
 ghost use Rattle.operator_keys.specs.ConfigChecks.{configuration_by, configuration_of_entry, configuration_in, changed, unless_faulty, configuration_of};
@@ -10,9 +10,9 @@ use crate::checks::seen_by;
 use crate::{CheckFault, Refused};
 use cluster_config::{ConfigFault, ConfigText};
 use cluster_view::{AgentView, Snapshot};
-use lease_store::{ConfigValue, Key, KeyEntry, Value};
 use operator_answers::{BAD_REQUEST, Text};
 use std::alloc::Global;
+use store_keys::{ConfigValue, Key, KeyEntry, Value};
 
 /// How a request changes the configuration (Patroni's documentation of the REST API, "Config endpoint").
 #[derive(Clone, Copy, PartialEq, Eq)]

@@ -8,8 +8,8 @@ use crate::candidates::{anyone_may_take_over, info_of, names_leader};
 use crate::refusal::{first_refusal, refused_where};
 use cluster_view::{LeaderEntry, Snapshot, is_standby};
 use leader_race::may_fail_over;
-use lease_store::{FailoverKey, MemberInfo, SyncKey};
 use operator_answers::{BAD_REQUEST, PRECONDITION_FAILED, SERVICE_UNAVAILABLE, Text};
+use store_keys::{FailoverKey, MemberInfo, SyncKey};
 
 /// What refuses a switchover that asks this, by the first rule that applies.
 pub(crate) fn switchover_refusal(asked: Asked, seen: &Snapshot) -> Option<Refused>

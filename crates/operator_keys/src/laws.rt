@@ -2,8 +2,8 @@
 ghost use Rattle.std.specs.Prelude.{ℕ, ◌≡◌, List, Some, None, Ok, true, false, codes, IsSomeAnd};
 ghost use Rattle.std.specs.Option.{option_copied};
 ghost use Rattle.pat_base.specs.declared.member_id.MemberId.{MemberId};
-ghost use Rattle.lease_store.specs.declared.value.FailoverKey.{FailoverKey};
-ghost use Rattle.lease_store.specs.declared.value.SyncKey.{SyncKey};
+ghost use Rattle.store_keys.specs.declared.value.FailoverKey.{FailoverKey};
+ghost use Rattle.store_keys.specs.declared.value.SyncKey.{SyncKey};
 ghost use Rattle.serde_json.specs.Data.{Data};
 ghost use Rattle.cluster_view.specs.declared.view.AgentView.{AgentView};
 ghost use Rattle.cluster_config.specs.ConfigReading.{json_of};

@@ -2,7 +2,7 @@
 use Rattle.std.proofs.Common.{◌≡◌, ◌∙◌, ℕ, ◌+◌, Some, length, option_map, slice_get, ap, arith}
 use Rattle.std.proofs.lemmas.List.{length-map}
 use Rattle.std.proofs.lemmas.Option.{slice_get-map}
-use Rattle.lease_store.specs.declared.value.HistoryRow.{HistoryRow}
+use Rattle.store_keys.specs.declared.value.HistoryRow.{HistoryRow}
 use Rattle.cluster_view.specs.Snapshots.{SnapshotFacts}
 use Rattle.member_rows.specs.Endings.{endings}
 use Rattle.member_rows.specs.Keys.{keys_in}

@@ -1,7 +1,7 @@
 -- `history`: how the timelines ended (Patroni documentation, "patronictl", "patronictl history").
 use Rattle.std.specs.Prelude.{ℕ, List, [], ◌∷◌, map, codes, None}
 use Rattle.std.specs.Fmt.{decimal}
-use Rattle.lease_store.specs.declared.value.HistoryRow.{HistoryRow}
+use Rattle.store_keys.specs.declared.value.HistoryRow.{HistoryRow}
 use Rattle.cluster_view.specs.Snapshots.{SnapshotFacts}
 use Rattle.member_rows.specs.Endings.{end_reason, endings}
 use Rattle.text_table.specs.Tables.{ColumnText, TableText, column}

@@ -1,6 +1,6 @@
 -- The lines of members and of timelines.
 use Rattle.std.specs.Prelude.{ℕ, List}
-use Rattle.lease_store.specs.declared.value.HistoryRow.{HistoryRow}
+use Rattle.store_keys.specs.declared.value.HistoryRow.{HistoryRow}
 use Rattle.cluster_view.specs.Snapshots.{SnapshotFacts}
 use Rattle.member_rows.specs.Keys.{keys_in}
 use Rattle.member_rows.specs.declared.rows.Row.{Row}

@@ -4,9 +4,9 @@ ghost use Rattle.patronictl.specs.History.{history_cells, history_table, history
 
 use crate::names::name_in;
 use cluster_view::Snapshot;
-use lease_store::HistoryRow;
 use member_rows::{END_REASON, endings_of};
 use std::alloc::{AllocError, Global};
+use store_keys::HistoryRow;
 use text_table::{Alignment, Cells, Table};
 
 /// The table of the timelines that ended, in their order.

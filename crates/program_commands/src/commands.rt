@@ -23,7 +23,7 @@ pub fn carry_out<W: Simulation, S: Source, K: Sink, D: Door>(
     match order {
         Order::Run => {
             let script = script_from(alloc, 0, input)?;
-            let world = play(alloc, &script, out)?;
+            let world = play(alloc, script, out)?;
             Ok(Some(world))
         }
         Order::Serve {
@@ -43,7 +43,7 @@ pub fn carry_out<W: Simulation, S: Source, K: Sink, D: Door>(
         }
         Order::Drill { seed, count } => {
             let script = drawn_script(alloc, seed, count)?;
-            let world = drill(alloc, &script, out)?;
+            let world = drill(alloc, script, out)?;
             Ok(Some(world))
         }
     }
@@ -71,6 +71,6 @@ fn serve_script<W: Simulation, S: Source, K: Sink, D: Door>(
         address,
         count,
     };
-    let world = serve(alloc, &script, &service, door, out)?;
+    let world = serve(alloc, script, &service, door, out)?;
     Ok(Some(world))
 }

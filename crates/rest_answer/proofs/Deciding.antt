@@ -1,6 +1,6 @@
 -- What comes of a check that an agent makes.
 use Rattle.std.proofs.Common.{◌≡◌, Result, Ok, Err, ap, sym}
-use Rattle.lease_store.specs.declared.action.OperatorRequest.{OperatorRequest}
+use Rattle.store_keys.specs.declared.action.OperatorRequest.{OperatorRequest}
 use Rattle.operator_keys.specs.declared.refusal.CheckFault.{CheckFault}
 use Rattle.operator_keys.specs.declared.refusal.CheckFault.TheVariants as faults
 use Rattle.operator_keys.specs.declared.refusal.Refused.{Refused}

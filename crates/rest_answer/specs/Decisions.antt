@@ -1,8 +1,8 @@
 -- What an agent makes of a request for a change, by what it shows.
 use Rattle.std.specs.Prelude.{ℕ, List, Option, Result, Ok, Err}
-use Rattle.lease_store.specs.declared.action.FailoverKind.TheVariants as failover_kinds
-use Rattle.lease_store.specs.declared.action.OperatorRequest.{OperatorRequest}
-use Rattle.lease_store.specs.declared.action.OperatorRequest.TheVariants as requests
+use Rattle.store_keys.specs.declared.action.FailoverKind.TheVariants as failover_kinds
+use Rattle.store_keys.specs.declared.action.OperatorRequest.{OperatorRequest}
+use Rattle.store_keys.specs.declared.action.OperatorRequest.TheVariants as requests
 use Rattle.cluster_view.specs.Snapshots.{SnapshotFacts}
 use Rattle.cluster_view.specs.declared.view.AgentView.{AgentView}
 use Rattle.operator_answers.specs.declared.answer_text.Text.TheVariants as texts

@@ -1,6 +1,6 @@
 //! Answers to requests.
-use lease_store::OperatorRequest;
 use rest_message::Reply;
+use store_keys::OperatorRequest;
 
 /// What comes of a request.
 #[derive(Drop)]

@@ -1,14 +1,13 @@
 //! What an agent makes of a request for a change.
 ghost use Rattle.std.specs.Prelude.{Result, option_copied};
-ghost use Rattle.lease_store.specs.declared.action.OperatorRequest.TheVariants as requests;
-ghost use Rattle.lease_store.specs.declared.value.FailoverKey.{FailoverKey};
-ghost use Rattle.lease_store.specs.Settings.{Settings};
+ghost use Rattle.store_keys.specs.declared.action.OperatorRequest.TheVariants as requests;
+ghost use Rattle.store_keys.specs.declared.value.FailoverKey.{FailoverKey};
+ghost use Rattle.store_keys.specs.Settings.{Settings};
 ghost use Rattle.operator_keys.specs.declared.refusal.Refused.{Refused};
 ghost use Rattle.operator_keys.specs.Refusals.{Answers};
 ghost use Rattle.rest_answer.specs.Decisions.{asking_for, change_on};
 
 use cluster_view::AgentView;
-use lease_store::{ConfigValue, FailoverKey, FailoverKind, OperatorRequest};
 use operator_answers::{NOT_FOUND, Text};
 use operator_keys::{
     CheckFault, ConfigChange, Refused, check_configuration, check_failover, check_reinit,
@@ -16,6 +15,7 @@ use operator_keys::{
 };
 use rest_paths::Change;
 use std::alloc::Global;
+use store_keys::{ConfigValue, FailoverKey, FailoverKind, OperatorRequest};
 
 /// What an agent that shows this is to do to make this change with this content, or what it is refused with.
 pub(crate) fn change_on(

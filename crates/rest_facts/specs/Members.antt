@@ -3,7 +3,7 @@ use Rattle.std.specs.Prelude.{Bool, true, false, Option, Some, None}
 use Rattle.pat_base.specs.declared.member_id.MemberId.{MemberId}
 use Rattle.pat_base.specs.declared.server_state.State.{State}
 use Rattle.pat_base.specs.declared.server_state.State.TheVariants as states
-use Rattle.lease_store.specs.declared.value.SyncKey.{SyncKey}
+use Rattle.store_keys.specs.declared.value.SyncKey.{SyncKey}
 use Rattle.cluster_view.specs.declared.view.RoleWord.{RoleWord}
 use Rattle.cluster_view.specs.declared.view.RoleWord.TheVariants as roles
 use Rattle.cluster_view.specs.KeyValues.{sync_in}

@@ -2,8 +2,8 @@
 use Rattle.std.specs.Prelude.{ℕ, ◌-◌, ◌*◌, nat_le, Bool, false, Option, Some, None}
 use Rattle.pat_base.specs.declared.ticks.Ticks.{Ticks}
 use Rattle.pat_base.specs.declared.ticks.TheConstants.{TICKS_OF_SECOND}
-use Rattle.lease_store.specs.Defaults.{default_config}
-use Rattle.lease_store.specs.declared.config.Config.{Config}
+use Rattle.store_keys.specs.Defaults.{default_config}
+use Rattle.store_keys.specs.declared.config.Config.{Config}
 use Rattle.cluster_view.specs.KeyValues.{config_in}
 use Rattle.cluster_view.specs.Snapshots.{SnapshotFacts}
 

@@ -1,11 +1,11 @@
 //! How long ago an agent's last turn may be.
 ghost use Rattle.std.specs.Prelude.{◌≡◌, option_copied};
-ghost use Rattle.lease_store.specs.declared.config.Config.{Config};
+ghost use Rattle.store_keys.specs.declared.config.Config.{Config};
 ghost use Rattle.rest_facts.specs.Turns.{config_on, is_fresh};
 
 use cluster_view::Snapshot;
-use lease_store::Config;
 use pat_base::Ticks;
+use store_keys::Config;
 
 /// How many times the ttl may have passed since the last turn of an agent whose server isn't the primary (Patroni documentation, "Patroni
 /// REST API", `/liveness`).

@@ -1,9 +1,9 @@
 -- `/config`: the configuration (Patroni documentation, "Patroni REST API", "Config endpoint").
 use Rattle.std.specs.Prelude.{ℕ, List, [], Option, Some, None}
-use Rattle.lease_store.specs.declared.key.Key.TheVariants as keys
-use Rattle.lease_store.specs.declared.value.KeyEntry.{KeyEntry}
-use Rattle.lease_store.specs.declared.value.Value.{Value}
-use Rattle.lease_store.specs.declared.value.Value.TheVariants as values
+use Rattle.store_keys.specs.declared.key.Key.TheVariants as keys
+use Rattle.store_keys.specs.declared.value.KeyEntry.{KeyEntry}
+use Rattle.store_keys.specs.declared.value.Value.{Value}
+use Rattle.store_keys.specs.declared.value.Value.TheVariants as values
 use Rattle.cluster_view.specs.Snapshots.{SnapshotFacts, entry_in}
 
 -- the text of a value of the configuration's key

@@ -6,7 +6,7 @@ use Rattle.json_build.specs.Members.{natural}
 use Rattle.pat_base.specs.declared.host.Host.{Host}
 use Rattle.pat_base.specs.declared.name.Name.{Name}
 use Rattle.pat_base.specs.Name.{name_bytes}
-use Rattle.lease_store.specs.declared.value.HistoryRow.{HistoryRow}
+use Rattle.store_keys.specs.declared.value.HistoryRow.{HistoryRow}
 use Rattle.cluster_view.specs.Snapshots.{SnapshotFacts}
 use Rattle.member_rows.specs.Endings.{end_reason, endings}
 use Rattle.member_rows.specs.Rows.{declared_in}

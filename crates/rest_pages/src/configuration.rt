@@ -3,7 +3,7 @@ ghost use Rattle.std.specs.Prelude.{◌≡◌, option_copied};
 ghost use Rattle.rest_pages.specs.Configuration.{text_by, text_of_entry, configuration_text};
 
 use cluster_view::Snapshot;
-use lease_store::{Key, KeyEntry, Value};
+use store_keys::{Key, KeyEntry, Value};
 
 /// The body of `/config`: the text of the configuration, as it stands in the key store.
 pub fn config_text(snapshot: &Snapshot) -> &str

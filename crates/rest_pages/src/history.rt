@@ -8,10 +8,10 @@ ghost use Rattle.rest_pages.specs.History.{with_leader, ending_items, ending_dat
 
 use cluster_view::Snapshot;
 use json_build::List;
-use lease_store::HistoryRow;
 use member_rows::{END_REASON, declared_in, endings_of};
 use pat_base::{Host, Name};
 use std::alloc::{AllocError, Global};
+use store_keys::HistoryRow;
 
 /// The body of `/history`: for each timeline that ended, in their order, a list of its number, the position in bytes at which it ended,
 /// the reason, the tick of 100 ms at which it ended, and the name of the leader that took over, where the cluster has such a member. It

@@ -1,7 +1,7 @@
 -- A run: which steps it plays, what happens in it, and its text.
 use Rattle.std.specs.Prelude.{ℕ, ◌≡◌, Bool, false, List, [], ◌∷◌, ◌++◌}
 use Rattle.event_book.specs.declared.event.Event.{Event}
-use Rattle.event_text.specs.Text.{lines_of}
+use Rattle.event_book.specs.Text.{lines_of}
 use Rattle.script_model.specs.Script.{HeadText, ScriptText}
 use Rattle.cluster_model.specs.Steps.{steps_of}
 use Rattle.script_model.specs.declared.line.Command.{Command}

@@ -8,7 +8,7 @@ use Rattle.pat_outside.specs.Prints.{Prints}
 use Rattle.pat_outside.proofs.Printing.{Prints-nothing}
 use Rattle.event_book.specs.declared.event.Event.{Event}
 use Rattle.event_book.specs.declared.member.Member.{Member}
-use Rattle.event_text.specs.Text.{lines_of}
+use Rattle.event_book.specs.Text.{lines_of}
 use Rattle.cluster_model.specs.declared.step.Step.{Step}
 use Rattle.cluster_model.specs.declared.step.Step.TheVariants as steps
 use Rattle.cluster_model.specs.Cluster.{cluster_over}

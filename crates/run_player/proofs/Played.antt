@@ -1,8 +1,6 @@
 -- Steps that were played, one after another: what is left is behind what was done.
-use Rattle.std.proofs.Common.{◌≡◌, Bool, ℕ, ◌+◌, List, [], ◌∷◌, ◌++◌, length, drop, Some, Result, Ok, Err, arith, append_assoc, append-nil, length-append, refl, ◌∙◌, ap, sym, subst, suc, zero}
-use Rattle.std.proofs.lemmas.Option.{none-some, same_Some}
-use Rattle.std.specs.Prelude.{IsErrOf, slice_get}
-use Rattle.pat_base.specs.declared.name.Name.{Name}
+use Rattle.std.proofs.Common.{◌≡◌, Bool, ℕ, ◌+◌, List, [], ◌∷◌, ◌++◌, length, Some, Result, Ok, Err, arith, append_assoc, append-nil, length-append, refl, ◌∙◌, ap, sym, subst}
+use Rattle.std.specs.Prelude.{IsErrOf, Option, option_to_list}
 use Rattle.pat_outside.specs.declared.outside.Failed.{Failed}
 use Rattle.pat_outside.specs.declared.outside.Sink.{Ghosts}
 use Rattle.pat_outside.specs.Outside.{Grew}
@@ -10,11 +8,9 @@ use Rattle.pat_outside.specs.Prints.{Prints, failed}
 use Rattle.pat_outside.proofs.Contents.{Grew-Grew, Grew-nothing}
 use Rattle.pat_outside.proofs.Printing.{Prints-none, Prints-nothing, Prints-ok, Prints-stop, Prints-then}
 use Rattle.event_book.specs.declared.event.Event.{Event}
-use Rattle.event_text.specs.Text.{lines_of}
+use Rattle.event_book.specs.Text.{lines_of}
 use Rattle.script_model.specs.declared.line.Line.{Line}
 use Rattle.cluster_model.specs.declared.step.Step.{Step}
-use Rattle.script_model.specs.Script.{AllAreLines, IsLine}
-use Rattle.cluster_model.specs.Steps.{steps_of, steps_of_line}
 use Rattle.cluster_model.specs.Cluster.{cluster_over}
 use Rattle.cluster_model.specs.Next.{next_events, run_events}
 use Rattle.cluster_model.specs.State.{Cluster}
@@ -23,7 +19,6 @@ use Rattle.simulation.specs.Steps.{HasStepsLeft, TookSteps}
 use Rattle.world_model.specs.Room.{step_cost}
 use Rattle.world_model.specs.Emits.{Emits}
 use Rattle.simulation.proofs.Stepping.{TookSteps-none, TookSteps-then, steps-left-behind, steps-left-fewer}
-use Rattle.pat_base.proofs.Lists.{drop-get}
 use Rattle.world_model.proofs.Taking.{members-stay, cluster_over-append}
 use Rattle.run_printing.specs.declared.print_error.PrintError.{PrintError}
 use Rattle.run_printing.specs.declared.print_error.PrintError.TheVariants.{Memory, Write}
@@ -191,12 +186,6 @@ pub Playing-members : {K : Type 0} {sink : Ghosts K} {start now : PlayerFacts} {
 Playing-members {start = start} {now = now} {whole = whole} {left = left} p =
     ap (λ (c : Cluster). c.facts.members) p.plays.world ∙ members-stay start.world.cluster (run_events start.world.cluster p.done)
 
--- each line of a script names declared members only
-pub line-declared : (members : List Name) (body : List Line) (i : ℕ) (line : Line) → AllAreLines members body → slice_get body i ≡ Some line → IsLine members line
-line-declared members [] i line all is = absurd (none-some line is)
-line-declared members (first ∷ body) zero line all is = subst (IsLine members) (same_Some first line is) all.0
-line-declared members (first ∷ body) (suc i) line all is = line-declared members body i line all.1 is
-
 pub Playing-more : {K X : Type 0} {sink : Ghosts K} {start before after : PlayerFacts} {out mid then : K} {x : X} {whole left piece : List Step} (rest : List Step)
     → Playing sink start before out mid whole left → left ≡ piece ++ rest → Plays sink before after mid then (Ok x) piece → Playing sink start after out then whole rest
 Playing-more {piece = piece} rest p is q = record {
@@ -215,6 +204,6 @@ pub Playing-stop : {K X Y : Type 0} {sink : Ghosts K} {start before after : Play
 Playing-stop {sink = sink} {start = start} {after = after} {out = out} {then = then} final rest p is q stops =
     subst (λ (l : List Step). Plays sink start after out then final l) (ap (λ l. p.done ++ l) (sym is) ∙ p.parts) (Plays-stop final rest p.plays q stops)
 
--- lines that are left, one and then the others
-pub body-next : (body : List Line) (i : ℕ) (line : Line) → slice_get body i ≡ Some line → steps_of (drop i body) ≡ steps_of_line line ++ steps_of (drop (i + 1) body)
-body-next body i line found = ap steps_of (drop-get Line body i line found)
+-- lines that are left, the next one and then the others
+pub next-line : {old new : List Line} {taken : Option Line} {line : Line} → old ≡ option_to_list taken ++ new → taken ≡ Some line → old ≡ line ∷ new
+next-line {new = new} left is = left ∙ ap (λ t. option_to_list t ++ new) is

@@ -17,13 +17,13 @@ use std::alloc::Global;
 /// after the last step; on Err the world is closed. Where memory is wanting, nothing was printed.
 pub fn drill<W: Simulation, K: Sink>(
     alloc: Global,
-    script: &Script,
+    script: Script,
     out: &mut K,
 ) -> Result<W, PrintError>
-    requires { length (steps_of script.now.body) ≤ most_steps }
-    ensures printed { Prints K.Sink out.old out.new PrintError.Write result (summary_of_run (played_of script.now)) }
+    requires { length (steps_of script.body) ≤ most_steps }
+    ensures printed { Prints K.Sink out.old out.new PrintError.Write result (summary_of_run (played_of script)) }
     ensures memory { IsErrOf result PrintError.Memory → out.new ≡ out.old }
-    ensures world { IfOk result (λ world. IsLeftBy (played_of script.now) (W.facts world)) }
+    ensures world { IfOk result (λ world. IsLeftBy (played_of script) (W.facts world)) }
 {
     let mut player = Player::<W>::new(alloc, script.head())?;
     match player.drill(script, out) {

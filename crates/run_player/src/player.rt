@@ -1,5 +1,5 @@
 //! Who plays runs: steps, and what they print.
-ghost use Rattle.std.specs.Prelude.{◌≡◌, ◌<◌, ◌∷◌, ◌++◌, [], false, length, IfOk, IsErrOf, OnOk, replicate, slice_get, Some};
+ghost use Rattle.std.specs.Prelude.{◌≡◌, ◌<◌, ◌∷◌, ◌++◌, [], false, length, IfOk, IsErrOf, OnOk, replicate, Some};
 ghost use Rattle.pat_outside.specs.Prints.{Prints};
 ghost use Rattle.script_model.specs.Script.{IsLine, names_of};
 ghost use Rattle.cluster_model.specs.Cluster.{cluster_over};
@@ -78,27 +78,27 @@ impl<W: Simulation> Player<W> {
     }
 
     /// The lines of a script, one after another, and then the closing summary.
-    pub(crate) fn play<K: Sink>(&mut self, script: &Script, out: &mut K) -> Result<(), PrintError>
-        requires room { HasStepsLeft (W.facts self.old.world) (length (steps_of script.now.body)) }
-        requires members { names_in (W.facts self.old.world).cluster.facts.members ≡ names_of script.now.head }
-        ensures world { OnOk result ((W.facts self.new.world).cluster ≡ cluster_over (W.facts self.old.world).cluster (run_events (W.facts self.old.world).cluster (steps_of script.now.body))) }
-        ensures taken { OnOk result (TookSteps (W.facts self.old.world) (W.facts self.new.world) (length (steps_of script.now.body))) }
+    pub(crate) fn play<K: Sink>(&mut self, script: Script, out: &mut K) -> Result<(), PrintError>
+        requires room { HasStepsLeft (W.facts self.old.world) (length (steps_of script.body)) }
+        requires members { names_in (W.facts self.old.world).cluster.facts.members ≡ names_of script.head }
+        ensures world { OnOk result ((W.facts self.new.world).cluster ≡ cluster_over (W.facts self.old.world).cluster (run_events (W.facts self.old.world).cluster (steps_of script.body))) }
+        ensures taken { OnOk result (TookSteps (W.facts self.old.world) (W.facts self.new.world) (length (steps_of script.body))) }
         ensures printed { Prints K.Sink out.old out.new PrintError.Write result
-            (printed_from (W.facts self.old.world).cluster self.old.trace (steps_of script.now.body) ++ closing_text (noted_from self.old.summary (W.facts self.old.world).cluster (steps_of script.now.body)).watch.closing) }
-        ensures whole { IsErrOf result PrintError.Memory → PrintsWholeSteps K.Sink out.old out.new (W.facts self.old.world).cluster self.old.trace (steps_of script.now.body) }
+            (printed_from (W.facts self.old.world).cluster self.old.trace (steps_of script.body) ++ closing_text (noted_from self.old.summary (W.facts self.old.world).cluster (steps_of script.body)).watch.closing) }
+        ensures whole { IsErrOf result PrintError.Memory → PrintsWholeSteps K.Sink out.old out.new (W.facts self.old.world).cluster self.old.trace (steps_of script.body) }
     {
         self.play_body(script, out)?;
         print_closing(self.alloc, &self.summary.closing(), out)
     }
 
     /// The lines of a script, one after another, in silence, and then the closing summary.
-    pub(crate) fn drill<K: Sink>(&mut self, script: &Script, out: &mut K) -> Result<(), PrintError>
-        requires room { HasStepsLeft (W.facts self.old.world) (length (steps_of script.now.body)) }
-        requires members { names_in (W.facts self.old.world).cluster.facts.members ≡ names_of script.now.head }
-        ensures world { OnOk result ((W.facts self.new.world).cluster ≡ cluster_over (W.facts self.old.world).cluster (run_events (W.facts self.old.world).cluster (steps_of script.now.body))) }
-        ensures taken { OnOk result (TookSteps (W.facts self.old.world) (W.facts self.new.world) (length (steps_of script.now.body))) }
+    pub(crate) fn drill<K: Sink>(&mut self, script: Script, out: &mut K) -> Result<(), PrintError>
+        requires room { HasStepsLeft (W.facts self.old.world) (length (steps_of script.body)) }
+        requires members { names_in (W.facts self.old.world).cluster.facts.members ≡ names_of script.head }
+        ensures world { OnOk result ((W.facts self.new.world).cluster ≡ cluster_over (W.facts self.old.world).cluster (run_events (W.facts self.old.world).cluster (steps_of script.body))) }
+        ensures taken { OnOk result (TookSteps (W.facts self.old.world) (W.facts self.new.world) (length (steps_of script.body))) }
         ensures printed { Prints K.Sink out.old out.new PrintError.Write result
-            (closing_text (noted_from self.old.summary (W.facts self.old.world).cluster (steps_of script.now.body)).watch.closing) }
+            (closing_text (noted_from self.old.summary (W.facts self.old.world).cluster (steps_of script.body)).watch.closing) }
         ensures memory { IsErrOf result PrintError.Memory → out.new ≡ out.old }
     {
         self.play_body(script, &mut Discard)?;
@@ -107,26 +107,27 @@ impl<W: Simulation> Player<W> {
 
     /// Takes the steps of a script's lines, one line after another, and prints what happens, each line in one piece. On Err it may have
     /// taken some of them: where memory is wanting, what was printed are the lines of whole steps.
-    pub fn play_body<K: Sink>(&mut self, script: &Script, out: &mut K) -> Result<(), PrintError>
-        requires room { HasStepsLeft (W.facts self.old.world) (length (steps_of script.now.body)) }
-        requires members { names_in (W.facts self.old.world).cluster.facts.members ≡ names_of script.now.head }
-        ensures { Plays K.Sink (player_of W.facts self.old) (player_of W.facts self.new) out.old out.new result (steps_of script.now.body) }
+    pub fn play_body<K: Sink>(&mut self, script: Script, out: &mut K) -> Result<(), PrintError>
+        requires room { HasStepsLeft (W.facts self.old.world) (length (steps_of script.body)) }
+        requires members { names_in (W.facts self.old.world).cluster.facts.members ≡ names_of script.head }
+        ensures { Plays K.Sink (player_of W.facts self.old) (player_of W.facts self.new) out.old out.new result (steps_of script.body) }
     {
-        for place in 0..script.len() {
-            self.play_line(line_at(script, place), out)?;
+        let mut lines = script.into_lines();
+        while let Some(line) = lines.next() {
+            self.play_line(line, out)?;
         }
         Ok(())
     }
 
-    fn play_line<K: Sink>(&mut self, line: &Line, out: &mut K) -> Result<(), PrintError>
-        requires room { HasStepsLeft (W.facts self.old.world) (length (steps_of_line line.now)) }
-        requires declared { IsLine (names_in (W.facts self.old.world).cluster.facts.members) line.now }
-        ensures { Plays K.Sink (player_of W.facts self.old) (player_of W.facts self.new) out.old out.new result (steps_of_line line.now) }
+    fn play_line<K: Sink>(&mut self, line: Line, out: &mut K) -> Result<(), PrintError>
+        requires room { HasStepsLeft (W.facts self.old.world) (length (steps_of_line line)) }
+        requires declared { IsLine (names_in (W.facts self.old.world).cluster.facts.members) line }
+        ensures { Plays K.Sink (player_of W.facts self.old) (player_of W.facts self.new) out.old out.new result (steps_of_line line) }
     {
         match line {
-            Line::Run(count) => self.play_ticks(*count, &Step::Scheduled, out),
-            Line::Tick(count) => self.play_ticks(*count, &Step::Tick, out),
-            Line::Command(command) => self.play_step(&Step::Command(command.try_clone()?), out),
+            Line::Run(count) => self.play_ticks(count, &Step::Scheduled, out),
+            Line::Tick(count) => self.play_ticks(count, &Step::Tick, out),
+            Line::Command(command) => self.play_step(&Step::Command(command), out),
         }
     }
 
@@ -173,16 +174,6 @@ impl<W: Simulation> Player<W> {
         print_lines(self.text.as_bytes(), out)?;
         self.trace = traced_after(self.trace, step);
         Ok(())
-    }
-}
-
-fn line_at(script: &Script, place: usize) -> &Line
-    requires { place < length script.now.body }
-    ensures { slice_get script.now.body place ≡ Some result.now }
-{
-    match script.get(place) {
-        Some(line) => line,
-        None => unreachable!(),
     }
 }
 

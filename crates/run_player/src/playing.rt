@@ -20,13 +20,13 @@ use std::alloc::Global;
 /// steps, and nothing of the summary.
 pub fn play<W: Simulation, K: Sink>(
     alloc: Global,
-    script: &Script,
+    script: Script,
     out: &mut K,
 ) -> Result<W, PrintError>
-    requires { length (steps_of script.now.body) ≤ most_steps }
-    ensures printed { Prints K.Sink out.old out.new PrintError.Write result (text_of_run (played_of script.now)) }
-    ensures whole { IsErrOf result PrintError.Memory → PrintsWholeSteps K.Sink out.old out.new (cluster_of script.now.head) false (steps_of script.now.body) }
-    ensures world { IfOk result (λ world. IsLeftBy (played_of script.now) (W.facts world)) }
+    requires { length (steps_of script.body) ≤ most_steps }
+    ensures printed { Prints K.Sink out.old out.new PrintError.Write result (text_of_run (played_of script)) }
+    ensures whole { IsErrOf result PrintError.Memory → PrintsWholeSteps K.Sink out.old out.new (cluster_of script.head) false (steps_of script.body) }
+    ensures world { IfOk result (λ world. IsLeftBy (played_of script) (W.facts world)) }
 {
     let mut player = Player::<W>::new(alloc, script.head())?;
     match player.play(script, out) {

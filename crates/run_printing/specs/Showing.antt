@@ -4,7 +4,7 @@ use Rattle.pat_outside.specs.declared.outside.Sink.{Ghosts}
 use Rattle.pat_outside.specs.Outside.{Grew}
 use Rattle.pat_outside.specs.Prints.{Prints}
 use Rattle.event_book.specs.declared.event.Event.{Event}
-use Rattle.event_text.specs.Text.{lines_of}
+use Rattle.event_book.specs.Text.{lines_of}
 use Rattle.summary_model.specs.Sights.{SummaryFacts, noted_steps}
 use Rattle.run_printing.specs.declared.print_error.PrintError.{PrintError}
 use Rattle.run_printing.specs.declared.print_error.PrintError.TheVariants.{Memory, Write}

@@ -2,7 +2,7 @@
 ghost use Rattle.std.specs.Prelude.{◌≡◌, ◌≤◌, ◌<◌, length, string_bytes, IsErrOf, OnOk};
 ghost use Rattle.pat_outside.specs.Outside.{Grew};
 ghost use Rattle.pat_outside.specs.Prints.{Prints, failed};
-ghost use Rattle.event_text.specs.Text.{lines_of};
+ghost use Rattle.event_book.specs.Text.{lines_of};
 ghost use Rattle.summary_model.specs.SummaryText.{closing_text};
 ghost use Rattle.run_printing.specs.LineParts.{line_length};
 

@@ -1,7 +1,7 @@
 -- What the parts of a step owe a promise, so that each step keeps it.
 use Rattle.std.specs.Prelude.{ℕ, ◌≡◌, true, List, Some, slice_get}
 use Rattle.pat_base.specs.declared.member_id.MemberId.{MemberId}
-use Rattle.lease_store.specs.declared.action.OperatorAction.{OperatorAction}
+use Rattle.store_keys.specs.declared.action.OperatorAction.{OperatorAction}
 use Rattle.script_model.specs.declared.line.Command.{Command}
 use Rattle.event_book.specs.declared.agent_process.AgentProcess.{AgentProcess}
 use Rattle.event_book.specs.declared.event.Event.{Event}

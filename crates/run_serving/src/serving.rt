@@ -38,14 +38,14 @@ pub struct Service<'a> {
 /// connection, the lines of all steps, and nothing of the summary.
 pub fn serve<W: Simulation, K: Sink, D: Door>(
     alloc: Global,
-    script: &Script,
+    script: Script,
     service: &Service<'_>,
     door: &mut D,
     out: &mut K,
 ) -> Result<W, ServeError>
-    requires room { length (steps_of script.now.body) + connection_cost * service.now.count ≤ most_steps }
-    requires declared { IsMember (names_of script.now.head) service.now.member }
-    ensures { (visitors : List Connection) × Serves K.Sink D.Door W.facts out.old out.new door.old door.new result script.now service.now.member service.now.count visitors }
+    requires room { length (steps_of script.body) + connection_cost * service.now.count ≤ most_steps }
+    requires declared { IsMember (names_of script.head) service.now.member }
+    ensures { (visitors : List Connection) × Serves K.Sink D.Door W.facts out.old out.new door.old door.new result script service.now.member service.now.count visitors }
 {
     let mut player = Player::<W>::new(alloc, script.head())?;
     match receive_all(&mut player, script, service, door, out) {
@@ -60,15 +60,15 @@ pub fn serve<W: Simulation, K: Sink, D: Door>(
 /// The lines of a script, then connections, and then the closing summary.
 fn receive_all<W: Simulation, K: Sink, D: Door>(
     player: &mut Player<W>,
-    script: &Script,
+    script: Script,
     service: &Service<'_>,
     door: &mut D,
     out: &mut K,
 ) -> Result<(), ServeError>
-    requires room { HasStepsLeft (W.facts player.old.world) (length (steps_of script.now.body) + connection_cost * service.now.count) }
-    requires members { names_in (W.facts player.old.world).cluster.facts.members ≡ names_of script.now.head }
-    requires declared { IsMember (names_of script.now.head) service.now.member }
-    ensures { (visitors : List Connection) × ReceivesAll K.Sink D.Door (player_of W.facts player.old) (player_of W.facts player.new) out.old out.new door.old door.new result (steps_of script.now.body) service.now.member service.now.count visitors }
+    requires room { HasStepsLeft (W.facts player.old.world) (length (steps_of script.body) + connection_cost * service.now.count) }
+    requires members { names_in (W.facts player.old.world).cluster.facts.members ≡ names_of script.head }
+    requires declared { IsMember (names_of script.head) service.now.member }
+    ensures { (visitors : List Connection) × ReceivesAll K.Sink D.Door (player_of W.facts player.old) (player_of W.facts player.new) out.old out.new door.old door.new result (steps_of script.body) service.now.member service.now.count visitors }
 {
     player.play_body(script, out)?;
     receive(player, service, door, out)?;

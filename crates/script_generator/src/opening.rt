@@ -7,11 +7,11 @@ ghost use Rattle.script_model.specs.Script.{members_in};
 
 use indexmap::IndexMap;
 use leader_key::Mode;
-use lease_store::ConfigValue;
 use member_options::MemberOptions;
 use pat_base::Name;
 use script_model::{DEFAULT_BASE, Head};
 use std::alloc::{AllocError, Global};
+use store_keys::ConfigValue;
 
 /// The head of a generated script: the cluster `gen` without a configuration, and the members `a`, `b` and `c`, each of which
 /// leads only under its watchdog. It fails only for want of memory.

@@ -1,7 +1,7 @@
 -- What is kept of a script while its lines are read.
 use Rattle.std.specs.Prelude.{ℕ, ◌≡◌, ◌≤◌, List, [], Option, Some, None, IfSome, length}
 use Rattle.pat_base.specs.declared.name.Name.{Name}
-use Rattle.lease_store.specs.Settings.{Settings}
+use Rattle.store_keys.specs.Settings.{Settings}
 use Rattle.cluster_config.specs.ConfigReading.{IsConfiguration}
 use Rattle.pat_base.specs.declared.member_id.TheConstants.{MOST_MEMBERS}
 use Rattle.script_model.specs.Script.{MemberText, ScriptText, config_or_default, base_or_default}

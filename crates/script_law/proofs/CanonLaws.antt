@@ -13,8 +13,8 @@ use Rattle.std.proofs.lemmas.Str.{IsUtf8-append, IsUtf8-from_is_utf8, is_utf8-fr
 use Rattle.pat_base.specs.Name.{name_bytes}
 use Rattle.pat_base.specs.declared.name.Name.{Name}
 use Rattle.pat_base.specs.declared.member_id.MemberId.{MemberId}
-use Rattle.lease_store.specs.Defaults.{default_settings}
-use Rattle.lease_store.specs.Settings.{Settings}
+use Rattle.store_keys.specs.Defaults.{default_settings}
+use Rattle.store_keys.specs.Settings.{Settings}
 use Rattle.cluster_config.specs.ConfigReading.{config_read, IsConfiguration}
 use Rattle.cluster_config.specs.declared.config_fault.ConfigFault.{ConfigFault}
 use Rattle.cluster_config.proofs.LineLaws.{config_read-line, config_read-utf8, config_read-empty}

@@ -14,7 +14,7 @@ use Rattle.pat_base.specs.NameText.{is_name_byte}
 use Rattle.pat_base.specs.declared.member_id.MemberId.{MemberId}
 use Rattle.pat_base.proofs.Members.{number-injective, member_of-number}
 use Rattle.pat_base.proofs.Names.{name_of-name_bytes}
-use Rattle.lease_store.specs.Settings.{Settings}
+use Rattle.store_keys.specs.Settings.{Settings}
 use Rattle.cluster_config.specs.ConfigReading.{config_read}
 use Rattle.cluster_config.specs.declared.config_fault.ConfigFault.{ConfigFault}
 use Rattle.script_words.specs.Numbers.{number}

@@ -5,8 +5,8 @@ use Rattle.std.specs.Str.{is_utf8, bytes_eq, IsUtf8}
 use Rattle.pat_base.specs.Name.{name_bytes}
 use Rattle.pat_base.specs.declared.name.Name.{Name}
 use Rattle.pat_base.specs.declared.member_id.MemberId.{MemberId}
-use Rattle.lease_store.specs.Defaults.{default_settings}
-use Rattle.lease_store.specs.Settings.{Settings}
+use Rattle.store_keys.specs.Defaults.{default_settings}
+use Rattle.store_keys.specs.Settings.{Settings}
 use Rattle.script_words.specs.Lines.{ended, first_at, is_one_line}
 use Rattle.member_options.specs.Options.{option_text, behind_blanks, options_to_say}
 use Rattle.script_words.specs.Tokens.{is_token}

@@ -2,10 +2,10 @@
 ghost use Rattle.std.specs.Prelude.{◌≡◌, ◌≤◌, ◌↔◌, length, slice_get, IsNone};
 
 use indexmap::IndexMap;
-use lease_store::ConfigValue;
 use member_options::MemberOptions;
 use pat_base::Name;
 use std::marker::Model;
+use store_keys::ConfigValue;
 
 /// The base of a script that says none: five files of 16 MiB.
 pub const DEFAULT_BASE: u64 = 83_886_080;

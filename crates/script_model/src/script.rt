@@ -2,7 +2,7 @@
 ghost use Rattle.std.specs.Prelude.{◌≡◌, ◌≤◌, ◌↔◌, length, slice_get, IsNone, IsTrue};
 ghost use Rattle.std.specs.Option.{option_copied};
 
-use crate::{Head, Line};
+use crate::{Head, Line, Lines};
 use std::marker::Model;
 
 /// A script that was read: its head, and the lines of its body in order. Each line names declared members only.
@@ -64,5 +64,14 @@ impl Script {
         ensures past { IsNone result ↔ (length self.now.body ≤ place) }
     {
         self.body.get(place)
+    }
+
+    /// The lines of the body, each to be handed out once.
+    pub fn into_lines(self) -> Lines
+        ensures value { result ≡ self.body }
+        ensures script { IsScript self }
+    {
+        let Script { head: _, body } = self;
+        Lines::of(body)
     }
 }

@@ -8,11 +8,11 @@ ghost use Rattle.script_model.specs.Script.{cluster_text, shortest_line, config_
 use crate::command_printing::write_number_line;
 use crate::option_printing::write_options;
 use crate::word_printing::begin_line;
-use lease_store::ConfigValue;
 use member_options::MemberOptions;
 use pat_base::Name;
 use script_model::{DEFAULT_BASE, Head, Keyword};
 use std::alloc::AllocError;
+use store_keys::ConfigValue;
 
 /// The text of the configuration where nothing is set.
 const DEFAULT_CONFIG: &str = "{}";

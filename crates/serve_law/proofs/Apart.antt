@@ -6,9 +6,9 @@ use Rattle.pat_base.specs.declared.member_id.MemberId.{MemberId}
 use Rattle.pat_base.specs.declared.server_state.State.{State}
 use Rattle.pat_base.specs.declared.server_state.State.TheVariants as states
 use Rattle.pat_base.specs.ServerState.{live}
-use Rattle.lease_store.specs.declared.key.Key.{Key}
-use Rattle.lease_store.specs.declared.key.Key.TheVariants as keys
-use Rattle.lease_store.specs.declared.txn.Txn.{Txn}
+use Rattle.store_keys.specs.declared.key.Key.{Key}
+use Rattle.store_keys.specs.declared.key.Key.TheVariants as keys
+use Rattle.store_keys.specs.declared.txn.Txn.{Txn}
 use Rattle.lease_store.specs.Answers.{expired_holder, expired_keys}
 use Rattle.lease_store.specs.Decision.{Decision, Grant, Refusal, decision_on}
 use Rattle.wal_model.specs.declared.entry.Entry.{Entry}

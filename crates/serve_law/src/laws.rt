@@ -1,7 +1,7 @@
 //! What a connection is replied to. Each is a function without a body whose contract is what is proved.
 ghost use Rattle.std.specs.Prelude.{◌≡◌, true, false, Some, Ok, Err, slice_get};
 ghost use Rattle.pat_base.specs.declared.member_id.MemberId.{MemberId};
-ghost use Rattle.lease_store.specs.declared.action.OperatorRequest.{OperatorRequest};
+ghost use Rattle.store_keys.specs.declared.action.OperatorRequest.{OperatorRequest};
 ghost use Rattle.event_book.specs.declared.agent_process.AgentProcess.{AgentProcess};
 ghost use Rattle.event_book.specs.declared.member.Member.{Member};
 ghost use Rattle.agent_model.specs.Agents.{Outcome};

@@ -3,8 +3,8 @@ ghost use Rattle.std.specs.Prelude.{◌≡◌, ◌+◌, ◌^◌, ◌<◌};
 ghost use Rattle.summary_model.specs.Noting.{ticks_after, first_if, is_late, margin_at, late_if, pause_if, breach_by_watchdog, breach_by_txn, breach_by_store, breach_by_server, breach_of, broken_by, premises_after, has_mode, keeps_mode_in_txn, keeps_mode_in_store, keeps_mode_in_agent, keeps_mode, broken_unless, synchronous_after, count_after};
 
 use event_book::{AgentEvent, EventKind, ReplicationEvent, ServerEvent, StoreEvent, WatchdogEvent};
-use lease_store::Txn;
 use pat_base::{MemberId, Name, Ticks};
+use store_keys::Txn;
 use summary_model::{Breach, FirstMoment, Premises, Synchronous};
 
 /// The moment after an event.

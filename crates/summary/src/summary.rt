@@ -9,9 +9,9 @@ use crate::Watch;
 use crate::noting::ticks_after;
 use crate::sighting::{seen_beside, since_after};
 use event_book::Event;
-use lease_store::Config;
 use pat_base::Ticks;
 use std::marker::Model;
+use store_keys::Config;
 use summary_model::{Closing, WatchOf};
 
 /// The summary of the steps noted so far. It is of fixed size, and keeps no event. What is seen beside an event it reads from the

@@ -10,9 +10,9 @@ use crate::noting::{
 };
 use crate::writers::{note_writers, two_after};
 use event_book::Event;
-use lease_store::Config;
 use pat_base::{MOST_MEMBERS, Ticks};
 use std::marker::Model;
+use store_keys::Config;
 use summary_model::{Closing, FirstMoment, SERVERS, Seen, WatchOf};
 
 /// The summary of the events noted so far. It is of fixed size, and keeps none of them.

@@ -1,7 +1,7 @@
 //! The summary tells what the book says, in its own words.
 ghost use Rattle.std.specs.Prelude.{ℕ, ◌≡◌, ◌≤◌, ◌++◌, ◌↔◌, true, false, List, [], ◌∷◌, length, replicate, Option, None};
 ghost use Rattle.pat_base.specs.declared.name.Name.{Name};
-ghost use Rattle.lease_store.specs.Settings.{Settings};
+ghost use Rattle.store_keys.specs.Settings.{Settings};
 ghost use Rattle.event_book.specs.Kept.{KeepsCommits};
 ghost use Rattle.event_book.specs.Kinds.{AllAre};
 ghost use Rattle.event_book.specs.Logs.{Logs};

@@ -1,6 +1,6 @@
 //! The summary of the steps of a run tells what the book says, where silent events tell what is seen beside the others.
 ghost use Rattle.std.specs.Prelude.{◌≡◌, ◌≤◌, ◌++◌, List, [], length};
-ghost use Rattle.lease_store.specs.Settings.{Settings};
+ghost use Rattle.store_keys.specs.Settings.{Settings};
 ghost use Rattle.event_book.specs.Logs.{Logs};
 ghost use Rattle.event_book.specs.Writers.{HasOneWriter};
 ghost use Rattle.event_book.specs.declared.event.Event.{Event};

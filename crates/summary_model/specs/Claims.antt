@@ -2,9 +2,9 @@
 use Rattle.std.specs.Prelude.{ℕ, ◌≡◌, ◌⊎◌, ◌≤◌, Bool, true, false, List, [], ◌∷◌, ◌++◌, Option, Some, None, length, slice_get, is_some}
 use Rattle.pat_base.specs.declared.name.Name.{Name}
 use Rattle.pat_base.specs.declared.ticks.Ticks.{Ticks}
-use Rattle.lease_store.specs.Settings.{Settings}
-use Rattle.lease_store.specs.declared.txn.Txn.{Txn}
-use Rattle.lease_store.specs.declared.txn.Txn.TheVariants as txns
+use Rattle.store_keys.specs.Settings.{Settings}
+use Rattle.store_keys.specs.declared.txn.Txn.{Txn}
+use Rattle.store_keys.specs.declared.txn.Txn.TheVariants as txns
 use Rattle.event_book.specs.declared.event.AgentEvent.TheVariants as agents
 use Rattle.event_book.specs.declared.event.Event.{Event}
 use Rattle.event_book.specs.declared.event.EventKind.{EventKind}

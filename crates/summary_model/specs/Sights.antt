@@ -1,7 +1,7 @@
 -- What the events alone tell of what is seen beside each.
 use Rattle.std.specs.Prelude.{ℕ, ◌-◌, Bool, true, false, List, [], ◌∷◌, ◌++◌}
 use Rattle.pat_base.specs.declared.ticks.Ticks.{Ticks}
-use Rattle.lease_store.specs.declared.config.Config.{Config}
+use Rattle.store_keys.specs.declared.config.Config.{Config}
 use Rattle.event_book.specs.declared.event.Event.{Event}
 use Rattle.event_book.specs.declared.event.EventKind.{EventKind}
 use Rattle.event_book.specs.declared.event.EventKind.TheVariants as kinds

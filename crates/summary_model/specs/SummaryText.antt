@@ -4,7 +4,7 @@ use Rattle.std.specs.BTreeSet.{insert_key}
 use Rattle.std.specs.Fmt.{decimal}
 use Rattle.pat_base.specs.declared.name.Name.{Name}
 use Rattle.pat_base.specs.Name.{name_bytes}
-use Rattle.event_text.specs.Listing.{listed}
+use Rattle.event_book.specs.Listing.{listed}
 use Rattle.event_book.specs.NameLists.{name_cmp}
 use Rattle.summary_model.specs.declared.answers.Breach.{Breach}
 use Rattle.summary_model.specs.declared.answers.Breach.TheVariants as breaches

@@ -4,7 +4,7 @@ use Rattle.std.specs.Int.{bit_at}
 use Rattle.pat_base.specs.declared.lsn.Lsn.{Lsn}
 use Rattle.pat_base.specs.declared.member_id.MemberId.{MemberId}
 use Rattle.pat_base.specs.declared.member_set.MemberSet.{MemberSet}
-use Rattle.lease_store.specs.declared.value.SyncKey.{SyncKey}
+use Rattle.store_keys.specs.declared.value.SyncKey.{SyncKey}
 use Rattle.cluster_view.specs.declared.view.LeaderView.{LeaderView}
 use Rattle.cluster_view.specs.KeyValues.{config_in, sync_in}
 use Rattle.cluster_view.specs.Snapshots.{SnapshotFacts}

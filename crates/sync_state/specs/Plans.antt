@@ -1,6 +1,6 @@
 -- Which step a leader takes next, to change who its synchronous standbys are.
 use Rattle.std.specs.Prelude.{◌==◌, ◌&&◌, not, if◌then◌else◌, Option, Some, None}
-use Rattle.lease_store.specs.declared.value.SyncKey.{SyncKey}
+use Rattle.store_keys.specs.declared.value.SyncKey.{SyncKey}
 use Rattle.cluster_view.specs.declared.view.LeaderView.{LeaderView}
 use Rattle.cluster_view.specs.KeyValues.{config_in, sync_in}
 use Rattle.cluster_view.specs.Snapshots.{SnapshotFacts}

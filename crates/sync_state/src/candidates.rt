@@ -5,9 +5,9 @@ ghost use Rattle.sync_state.specs.Candidates.{may_sync_by, may_sync_of_entry, ma
 use crate::member_sets::nobody;
 use crate::naming::published;
 use cluster_view::{LeaderView, Snapshot};
-use lease_store::{Key, KeyEntry, Value};
 use pat_base::{Host, Lsn, MOST_MEMBERS, MemberId, MemberSet, Name};
 use std::cmp::Ordering;
+use store_keys::{Key, KeyEntry, Value};
 
 /// A member that may be a synchronous standby, and what decides which of several is.
 #[derive(Clone, Copy)]

@@ -4,7 +4,7 @@ ghost use Rattle.std.specs.Int.{bit_at};
 ghost use Rattle.std.specs.declared.cmp.Ordering.TheVariants.{Less};
 ghost use Rattle.pat_base.specs.declared.member_id.MemberId.{MemberId};
 ghost use Rattle.pat_base.specs.declared.member_set.MemberSet.{MemberSet};
-ghost use Rattle.lease_store.specs.declared.value.SyncKey.{SyncKey};
+ghost use Rattle.store_keys.specs.declared.value.SyncKey.{SyncKey};
 ghost use Rattle.cluster_view.specs.declared.view.LeaderView.{LeaderView};
 ghost use Rattle.cluster_view.specs.KeyValues.{config_in, sync_in};
 ghost use Rattle.cluster_view.specs.Snapshots.{SnapshotFacts};

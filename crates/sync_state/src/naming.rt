@@ -3,8 +3,8 @@ ghost use Rattle.std.specs.Prelude.{◌≡◌};
 ghost use Rattle.sync_state.specs.Published.{named_by, named_in, standbys_of, published_in};
 
 use cluster_view::{Snapshot, is_named};
-use lease_store::SyncKey;
 use pat_base::{MemberId, MemberSet};
+use store_keys::SyncKey;
 
 /// Whether the sync key names the member, as leader or as standby. `false` where the key was absent. Only a member that it
 /// names may take over without losing commits (Patroni's documentation, "Replication modes"). It takes no memory.

@@ -6,7 +6,7 @@ use crate::member_sets::{are_same, both, either, is_within};
 use crate::standbys::standbys_of;
 use crate::steps::{Plan, Standbys};
 use cluster_view::{LeaderView, Snapshot};
-use lease_store::SyncKey;
+use store_keys::SyncKey;
 
 /// What the leader is to do next about its synchronous standbys, by its view and a snapshot: the first row that applies.
 ///

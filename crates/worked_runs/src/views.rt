@@ -1,10 +1,10 @@
 //! What the world shows that a run leaves.
 use cluster_view::{AgentView, Snapshot};
-use lease_store::{Key, MemberInfo, Value};
 use pat_base::{Host, MOST_MEMBERS, MemberId, Name};
 use pat_world::World;
 use rest_pages::patroni_text;
 use std::alloc::{AllocError, Global};
+use store_keys::{Key, MemberInfo, Value};
 
 /// Appends what each agent that runs shows: its page `/patroni`, and where it would reach each member that told of itself, with what that
 /// member told.

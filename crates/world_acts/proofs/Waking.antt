@@ -4,7 +4,7 @@ use Rattle.std.specs.Prelude.{if◌then◌else◌, slice_get}
 use Rattle.std.proofs.lemmas.List.Elements.{All-nil}
 use Rattle.pat_base.specs.declared.ticks.Ticks.{Ticks}
 use Rattle.wal_model.specs.declared.entry.HistoryPoint.{HistoryPoint}
-use Rattle.lease_store.specs.declared.action.OperatorAction.{OperatorAction}
+use Rattle.store_keys.specs.declared.action.OperatorAction.{OperatorAction}
 use Rattle.event_book.specs.declared.agent_process.AgentProcess.{AgentProcess}
 use Rattle.event_book.specs.declared.event.Event.{Event}
 use Rattle.event_book.specs.declared.event.EventKind.TheVariants as kinds

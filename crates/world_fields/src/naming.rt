@@ -4,9 +4,9 @@ ghost use Rattle.cluster_model.specs.Messages.{published_names};
 ghost use Rattle.cluster_model.specs.Orders.{required_names};
 
 use event_book::{Member, Names};
-use lease_store::Txn;
 use pat_base::Required;
 use std::alloc::{AllocError, Global};
+use store_keys::Txn;
 
 /// The names of those that commits wait for. It fails only for want of memory.
 pub fn required_names(

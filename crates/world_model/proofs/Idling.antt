@@ -14,8 +14,8 @@ use Rattle.pat_base.specs.declared.server_state.State.TheVariants as states
 use Rattle.pat_base.specs.declared.ticks.Ticks.{Ticks}
 use Rattle.pat_base.specs.ServerState.{live, writes}
 use Rattle.leader_key.specs.Watchdog.{is_due_at}
-use Rattle.lease_store.specs.declared.key.Key.{Key}
-use Rattle.lease_store.specs.declared.value.KeyEntry.{KeyEntry}
+use Rattle.store_keys.specs.declared.key.Key.{Key}
+use Rattle.store_keys.specs.declared.value.KeyEntry.{KeyEntry}
 use Rattle.lease_store.specs.Answers.{absent_keys, expired_holder, expired_keys, present_pairs}
 use Rattle.lease_store.specs.Keys.{Keys, is_present}
 use Rattle.pg_model.specs.declared.answers.Streamed.{Streamed}

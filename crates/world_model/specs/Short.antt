@@ -1,8 +1,8 @@
 -- What messages carry: leases that the key store can write, and entries that were read from it.
 use Rattle.std.specs.Prelude.{◌≤◌, ◌^◌, List, All}
 use Rattle.std.specs.Map.{values_of}
-use Rattle.lease_store.specs.declared.key.Key.{Key}
-use Rattle.lease_store.specs.declared.value.KeyEntry.{KeyEntry}
+use Rattle.store_keys.specs.declared.key.Key.{Key}
+use Rattle.store_keys.specs.declared.value.KeyEntry.{KeyEntry}
 use Rattle.lease_store.specs.Writes.{ttl_of}
 use Rattle.event_book.specs.declared.message.Body.{Body}
 use Rattle.event_book.specs.declared.message.Body.TheVariants as bodies

@@ -2,7 +2,7 @@
 use Rattle.std.proofs.Common.{◌≡◌, ℕ, ◌+◌, ◌<◌, true, false, List, [], Option, Some, None, arith, refl, ◌∙◌, ap, sym, subst}
 use Rattle.std.specs.Prelude.{option_and_then, option_copied, slice_get}
 use Rattle.pat_base.specs.declared.ticks.Ticks.{Ticks}
-use Rattle.lease_store.specs.declared.action.OperatorRequest.{OperatorRequest}
+use Rattle.store_keys.specs.declared.action.OperatorRequest.{OperatorRequest}
 use Rattle.cluster_view.specs.declared.view.AgentView.{AgentView}
 use Rattle.cluster_view.specs.Snapshots.{SnapshotFacts}
 use Rattle.rest_answer.specs.Answers.{Answered, Acts, Replies, answer_by, answer_to}

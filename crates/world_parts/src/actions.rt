@@ -1,8 +1,8 @@
 //! What an agent is to do, once more.
 ghost use Rattle.std.specs.Prelude.{◌≡◌, IfOk};
 
-use lease_store::{OperatorAction, OperatorRequest};
 use std::alloc::AllocError;
+use store_keys::{OperatorAction, OperatorRequest};
 
 /// The same action. It fails only for want of memory.
 pub fn copy_of(action: &OperatorAction) -> Result<OperatorAction, AllocError>

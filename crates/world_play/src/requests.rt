@@ -8,10 +8,10 @@ ghost use Rattle.world_model.specs.Room.{HasRoom, request_cost};
 
 use cluster_model::{Asker, Visit};
 use event_book::{Event, EventKind, Member, Note};
-use lease_store::OperatorAction;
 use rest_answer::{Answer, answer, refusal_reply};
 use rest_message::Verb;
 use std::alloc::AllocError;
+use store_keys::OperatorAction;
 use world_acts::carrying::carry_out;
 use world_acts::wakes::NO_MESSAGE;
 use world_agents::requests::{replying, silence};

@@ -7,9 +7,9 @@ ghost use Rattle.world_model.specs.Room.{HasRoom, beginning_cost, completions_co
 
 use cluster_model::Completion;
 use event_book::{Event, EventKind, Member, ServerEvent, ServerOf, StoreEvent};
-use lease_store::Key;
 use pat_base::Ticks;
 use std::alloc::AllocError;
+use store_keys::Key;
 use world_fields::watchdogs::reset_of;
 use world_fields::writing::write_down;
 use world_orders::order_kinds::declared_member;

@@ -1,7 +1,7 @@
 use Rattle.std.proofs.Common.{◌≡◌, None, Ok, string_bytes, sym, ap, ◌∙◌}
 use Rattle.std.proofs.lemmas.Str.{is_utf8-from_IsUtf8, IsUtf8-string_bytes}
-use Rattle.lease_store.specs.declared.config.Config.{Config}
-use Rattle.lease_store.specs.Settings.{Settings}
+use Rattle.store_keys.specs.declared.config.Config.{Config}
+use Rattle.store_keys.specs.Settings.{Settings}
 use Rattle.serde_json.specs.View.{view}
 use Rattle.serde_json.specs.Written.{compact_text}
 use Rattle.cluster_config.specs.ConfigFaults.{fault_of}

@@ -1,5 +1,5 @@
 use Rattle.std.proofs.Common.{◌≡◌, ◌++◌, string_bytes, drop}
-use Rattle.event_text.specs.Listing.{behind_blanks, listed_from}
+use Rattle.event_book.specs.Listing.{behind_blanks, listed_from}
 use Rattle.event_text.proofs.listing.write_listed_from.Given as goal
 
 abbrev pub invariant-loop-name : goal.invariant-loop-name

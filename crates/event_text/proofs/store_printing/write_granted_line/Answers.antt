@@ -2,7 +2,7 @@ use Rattle.std.proofs.Common.{◌≡◌, List, ℕ, ◌++◌, codes, OnOk, strin
 use Rattle.std.specs.Fmt.{decimal}
 use Rattle.pat_base.specs.declared.name.Name.{Name}
 use Rattle.pat_base.specs.Name.{name_bytes}
-use Rattle.event_text.specs.Listing.{listed}
+use Rattle.event_book.specs.Listing.{listed}
 use Rattle.event_text.proofs.store_printing.write_granted_line.Goals as goal
 
 -- what stands before a list, and the list, are appended as one

@@ -1,7 +1,7 @@
 use Rattle.std.proofs.Common.{◌≡◌, ◌∷◌, List, IsTrue, sym, ap, subst, ◌∙◌, rules}
 use Rattle.std.specs.FinMap.{find, is_sorted}
-use Rattle.lease_store.specs.declared.key.Key.{Key}
-use Rattle.lease_store.specs.declared.value.KeyEntry.{KeyEntry}
+use Rattle.store_keys.specs.declared.key.Key.{Key}
+use Rattle.store_keys.specs.declared.value.KeyEntry.{KeyEntry}
 use Rattle.lease_store.specs.Indexed.{first_found}
 use Rattle.lease_store.specs.KeyOrder.{key_cmp}
 use Rattle.lease_store.proofs.Leasing.{room-known, room-new, order-new, taken-out}

@@ -1,7 +1,7 @@
 use Rattle.std.proofs.Common.{◌∙◌, ap, sym, subst, List, IsTrue}
 use Rattle.std.specs.FinMap.{is_sorted}
-use Rattle.lease_store.specs.declared.key.Key.{Key}
-use Rattle.lease_store.specs.declared.value.KeyEntry.{KeyEntry}
+use Rattle.store_keys.specs.declared.key.Key.{Key}
+use Rattle.store_keys.specs.declared.value.KeyEntry.{KeyEntry}
 use Rattle.lease_store.specs.Answers.{present_pairs}
 use Rattle.lease_store.specs.KeyOrder.{key_cmp}
 use Rattle.lease_store.proofs.Leasing.{ended-entry, present-without, order-without, all-present}

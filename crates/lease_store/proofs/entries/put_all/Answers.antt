@@ -1,8 +1,8 @@
 use Rattle.std.proofs.Common.{◌∙◌, ◌||◌, ap, List}
 use Rattle.std.specs.BTreeSet.{contains}
 use Rattle.std.specs.FinMap.{find}
-use Rattle.lease_store.specs.declared.key.Key.{Key}
-use Rattle.lease_store.specs.declared.value.KeyEntry.{KeyEntry}
+use Rattle.store_keys.specs.declared.key.Key.{Key}
+use Rattle.store_keys.specs.declared.value.KeyEntry.{KeyEntry}
 use Rattle.lease_store.specs.Indexed.{lease_cmp, first_found, is_lease_among}
 use Rattle.lease_store.specs.KeyOrder.{key_cmp}
 use Rattle.lease_store.proofs.Leasing.{room-pending, room-filled}

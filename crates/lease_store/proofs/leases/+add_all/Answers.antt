@@ -3,8 +3,8 @@ use Rattle.std.specs.BTreeMap.{is_at}
 use Rattle.std.specs.BTreeSet.{contains}
 use Rattle.std.specs.List.{list_any}
 use Rattle.pat_base.specs.declared.ticks.Ticks.{Ticks}
-use Rattle.lease_store.specs.declared.key.Key.{Key}
-use Rattle.lease_store.specs.declared.value.KeyEntry.{KeyEntry}
+use Rattle.store_keys.specs.declared.key.Key.{Key}
+use Rattle.store_keys.specs.declared.value.KeyEntry.{KeyEntry}
 use Rattle.lease_store.specs.Indexed.{lease_cmp, is_lease_of, is_lease_among}
 use Rattle.lease_store.proofs.leases.+add_all.Goals as goal
 

@@ -1,6 +1,6 @@
 use Rattle.std.proofs.Common.{Result, subst}
-use Rattle.lease_store.specs.declared.action.OperatorRequest.TheVariants as requests
-use Rattle.lease_store.specs.declared.value.FailoverKey.{FailoverKey}
+use Rattle.store_keys.specs.declared.action.OperatorRequest.TheVariants as requests
+use Rattle.store_keys.specs.declared.value.FailoverKey.{FailoverKey}
 use Rattle.operator_keys.specs.declared.refusal.CheckFault.{CheckFault}
 use Rattle.operator_keys.specs.Refusals.{Answers}
 use Rattle.rest_answer.proofs.Deciding.{check-passes, fault-passes}

@@ -16,12 +16,12 @@ use Rattle.run_player.proofs.Whole.{left-by, text-is}
 use Rattle.run_player.proofs.playing.play.Goals as goal
 
 pub play-requires-clause-room : goal.play-requires-clause-room
-play-requires-clause-room g c = steps-left-fewer (player_of g.W.Simulation.facts c.in_ok-player.player).world most_steps (length (steps_of c.args.script.now.body)) c.requires c.in_ok-player.ensures.room
+play-requires-clause-room g c = steps-left-fewer (player_of g.W.Simulation.facts c.in_ok-player.player).world most_steps (length (steps_of c.args.script.body)) c.requires c.in_ok-player.ensures.room
 
 pub play-requires-clause-members : goal.play-requires-clause-members
 play-requires-clause-members g c =
     let start = c.in_ok-player.ensures.world ∙ ap (λ h. cluster_of h) c.head.ensures.value in
-    ap (λ (w : Cluster). names_in w.facts.members) start ∙ names-start c.args.script.now.head (c.head.ensures.script).head.few
+    ap (λ (w : Cluster). names_in w.facts.members) start ∙ names-start c.args.script.head (c.head.ensures.script).head.few
 
 pub returns-in_err-player-clause-printed : goal.returns-in_err-player-clause-printed
 returns-in_err-player-clause-printed g c =
@@ -30,7 +30,7 @@ returns-in_err-player-clause-printed g c =
 
 pub returns-in-Ok-clause-printed : goal.returns-in-Ok-clause-printed
 returns-in-Ok-clause-printed g c =
-    let script = c.args.script.now in
+    let script = c.args.script in
     let player = (player_of g.W.Simulation.facts c.in_ok-player.player) in
     let first = c.in_ok-player.ensures in
     Prints-ok Write c.into_world.result
@@ -40,14 +40,14 @@ returns-in-Ok-clause-printed g c =
 
 pub returns-in-Ok-clause-world : goal.returns-in-Ok-clause-world
 returns-in-Ok-clause-world g c =
-    let script = c.args.script.now in
+    let script = c.args.script in
     let start = c.in_ok-player.ensures.world ∙ ap (λ h. cluster_of h) c.head.ensures.value in
     let first = c.in_ok-player.ensures in
     left-by script.head (steps_of script.body) (player_of g.W.Simulation.facts c.in_ok-player.player).world _ (g.W.Simulation.facts c.into_world.result) c.requires start first.steps first.room first.counted c.in-Ok.ensures.world c.in-Ok.ensures.taken (ap g.W.Simulation.facts c.into_world.ensures)
 
 pub returns-in-Err-clause-printed : goal.returns-in-Err-clause-printed
 returns-in-Err-clause-printed g c =
-    let script = c.args.script.now in
+    let script = c.args.script in
     let player = (player_of g.W.Simulation.facts c.in_ok-player.player) in
     let first = c.in_ok-player.ensures in
     Prints-err
@@ -56,11 +56,11 @@ returns-in-Err-clause-printed g c =
     c.in-Err.ensures.printed)
 
 pub returns-in_err-player-clause-whole : goal.returns-in_err-player-clause-whole
-returns-in_err-player-clause-whole g c = λ e. PrintsWholeSteps-none g.K.Sink c.args.out.now (cluster_of c.args.script.now.head) false (steps_of c.args.script.now.body)
+returns-in_err-player-clause-whole g c = λ e. PrintsWholeSteps-none g.K.Sink c.args.out.now (cluster_of c.args.script.head) false (steps_of c.args.script.body)
 
 pub returns-in-Err-clause-whole : goal.returns-in-Err-clause-whole
 returns-in-Err-clause-whole g c = λ e.
-    let script = c.args.script.now in
+    let script = c.args.script in
     let player = (player_of g.W.Simulation.facts c.in_ok-player.player) in
     let first = c.in_ok-player.ensures in
     subst (λ (w : Cluster). PrintsWholeSteps g.K.Sink c.args.out.now c.play.new.out w false (steps_of script.body)) (first.world ∙ ap (λ h. cluster_of h) c.head.ensures.value)

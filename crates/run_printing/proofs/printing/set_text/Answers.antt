@@ -1,7 +1,7 @@
 use Rattle.std.proofs.Common.{◌+◌, ◌++◌, append_assoc, append-nil, ap, ◌∙◌, sym, drop, arith}
 use Rattle.std.proofs.lemmas.List.{drop_all}
 use Rattle.std.specs.String.{string_bytes}
-use Rattle.event_text.specs.Text.{lines_of, line_of, bytes_or_none}
+use Rattle.event_book.specs.Text.{lines_of, line_of, bytes_or_none}
 use Rattle.event_text.proofs.Lines.{lines_of-drop}
 use Rattle.run_printing.proofs.printing.set_text.Goals as goal
 

@@ -1,7 +1,7 @@
 use Rattle.std.proofs.Common.{◌∙◌, Err, arith, ap, map}
 use Rattle.std.proofs.lemmas.List.{drop_all}
 use Rattle.std.proofs.lemmas.Result.{err_from_is_err_and}
-use Rattle.event_text.specs.Text.{lines_of}
+use Rattle.event_book.specs.Text.{lines_of}
 use Rattle.summary_model.specs.Sights.{noted_step}
 use Rattle.run_printing.proofs.Shown.{Showing-end, Showing-more, Showing-none, Showing-start, Showing-stop, next-brought}
 use Rattle.run_printing.proofs.showing.show.Goals as goal

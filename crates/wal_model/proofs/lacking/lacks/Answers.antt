@@ -1,4 +1,4 @@
-use Rattle.std.proofs.Common.{◌≡◌, ◌∙◌, ◌||◌, ◌+◌, Bool, true, false, drop, sym, ap}
+use Rattle.std.proofs.Common.{◌≡◌, ◌∙◌, ◌||◌, ◌+◌, true, false, drop, sym, ap}
 use Rattle.wal_model.specs.Lacking.{lacks_in}
 use Rattle.wal_model.specs.Serials.{serials_of_run, serials_in}
 use Rattle.wal_model.proofs.Successions.{lacks-runs}

@@ -1,6 +1,6 @@
 use Rattle.std.proofs.Common.{◌∙◌, ap, sym, subst, List}
-use Rattle.lease_store.specs.declared.key.Key.{Key}
-use Rattle.lease_store.specs.declared.value.KeyEntry.{KeyEntry}
+use Rattle.store_keys.specs.declared.key.Key.{Key}
+use Rattle.store_keys.specs.declared.value.KeyEntry.{KeyEntry}
 use Rattle.lease_store.proofs.InOrder.{in_key_order-sorted}
 use Rattle.cluster_view.specs.Snapshots.{IsRead}
 use Rattle.cluster_view.proofs.SnapshotLaws.{read-in_key_order}

@@ -1,6 +1,6 @@
 use Rattle.std.proofs.Common.{ap, ◌∙◌, sym, subst, List, [], ◌≢◌}
-use Rattle.lease_store.specs.declared.key.Key.{Key}
-use Rattle.lease_store.specs.declared.value.KeyEntry.{KeyEntry}
+use Rattle.store_keys.specs.declared.key.Key.{Key}
+use Rattle.store_keys.specs.declared.value.KeyEntry.{KeyEntry}
 use Rattle.lease_store.specs.Answers.{absent_keys}
 use Rattle.lease_store.specs.Keys.{Keys}
 use Rattle.lease_store.proofs.Expiring.{none-before, some-at}

@@ -1,6 +1,6 @@
 use Rattle.std.proofs.Common.{ap, ◌∙◌, Err}
 use Rattle.std.proofs.lemmas.Result.{err_from_is_err_and}
-use Rattle.event_text.specs.Text.{lines_of}
+use Rattle.event_book.specs.Text.{lines_of}
 use Rattle.run_player.specs.Playing.{player_of}
 use Rattle.run_player.proofs.Played.{Plays-none, Plays-step, Plays-step-stop}
 use Rattle.run_player.proofs.player.Player.play_step.Goals as goal

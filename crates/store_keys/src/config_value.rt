@@ -1,6 +1,6 @@
 //! Configurations as they stand in the store.
 ghost use Rattle.std.specs.Prelude.{◌≡◌, IfOk, string_bytes};
-ghost use Rattle.lease_store.specs.Defaults.{default_settings};
+ghost use Rattle.store_keys.specs.Defaults.{default_settings};
 
 use crate::Config;
 use std::alloc::{AllocError, Global};
@@ -16,7 +16,7 @@ pub struct ConfigValue {
 
 impl Model for ConfigValue {
     ghost use Rattle.std.specs.Prelude.{string_bytes};
-    ghost use Rattle.lease_store.specs.Settings.{Settings};
+    ghost use Rattle.store_keys.specs.Settings.{Settings};
 
     ghost Value = { Settings };
 

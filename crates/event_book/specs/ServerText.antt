@@ -14,7 +14,7 @@ use Rattle.event_book.specs.declared.event.ServerEvent.{ServerEvent}
 use Rattle.event_book.specs.declared.event.ServerEvent.TheVariants as servers
 use Rattle.event_book.specs.declared.event.WatchdogEvent.{WatchdogEvent}
 use Rattle.event_book.specs.declared.event.WatchdogEvent.TheVariants as watchdogs
-use Rattle.event_text.specs.Listing.{listed}
+use Rattle.event_book.specs.Listing.{listed}
 use Rattle.event_book.specs.Traced.{traced}
 use Rattle.wal_model.specs.declared.entry.Entry.{Entry}
 

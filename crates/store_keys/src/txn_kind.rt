@@ -1,6 +1,6 @@
 //! Kinds of transactions.
 ghost use Rattle.std.specs.Prelude.{◌≡◌};
-ghost use Rattle.lease_store.specs.Words.{kind_text};
+ghost use Rattle.store_keys.specs.Words.{kind_text};
 
 use crate::Txn;
 use std::fmt;
@@ -30,7 +30,7 @@ pub enum TxnKind {
 
 impl fmt::Display for TxnKind {
     ghost use Rattle.std.specs.Prelude.{Some};
-    ghost use Rattle.lease_store.specs.Words.{kind_text};
+    ghost use Rattle.store_keys.specs.Words.{kind_text};
 
     ghost output = { λ kind. Some (kind_text kind) };
 
@@ -57,7 +57,7 @@ fn kind_text(kind: TxnKind) -> &'static str
 
 impl Txn {
     ghost use Rattle.std.specs.Prelude.{◌≡◌};
-    ghost use Rattle.lease_store.specs.TxnKinds.{txn_kind_of};
+    ghost use Rattle.store_keys.specs.TxnKinds.{txn_kind_of};
 
     /// Its kind.
     pub fn kind(&self) -> TxnKind

@@ -1,8 +1,8 @@
 -- Which kind of transaction a request is.
-use Rattle.lease_store.specs.declared.txn.Txn.{Txn}
-use Rattle.lease_store.specs.declared.txn.Txn.TheVariants as txns
-use Rattle.lease_store.specs.declared.txn_kind.TxnKind.{TxnKind}
-use Rattle.lease_store.specs.declared.txn_kind.TxnKind.TheVariants.{Touch, Create, Renewal, Release, Claim, SyncWrite, FailoverWrite, FailoverRemoval, ConfigurationWrite}
+use Rattle.store_keys.specs.declared.txn.Txn.{Txn}
+use Rattle.store_keys.specs.declared.txn.Txn.TheVariants as txns
+use Rattle.store_keys.specs.declared.txn_kind.TxnKind.{TxnKind}
+use Rattle.store_keys.specs.declared.txn_kind.TxnKind.TheVariants.{Touch, Create, Renewal, Release, Claim, SyncWrite, FailoverWrite, FailoverRemoval, ConfigurationWrite}
 
 -- the kind of a transaction
 abbrev pub txn_kind_of : Txn → TxnKind

@@ -43,7 +43,7 @@ pub struct Config {
 impl Config {
     ghost use Rattle.std.specs.Prelude.{◌≡◌, ◌≤◌, ◌*◌};
     ghost use Rattle.pat_base.specs.declared.ticks.TheConstants.{TICKS_OF_SECOND};
-    ghost use Rattle.lease_store.specs.Defaults.{default_config};
+    ghost use Rattle.store_keys.specs.Defaults.{default_config};
 
     /// The settings where a configuration sets nothing: Patroni's defaults.
     pub fn defaults() -> Config

@@ -17,7 +17,7 @@ pub enum Expected {
 
 impl fmt::Display for Expected {
     ghost use Rattle.std.specs.Prelude.{Some};
-    ghost use Rattle.lease_store.specs.Words.{finding_text};
+    ghost use Rattle.store_keys.specs.Words.{finding_text};
 
     ghost output = { λ found. Some (finding_text found) };
 

@@ -26,7 +26,7 @@ pub enum Key {
 
 impl fmt::Display for Key {
     ghost use Rattle.std.specs.Prelude.{Some};
-    ghost use Rattle.lease_store.specs.Words.{key_text};
+    ghost use Rattle.store_keys.specs.Words.{key_text};
 
     ghost output = { λ key. Some (key_text key) };
 

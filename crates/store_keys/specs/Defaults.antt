@@ -1,8 +1,8 @@
 -- The configuration where nothing is set.
 use Rattle.std.specs.Prelude.{false, codes}
 use Rattle.std.proofs.Common.{lit≤}
-use Rattle.lease_store.specs.declared.config.Config.{Config}
-use Rattle.lease_store.specs.Settings.{Settings}
+use Rattle.store_keys.specs.declared.config.Config.{Config}
+use Rattle.store_keys.specs.Settings.{Settings}
 
 -- times in seconds, the lag in bytes
 abbrev pub default_config : Config

@@ -1,6 +1,6 @@
 //! The values of keys.
 ghost use Rattle.std.specs.Prelude.{◌≡◌, IfOk};
-ghost use Rattle.lease_store.specs.Answers.{holder_of};
+ghost use Rattle.store_keys.specs.Holders.{holder_of};
 
 use crate::ConfigValue;
 use pat_base::{Host, Lsn, MemberId, MemberSet, Tags, Ticks, Word};

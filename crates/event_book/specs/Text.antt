@@ -14,9 +14,9 @@ use Rattle.event_book.specs.declared.event.LinkEvent.{LinkEvent}
 use Rattle.event_book.specs.declared.event.LinkEvent.TheVariants as links
 use Rattle.event_book.specs.Bodies.{body_text}
 use Rattle.event_book.specs.Links.{end_text}
-use Rattle.event_text.specs.NoteText.{note_line}
-use Rattle.event_text.specs.ServerText.{watchdog_line, server_line, log_line, replication_line}
-use Rattle.event_text.specs.StoreText.{store_line}
+use Rattle.event_book.specs.NoteText.{note_line}
+use Rattle.event_book.specs.ServerText.{watchdog_line, server_line, log_line, replication_line}
+use Rattle.event_book.specs.StoreText.{store_line}
 use Rattle.event_book.specs.Traced.{traced}
 
 -- the line of a message that is sent

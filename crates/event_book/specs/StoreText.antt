@@ -3,12 +3,12 @@ use Rattle.std.specs.Prelude.{ℕ, List, ◌++◌, Option, Some, None, codes}
 use Rattle.std.specs.Fmt.{decimal}
 use Rattle.pat_base.specs.declared.name.Name.{Name}
 use Rattle.pat_base.specs.Name.{name_bytes}
-use Rattle.lease_store.specs.declared.txn.Txn.{Txn}
-use Rattle.lease_store.specs.declared.txn.Txn.TheVariants as txns
-use Rattle.lease_store.specs.Words.{key_text, finding_text, kind_text}
+use Rattle.store_keys.specs.declared.txn.Txn.{Txn}
+use Rattle.store_keys.specs.declared.txn.Txn.TheVariants as txns
+use Rattle.store_keys.specs.Words.{key_text, finding_text, kind_text}
 use Rattle.event_book.specs.declared.event.StoreEvent.{StoreEvent}
 use Rattle.event_book.specs.declared.event.StoreEvent.TheVariants as stores
-use Rattle.event_text.specs.Listing.{listed}
+use Rattle.event_book.specs.Listing.{listed}
 
 -- the line of a granted write of the failover key or of the configuration
 abbrev pub request_line : ℕ → List ℕ → Txn → Option (List ℕ)

@@ -1,0 +1,5 @@
+pub mod Defaults
+pub mod Holders
+pub mod Settings
+pub mod TxnKinds
+pub mod Words
