@@ -4,8 +4,8 @@ ghost use Rattle.std.specs.Prelude.{◌≡◌, ◌↔◌, ◌++◌, [], IsNone, 
 use crate::Line;
 use std::marker::Model;
 
-/// After so many lines the room is given back that those behind them don't take.
-const LINES_AT_ONCE: usize = 4096;
+/// Room is given back as soon as one part of so many lies unused: so a line is moved at most so many times.
+const PARTS_OF_ROOM: usize = 16;
 
 /// The lines of a script that are left, in order. Each is handed out once, and what they took is given back as they go: so a long script
 /// is not kept beside what it makes of the cluster.
@@ -13,6 +13,8 @@ const LINES_AT_ONCE: usize = 4096;
 pub struct Lines {
     /// The last one comes first.
     left: Vec<Line>,
+    /// How many of them there is room for.
+    room: usize,
 }
 
 impl Model for Lines {
@@ -31,7 +33,8 @@ impl Lines {
     {
         let mut left = lines;
         left.reverse();
-        Lines { left }
+        let room = left.len();
+        Lines { left, room }
     }
 
     /// The next line. `None` exactly where none is left.
@@ -40,8 +43,9 @@ impl Lines {
         ensures end { IsNone result ↔ (self.old ≡ []) }
     {
         let line = self.left.pop();
-        if self.left.len() % LINES_AT_ONCE == 0 {
+        if self.left.len() < self.room - self.room / PARTS_OF_ROOM {
             self.left.shrink_to_fit();
+            self.room = self.left.len();
         }
         line
     }
