@@ -1,4 +1,4 @@
-use Rattle.std.proofs.Common.{◌∙◌, ◌-◌, ◌+◌, ℕ, not, sym, ap, arith}
+use Rattle.std.proofs.Common.{◌≡◌, ◌∙◌, ◌-◌, ◌+◌, ℕ, not, sym, ap, arith}
 use Rattle.std.specs.List.{range_with_len}
 use Rattle.wal_model.specs.Lacking.{lacks_in}
 use Rattle.wal_model.proofs.Successions.{lacks-first, lacks-rest, lacks-last}
