@@ -23,20 +23,14 @@
 //! is 1 where one doesn't.
 #![tactic(auto)]
 
-mod case;
-mod connections;
-mod difference;
-mod faults;
 mod outcome;
-mod repeats;
 mod views;
 
-use case::{case_of, text_or};
-use difference::{first_difference, lines_more};
 use outcome::outcome_of;
 use std::process::ExitCode;
 use std::rt::Files;
 use std::{fs, io};
+use worked_cases::{case_of, first_difference, lines_more, text_or};
 
 fn main(rt: HostRuntime) -> io::Result<ExitCode> {
     let mut agreeing = 0u64;

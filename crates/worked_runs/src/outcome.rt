@@ -1,12 +1,10 @@
 //! What comes of a worked run.
-use crate::case::{Case, Turn};
-use crate::connections::{connections_in, line_of};
-use crate::faults::failing;
 use crate::views::write_views;
 use pat_door::MemoryDoor;
 use pat_outside::{MemorySink, MemorySource};
 use patroni_top::{Ended, Status, run};
 use std::alloc::{AllocError, Global};
+use worked_cases::{Case, Turn, connections_in, failing, line_of};
 
 /// How many bytes a run may print.
 const ROOM: usize = 8_388_608;
