@@ -1,0 +1,10 @@
+pub mod Alarms
+pub mod Axis
+pub mod Bands
+pub mod Bars
+pub mod Frames
+pub mod Lanes
+pub mod Legend
+pub mod Marks
+pub mod Pictures
+pub mod Stretches

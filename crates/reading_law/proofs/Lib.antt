@@ -1,0 +1,4 @@
+pub mod Commits
+pub mod Forms
+pub mod Named
+pub mod Stores

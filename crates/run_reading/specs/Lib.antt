@@ -1,0 +1,4 @@
+pub mod Answers
+pub mod Forms
+pub mod Runs
+pub mod Told

@@ -1,0 +1,4 @@
+pub mod Escaping
+pub mod Forests
+pub mod Markup
+pub mod Shapes
