@@ -82,11 +82,11 @@ impl Workplace {
     fn hears(
         &mut self,
         rt: &impl Abort,
-        agent: Agent,
+        agent: &mut Agent,
         at: Ticks,
         heard: Heard,
         wanted: &[&str],
-    ) -> Agent {
+    ) {
         assert!(rt; at <= Ticks(10_000));
         assert!(rt; agent.room() >= 40);
         assert!(rt; self.out.spare() >= 40);
@@ -94,16 +94,15 @@ impl Workplace {
         assert!(rt; self.machine.server.stop_delay == Ticks(0));
         assert!(rt; self.machine.server.start_delay == Ticks(0));
         let (history, machine, out) = (&self.history, &mut self.machine, &mut self.out);
-        let agent = match heard {
+        match heard {
             Heard::Operated { action } => agent.act(at, action, history, machine, out),
             heard => agent.step(at, heard, history, machine, out),
-        };
+        }
         for word_wanted in wanted {
             let output = self.out.take().expect(rt, "an output");
             assert_eq!(rt; word(&output), *word_wanted);
         }
         assert!(rt; self.out.take().is_none());
-        agent
     }
 }
 
@@ -148,18 +147,18 @@ fn one_member(rt: HostRuntime) -> Result<(), Fail> {
     let who = who(&rt);
     let (free, granted, read) = answers(rt.alloc(), &who)?;
     let mut place = Workplace::new(rt.alloc())?;
-    let agent = Agent::start(who, Ticks(0), 1, &mut place.machine);
-    let agent = place.hears(&rt, agent, Ticks(1), Heard::Wake, &["read"]);
-    let agent = place.hears(&rt, agent, Ticks(1), free, &["create"]);
+    let mut agent = Agent::start(who, Ticks(0), 1, &mut place.machine);
+    place.hears(&rt, &mut agent, Ticks(1), Heard::Wake, &["read"]);
+    place.hears(&rt, &mut agent, Ticks(1), free, &["create"]);
     let begun = ["armed until 251", "require", "begin"];
-    let agent = place.hears(&rt, agent, Ticks(1), granted, &begun);
-    let agent = place.hears(&rt, agent, Ticks(100), Heard::Wake, &[]);
-    let agent = place.hears(&rt, agent, Ticks(101), Heard::Wake, &["read"]);
-    let agent = place.hears(&rt, agent, Ticks(101), read, &["renewal"]);
-    let agent = place.hears(&rt, agent, Ticks(201), Heard::Wake, &["out of reach"]);
-    let ended = place.hears(&rt, agent, Ticks(202), Heard::Wake, &["disarmed"]);
-    let is_follower = ended.view(Ticks(202), &place.machine).role == RoleWord::Follower;
-    ended.wreck();
+    place.hears(&rt, &mut agent, Ticks(1), granted, &begun);
+    place.hears(&rt, &mut agent, Ticks(100), Heard::Wake, &[]);
+    place.hears(&rt, &mut agent, Ticks(101), Heard::Wake, &["read"]);
+    place.hears(&rt, &mut agent, Ticks(101), read, &["renewal"]);
+    place.hears(&rt, &mut agent, Ticks(201), Heard::Wake, &["out of reach"]);
+    place.hears(&rt, &mut agent, Ticks(202), Heard::Wake, &["disarmed"]);
+    let is_follower = agent.view(Ticks(202), &place.machine).role == RoleWord::Follower;
+    agent.wreck();
     assert!(rt; is_follower);
     Ok(())
 }
@@ -168,13 +167,13 @@ fn one_member(rt: HostRuntime) -> Result<(), Fail> {
 #[test]
 fn a_restart(rt: HostRuntime) -> Result<(), Fail> {
     let mut place = Workplace::new(rt.alloc())?;
-    let agent = Agent::begin(who(&rt), Ticks(0), 1);
+    let mut agent = Agent::begin(who(&rt), Ticks(0), 1);
     let asked = OperatorRequest::Restart;
     let action = Heard::Operated {
         action: OperatorAction { request: 7, asked },
     };
     let restart = ["restart as a replica", "answer to 7"];
-    let agent = place.hears(&rt, agent, Ticks(1), action, &restart);
+    place.hears(&rt, &mut agent, Ticks(1), action, &restart);
     agent.wreck();
     Ok(())
 }

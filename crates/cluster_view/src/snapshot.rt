@@ -46,7 +46,7 @@ impl Snapshot {
         alloc: Global,
         scope: Name,
         members: &[(Name, Host)],
-        entries: Vec<(Key, KeyEntry)>,
+        entries: Vec<(Key, Shared<KeyEntry>)>,
     ) -> Result<Snapshot, AllocError>
         requires kinds { AreOfKind entries.items }
         requires config { IsSome (find key_cmp keys.Config entries.items) }
@@ -92,7 +92,7 @@ impl Snapshot {
     }
 
     /// The keys that were present, in their order, each once and with a value of its kind, the configuration always among them.
-    pub fn entries(&self) -> &[(Key, KeyEntry)]
+    pub fn entries(&self) -> &[(Key, Shared<KeyEntry>)]
         ensures entries { result.now ≡ self.now.entries }
         ensures read { IsRead self.now.entries }
     {

@@ -27,6 +27,7 @@ use agent_turn::{Outputs, Role, Turn, view_of, word_of};
 use cluster_view::{AgentView, Snapshot};
 use pat_base::{MemberSet, State, Ticks};
 use std::marker::Model;
+use std::mem;
 use store_keys::{Config, OperatorAction};
 use wal_model::History;
 
@@ -95,67 +96,67 @@ impl Agent {
     /// machine is what it reckons with, and who carries out the outputs in their order arrives at the same. Where no output stood
     /// before, the input is lawful by the law of the lease, and with the synchronous mode on by that of kept commits.
     pub fn step(
-        self,
+        &mut self,
         now: Ticks,
         heard: Heard,
         history: &History,
         machine: &mut Machine,
         out: &mut Outputs,
-    ) -> Agent
+    )
         requires moment { now.0 ≤ latest }
         requires server { IsWithin machine.old.server }
-        requires numbers { self.knows.sequence + most_outputs ≤ most_messages }
+        requires numbers { self.old.knows.sequence + most_outputs ≤ most_messages }
         requires room { most_outputs ≤ out.old.spare }
-        ensures outcome { outcome_from result.role result.knows machine.new out.new.outputs ≡ step now history.now.points heard (outcome_from self.role self.knows machine.old out.old.outputs) }
-        ensures lawful { out.old.outputs ≡ [] → IsLawfulFrom now heard (outcome_from self.role self.knows machine.old []) (outcome_from result.role result.knows machine.new out.new.outputs) }
+        ensures outcome { outcome_from self.new.role self.new.knows machine.new out.new.outputs ≡ step now history.now.points heard (outcome_from self.old.role self.old.knows machine.old out.old.outputs) }
+        ensures lawful { out.old.outputs ≡ [] → IsLawfulFrom now heard (outcome_from self.old.role self.old.knows machine.old []) (outcome_from self.new.role self.new.knows machine.new out.new.outputs) }
         // What it asks for, begins, repairs and gives back has its grounds.
-        ensures grounds { out.old.outputs ≡ [] → HasGrounds now heard (reconciled now (outcome_from self.role self.knows machine.old [])) (outcome_from result.role result.knows machine.new out.new.outputs) }
-        ensures commits { out.old.outputs ≡ [] → CommitsFrom now heard (outcome_from self.role self.knows machine.old []) (outcome_from result.role result.knows machine.new out.new.outputs) }
+        ensures grounds { out.old.outputs ≡ [] → HasGrounds now heard (reconciled now (outcome_from self.old.role self.old.knows machine.old [])) (outcome_from self.new.role self.new.knows machine.new out.new.outputs) }
+        ensures commits { out.old.outputs ≡ [] → CommitsFrom now heard (outcome_from self.old.role self.old.knows machine.old []) (outcome_from self.new.role self.new.knows machine.new out.new.outputs) }
         // A free leader key is asked for, by whom nothing bars and who wins; and whom it is granted to begins.
-        ensures free_key { AsksWhereFree now heard (prepared now heard (outcome_from self.role self.knows machine.old out.old.outputs)) (outcome_from result.role result.knows machine.new out.new.outputs) }
-        ensures won_race { AsksWhereWon now heard (prepared now heard (outcome_from self.role self.knows machine.old out.old.outputs)) (outcome_from result.role result.knows machine.new out.new.outputs) }
-        ensures granted_key { BeginsWhereGranted now heard (prepared now heard (outcome_from self.role self.knows machine.old out.old.outputs)) (outcome_from result.role result.knows machine.new out.new.outputs) }
+        ensures free_key { AsksWhereFree now heard (prepared now heard (outcome_from self.old.role self.old.knows machine.old out.old.outputs)) (outcome_from self.new.role self.new.knows machine.new out.new.outputs) }
+        ensures won_race { AsksWhereWon now heard (prepared now heard (outcome_from self.old.role self.old.knows machine.old out.old.outputs)) (outcome_from self.new.role self.new.knows machine.new out.new.outputs) }
+        ensures granted_key { BeginsWhereGranted now heard (prepared now heard (outcome_from self.old.role self.old.knows machine.old out.old.outputs)) (outcome_from self.new.role self.new.knows machine.new out.new.outputs) }
         // An operator is answered at most once, and for a cause; at once, where the key store's decision on it is heard. What waits for
         // a result waited before, or is heard.
-        ensures answers { out.old.outputs ≡ [] → AnswersOneAtMost now heard (outcome_from self.role self.knows machine.old []) (outcome_from result.role result.knows machine.new out.new.outputs) (told_in out.new.outputs) }
-        ensures causes { out.old.outputs ≡ [] → HaveCauses now heard self.knows out.new.outputs }
-        ensures decisions { out.old.outputs ≡ [] → TellsDecision heard self.knows out.new.outputs }
-        ensures waits { out.old.outputs ≡ [] → WaitsAsAsked now heard (outcome_from self.role self.knows machine.old []) (outcome_from result.role result.knows machine.new out.new.outputs) }
+        ensures answers { out.old.outputs ≡ [] → AnswersOneAtMost now heard (outcome_from self.old.role self.old.knows machine.old []) (outcome_from self.new.role self.new.knows machine.new out.new.outputs) (told_in out.new.outputs) }
+        ensures causes { out.old.outputs ≡ [] → HaveCauses now heard self.old.knows out.new.outputs }
+        ensures decisions { out.old.outputs ≡ [] → TellsDecision heard self.old.knows out.new.outputs }
+        ensures waits { out.old.outputs ≡ [] → WaitsAsAsked now heard (outcome_from self.old.role self.old.knows machine.old []) (outcome_from self.new.role self.new.knows machine.new out.new.outputs) }
         // It brings at most 40 messages and 40 outputs, and asks the key store for leases that it can write.
-        ensures small { IsSmall (outcome_from self.role self.knows machine.old out.old.outputs) (outcome_from result.role result.knows machine.new out.new.outputs) }
-        ensures numbers { result.knows.sequence ≤ self.knows.sequence + most_outputs }
+        ensures small { IsSmall (outcome_from self.old.role self.old.knows machine.old out.old.outputs) (outcome_from self.new.role self.new.knows machine.new out.new.outputs) }
+        ensures numbers { self.new.knows.sequence ≤ self.old.knows.sequence + most_outputs }
         ensures room { out.old.spare ≤ out.new.spare + most_outputs }
     {
-        let Agent { role, mut knows } = self;
-        let role = hear(role, &mut knows, machine, out, now, heard, history);
-        Agent { role, knows }
+        let role = mem::replace(&mut self.role, Role::Follower);
+        let role = hear(role, &mut self.knows, machine, out, now, heard, history);
+        fill(&mut self.role, role);
     }
 
     /// A request of an operator, which passed its checks: one input, `Heard::Operated`.
     pub fn act(
-        self,
+        &mut self,
         now: Ticks,
         action: OperatorAction,
         history: &History,
         machine: &mut Machine,
         out: &mut Outputs,
-    ) -> Agent
+    )
         requires moment { now.0 ≤ latest }
         requires server { IsWithin machine.old.server }
-        requires numbers { self.knows.sequence + most_outputs ≤ most_messages }
+        requires numbers { self.old.knows.sequence + most_outputs ≤ most_messages }
         requires room { most_outputs ≤ out.old.spare }
-        ensures outcome { outcome_from result.role result.knows machine.new out.new.outputs ≡ step now history.now.points (heards.Operated action) (outcome_from self.role self.knows machine.old out.old.outputs) }
-        ensures lawful { out.old.outputs ≡ [] → IsLawfulFrom now (heards.Operated action) (outcome_from self.role self.knows machine.old []) (outcome_from result.role result.knows machine.new out.new.outputs) }
-        ensures grounds { out.old.outputs ≡ [] → HasGrounds now (heards.Operated action) (reconciled now (outcome_from self.role self.knows machine.old [])) (outcome_from result.role result.knows machine.new out.new.outputs) }
-        ensures commits { out.old.outputs ≡ [] → CommitsFrom now (heards.Operated action) (outcome_from self.role self.knows machine.old []) (outcome_from result.role result.knows machine.new out.new.outputs) }
+        ensures outcome { outcome_from self.new.role self.new.knows machine.new out.new.outputs ≡ step now history.now.points (heards.Operated action) (outcome_from self.old.role self.old.knows machine.old out.old.outputs) }
+        ensures lawful { out.old.outputs ≡ [] → IsLawfulFrom now (heards.Operated action) (outcome_from self.old.role self.old.knows machine.old []) (outcome_from self.new.role self.new.knows machine.new out.new.outputs) }
+        ensures grounds { out.old.outputs ≡ [] → HasGrounds now (heards.Operated action) (reconciled now (outcome_from self.old.role self.old.knows machine.old [])) (outcome_from self.new.role self.new.knows machine.new out.new.outputs) }
+        ensures commits { out.old.outputs ≡ [] → CommitsFrom now (heards.Operated action) (outcome_from self.old.role self.old.knows machine.old []) (outcome_from self.new.role self.new.knows machine.new out.new.outputs) }
         // It answers no other request than this one, and no other comes to wait.
-        ensures answers { out.old.outputs ≡ [] → AnswersOneAtMost now (heards.Operated action) (outcome_from self.role self.knows machine.old []) (outcome_from result.role result.knows machine.new out.new.outputs) (told_in out.new.outputs) }
-        ensures causes { out.old.outputs ≡ [] → HaveCauses now (heards.Operated action) self.knows out.new.outputs }
-        ensures waits { out.old.outputs ≡ [] → WaitsAsAsked now (heards.Operated action) (outcome_from self.role self.knows machine.old []) (outcome_from result.role result.knows machine.new out.new.outputs) }
-        ensures numbers { result.knows.sequence ≤ self.knows.sequence + most_outputs }
+        ensures answers { out.old.outputs ≡ [] → AnswersOneAtMost now (heards.Operated action) (outcome_from self.old.role self.old.knows machine.old []) (outcome_from self.new.role self.new.knows machine.new out.new.outputs) (told_in out.new.outputs) }
+        ensures causes { out.old.outputs ≡ [] → HaveCauses now (heards.Operated action) self.old.knows out.new.outputs }
+        ensures waits { out.old.outputs ≡ [] → WaitsAsAsked now (heards.Operated action) (outcome_from self.old.role self.old.knows machine.old []) (outcome_from self.new.role self.new.knows machine.new out.new.outputs) }
+        ensures numbers { self.new.knows.sequence ≤ self.old.knows.sequence + most_outputs }
         ensures room { out.old.spare ≤ out.new.spare + most_outputs }
     {
-        self.step(now, Heard::Operated { action }, history, machine, out)
+        self.step(now, Heard::Operated { action }, history, machine, out);
     }
 
     /// How many messages of this incarnation are left.
@@ -226,6 +227,17 @@ fn fresh_knowledge(who: Who, first: Ticks, incarnation: u64) -> Knowledge
         informed: false,
         handed_over: false,
         operating: None,
+    }
+}
+
+/// Puts a role into the place of one that was taken out.
+fn fill(place: &mut Role, role: Role)
+    requires { place.old ≡ Role.Follower }
+    ensures { place.new ≡ role }
+{
+    match mem::replace(place, role) {
+        Role::Follower => {}
+        _ => unreachable!(),
     }
 }
 

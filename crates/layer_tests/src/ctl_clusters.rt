@@ -3,7 +3,7 @@ ghost use Rattle.std.specs.Prelude.{◌≡◌};
 ghost use Rattle.store_keys.specs.declared.value.Value.TheVariants as values;
 
 use cluster_view::Snapshot;
-use pat_base::{Host, Lsn, MemberId, MemberSet, Name, Tags, Ticks, Word};
+use pat_base::{Host, Lsn, MemberId, MemberSet, Name, Shared, Tags, Ticks, Word};
 use std::alloc::Global;
 use std::process::Abort;
 use store_keys::{ConfigValue, HistoryRow, Key, KeyEntry, MemberInfo, SyncKey, Value};
@@ -31,14 +31,15 @@ pub(crate) fn host(rt: &impl Abort, text: &[u8]) -> Host {
 }
 
 /// A value as a write left it.
-fn entry(value: Value) -> KeyEntry
+fn entry(rt: &impl Abort, alloc: Global, value: Value) -> Shared<KeyEntry>
     ensures { result.value ≡ value }
 {
-    KeyEntry {
+    let entry = KeyEntry {
         value,
         revision: 1,
         expiry: None,
-    }
+    };
+    Shared::new(alloc, entry).expect(rt, "memory")
 }
 
 fn info(host: Host, state: Word, timeline: Option<u64>, end: Option<Lsn>) -> MemberInfo {
@@ -71,21 +72,18 @@ pub(crate) fn billing(rt: &impl Abort, alloc: Global) -> Snapshot {
     let leads = info(members[1].1, Word::Running, Some(3), Some(status));
     let follows = info(members[2].1, Word::Streaming, Some(3), Some(behind));
     let config = ConfigValue::defaults(alloc).expect(rt, "memory");
-    let standbys = MemberSet { bits: 0b100 };
+    let sync = SyncKey {
+        leader: SECOND,
+        standbys: MemberSet { bits: 0b100 },
+    };
     let entries = vec![in alloc;
-        (Key::Leader, entry(Value::Leader(SECOND))),
-        (Key::Config, entry(Value::Config(config))),
-        (Key::Member(FIRST), entry(Value::Member(stopped))),
-        (Key::Member(SECOND), entry(Value::Member(leads))),
-        (Key::Member(THIRD), entry(Value::Member(follows))),
-        (
-            Key::Sync,
-            entry(Value::Sync(SyncKey {
-                leader: SECOND,
-                standbys
-            }))
-        ),
-        (Key::Status, entry(Value::Status(status))),
+        (Key::Leader, entry(rt, alloc, Value::Leader(SECOND))),
+        (Key::Config, entry(rt, alloc, Value::Config(config))),
+        (Key::Member(FIRST), entry(rt, alloc, Value::Member(stopped))),
+        (Key::Member(SECOND), entry(rt, alloc, Value::Member(leads))),
+        (Key::Member(THIRD), entry(rt, alloc, Value::Member(follows))),
+        (Key::Sync, entry(rt, alloc, Value::Sync(sync))),
+        (Key::Status, entry(rt, alloc, Value::Status(status))),
     ];
     let entries = entries.expect(rt, "memory");
     Snapshot::read(alloc, name(rt, b"production-billing"), &members, entries).expect(rt, "memory")
@@ -113,12 +111,15 @@ pub(crate) fn led(rt: &impl Abort, alloc: Global) -> Snapshot {
     ];
     let config = ConfigValue::defaults(alloc).expect(rt, "memory");
     let entries = vec![in alloc;
-        (Key::Leader, entry(Value::Leader(FIRST))),
-        (Key::Config, entry(Value::Config(config))),
-        (Key::History(1), entry(Value::History(ended(1, 101, FIRST)))),
+        (Key::Leader, entry(rt, alloc, Value::Leader(FIRST))),
+        (Key::Config, entry(rt, alloc, Value::Config(config))),
+        (
+            Key::History(1),
+            entry(rt, alloc, Value::History(ended(1, 101, FIRST)))
+        ),
         (
             Key::History(2),
-            entry(Value::History(ended(2, 302, SECOND)))
+            entry(rt, alloc, Value::History(ended(2, 302, SECOND)))
         ),
     ];
     let entries = entries.expect(rt, "memory");
@@ -132,7 +133,7 @@ pub(crate) fn quiet(rt: &impl Abort, alloc: Global) -> Snapshot {
         (name(rt, b"b"), Host::local()),
     ];
     let config = ConfigValue::defaults(alloc).expect(rt, "memory");
-    let entries = vec![in alloc; (Key::Config, entry(Value::Config(config)))];
+    let entries = vec![in alloc; (Key::Config, entry(rt, alloc, Value::Config(config)))];
     let entries = entries.expect(rt, "memory");
     Snapshot::read(alloc, name(rt, b"demo"), &members, entries).expect(rt, "memory")
 }

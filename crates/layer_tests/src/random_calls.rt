@@ -148,9 +148,10 @@ fn agree(rt: &impl Abort, store: &Store, plain: &PlainStore, now: Ticks) {
     );
     for (told, wanted) in entries.iter().zip(wanted) {
         has(rt, &told.0, &wanted.0);
-        has(rt, &told.1.revision, &wanted.1.revision);
-        has(rt, &told.1.expiry, &wanted.1.expiry);
-        has(rt, &are_same(&told.1.value, &wanted.1.value), &true);
+        let (told, wanted) = (told.1.get(), &wanted.1);
+        has(rt, &told.revision, &wanted.revision);
+        has(rt, &told.expiry, &wanted.expiry);
+        has(rt, &are_same(&told.value, &wanted.value), &true);
     }
 }
 

@@ -9,7 +9,7 @@ ghost use Rattle.lease_store.specs.Answers.{check_result_of};
 use crate::StoreRefusal;
 use crate::entries::{Entries, entry_of};
 use crate::order::compare;
-use pat_base::Ticks;
+use pat_base::{Shared, Ticks};
 use std::cmp::Ordering;
 use store_keys::{Expected, Key, KeyEntry, Txn};
 
@@ -25,12 +25,12 @@ pub fn is_present(now: Ticks, expiry: Option<Ticks>) -> bool
 
 /// The entry of a key, present or not, among pairs in which each key stands once: those of the store, or of a snapshot
 /// of it. `None` exactly where it isn't among them.
-pub fn key_entry_at(pairs: &[(Key, KeyEntry)], key: Key) -> Option<&KeyEntry>
+pub fn key_entry_at(pairs: &[(Key, Shared<KeyEntry>)], key: Key) -> Option<&KeyEntry>
     ensures { option_copied result ≡ find key_cmp key pairs.now }
 {
     for (other, stored) in pairs {
         if let Ordering::Equal = compare(key, *other) {
-            return Some(stored);
+            return Some(stored.get());
         }
     }
     None

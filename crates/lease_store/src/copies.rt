@@ -1,4 +1,4 @@
-//! Copies of all pairs, told again while nothing changes.
+//! Copies of the list of all pairs, told again while nothing changes. They share the entries with the store.
 ghost use Rattle.std.specs.Prelude.{◌≡◌, IfOk, IsTrue};
 ghost use Rattle.std.specs.FinMap.{is_sorted};
 ghost use Rattle.lease_store.specs.Answers.{present_pairs};
@@ -13,8 +13,8 @@ use pat_base::{Shared, Ticks};
 use std::alloc::{AllocError, Global};
 use store_keys::{Key, KeyEntry};
 
-/// Copies of pairs, which several own.
-pub type Copies = Shared<Vec<(Key, KeyEntry)>>;
+/// A copy of the list of pairs, which several own. Its entries are the store's own: no value is copied.
+pub type Copies = Shared<Vec<(Key, Shared<KeyEntry>)>>;
 
 /// Copies of the pairs whose keys are present at a moment. Where that is all of them, those that were told before are told again. It fails
 /// only for want of memory.

@@ -9,19 +9,22 @@ ghost use Rattle.lease_store.specs.KeyOrder.{key_cmp};
 ghost use Rattle.lease_store.specs.Writes.{without};
 
 use crate::leases::{Leases, add_all, first_ended, remove, supersede};
-use pat_base::Ticks;
+use pat_base::{Shared, Ticks};
 use std::alloc::AllocError;
 use std::collections::BTreeMap;
 use store_keys::{Key, KeyEntry};
 
-/// What the store holds at each key.
-pub type Entries = BTreeMap<Key, KeyEntry>;
+/// What the store holds at each key. Snapshots of it own the entries too, so that a snapshot copies no value.
+pub type Entries = BTreeMap<Key, Shared<KeyEntry>>;
 
 /// The entry of a key, present or not.
 pub fn entry_of(entries: &Entries, key: Key) -> Option<&KeyEntry>
     ensures { option_copied result ≡ find key_cmp key entries.now.entries }
 {
-    entries.get(&key)
+    match entries.get(&key) {
+        None => None,
+        Some(stored) => Some(stored.get()),
+    }
 }
 
 /// Makes room for pairs: new keys among `left` are held at once, and so are the leases of all `puts`. It fails only for want of memory, and
@@ -29,8 +32,8 @@ pub fn entry_of(entries: &Entries, key: Key) -> Option<&KeyEntry>
 fn make_room(
     entries: &mut Entries,
     leases: &mut Leases,
-    left: &[(Key, KeyEntry)],
-    puts: &[(Key, KeyEntry)],
+    left: &[(Key, Shared<KeyEntry>)],
+    puts: &[(Key, Shared<KeyEntry>)],
 ) -> Result<(), AllocError>
     ensures found { OnOk result ((key : Key) → find key_cmp key entries.new.entries ≡ first_found (find key_cmp key entries.old.entries) (find key_cmp key left.now)) }
     ensures order { IsTrue (is_sorted key_cmp entries.old.entries) → IsTrue (is_sorted key_cmp entries.new.entries) }
@@ -56,31 +59,31 @@ fn make_room(
 }
 
 /// Holds this at a key that has an entry, and answers the expiry of the one before.
-fn exchange(entries: &mut Entries, key: Key, stored: KeyEntry) -> Option<Ticks>
+fn exchange(entries: &mut Entries, key: Key, stored: Shared<KeyEntry>) -> Option<Ticks>
     requires { IsSome (find key_cmp key entries.old.entries) }
     ensures entries { entries.new.entries ≡ put key_cmp key stored entries.old.entries }
     ensures before { (before : KeyEntry) → find key_cmp key entries.old.entries ≡ Some before → result ≡ before.expiry }
 {
     match entries.insert(key, stored) {
-        Ok(Some(before)) => before.expiry,
+        Ok(Some(before)) => before.get().expiry,
         Ok(None) => None,
         Err(_) => None,
     }
 }
 
 /// Holds this at a key that has an entry, and its lease in the place of the one before. The set has the lease.
-fn replace(entries: &mut Entries, leases: &mut Leases, key: Key, stored: KeyEntry)
+fn replace(entries: &mut Entries, leases: &mut Leases, key: Key, stored: Shared<KeyEntry>)
     requires { IsSome (find key_cmp key entries.old.entries) }
     ensures entries { entries.new.entries ≡ put key_cmp key stored entries.old.entries }
     ensures leases { (before : KeyEntry) → find key_cmp key entries.old.entries ≡ Some before → (lease : Ticks × Key) → contains lease_cmp leases.new lease ≡ cond (is_lease_of key stored.expiry lease) (contains lease_cmp leases.old lease) (cond (is_lease_of key before.expiry lease) false (contains lease_cmp leases.old lease)) }
 {
-    let expiry = stored.expiry;
+    let expiry = stored.get().expiry;
     let before = exchange(entries, key, stored);
     supersede(leases, key, before, expiry);
 }
 
 /// Holds these pairs, whose keys have entries and whose leases the set has.
-fn replace_all(entries: &mut Entries, leases: &mut Leases, puts: Vec<(Key, KeyEntry)>)
+fn replace_all(entries: &mut Entries, leases: &mut Leases, puts: Vec<(Key, Shared<KeyEntry>)>)
     requires order { IsTrue (is_sorted key_cmp puts.items) }
     requires has { (key : Key) → IsSome (find key_cmp key puts.items) → IsSome (find key_cmp key entries.old.entries) }
     requires pending { IsPending puts.items entries.old.entries leases.old }
@@ -96,7 +99,7 @@ fn replace_all(entries: &mut Entries, leases: &mut Leases, puts: Vec<(Key, KeyEn
 pub fn put_all(
     entries: &mut Entries,
     leases: &mut Leases,
-    puts: Vec<(Key, KeyEntry)>,
+    puts: Vec<(Key, Shared<KeyEntry>)>,
 ) -> Result<(), AllocError>
     requires order { IsTrue (is_sorted key_cmp puts.items) }
     requires sorted { IsTrue (is_sorted key_cmp entries.old.entries) }
@@ -119,7 +122,7 @@ pub fn delete(entries: &mut Entries, leases: &mut Leases, key: Key)
     ensures fewer { IsSome (find key_cmp key entries.old.entries) → btree_map_len entries.new < btree_map_len entries.old }
 {
     match entries.remove(&key) {
-        Some(before) => remove(leases, key, before.expiry),
+        Some(before) => remove(leases, key, before.get().expiry),
         None => {}
     }
 }

@@ -5,7 +5,7 @@ ghost use Rattle.lease_store.specs.Indexed.{lease_cmp, is_same_expiry, is_lease_
 ghost use Rattle.lease_store.specs.Keys.{is_present};
 
 use crate::compares::is_present;
-use pat_base::Ticks;
+use pat_base::{Shared, Ticks};
 use std::alloc::AllocError;
 use std::collections::BTreeSet;
 use store_keys::{Key, KeyEntry};
@@ -56,18 +56,19 @@ pub fn supersede(leases: &mut Leases, key: Key, earlier: Option<Ticks>, later: O
 }
 
 /// Holds the leases of these pairs too. It fails only for want of memory, and then changes nothing.
-pub fn add_all(leases: &mut Leases, pairs: &[(Key, KeyEntry)]) -> Result<(), AllocError>
+pub fn add_all(leases: &mut Leases, pairs: &[(Key, Shared<KeyEntry>)]) -> Result<(), AllocError>
     ensures added { OnOk result ((lease : Ticks × Key) → contains lease_cmp leases.new lease ≡ (is_lease_among lease pairs.now || contains lease_cmp leases.old lease)) }
     ensures err { OnErr result ((lease : Ticks × Key) → contains lease_cmp leases.new lease ≡ contains lease_cmp leases.old lease) }
 {
     let Some(((key, stored), rest)) = pairs.split_first() else {
         return Ok(());
     };
-    let is_new = add(leases, *key, stored.expiry)?;
+    let expiry = stored.get().expiry;
+    let is_new = add(leases, *key, expiry)?;
     match add_all(leases, rest) {
         Ok(()) => Ok(()),
         Err(error) if is_new => {
-            remove(leases, *key, stored.expiry);
+            remove(leases, *key, expiry);
             Err(error)
         }
         Err(error) => Err(error),

@@ -5,11 +5,12 @@ ghost use Rattle.lease_store.specs.KeyOrder.{key_cmp};
 ghost use Rattle.lease_store.specs.Places.{IsPlaceOf, IsGapFor};
 
 use crate::order::compare;
+use pat_base::Shared;
 use std::cmp::Ordering;
 use store_keys::{Key, KeyEntry};
 
 /// Where a key stands, or where it would stand.
-fn place(pairs: &[(Key, KeyEntry)], key: Key) -> Result<usize, usize>
+fn place(pairs: &[(Key, Shared<KeyEntry>)], key: Key) -> Result<usize, usize>
     ensures found { IfOk result (IsPlaceOf key pairs.now) }
     ensures gap { IfErr result (IsGapFor key pairs.now) }
 {
@@ -24,7 +25,7 @@ fn place(pairs: &[(Key, KeyEntry)], key: Key) -> Result<usize, usize>
 }
 
 /// Holds this at a key from now on. There is room for one more pair.
-pub fn put(pairs: &mut Vec<(Key, KeyEntry)>, key: Key, stored: KeyEntry)
+pub fn put(pairs: &mut Vec<(Key, Shared<KeyEntry>)>, key: Key, stored: Shared<KeyEntry>)
     requires { vec_len pairs.old + 1 ≤ vec_capacity pairs.old }
     ensures pairs { pairs.new.items ≡ put key_cmp key stored pairs.old.items }
     ensures len { vec_len pairs.new ≤ vec_len pairs.old + 1 }

@@ -4,6 +4,7 @@ ghost use Rattle.lease_store.specs.InKeyOrder.{in_key_order, comes_behind, rises
 
 use crate::order::compare;
 use crate::pairs::put;
+use pat_base::Shared;
 use std::alloc::{AllocError, Global};
 use store_keys::{Key, KeyEntry};
 
@@ -11,8 +12,8 @@ use store_keys::{Key, KeyEntry};
 /// It fails only for want of memory.
 pub fn in_key_order(
     alloc: Global,
-    pairs: Vec<(Key, KeyEntry)>,
-) -> Result<Vec<(Key, KeyEntry)>, AllocError>
+    pairs: Vec<(Key, Shared<KeyEntry>)>,
+) -> Result<Vec<(Key, Shared<KeyEntry>)>, AllocError>
     ensures { IfOk result (λ ordered. ordered.items ≡ in_key_order pairs.items) }
 {
     if rises(&pairs) {
@@ -25,8 +26,8 @@ pub fn in_key_order(
 /// These pairs in the order of their keys. It fails only for want of memory.
 fn sorted(
     alloc: Global,
-    mut pairs: Vec<(Key, KeyEntry)>,
-) -> Result<Vec<(Key, KeyEntry)>, AllocError>
+    mut pairs: Vec<(Key, Shared<KeyEntry>)>,
+) -> Result<Vec<(Key, Shared<KeyEntry>)>, AllocError>
     ensures { IfOk result (λ ordered. ordered.items ≡ in_key_order pairs.items) }
 {
     let mut ordered = Vec::new(alloc);
@@ -38,7 +39,7 @@ fn sorted(
 }
 
 /// Whether each key comes before that of the next pair.
-fn rises(pairs: &[(Key, KeyEntry)]) -> bool
+fn rises(pairs: &[(Key, Shared<KeyEntry>)]) -> bool
     ensures { result ≡ rises_behind None pairs.now }
 {
     let mut last = None;

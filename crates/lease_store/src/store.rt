@@ -18,7 +18,7 @@ use crate::leases::{Leases, first_expiry};
 use crate::walks::{absent_keys, copies_of_present};
 use crate::writes::{Stamp, grant, is_lease};
 use crate::{Granted, StoreRefusal};
-use pat_base::{MemberId, Ticks};
+use pat_base::{MemberId, Shared, Ticks};
 use std::alloc::{AllocError, Global};
 use std::collections::{BTreeMap, BTreeSet};
 use std::marker::Model;
@@ -62,7 +62,7 @@ impl Store {
             revision: 1,
             expiry: None,
         };
-        entries.insert(Key::Config, stored)?;
+        entries.insert(Key::Config, Shared::new(alloc, stored)?)?;
         Ok(Store {
             alloc,
             entries,
@@ -161,7 +161,7 @@ impl Store {
 
     /// All present keys in the order of `Key`, each once and with a value of its kind, the configuration always among
     /// them. It fails only for want of memory.
-    pub fn entries(&self, now: Ticks) -> Result<Vec<(Key, KeyEntry)>, AllocError>
+    pub fn entries(&self, now: Ticks) -> Result<Vec<(Key, Shared<KeyEntry>)>, AllocError>
         ensures pairs { IfOk result (λ entries. entries.items ≡ present_pairs now.0 self.now.pairs) }
         ensures found { IfOk result (λ entries. (key : Key) → find key_cmp key entries.items ≡ key_at self.now now.0 key) }
         ensures order { IfOk result (λ entries. IsTrue (is_sorted key_cmp entries.items)) }
@@ -171,7 +171,7 @@ impl Store {
         copies_of_present(self.alloc, &self.entries, now)
     }
 
-    /// The same, to be shared. Where nothing has changed since they were told last, it copies none of them.
+    /// The same, to be shared. Where nothing has changed since they were told last, they are told again.
     pub fn share_entries(&mut self, now: Ticks) -> Result<Copies, AllocError>
         ensures same { self.new ≡ self.old }
         ensures pairs { IfOk result (λ entries. entries.items ≡ present_pairs now.0 self.old.pairs) }

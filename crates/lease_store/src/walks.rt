@@ -4,7 +4,7 @@ ghost use Rattle.lease_store.specs.Answers.{present_pairs, absent_keys};
 
 use crate::compares::is_present;
 use crate::entries::Entries;
-use pat_base::Ticks;
+use pat_base::{Shared, Ticks};
 use std::alloc::{AllocError, Global};
 use store_keys::{Key, KeyEntry};
 
@@ -14,24 +14,24 @@ pub fn absent_keys(alloc: Global, entries: &Entries, now: Ticks) -> Result<Vec<K
 {
     let mut keys = Vec::new(alloc);
     for (key, stored) in entries {
-        if !is_present(now, stored.expiry) {
+        if !is_present(now, stored.get().expiry) {
             keys.push(*key)?;
         }
     }
     Ok(keys)
 }
 
-/// Copies of the pairs whose keys are present at a moment. It fails only for want of memory.
+/// The pairs whose keys are present at a moment, with the same entries. It fails only for want of memory.
 pub fn copies_of_present(
     alloc: Global,
     entries: &Entries,
     now: Ticks,
-) -> Result<Vec<(Key, KeyEntry)>, AllocError>
+) -> Result<Vec<(Key, Shared<KeyEntry>)>, AllocError>
     ensures { IfOk result (λ copies. copies.items ≡ present_pairs now.0 entries.now.entries) }
 {
     let mut copies = Vec::with_capacity(alloc, entries.len())?;
     for (key, stored) in entries {
-        if is_present(now, stored.expiry) {
+        if is_present(now, stored.get().expiry) {
             copies.push((*key, stored.try_clone()?))?;
         }
     }

@@ -9,7 +9,7 @@ ghost use Rattle.pat_base.specs.Moments.{latest};
 
 use crate::entries::{Entries, delete, entry_of, put_all};
 use crate::leases::Leases;
-use pat_base::{Lsn, MemberId, MemberSet, Ticks};
+use pat_base::{Lsn, MemberId, MemberSet, Shared, Ticks};
 use std::alloc::{AllocError, Global};
 use store_keys::{ConfigValue, HistoryRow, Key, KeyEntry, MemberInfo, SyncKey, Txn, Value};
 
@@ -87,7 +87,7 @@ fn puts_of(
     stamp: Stamp,
     by: MemberId,
     txn: &Txn,
-) -> Result<Vec<(Key, KeyEntry)>, AllocError>
+) -> Result<Vec<(Key, Shared<KeyEntry>)>, AllocError>
     requires moment { stamp.at.0 ≤ latest }
     requires span { ttl_of txn.now ≤ 2 ^ 40 }
     ensures { IfOk result (λ puts. puts.items ≡ puts_of_all stamp.revision stamp.at.0 entries.now.entries (writes_of by txn.now)) }
@@ -99,7 +99,7 @@ fn puts_of(
 
 /// Adds what a transaction of a member puts at the keys that it writes, where nothing is put yet.
 fn add_puts(
-    puts: &mut Vec<(Key, KeyEntry)>,
+    puts: &mut Vec<(Key, Shared<KeyEntry>)>,
     entries: &Entries,
     stamp: Stamp,
     by: MemberId,
@@ -142,7 +142,7 @@ fn add_puts(
 
 /// Adds what a member tells of itself.
 fn tell(
-    puts: &mut Vec<(Key, KeyEntry)>,
+    puts: &mut Vec<(Key, Shared<KeyEntry>)>,
     stamp: Stamp,
     by: MemberId,
     info: MemberInfo,
@@ -155,7 +155,7 @@ fn tell(
 }
 
 fn set_config(
-    puts: &mut Vec<(Key, KeyEntry)>,
+    puts: &mut Vec<(Key, Shared<KeyEntry>)>,
     stamp: Stamp,
     config: &ConfigValue,
 ) -> Result<(), AllocError>
@@ -165,9 +165,28 @@ fn set_config(
     set(puts, stamp, Key::Config, Value::Config(config))
 }
 
+/// Adds a key with this value and this expiry, of the revision of the grant.
+fn add(
+    puts: &mut Vec<(Key, Shared<KeyEntry>)>,
+    stamp: Stamp,
+    key: Key,
+    value: Value,
+    expiry: Option<Ticks>,
+) -> Result<(), AllocError>
+    ensures { OnOk result (puts.new.items ≡ puts.old.items ++ (key, record { value = value; revision = stamp.revision; expiry = expiry }) ∷ []) }
+{
+    let stored = KeyEntry {
+        value,
+        revision: stamp.revision,
+        expiry,
+    };
+    puts.push((key, Shared::new(*puts.allocator(), stored)?))?;
+    Ok(())
+}
+
 /// Adds a key with a lease of this span.
 fn lease(
-    puts: &mut Vec<(Key, KeyEntry)>,
+    puts: &mut Vec<(Key, Shared<KeyEntry>)>,
     stamp: Stamp,
     key: Key,
     value: Value,
@@ -176,15 +195,7 @@ fn lease(
     requires { stamp.at.0 + ttl.0 < 2 ^ 64 }
     ensures { OnOk result (puts.new.items ≡ puts.old.items ++ puts_of stamp.revision stamp.at.0 [] (LeasesKey key value ttl)) }
 {
-    puts.push((
-        key,
-        KeyEntry {
-            value,
-            revision: stamp.revision,
-            expiry: Some(stamp.at + ttl),
-        },
-    ))?;
-    Ok(())
+    add(puts, stamp, key, value, Some(stamp.at + ttl))
 }
 
 /// The later of an expiry and a moment.
@@ -199,7 +210,7 @@ fn extended_expiry(until: Ticks, expiry: Option<Ticks>) -> Option<Ticks>
 
 /// Adds the leader key with its lease extended by this span, where the key has an entry.
 fn renew(
-    puts: &mut Vec<(Key, KeyEntry)>,
+    puts: &mut Vec<(Key, Shared<KeyEntry>)>,
     entries: &Entries,
     stamp: Stamp,
     ttl: Ticks,
@@ -212,39 +223,23 @@ fn renew(
     };
     let expiry = extended_expiry(stamp.at + ttl, stored.expiry);
     let value = stored.value.try_clone()?;
-    puts.push((
-        Key::Leader,
-        KeyEntry {
-            value,
-            revision: stamp.revision,
-            expiry,
-        },
-    ))?;
-    Ok(())
+    add(puts, stamp, Key::Leader, value, expiry)
 }
 
 /// Adds a key without a lease.
 fn set(
-    puts: &mut Vec<(Key, KeyEntry)>,
+    puts: &mut Vec<(Key, Shared<KeyEntry>)>,
     stamp: Stamp,
     key: Key,
     value: Value,
 ) -> Result<(), AllocError>
     ensures { OnOk result (puts.new.items ≡ puts.old.items ++ puts_of stamp.revision stamp.at.0 [] (Sets key value)) }
 {
-    puts.push((
-        key,
-        KeyEntry {
-            value,
-            revision: stamp.revision,
-            expiry: None,
-        },
-    ))?;
-    Ok(())
+    add(puts, stamp, key, value, None)
 }
 
 fn set_sync(
-    puts: &mut Vec<(Key, KeyEntry)>,
+    puts: &mut Vec<(Key, Shared<KeyEntry>)>,
     stamp: Stamp,
     leader: MemberId,
     standbys: MemberSet,
@@ -261,7 +256,7 @@ fn set_sync(
 
 /// Adds the leader's position, where there is one.
 fn set_status(
-    puts: &mut Vec<(Key, KeyEntry)>,
+    puts: &mut Vec<(Key, Shared<KeyEntry>)>,
     stamp: Stamp,
     status: Option<Lsn>,
 ) -> Result<(), AllocError>
@@ -275,7 +270,7 @@ fn set_status(
 
 /// Adds a row of the history, where there is one.
 fn set_row(
-    puts: &mut Vec<(Key, KeyEntry)>,
+    puts: &mut Vec<(Key, Shared<KeyEntry>)>,
     stamp: Stamp,
     row: Option<HistoryRow>,
 ) -> Result<(), AllocError>
@@ -289,7 +284,7 @@ fn set_row(
 
 /// Adds the members that the leader may ask, where there are any to write.
 fn set_failsafe(
-    puts: &mut Vec<(Key, KeyEntry)>,
+    puts: &mut Vec<(Key, Shared<KeyEntry>)>,
     stamp: Stamp,
     failsafe: Option<MemberSet>,
 ) -> Result<(), AllocError>

@@ -16,7 +16,7 @@ pub fn endings_of(alloc: Global, snapshot: &Snapshot) -> Result<Vec<HistoryRow>,
 {
     let mut rows = Vec::new(alloc);
     for pair in snapshot.entries() {
-        push_ending(&mut rows, &pair.1.value)?;
+        push_ending(&mut rows, &pair.1.get().value)?;
     }
     Ok(rows)
 }

@@ -44,7 +44,7 @@ pub(crate) fn anyone_may_take_over(seen: &Snapshot) -> bool
     ensures { result ≡ anyone_may_take_over seen.now }
 {
     let leader = seen.leader();
-    seen.entries().iter().any(|(key, found)| may_take_over_by(leader, *key, &found.value))
+    seen.entries().iter().any(|(key, found)| may_take_over_by(leader, *key, &found.get().value))
 }
 
 /// Whether this is the member key of one who may take over.

@@ -1,6 +1,5 @@
 -- What many ticks of an idle cluster leave.
-use Rattle.std.proofs.Common.{◌≡◌, ℕ, ◌+◌, ◌*◌, ◌≤◌, ◌<◌, List, [], ◌∷◌, ◌++◌, length, replicate, zero, suc, arith, ap, sym, subst, ◌∙◌}
-use Rattle.pat_base.specs.declared.ticks.Ticks.{Ticks}
+use Rattle.std.proofs.Common.{◌≡◌, ℕ, ◌+◌, ◌*◌, ◌≤◌, ◌<◌, List, [], ◌++◌, length, replicate, zero, suc, arith, ap, sym, subst, ◌∙◌}
 use Rattle.event_book.specs.declared.event.Event.{Event}
 use Rattle.event_book.specs.declared.event.EventKind.TheVariants as kinds
 use Rattle.cluster_model.specs.declared.step.Step.{Step}
@@ -8,18 +7,19 @@ use Rattle.cluster_model.specs.declared.step.Step.TheVariants as steps
 use Rattle.cluster_model.specs.Acknowledging.{AreAcknowledged}
 use Rattle.cluster_model.specs.Cluster.{cluster_after, cluster_over}
 use Rattle.cluster_model.specs.Next.{next_events, run_events}
-use Rattle.cluster_model.specs.Parts.{event_of, events_then}
+use Rattle.cluster_model.specs.Parts.{events_then}
 use Rattle.cluster_model.specs.Starting.{cluster_of}
 use Rattle.cluster_model.specs.State.{Cluster}
+use Rattle.cluster_model.specs.Ticking.{tick_events}
 use Rattle.simulation.specs.Book.{StandsFor, left_by}
 use Rattle.world_model.specs.Emits.{Emits}
-use Rattle.world_model.specs.Idle.{BringsTicks, IsIdleBefore, IsIdleIn, NothingEnds, NothingIsDue}
+use Rattle.world_model.specs.Idle.{BringsTicks, IsIdleBefore, IsIdleIn, NothingEnds, NothingIsDue, at_moment}
 use Rattle.pat_world.specs.OneWriter.{KeepsOneWriter}
-use Rattle.world_model.specs.Room.{HasRoom, HasRoomFor, step_cost}
+use Rattle.world_model.specs.Room.{HasRoomFor, step_cost, tick_cost}
 use Rattle.lease_runs.proofs.EveryRun.{runs-one}
 use Rattle.run_model.proofs.Steps.{run_events-both}
-use Rattle.world_model.proofs.Idling.{at_moment, idle-after, idle-at, idle-ends, idle-ticks, next-idle, ticked-idle}
-use Rattle.world_model.proofs.Rooms.{HasRoom-cluster_after, HasRoom-fewer}
+use Rattle.world_model.proofs.Idling.{idle-after, idle-at, idle-ends, idle-ticks, next-idle, tick-idle, ticked-idle}
+use Rattle.world_model.proofs.Rooms.{HasRoom-fewer}
 use Rattle.simulation.proofs.Standing.{is-stands}
 use Rattle.world_model.proofs.Stillness.{tick-alone}
 use Rattle.world_model.proofs.Taking.{Emits-weaker, cluster_over-append}
@@ -67,23 +67,13 @@ room-passed cluster count more has =
       };
     }
 
--- one tick more is noted
-pub tick-took : (cluster : Cluster) (had has : List Event) → has ≡ had ++ event_of cluster kinds.Tick → NothingEnds (cluster.facts.clock + 1) cluster
-    → Emits cluster (at_moment cluster (cluster.facts.clock + 1)) had has (event_of cluster kinds.Tick) 1
-tick-took cluster had has is ends =
-    let same = ticked-idle cluster (cluster.facts.clock + 1) (omega arith) ends in
-    record {
-      state = sym same;
-      event = is;
-      room = λ more room. subst (λ (c : Cluster). HasRoom c more) same (HasRoom-cluster_after cluster kinds.Tick more tt room);
-    }
-
--- such a tick is all that the step brings
-pub step-took : (cluster after : Cluster) (had has : List Event) (step : Step) → IsIdleIn step (cluster.facts.clock + 1) cluster → Emits cluster after had has (event_of cluster kinds.Tick) 1
+-- a tick with which nothing ends is all that such a step brings
+pub step-took : (cluster after : Cluster) (had has : List Event) (step : Step) → IsIdleIn step (cluster.facts.clock + 1) cluster → Emits cluster after had has (tick_events cluster) tick_cost
     → Emits cluster after had has (next_events cluster step) step_cost
 step-took cluster after had has step idle took =
-    Emits-weaker cluster after had has (next_events cluster step) 1 step_cost
-    (subst (λ (es : List Event). Emits cluster after had has es 1) (sym (next-idle step cluster (cluster.facts.clock + 1) (omega arith) idle)) took) (omega arith)
+    let same : tick_events cluster ≡ next_events cluster step = tick-idle cluster (cluster.facts.clock + 1) (omega arith) (idle-ends step cluster (cluster.facts.clock + 1) idle)
+    ∙ sym (next-idle step cluster (cluster.facts.clock + 1) (omega arith) idle) in
+    Emits-weaker cluster after had has (next_events cluster step) tick_cost step_cost (subst (λ (es : List Event). Emits cluster after had has es tick_cost) same took) (omega arith)
 
 -- what is so before a moment is so whatever the clock says
 pub idle-before-at : (step : Step) (moment now : ℕ) (cluster : Cluster) → IsIdleBefore step moment cluster → IsIdleBefore step moment (at_moment cluster now)
@@ -128,15 +118,3 @@ ticks-idle-found after moment ends done = λ now h. record { ends = ends now h; 
 -- where steps of the default schedule bring nothing before a moment, plain ticks don't either
 pub ticks-idle-before : (moment : ℕ) (cluster : Cluster) → IsIdleBefore steps.Scheduled moment cluster → IsIdleBefore steps.Tick moment cluster
 ticks-idle-before moment cluster idle = λ now h. idle-ticks cluster now (idle now h)
-
-abbrev tick_at : ℕ → Event
-tick_at n = record { tick = record { 0 = n }; kind = kinds.Tick }
-
--- a tick is noted, and the clock stands at it
-pub tick-noted : (cluster after : Cluster) (had has : List Event) (step : Step) (tick : Ticks) → after ≡ at_moment cluster (cluster.facts.clock + 1) → tick.0 ≡ after.facts.clock → has ≡ had ++ record { tick = tick; kind = kinds.Tick } ∷ []
-    → IsIdleIn step (cluster.facts.clock + 1) cluster → Emits cluster after had has (next_events cluster step) step_cost
-tick-noted cluster after had has step tick is at noted idle =
-    let moment : tick.0 ≡ cluster.facts.clock + 1 = at ∙ ap (λ (c : Cluster). c.facts.clock) is in
-    let event : has ≡ had ++ event_of cluster kinds.Tick = noted ∙ ap (λ (n : ℕ). had ++ tick_at n ∷ []) moment in
-    step-took cluster after had has step idle
-    (subst (λ (c : Cluster). Emits cluster c had has (event_of cluster kinds.Tick) 1) (sym is) (tick-took cluster had has event (idle-ends step cluster (cluster.facts.clock + 1) idle)))

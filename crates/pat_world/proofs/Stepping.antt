@@ -8,8 +8,8 @@ use Rattle.simulation.specs.Steps.{HasStepsLeft, TookSteps, IsCounted, WorldFact
 use Rattle.world_model.specs.Counted.{AreCounted, counted_by}
 use Rattle.world_model.specs.Emits.{Emits}
 use Rattle.world_model.specs.Room.{HasRoomFor, most_steps, step_cost}
+use Rattle.world_model.specs.Idle.{at_moment}
 use Rattle.world_model.proofs.Counting.{counted-first, counted-passed, counted-step}
-use Rattle.world_model.proofs.Idling.{at_moment}
 use Rattle.world_model.proofs.Rooms.{HasRoom-fewer}
 use Rattle.world_model.proofs.Starting.{steps-room}
 use Rattle.pat_world.proofs.IdleTicks.{room-passed}

@@ -24,12 +24,12 @@ ghost use Rattle.world_stage.specs.AgentViews.{IsViewOf};
 
 use cluster_model::Step;
 use cluster_view::AgentView;
-use event_book::{Event, EventKind};
+use event_book::Event;
 use pat_base::{MemberId, Ticks};
 use script_model::Head;
 use std::alloc::{AllocError, Global};
 use std::marker::Model;
-use world_play::{due_from, ends_from, take_step, write_down};
+use world_play::{bare_tick, due_from, ends_from, take_step};
 use world_stage::Stage;
 
 /// A cluster at a moment, which takes the steps of a run. It can't be dropped, since an agent can't: `World::close` ends
@@ -49,18 +49,20 @@ pub struct World {
     idle_before: u64,
     /// Before this moment plain ticks bring nothing but themselves, whatever agents have to do; 0 where nothing is known of that.
     ticks_idle_before: u64,
+    /// Whether all servers are known to have caught up with whom they follow.
+    caught_up: bool,
 }
 
 impl Model for World {
     ghost use Rattle.cluster_model.specs.declared.step.Step.TheVariants.{Scheduled, Tick};
     ghost use Rattle.simulation.specs.Steps.{WorldFacts};
-    ghost use Rattle.world_model.specs.Idle.{IsIdleBefore};
+    ghost use Rattle.world_model.specs.Idle.{IfCaughtUp, IsIdleBefore};
 
     ghost Value = { WorldFacts };
 
     ghost view = { λ w. record { cluster = w.stage; steps = w.steps } };
 
-    ghost invariant = { λ w. IsIdleBefore Scheduled w.idle_before w.stage × IsIdleBefore Tick w.ticks_idle_before w.stage };
+    ghost invariant = { λ w. IsIdleBefore Scheduled w.idle_before w.stage × IsIdleBefore Tick w.ticks_idle_before w.stage × IfCaughtUp w.caught_up w.stage };
 }
 
 impl World {
@@ -79,6 +81,7 @@ impl World {
             steps: 0,
             idle_before: 0,
             ticks_idle_before: 0,
+            caught_up: false,
         })
     }
 
@@ -89,6 +92,7 @@ impl World {
             steps: _,
             idle_before: _,
             ticks_idle_before: _,
+            caught_up: _,
         } = self;
         stage.close();
     }
@@ -192,8 +196,7 @@ impl World {
         ensures acknowledged { OnOk result (AreAcknowledged self.new.cluster.facts.members self.new.cluster.facts.servers) }
     {
         self.steps += 1;
-        self.stage.pass(1);
-        write_down(events, self.stage.clock(), EventKind::Tick)
+        bare_tick(&mut self.stage, events)
     }
 
     /// Any step. Behind one that brought nothing but the tick of the default schedule it is found up to when that stays so, and behind
@@ -209,7 +212,10 @@ impl World {
         self.steps += 1;
         self.idle_before = 0;
         self.ticks_idle_before = 0;
-        take_step(&mut self.stage, step, events)?;
+        let known = self.caught_up;
+        self.caught_up = false;
+        let caught_up = take_step(&mut self.stage, step, known, events)?;
+        self.caught_up = caught_up;
         self.idle_before = idle_before(&self.stage, step, events.len());
         self.ticks_idle_before = ticks_idle_before(&self.stage, step);
         Ok(())

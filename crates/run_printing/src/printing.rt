@@ -9,6 +9,7 @@ ghost use Rattle.run_printing.specs.LineParts.{line_length};
 use crate::print_error::PrintError;
 use event_book::Event;
 use event_text::write_line;
+use memchr::memchr;
 use pat_outside::{Failed, Sink, write_all};
 use std::alloc::{AllocError, Global};
 use summary::closing_text;
@@ -58,10 +59,8 @@ fn line_length(text: &[u8]) -> usize
     ensures within { result ≤ length text.now }
     ensures some { 0 < length text.now → 0 < result }
 {
-    for (place, byte) in text.iter().enumerate() {
-        if *byte == b'\n' {
-            return place + 1;
-        }
+    match memchr(b'\n', text) {
+        None => text.len(),
+        Some(place) => place + 1,
     }
-    text.len()
 }

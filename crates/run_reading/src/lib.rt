@@ -4,7 +4,6 @@
 mod answer;
 mod forms;
 mod happening;
-mod laws;
 mod run;
 mod sight;
 mod told;

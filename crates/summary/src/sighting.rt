@@ -1,8 +1,9 @@
 //! What the events alone tell of what is seen beside each.
 ghost use Rattle.std.specs.Prelude.{◌≡◌};
+ghost use Rattle.summary_model.specs.Passing.{tells_nothing};
 ghost use Rattle.summary_model.specs.Sights.{since_by_watchdog, since_after, lateness_by_watchdog, lateness_at, is_loss, tells_loss, seen_beside};
 
-use event_book::{Event, EventKind, ReplicationEvent, WatchdogEvent};
+use event_book::{AgentEvent, Event, EventKind, ReplicationEvent, WatchdogEvent};
 use pat_base::Ticks;
 use summary_model::Seen;
 
@@ -55,8 +56,23 @@ fn is_loss(kind: &EventKind) -> bool
     }
 }
 
+/// Whether an event changes nothing that the summary keeps, unless a loss is told behind it.
+pub fn tells_nothing(kind: &EventKind) -> bool
+    ensures { result ≡ tells_nothing kind.now }
+{
+    match kind {
+        EventKind::Message(_)
+        | EventKind::Log(_)
+        | EventKind::Replication(ReplicationEvent::Confirmed { .. })
+        | EventKind::Note(_)
+        | EventKind::Link(_)
+        | EventKind::Agent(AgentEvent::Woken { .. }) => true,
+        _ => false,
+    }
+}
+
 /// Whether the first of these events tells it.
-fn tells_loss(events: &[Event]) -> bool
+pub fn tells_loss(events: &[Event]) -> bool
     ensures { result ≡ tells_loss events.now }
 {
     match events.first() {

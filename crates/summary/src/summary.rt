@@ -7,7 +7,7 @@ ghost use Rattle.summary_model.specs.Sights.{summary_of, noted_before, noted_ste
 
 use crate::Watch;
 use crate::noting::ticks_after;
-use crate::sighting::{seen_beside, since_after};
+use crate::sighting::{seen_beside, since_after, tells_loss, tells_nothing};
 use event_book::Event;
 use pat_base::Ticks;
 use std::marker::Model;
@@ -86,6 +86,10 @@ impl Summary {
         requires count { self.old.watch.closing.acknowledged + 1 < 2 ^ 64 }
         ensures { self.new ≡ noted_before self.old event.now behind.now }
     {
+        // most events, and cheap to see
+        if tells_nothing(&event.kind) && !tells_loss(behind) {
+            return;
+        }
         let now = ticks_after(self.watch.closing().end, &event.kind);
         let seen = seen_beside(now, self.since, &event.kind, behind);
         self.watch.note(event, seen);

@@ -3,6 +3,7 @@
 
 pub mod carrying;
 mod repairing;
+pub mod resting;
 pub mod servers;
 mod telling;
 pub mod wakes;

@@ -1,16 +1,19 @@
 //! Agents that are woken, and that start.
-ghost use Rattle.std.specs.Prelude.{◌≡◌, Some, OnOk};
+ghost use Rattle.std.specs.Prelude.{ℕ, ◌≡◌, ◌≢◌, ◌≤◌, ◌<◌, Some, OnOk, IfOk, IfSome, length, slice_get};
+ghost use Rattle.std.specs.Int.{bit_at};
 ghost use Rattle.cluster_model.specs.Inputs.{moment_of, has_work, is_to_wake, standing_of};
 ghost use Rattle.cluster_model.specs.Messages.{turn_events, wake_events, wake_events_of};
 ghost use Rattle.cluster_model.specs.Next.{agent_start_events};
 ghost use Rattle.cluster_model.specs.Parts.{each};
 ghost use Rattle.world_model.specs.Emits.{Emits};
 ghost use Rattle.world_model.specs.Room.{HasRoom, input_cost, agent_start_cost, wakes_cost};
+ghost use Rattle.world_acts.specs.Asleep.{AreAsleep};
 
 use crate::carrying::carry_out;
+use crate::resting::still_asleep;
 use cluster_model::HeardMessage;
 use event_book::{AgentProcess, Event, Member};
-use pat_base::Ticks;
+use pat_base::{MemberSet, Ticks};
 use std::alloc::AllocError;
 use world_fields::watchdogs::disarm_at_start;
 use world_parts::processes::{agent_started, may_act};
@@ -23,30 +26,66 @@ pub const NO_MESSAGE: HeardMessage = HeardMessage {
     sent: Ticks(0),
 };
 
-/// The agents are woken where they have something to do, in script order.
-pub fn wakes(stage: &mut Stage, events: &mut Vec<Event>) -> Result<(), AllocError>
-    requires { HasRoom stage.old wakes_cost }
-    ensures { OnOk result (Emits stage.old stage.new events.old.items events.new.items (each wake_events stage.old stage.old.facts.members) wakes_cost) }
+/// The agents are woken where they have something to do, in script order; those that are known to have nothing aren't looked at.
+/// Answers whose agents are known to have nothing to do then.
+pub fn wakes(
+    stage: &mut Stage,
+    mut asleep: MemberSet,
+    events: &mut Vec<Event>,
+) -> Result<MemberSet, AllocError>
+    requires room { HasRoom stage.old wakes_cost }
+    requires asleep { AreAsleep asleep stage.old }
+    ensures emits { OnOk result (Emits stage.old stage.new events.old.items events.new.items (each wake_events stage.old stage.old.facts.members) wakes_cost) }
+    ensures asleep { IfOk result (λ known. AreAsleep known stage.new) }
 {
-    for place in 0..stage.member_count() {
+    let mut place = first_awake(stage.members(), asleep, 0);
+    while place < stage.member_count() {
         let member = stage.member(place);
-        wake(stage, member, events)?;
+        asleep = wake(stage, member, asleep, events)?;
+        place = first_awake(stage.members(), asleep, place + 1);
     }
-    Ok(())
+    Ok(asleep)
 }
 
-/// The agent of a member is woken, where it has something to do.
-fn wake(stage: &mut Stage, member: Member, events: &mut Vec<Event>) -> Result<(), AllocError>
-    requires { HasRoom stage.old input_cost }
-    ensures { OnOk result (Emits stage.old stage.new events.old.items events.new.items (wake_events stage.old member) input_cost) }
+/// The first place from this one on of a member that isn't in this set, or how many members there are.
+fn first_awake(members: &[Member], asleep: MemberSet, from: usize) -> usize
+    requires { from ≤ length members.now }
+    ensures range { (from ≤ result) × (result ≤ length members.now) }
+    ensures awake { IfSome (slice_get members.now result) (λ member. bit_at asleep.bits member.id.number ≢ 1) }
+    ensures asleep { (place : ℕ) → from ≤ place → place < result → IfSome (slice_get members.now place) (λ member. bit_at asleep.bits member.id.number ≡ 1) }
+{
+    for place in from..members.len() {
+        if !asleep.contains(members[place].id) {
+            return place;
+        }
+    }
+    members.len()
+}
+
+/// The agent of a member that isn't known to have nothing to do is woken, where it has something to do. Answers whose agents are known to
+/// have nothing to do then.
+fn wake(
+    stage: &mut Stage,
+    member: Member,
+    asleep: MemberSet,
+    events: &mut Vec<Event>,
+) -> Result<MemberSet, AllocError>
+    requires room { HasRoom stage.old input_cost }
+    requires asleep { AreAsleep asleep stage.old }
+    requires awake { bit_at asleep.bits member.id.number ≢ 1 }
+    ensures emits { OnOk result (Emits stage.old stage.new events.old.items events.new.items (wake_events stage.old member) input_cost) }
+    ensures asleep { IfOk result (λ known. AreAsleep known stage.new) }
 {
     let Some(process) = stage.process(member) else {
-        return Ok(());
+        return Ok(asleep.with(member.id));
     };
     if !is_to_wake(stage, member, process) {
-        return Ok(());
+        return Ok(asleep.with(member.id));
     }
-    awaken(stage, member, events)
+    let from = events.len();
+    awaken(stage, member, events)?;
+    // that it was woken is the first event, which concerns no other agent
+    Ok(still_asleep(asleep, &events[from + 1..]))
 }
 
 /// A script wakes the agent of a member, where it runs and isn't suspended: one with nothing else to do takes note of its server.

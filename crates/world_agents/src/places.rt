@@ -120,20 +120,9 @@ fn step_slot(
     ensures slot { slot.new ≡ agent_after (outcome_at now history.now.points heard slot.old (Some machine.old)) slot.old }
     ensures outputs { outputs.new.outputs ≡ outputs_of (outcome_at now history.now.points heard slot.old (Some machine.old)) }
 {
-    match slot.take() {
+    match slot {
         None => {}
-        Some(agent) => put(slot, agent.step(now, heard, history, machine, outputs)),
-    }
-}
-
-/// Puts an agent into an empty place.
-fn put(slot: &mut Option<Agent>, agent: Agent)
-    requires { slot.old ≡ None }
-    ensures { slot.new ≡ Some agent }
-{
-    match slot.replace(agent) {
-        None => {}
-        Some(_) => unreachable!(),
+        Some(agent) => agent.step(now, heard, history, machine, outputs),
     }
 }
 

@@ -1,3 +1,4 @@
 pub mod Flights
 pub mod Indexing
+pub mod Rising
 pub mod Tending

@@ -1,5 +1,5 @@
 -- Which messages in flight a round has to look at.
-use Rattle.std.specs.Prelude.{ℕ, ◌≡◌, ◌≢◌, ◌+◌, ◌*◌, ◌≤◌, ◌⊎◌, Bool, true, false, List, [], Some, slice_index_or}
+use Rattle.std.specs.Prelude.{ℕ, ◌≡◌, ◌≢◌, ◌+◌, ◌*◌, ◌≤◌, ◌⊎◌, ◌||◌, nat_le, Bool, true, false, List, [], Some, slice_index_or}
 use Rattle.std.specs.BTreeMap.{is_at}
 use Rattle.std.specs.List.{list_any}
 use Rattle.std.specs.Ordering.{nat_cmp}
@@ -19,8 +19,10 @@ use Rattle.event_book.specs.Links.{CutLinks, end_count, end_number}
 use Rattle.cluster_model.specs.declared.delivery.Delivery.TheVariants.{Suspended}
 use Rattle.cluster_model.specs.Deliveries.{delivery_of}
 
--- the numbers of the messages that may move, and of those that are kept, by their ways
+-- the first number at which no round has looked yet, the numbers before it of messages that may move, and of those that are kept, by
+-- their ways
 pub record IndexFacts : Type 0 where
+  pub unseen : ℕ
   pub moving : List ℕ
   pub kept : List (List ℕ)
 
@@ -38,7 +40,7 @@ is_among numbers number = list_any (is_at (nat_cmp number)) numbers
 
 -- whether the message of this number may move
 abbrev pub may_move : IndexFacts → ℕ → Bool
-may_move index number = is_among index.moving number
+may_move index number = nat_le index.unseen number || is_among index.moving number
 
 -- the numbers that are kept on a way
 abbrev pub kept_on : IndexFacts → ℕ → List ℕ

@@ -1,2 +1,3 @@
 pub mod FlightIndex
 pub mod Launches
+pub mod Rising

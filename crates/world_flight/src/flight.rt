@@ -1,13 +1,13 @@
 //! Messages in flight.
-ghost use Rattle.std.specs.Prelude.{ℕ, ◌≡◌, ◌≢◌, ◌≤◌, ◌+◌, ◌↔◌, nat_le, [], length, OnOk, OnErr, IfOk, IfSome, IfNone, IsTrue, Some, None, is_some, if◌then◌else◌, option_copied};
-ghost use Rattle.std.specs.BTreeMap.{insert_entry};
+ghost use Rattle.std.specs.Prelude.{ℕ, ◌≡◌, ◌≢◌, ◌≤◌, ◌<◌, ◌↔◌, nat_le, [], length, position, OnOk, IfOk, IfSome, IfNone, IsTrue, Some, None, option_copied};
+ghost use Rattle.std.specs.BTreeMap.{is_at};
 ghost use Rattle.std.specs.Map.{keys_of};
 ghost use Rattle.std.specs.List.Sorted.{IsStrictlySortedBy};
 ghost use Rattle.std.specs.Ordering.{nat_cmp};
 ghost use Rattle.lease_store.specs.Keys.{Keys};
 ghost use Rattle.event_book.specs.Flight.{Flight, InFlightFacts, flight_after, in_flight, without_message};
 ghost use Rattle.world_model.specs.Comes.{IsBare};
-ghost use Rattle.world_flight.specs.Launches.{launched_into};
+ghost use Rattle.world_flight.specs.Launches.{IsFlight, launched_into};
 ghost use Rattle.cluster_model.specs.Limits.{most_in_flight};
 ghost use Rattle.world_model.specs.Short.{IsSent};
 
@@ -20,6 +20,9 @@ use std::marker::Model;
 
 /// The most messages that may be in flight.
 const MOST: usize = 65_536;
+
+/// The most messages that stand in the row of the latest.
+const LATEST: usize = 32;
 
 /// A message on its way, with what an answer of the store carries beside its words: what the store had when it was sent,
 /// and the grant.
@@ -41,23 +44,25 @@ impl Model for InFlight {
     ghost view = { λ m. record { message = m.message; sent = m.sent; snapshot = items_if m.snapshot; grant = m.grant } };
 }
 
-/// The messages in flight, by their numbers.
+/// The messages in flight, by their numbers. Most come to their receivers soon, in the order of their sending: so the latest stand in a
+/// row, and only those that stay longer in a map.
 #[derive(Drop)]
 pub struct Flight {
-    messages: BTreeMap<u64, InFlight>,
+    earlier: BTreeMap<u64, InFlight>,
+    /// Those that were sent last, in the order of their numbers.
+    latest: Vec<(u64, InFlight)>,
 }
 
 impl Model for Flight {
-    ghost use Rattle.std.specs.Prelude.{◌≤◌, length};
+    ghost use Rattle.std.specs.Prelude.{◌++◌};
     ghost use Rattle.event_book.specs.Flight.{Flight};
-    ghost use Rattle.cluster_model.specs.Limits.{most_in_flight};
-    ghost use Rattle.world_model.specs.Short.{AllSent};
+    ghost use Rattle.world_flight.specs.Launches.{IsFlight};
 
     ghost Value = { Flight };
 
-    ghost view = { λ f. f.messages.entries };
+    ghost view = { λ f. f.earlier.entries ++ f.latest.items };
 
-    ghost invariant = { λ f. (length f.messages.entries ≤ most_in_flight) × AllSent f.messages.entries };
+    ghost invariant = { λ f. IsFlight (f.earlier.entries ++ f.latest.items) };
 }
 
 impl Flight {
@@ -66,7 +71,8 @@ impl Flight {
         ensures { result ≡ [] }
     {
         Flight {
-            messages: BTreeMap::new(alloc),
+            earlier: BTreeMap::new(alloc),
+            latest: Vec::new(alloc),
         }
     }
 
@@ -74,7 +80,7 @@ impl Flight {
     pub fn len(&self) -> usize
         ensures { result ≡ length self.now }
     {
-        self.messages.len()
+        self.earlier.len() + self.latest.len()
     }
 
     /// Whether none is in flight.
@@ -83,30 +89,56 @@ impl Flight {
         ensures few { length self.now ≤ most_in_flight }
         ensures order { IsStrictlySortedBy nat_cmp (keys_of self.now) }
     {
-        self.messages.len() == 0
+        self.earlier.len() == 0 && self.latest.len() == 0
     }
 
     /// The message of this number. `None` exactly where it isn't in flight.
     pub fn get(&self, number: u64) -> Option<&InFlight>
         ensures { option_copied result ≡ in_flight self.now number }
     {
-        self.messages.get(&number)
+        match place_of(&self.latest, number) {
+            Some(place) => Some(&self.latest[place].1),
+            None => self.earlier.get(&number),
+        }
     }
 
     /// Sends a message under a number. It answers whether the message was lost at once, which it is where as many are in
     /// flight as may be. It fails only for want of memory.
     pub fn launch(&mut self, number: u64, message: InFlight) -> Result<bool, AllocError>
-        requires { IsSent message }
+        requires sent { IsSent message }
+        requires newest { (n : ℕ) (m : InFlightFacts) → in_flight self.old n ≡ Some m → n < number }
         ensures flight { OnOk result (self.new ≡ launched_into self.old number message) }
         ensures lost { IfOk result (λ lost. lost ≡ nat_le most_in_flight (length self.old)) }
         ensures others { (n : ℕ) (m : InFlightFacts) → n ≢ number → in_flight self.new n ≡ Some m → in_flight self.old n ≡ Some m }
     {
-        let full = self.messages.len() >= MOST;
-        put(&mut self.messages, number, message)?;
-        if full {
-            discard(&mut self.messages, number);
+        if self.is_full() {
+            return Ok(true);
         }
-        Ok(full)
+        self.make_room()?;
+        self.latest.push((number, message))?;
+        Ok(false)
+    }
+
+    /// Whether as many messages are in flight as may be.
+    fn is_full(&self) -> bool
+        ensures full { result ≡ nat_le most_in_flight (length self.now) }
+        ensures flight { IsFlight self.now }
+    {
+        self.earlier.len() + self.latest.len() >= MOST
+    }
+
+    /// Where the row of the latest is full, its first message goes to the earlier ones. It fails only for want of memory, and then loses
+    /// that one.
+    fn make_room(&mut self) -> Result<(), AllocError>
+        ensures same { OnOk result (self.new ≡ self.old) }
+        ensures others { (n : ℕ) (m : InFlightFacts) → in_flight self.new n ≡ Some m → in_flight self.old n ≡ Some m }
+    {
+        if self.latest.len() < LATEST {
+            return Ok(());
+        }
+        let (number, message) = self.latest.remove(0);
+        self.earlier.insert(number, message)?;
+        Ok(())
     }
 
     /// Takes the message of this number out. `None` exactly where it isn't in flight.
@@ -118,7 +150,13 @@ impl Flight {
         ensures gone { in_flight self.new number ≡ None }
         ensures others { (n : ℕ) (m : InFlightFacts) → in_flight self.new n ≡ Some m → in_flight self.old n ≡ Some m }
     {
-        self.messages.remove(&number)
+        match place_of(&self.latest, number) {
+            Some(place) => {
+                let (_, message) = self.latest.remove(place);
+                Some(message)
+            }
+            None => self.earlier.remove(&number),
+        }
     }
 }
 
@@ -133,27 +171,9 @@ pub fn change_flight(flight: &mut Flight, kind: &EventKind)
     }
 }
 
-/// Puts a message in, and lets go of one that had its number.
-fn put(
-    messages: &mut BTreeMap<u64, InFlight>,
-    number: u64,
-    message: InFlight,
-) -> Result<(), AllocError>
-    ensures entries { OnOk result (messages.new.entries ≡ insert_entry nat_cmp messages.old.entries number message) }
-    ensures found { OnOk result (in_flight messages.new.entries number ≡ Some message) }
-    ensures len { OnOk result (length messages.new.entries ≤ length messages.old.entries + 1) }
-    ensures others { (n : ℕ) (m : InFlightFacts) → n ≢ number → in_flight messages.new.entries n ≡ Some m → in_flight messages.old.entries n ≡ Some m }
-    ensures err { OnErr result (messages.new.entries ≡ messages.old.entries) }
+/// The place of a message among those of a row.
+fn place_of(row: &[(u64, InFlight)], number: u64) -> Option<usize>
+    ensures { result ≡ position (λ entry. is_at (nat_cmp number) entry.0) row.now }
 {
-    messages.insert(number, message)?;
-    Ok(())
-}
-
-/// Lets go of a message.
-fn discard(messages: &mut BTreeMap<u64, InFlight>, number: u64)
-    ensures entries { messages.new.entries ≡ without_message messages.old.entries number }
-    ensures others { (n : ℕ) (m : InFlightFacts) → in_flight messages.new.entries n ≡ Some m → in_flight messages.old.entries n ≡ Some m }
-    ensures len { length messages.new.entries + (if is_some (in_flight messages.old.entries number) then 1 else 0) ≡ length messages.old.entries }
-{
-    messages.remove(&number);
+    row.iter().position(|(other, _)| number.cmp(other).is_eq())
 }

@@ -29,8 +29,14 @@ impl Model for Numbers {
 
 /// The numbers of the messages in flight that may move, and by their ways the numbers of those that are kept for receivers
 /// that are suspended. A way leads to one end of a link from the other one.
+///
+/// Messages that are sent have numbers at which no round has looked yet, and rounds look at one after another: so most numbers of
+/// messages that may move needn't be kept.
 #[derive(Drop)]
 pub struct FlightIndex {
+    /// No round has looked at this number or a later one.
+    unseen: u64,
+    /// The numbers before it of messages that may move.
     moving: BTreeSet<u64>,
     kept: Vec<Numbers>,
 }
@@ -42,7 +48,7 @@ impl Model for FlightIndex {
 
     ghost Value = { IndexFacts };
 
-    ghost view = { λ i. record { moving = i.moving.keys; kept = i.kept.items } };
+    ghost view = { λ i. record { unseen = i.unseen; moving = i.moving.keys; kept = i.kept.items } };
 
     ghost invariant = { λ i. length i.kept.items ≡ place_count };
 }
@@ -89,18 +95,22 @@ impl FlightIndex {
             kept.push(Numbers::new(alloc))?;
         }
         Ok(FlightIndex {
+            unseen: 0,
             moving: BTreeSet::new(alloc),
             kept,
         })
     }
 
     /// The least number from this one on that may move.
-    pub fn first_from(&self, from: u64) -> Option<u64>
-        ensures from { IfSome result (λ n. from ≤ n) }
-        ensures passed { (k : ℕ) → from ≤ k → IfSome result (λ n. k < n) → may_move self.now k ≡ false }
+    pub fn first_from(&self, from: u64) -> u64
+        ensures from { from ≤ result }
+        ensures passed { (k : ℕ) → from ≤ k → k < result → may_move self.now k ≡ false }
     {
-        let number = self.moving.range(from..).next()?;
-        Some(*number)
+        let unseen = self.unseen.max(from);
+        match self.moving.range(from..).next() {
+            Some(number) if *number < unseen => *number,
+            _ => unseen,
+        }
     }
 
     /// The message of this number may move. It fails only for want of memory.
@@ -108,15 +118,21 @@ impl FlightIndex {
         ensures looser { IsLooser self.old self.new }
         ensures there { OnOk result (may_move self.new number ≡ true) }
     {
-        self.moving.insert(number)?;
+        if number < self.unseen {
+            self.moving.insert(number)?;
+        }
         Ok(())
     }
 
     /// The message of this number is in flight no longer.
     pub fn remove(&mut self, number: u64)
-        ensures { IsLooserBut number self.old self.new }
+        ensures looser { IsLooserBut number self.old self.new }
+        ensures kept { self.new.kept ≡ self.old.kept }
     {
         self.moving.remove(&number);
+        if number == self.unseen {
+            self.unseen = number.saturating_add(1);
+        }
     }
 
     /// The message of this number is kept on a way. It fails only for want of memory.
@@ -127,7 +143,7 @@ impl FlightIndex {
         ensures err { OnErr result (self.new ≡ self.old) }
     {
         self.kept[way].push(number)?;
-        self.moving.remove(&number);
+        self.remove(number);
         Ok(())
     }
 

@@ -13,7 +13,7 @@ use Rattle.cluster_model.specs.Starting.{cluster_of, first_agent}
 use Rattle.cluster_model.specs.State.{Cluster}
 use Rattle.world_model.specs.Counted.{AreCounted, HasNumbered, counted_by}
 use Rattle.world_model.specs.Room.{HasNumbers, HasRoom, most_steps, step_cost}
-use Rattle.world_model.proofs.Idling.{at_moment}
+use Rattle.world_model.specs.Idle.{at_moment}
 use Rattle.world_model.proofs.ServerRooms.{HasTimeline}
 
 abbrev RunsBelow : ℕ → AgentProcess → Type 0

@@ -55,14 +55,10 @@ use Rattle.cluster_model.specs.Parts.{each, event_of, events_of, events_then, fo
 use Rattle.cluster_model.specs.State.{Cluster}
 use Rattle.cluster_model.specs.Streaming.{confirm_of, source_of, unconfirmed_end}
 use Rattle.cluster_model.specs.Ticking.{completion_events, expiries_of, next_expiries, reset_events, reset_of, tick_events}
-use Rattle.world_model.specs.Idle.{HasNoNewsFrom, HasWorkFrom, IsAsleep, IsIdle, IsIdleButForAgents, IsIdleIn, IsNoNews, NoneResets, NothingEnds, NothingMoves, ReceivesNone, SleepsAt, work_moment}
+use Rattle.world_model.specs.Idle.{at_moment, AreCaughtUp, HasNoNewsFrom, HasWorkFrom, IsAsleep, IsIdle, IsIdleButForAgents, IsIdleIn, IsNoNews, NoneResets, NothingEnds, ReceivesNone, SleepsAt, work_moment}
 use Rattle.world_model.proofs.Rest.{rounds_events-still}
 use Rattle.world_model.proofs.ServerRooms.{All-at, All-weaker}
 use Rattle.world_model.proofs.Silence.{kept-still}
-
--- a cluster at another moment
-abbrev pub at_moment : Cluster → ℕ → Cluster
-at_moment cluster now = record cluster { facts = record cluster.facts { clock = now } }
 
 -- a part that brings nothing
 pub then-nothing : (cluster : Cluster) (events : List Event) (more : Cluster → List Event) → events ≡ [] → events_then cluster events more ≡ more cluster
@@ -263,11 +259,11 @@ acknowledged-none cluster done =
     (All-weaker Member (λ (m : Member). IsDone (slice_get cluster.facts.servers m.id.number)) (λ (m : Member). acknowledge_events cluster m ≡ []) cluster.facts.members
     (λ m is. acknowledges-none cluster m (slice_get cluster.facts.servers m.id.number) is) done)
 
-received-none : (cluster : Cluster) → NothingMoves cluster → each receive_events_of cluster cluster.facts.members ≡ []
-received-none cluster still =
+pub received-none : (cluster : Cluster) → AreCaughtUp cluster → each receive_events_of cluster cluster.facts.members ≡ []
+received-none cluster caught_up =
     each-nothing Member receive_events_of cluster cluster.facts.members
     (All-weaker Member (λ (m : Member). ReceivesNone cluster.facts.members cluster.facts.servers cluster.facts.cuts m (slice_get cluster.facts.frozen m.id.number)) (λ (m : Member). receive_events_of cluster m ≡ []) cluster.facts.members
-    (λ m none. receive-none cluster m (slice_get cluster.facts.frozen m.id.number) none) still.replicas)
+    (λ m none. receive-none cluster m (slice_get cluster.facts.frozen m.id.number) none) caught_up)
 
 -- a round in which no agent is to be woken
 round-none : (cluster : Cluster) (later : ℕ) → cluster.facts.clock ≤ later → IsIdle later cluster → round_events cluster ≡ []
@@ -277,7 +273,7 @@ round-none cluster later h idle =
 
 scheduled-none : (cluster : Cluster) (later : ℕ) → cluster.facts.clock ≤ later → IsIdle later cluster → scheduled_events cluster ≡ []
 scheduled-none cluster later h idle =
-    then-nothing cluster (each receive_events_of cluster cluster.facts.members) (λ after. rounds_events after most_rounds) (received-none cluster idle.moves)
+    then-nothing cluster (each receive_events_of cluster cluster.facts.members) (λ after. rounds_events after most_rounds) (received-none cluster idle.moves.replicas)
     ∙ rounds_events-still cluster (round-none cluster later h idle)
 
 -- what is so of an idle cluster doesn't depend on its clock

@@ -20,7 +20,7 @@ use Rattle.cluster_model.specs.State.{Cluster}
 use Rattle.cluster_model.specs.Streaming.{confirm_of, source_of, unconfirmed_end}
 use Rattle.cluster_model.specs.Ticking.{completion_events, next_expiries, reset_events}
 use Rattle.world_model.specs.Emits.{Emits}
-use Rattle.world_model.specs.Idle.{HasNoNewsFrom, IsNoNews, NothingMoves, ReceivesNone}
+use Rattle.world_model.specs.Idle.{AreCaughtUp, HasNoNewsFrom, IsNoNews, NothingMoves, ReceivesNone}
 use Rattle.world_model.proofs.Rest.{empty-of, rounds_events-silent}
 use Rattle.world_model.proofs.ServerRooms.{All-weaker}
 use Rattle.world_model.proofs.Silence.{first-empty, no-events, round_events-kept}
@@ -54,6 +54,12 @@ receives-none cluster member None none = tt
 receives-none cluster member (Some true) none = tt
 receives-none cluster member (Some false) none = no-source cluster member (source_of cluster.facts.members cluster.facts.servers cluster.facts.cuts member) none
 
+-- where nothing was received, all have caught up
+pub received-all : (cluster : Cluster) → each receive_events_of cluster cluster.facts.members ≡ [] → AreCaughtUp cluster
+received-all cluster none =
+    All-weaker Member (λ (m : Member). receive_events_of cluster m ≡ []) (λ (m : Member). ReceivesNone cluster.facts.members cluster.facts.servers cluster.facts.cuts m (slice_get cluster.facts.frozen m.id.number)) cluster.facts.members
+    (λ m received. receives-none cluster m (slice_get cluster.facts.frozen m.id.number) received) (each-none Member receive_events_of cluster cluster.facts.members none)
+
 -- nothing moves where nothing was received, no round brought anything, and no commit may be acknowledged
 still-if : (cluster : Cluster) → scheduled_events cluster ≡ [] → AreAcknowledged cluster.facts.members cluster.facts.servers → NothingMoves cluster
 still-if cluster none done =
@@ -62,8 +68,7 @@ still-if cluster none done =
     let rounds : rounds_events cluster most_rounds ≡ [] = ap (λ (es : List Event). rounds_events (cluster_over cluster es) most_rounds) (sym both.0) ∙ both.1 in
     record {
       messages = round_events-kept cluster (rounds_events-silent cluster rounds);
-      replicas = All-weaker Member (λ (m : Member). receive_events_of cluster m ≡ []) (λ (m : Member). ReceivesNone cluster.facts.members cluster.facts.servers cluster.facts.cuts m (slice_get cluster.facts.frozen m.id.number)) cluster.facts.members
-          (λ m received. receives-none cluster m (slice_get cluster.facts.frozen m.id.number) received) (each-none Member receive_events_of cluster cluster.facts.members both.0);
+      replicas = received-all cluster both.0;
       commits = done;
     }
 

@@ -1,5 +1,6 @@
 -- Clusters in which nothing happens for a while but that time passes.
-use Rattle.std.specs.Prelude.{ℕ, ◌≡◌, ◌<◌, nat_le, Bool, false, List, [], All, Option, Some, None, slice_get, zero, suc}
+use Rattle.std.specs.Prelude.{ℕ, ◌≡◌, ◌<◌, nat_le, Bool, true, false, List, [], All, Option, Some, None, slice_get, zero, suc}
+use Rattle.std.specs.List.{list_any}
 use Rattle.pat_base.specs.declared.lsn.Lsn.{Lsn}
 use Rattle.pat_base.specs.declared.ticks.Ticks.{Ticks}
 use Rattle.leader_key.specs.Watchdog.{is_due_at}
@@ -10,7 +11,10 @@ use Rattle.pg_cluster.specs.Completing.{NoneComplete}
 use Rattle.pg_model.specs.Facts.{ServerFacts}
 use Rattle.pg_cluster.specs.Servers.{news_at}
 use Rattle.event_book.specs.declared.agent_process.AgentProcess.{AgentProcess}
+use Rattle.event_book.specs.declared.event.Event.{Event}
+use Rattle.event_book.specs.declared.event.EventKind.{EventKind}
 use Rattle.event_book.specs.declared.event.EventKind.TheVariants as kinds
+use Rattle.event_book.specs.declared.event.WatchdogEvent.TheVariants as watchdogs
 use Rattle.event_book.specs.declared.member.Member.{Member}
 use Rattle.event_book.specs.Flight.{Flight, InFlightFacts, in_flight}
 use Rattle.event_book.specs.Links.{CutLinks}
@@ -28,6 +32,10 @@ use Rattle.cluster_model.specs.Next.{all_entries, next_events}
 use Rattle.cluster_model.specs.Parts.{event_of}
 use Rattle.cluster_model.specs.State.{Cluster}
 use Rattle.cluster_model.specs.Streaming.{source_of, unconfirmed_end}
+
+-- a cluster at another moment
+abbrev pub at_moment : Cluster → ℕ → Cluster
+at_moment cluster now = record cluster { facts = record cluster.facts { clock = now } }
 
 -- from this moment on there is something to do for an agent with its machine, or there never is
 abbrev pub HasWorkFrom : Option Outcome → Option Ticks → Type 0
@@ -82,6 +90,28 @@ abbrev pub ReceivesNone : List Member → List ServerFacts → CutLinks → Memb
 ReceivesNone members servers cuts member (Some false) = HasNoNewsFrom servers member (source_of members servers cuts member)
 ReceivesNone members servers cuts member _ = Unit {0}
 
+-- the servers, but for those that are frozen, receive and confirm nothing
+abbrev pub AreCaughtUp : Cluster → Type 0
+AreCaughtUp cluster = All (λ member. ReceivesNone cluster.facts.members cluster.facts.servers cluster.facts.cuts member (slice_get cluster.facts.frozen member.id.number)) cluster.facts.members
+
+-- that is so where it is known
+abbrev pub IfCaughtUp : Bool → Cluster → Type 0
+IfCaughtUp known cluster = known ≡ true → AreCaughtUp cluster
+
+-- after such a happening a server may have something to receive or to confirm: it changes servers or links
+abbrev pub stirs_replicas : EventKind → Bool
+stirs_replicas kinds.Tick = true
+stirs_replicas (kinds.Watchdog (watchdogs.Reset member)) = true
+stirs_replicas (kinds.Server happening) = true
+stirs_replicas (kinds.Log happening) = true
+stirs_replicas (kinds.Replication happening) = true
+stirs_replicas (kinds.Link happening) = true
+stirs_replicas _ = false
+
+-- so it is after one of these events
+abbrev pub stir_replicas : List Event → Bool
+stir_replicas events = list_any (λ event. stirs_replicas event.kind) events
+
 -- each message in flight is kept for a receiver that is suspended
 abbrev pub AreKept : Flight → List AgentProcess → CutLinks → Type 0
 AreKept flight agents cuts = (n : ℕ) (message : InFlightFacts) → in_flight flight n ≡ Some message → delivery_of cuts agents message.message ≡ Suspended
@@ -89,7 +119,7 @@ AreKept flight agents cuts = (n : ℕ) (message : InFlightFacts) → in_flight f
 -- nothing moves but by the clock: no message comes or is lost, no replica receives or confirms anything, and no commit may be acknowledged
 pub record NothingMoves (cluster : Cluster) : Type 0 where
   pub messages : AreKept cluster.facts.flight cluster.facts.processes cluster.facts.cuts
-  pub replicas : All (λ member. ReceivesNone cluster.facts.members cluster.facts.servers cluster.facts.cuts member (slice_get cluster.facts.frozen member.id.number)) cluster.facts.members
+  pub replicas : AreCaughtUp cluster
   pub commits : AreAcknowledged cluster.facts.members cluster.facts.servers
 
 -- up to this moment nothing happens in steps of the default schedule but their ticks

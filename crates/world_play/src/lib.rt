@@ -7,5 +7,5 @@ mod requests;
 mod steps;
 
 pub use steps::take_step;
-pub use world_fields::writing::write_down;
 pub use world_ticks::idling::{due_from, ends_from};
+pub use world_ticks::ticks::bare_tick;

@@ -1,5 +1,5 @@
 //! Messages in flight: which move in a round, and what scripts do with one.
-ghost use Rattle.std.specs.Prelude.{◌<◌, ◌+◌, ◌*◌, OnOk, IfSome, None};
+ghost use Rattle.std.specs.Prelude.{◌<◌, ◌+◌, ◌*◌, OnOk, IfOk, IfSome, None};
 ghost use Rattle.std.specs.Map.{keys_of};
 ghost use Rattle.event_book.specs.Flight.{in_flight};
 ghost use Rattle.cluster_model.specs.Limits.{most_in_flight};
@@ -7,45 +7,69 @@ ghost use Rattle.cluster_model.specs.Messages.{arrival_events, deliver_events, l
 ghost use Rattle.cluster_model.specs.Parts.{event_of, each, for_some};
 ghost use Rattle.world_model.specs.Room.{HasRoom, message_cost};
 ghost use Rattle.world_model.specs.Emits.{Emits};
+ghost use Rattle.world_acts.specs.Asleep.{AreAsleep};
 
 use cluster_model::Delivery;
 use event_book::{Event, EventKind, MessageEvent, Note};
+use pat_base::MemberSet;
 use std::alloc::AllocError;
 use world_acts::carrying::carry_out;
+use world_acts::resting::still_asleep;
 use world_fields::writing::write_down;
 use world_stage::{Arrival, Stage};
 
-/// The messages that are in flight move, one after another. Those that are kept aren't looked at.
-pub fn pass_messages(stage: &mut Stage, events: &mut Vec<Event>) -> Result<(), AllocError>
-    requires { HasRoom stage.old (message_cost * most_in_flight) }
-    ensures { OnOk result (Emits stage.old stage.new events.old.items events.new.items (each message_events stage.old (keys_of stage.old.facts.flight)) (message_cost * most_in_flight)) }
+/// The messages that are in flight move, one after another. Those that are kept aren't looked at. Answers whose agents are known to have
+/// nothing to do then, given whose are before.
+pub fn pass_messages(
+    stage: &mut Stage,
+    mut asleep: MemberSet,
+    events: &mut Vec<Event>,
+) -> Result<MemberSet, AllocError>
+    requires room { HasRoom stage.old (message_cost * most_in_flight) }
+    requires asleep { AreAsleep asleep stage.old }
+    ensures emits { OnOk result (Emits stage.old stage.new events.old.items events.new.items (each message_events stage.old (keys_of stage.old.facts.flight)) (message_cost * most_in_flight)) }
+    ensures asleep { IfOk result (λ known. AreAsleep known stage.new) }
 {
     if !stage.has_messages() {
-        return Ok(());
+        return Ok(asleep);
     }
     // what is sent meanwhile has a greater number
     let last = stage.sent();
     let mut from = 0;
     while let Some(number) = stage.next_to_move(from, last) {
-        pass_message(stage, number, events)?;
+        asleep = pass_message(stage, number, asleep, events)?;
         from = number + 1;
     }
-    Ok(())
+    Ok(asleep)
 }
 
-/// A message comes to its receiver, is lost, or is kept for a receiver that is suspended.
-fn pass_message(stage: &mut Stage, number: u64, events: &mut Vec<Event>) -> Result<(), AllocError>
-    requires { IfSome (in_flight stage.old.facts.flight number) (λ m. HasRoom stage.old message_cost) }
-    ensures { OnOk result (Emits stage.old stage.new events.old.items events.new.items (message_events stage.old number) message_cost) }
+/// A message comes to its receiver, is lost, or is kept for a receiver that is suspended. Answers whose agents are known to have nothing
+/// to do then.
+fn pass_message(
+    stage: &mut Stage,
+    number: u64,
+    asleep: MemberSet,
+    events: &mut Vec<Event>,
+) -> Result<MemberSet, AllocError>
+    requires room { IfSome (in_flight stage.old.facts.flight number) (λ m. HasRoom stage.old message_cost) }
+    requires asleep { AreAsleep asleep stage.old }
+    ensures emits { OnOk result (Emits stage.old stage.new events.old.items events.new.items (message_events stage.old number) message_cost) }
+    ensures asleep { IfOk result (λ known. AreAsleep known stage.new) }
 {
     match stage.delivery(number) {
         None => {
             stage.forget(number);
-            Ok(())
+            Ok(asleep)
         }
-        Some(Delivery::Suspended) => stage.keep(number),
-        Some(Delivery::Open) => arrive(stage, number, events),
-        Some(Delivery::Cut | Delivery::Gone) => drop_message(stage, number, events),
+        Some(Delivery::Suspended) => {
+            stage.keep(number)?;
+            Ok(asleep)
+        }
+        Some(Delivery::Open) => arrive(stage, number, asleep, events),
+        Some(Delivery::Cut | Delivery::Gone) => {
+            drop_message(stage, number, events)?;
+            Ok(asleep)
+        }
     }
 }
 
@@ -60,7 +84,11 @@ pub fn deliver(stage: &mut Stage, number: u64, events: &mut Vec<Event>) -> Resul
             stage.clock(),
             EventKind::Note(Note::NoMessage { number }),
         ),
-        Some(Delivery::Open) => arrive(stage, number, events),
+        Some(Delivery::Open) => {
+            // nothing is made of who has nothing to do behind a line of a script
+            arrive(stage, number, MemberSet::empty(), events)?;
+            Ok(())
+        }
         Some(Delivery::Gone) => drop_message(stage, number, events),
         Some(Delivery::Cut | Delivery::Suspended) => leave(stage, number, events),
     }
@@ -97,26 +125,35 @@ fn drop_message(stage: &mut Stage, number: u64, events: &mut Vec<Event>) -> Resu
     stage.happen(EventKind::Message(MessageEvent::Lost { number }), events)
 }
 
-/// A message in flight comes to its receiver, which acts on it.
-fn arrive(stage: &mut Stage, number: u64, events: &mut Vec<Event>) -> Result<(), AllocError>
-    requires { HasRoom stage.old message_cost }
-    ensures { OnOk result (Emits stage.old stage.new events.old.items events.new.items (for_some (in_flight stage.old.facts.flight number) (arrival_events stage.old number)) message_cost) }
+/// A message in flight comes to its receiver, which acts on it. Answers whose agents are known to have nothing to do then.
+fn arrive(
+    stage: &mut Stage,
+    number: u64,
+    asleep: MemberSet,
+    events: &mut Vec<Event>,
+) -> Result<MemberSet, AllocError>
+    requires room { HasRoom stage.old message_cost }
+    requires asleep { AreAsleep asleep stage.old }
+    ensures emits { OnOk result (Emits stage.old stage.new events.old.items events.new.items (for_some (in_flight stage.old.facts.flight number) (arrival_events stage.old number)) message_cost) }
+    ensures asleep { IfOk result (λ known. AreAsleep known stage.new) }
 {
     let mut outputs = stage.take_outputs()?;
     match stage.land(number, &mut outputs, events)? {
         None => {
             stage.give_back(outputs);
-            Ok(())
+            Ok(asleep)
         }
         Some(Arrival::AtStore(message)) => {
+            let from = events.len();
             stage.answer(number, message.get(), events)?;
             stage.give_back(outputs);
-            Ok(())
+            Ok(still_asleep(asleep, &events[from..]))
         }
         Some(Arrival::AtAgent(member, heard)) => {
+            let from = events.len();
             carry_out(stage, member, heard, &mut outputs, events)?;
             stage.give_back(outputs);
-            Ok(())
+            Ok(still_asleep(asleep.without(member.id), &events[from..]))
         }
     }
 }

@@ -1,5 +1,5 @@
 //! The steps of a run: ticks, and what commands come to.
-ghost use Rattle.std.specs.Prelude.{◌≡◌, ◌<◌, ◌+◌, ◌*◌, OnOk, IfSome, Some};
+ghost use Rattle.std.specs.Prelude.{◌≡◌, ◌<◌, ◌+◌, ◌*◌, ◌&&◌, not, OnOk, IfOk, IfSome, Some};
 ghost use Rattle.script_model.specs.Script.{IsCommand};
 ghost use Rattle.event_book.specs.declared.event.Event.{Event};
 ghost use Rattle.cluster_model.specs.Acknowledging.{AreAcknowledged};
@@ -8,13 +8,16 @@ ghost use Rattle.cluster_model.specs.Next.{round_events, rounds_events, declared
 ghost use Rattle.cluster_model.specs.Steps.{IsStep, names_in};
 ghost use Rattle.world_model.specs.Comes.{MayCome};
 ghost use Rattle.world_model.specs.Emits.{Emits};
+ghost use Rattle.world_model.specs.Idle.{IfCaughtUp, stir_replicas};
 ghost use Rattle.world_model.specs.Room.{HasRoom, HasRoomFor, command_cost, round_cost, rounds_cost, schedule_cost, step_cost};
+ghost use Rattle.world_acts.specs.Asleep.{AreAsleep};
 
 use crate::ctl::take_words;
 use crate::messages::{deliver, lose, pass_messages};
 use crate::requests::{make_request, receive_visit};
 use cluster_model::{Asker, Step};
 use event_book::{Event, EventKind};
+use pat_base::MemberSet;
 use rest_message::Verb;
 use script_model::Command;
 use std::alloc::AllocError;
@@ -24,51 +27,88 @@ use world_fields::links::{cut_of, join_of};
 use world_orders::server_commands::{commit_of, crash_of, freezing_of, slow_of};
 use world_parts::processes::{kill_of, resume_of, suspend_of};
 use world_stage::Stage;
-use world_ticks::receiving::{all_receive, receive};
+use world_ticks::receiving::{all_receive, receive, stir_replicas};
 use world_ticks::ticks::tick;
 
 /// The most rounds of one tick.
 const MOST_ROUNDS: usize = 40;
 
-/// One step of a run with these members: what happens in it, and then the acknowledgements. On Err, want of memory, the stage
-/// isn't to be used any more.
-pub fn take_step(stage: &mut Stage, step: &Step, events: &mut Vec<Event>) -> Result<(), AllocError>
+/// One step of a run with these members: what happens in it, and then the acknowledgements. Answers whether all servers are known to
+/// have caught up behind it, given whether they were before. On Err, want of memory, the stage isn't to be used any more.
+pub fn take_step(
+    stage: &mut Stage,
+    step: &Step,
+    caught_up: bool,
+    events: &mut Vec<Event>,
+) -> Result<bool, AllocError>
     requires room { HasRoomFor stage.old 1 }
     requires declared { IsStep stage.old.facts.members step.now }
+    requires caught_up { IfCaughtUp caught_up stage.old }
     ensures emits { OnOk result (Emits stage.old stage.new events.old.items events.new.items (next_events stage.old step.now) step_cost) }
     ensures acknowledged { OnOk result (AreAcknowledged stage.new.facts.members stage.new.facts.servers) }
+    ensures caught_up { IfOk result (λ known. IfCaughtUp known stage.new) }
 {
-    perform(stage, step, events)?;
-    stage.acknowledge_all(events)
+    let caught_up = perform(stage, step, caught_up, events)?;
+    let from = events.len();
+    stage.acknowledge_all(events)?;
+    Ok(still_caught_up(caught_up, &events[from..]))
 }
 
 /// What happens in a step.
-fn perform(stage: &mut Stage, step: &Step, events: &mut Vec<Event>) -> Result<(), AllocError>
+fn perform(
+    stage: &mut Stage,
+    step: &Step,
+    caught_up: bool,
+    events: &mut Vec<Event>,
+) -> Result<bool, AllocError>
     requires room { HasRoomFor stage.old 1 }
     requires declared { IsStep stage.old.facts.members step.now }
-    ensures { OnOk result (Emits stage.old stage.new events.old.items events.new.items (step_events stage.old step.now) step_cost) }
+    requires caught_up { IfCaughtUp caught_up stage.old }
+    ensures emits { OnOk result (Emits stage.old stage.new events.old.items events.new.items (step_events stage.old step.now) step_cost) }
+    ensures caught_up { IfOk result (λ known. IfCaughtUp known stage.new) }
 {
     match step {
         Step::Scheduled => {
-            tick(stage, events)?;
-            scheduled(stage, events)
+            let caught_up = tick(stage, caught_up, events)?;
+            scheduled(stage, caught_up, events)
         }
-        Step::Tick => tick(stage, events),
-        Step::Command(command) => take_command(stage, command, events),
+        Step::Tick => tick(stage, caught_up, events),
+        Step::Command(command) => {
+            let from = events.len();
+            take_command(stage, command, events)?;
+            Ok(still_caught_up(caught_up, &events[from..]))
+        }
         Step::Connection(id, visit) => {
+            let from = events.len();
             let member = stage.declared(*id);
-            receive_visit(stage, member, visit, events)
+            receive_visit(stage, member, visit, events)?;
+            Ok(still_caught_up(caught_up, &events[from..]))
         }
     }
 }
 
 /// A tick of the default schedule: replicas receive, and then agents are woken and messages come.
-fn scheduled(stage: &mut Stage, events: &mut Vec<Event>) -> Result<(), AllocError>
-    requires { HasRoom stage.old schedule_cost }
-    ensures { OnOk result (Emits stage.old stage.new events.old.items events.new.items (scheduled_events stage.old) schedule_cost) }
+fn scheduled(
+    stage: &mut Stage,
+    caught_up: bool,
+    events: &mut Vec<Event>,
+) -> Result<bool, AllocError>
+    requires room { HasRoom stage.old schedule_cost }
+    requires caught_up { IfCaughtUp caught_up stage.old }
+    ensures emits { OnOk result (Emits stage.old stage.new events.old.items events.new.items (scheduled_events stage.old) schedule_cost) }
+    ensures caught_up { IfOk result (λ known. IfCaughtUp known stage.new) }
 {
-    all_receive(stage, events)?;
-    rounds(stage, events)
+    let caught_up = all_receive(stage, caught_up, events)?;
+    let from = events.len();
+    rounds(stage, events)?;
+    Ok(still_caught_up(caught_up, &events[from..]))
+}
+
+/// Whether all servers are known to have caught up behind these events, given whether they were before.
+fn still_caught_up(caught_up: bool, events: &[Event]) -> bool
+    ensures { result ≡ (caught_up && not (stir_replicas events.now)) }
+{
+    caught_up && !stir_replicas(events)
 }
 
 /// What a command comes to.
@@ -157,14 +197,16 @@ fn command_kind(stage: &Stage, command: &Command) -> Option<EventKind>
     }
 }
 
-/// The rounds of a tick. A round in which nothing happens is the last.
+/// The rounds of a tick. A round in which nothing happens is the last. Behind the first one only agents are looked at that were woken
+/// or heard something since, as long as nothing else happens that may give others something to do.
 fn rounds(stage: &mut Stage, events: &mut Vec<Event>) -> Result<(), AllocError>
     requires { HasRoom stage.old rounds_cost }
     ensures { OnOk result (Emits stage.old stage.new events.old.items events.new.items (rounds_events stage.old most_rounds) rounds_cost) }
 {
+    let mut asleep = MemberSet::empty();
     for done in 0..MOST_ROUNDS {
         let before = events.len();
-        round(stage, events)?;
+        asleep = round(stage, asleep, events)?;
         if events.len() == before {
             return Ok(());
         }
@@ -172,11 +214,18 @@ fn rounds(stage: &mut Stage, events: &mut Vec<Event>) -> Result<(), AllocError>
     Ok(())
 }
 
-/// A round: each due agent is woken, and then each message that is in flight at that point moves.
-fn round(stage: &mut Stage, events: &mut Vec<Event>) -> Result<(), AllocError>
-    requires { HasRoom stage.old round_cost }
-    ensures { OnOk result (Emits stage.old stage.new events.old.items events.new.items (round_events stage.old) round_cost) }
+/// A round: each due agent is woken, and then each message that is in flight at that point moves. Answers whose agents are known to have
+/// nothing to do then, given whose are before.
+fn round(
+    stage: &mut Stage,
+    asleep: MemberSet,
+    events: &mut Vec<Event>,
+) -> Result<MemberSet, AllocError>
+    requires room { HasRoom stage.old round_cost }
+    requires asleep { AreAsleep asleep stage.old }
+    ensures emits { OnOk result (Emits stage.old stage.new events.old.items events.new.items (round_events stage.old) round_cost) }
+    ensures asleep { IfOk result (λ known. AreAsleep known stage.new) }
 {
-    wakes(stage, events)?;
-    pass_messages(stage, events)
+    let asleep = wakes(stage, asleep, events)?;
+    pass_messages(stage, asleep, events)
 }

@@ -129,8 +129,7 @@ impl Stage {
         let frozen = Vec::from_elem(alloc, false, count)?;
         let store = Store::new(alloc, head.config().try_clone()?)?;
         let scope = head.cluster();
-        let index = FlightIndex::new(alloc)?;
-        let flight = Flight::new(alloc);
+        let (flight, index) = nothing_in_flight(alloc)?;
         // the agents come last, since nothing that fails may leave any of them behind
         let agents = first_agents(alloc, scope, &options, &members)?;
         Ok(Stage {
@@ -305,6 +304,14 @@ impl Stage {
     {
         self.clock = Ticks(self.clock.0 + ticks);
     }
+}
+
+/// No message in flight, and the index of none. It fails only for want of memory.
+fn nothing_in_flight(alloc: Global) -> Result<(Flight, FlightIndex), AllocError>
+    ensures { IfOk result (λ both. both.0 ≡ []) }
+{
+    let index = FlightIndex::new(alloc)?;
+    Ok((Flight::new(alloc), index))
 }
 
 /// Where members are reached, to be shared with snapshots.

@@ -1,18 +1,39 @@
 //! What replicas receive and confirm, in a tick and by a command.
-ghost use Rattle.std.specs.Prelude.{◌≡◌, OnOk, slice_get};
+ghost use Rattle.std.specs.Prelude.{◌≡◌, OnOk, IfOk, slice_get};
 ghost use Rattle.cluster_model.specs.Next.{receive_events_of, receive_events_at_most};
 ghost use Rattle.cluster_model.specs.Parts.{each};
 ghost use Rattle.world_model.specs.Room.{HasRoom, receiving_cost, streaming_cost};
 ghost use Rattle.world_model.specs.Emits.{Emits};
+ghost use Rattle.world_model.specs.Idle.{IfCaughtUp, stir_replicas, stirs_replicas};
 
-use event_book::{Event, Member};
+use event_book::{Event, EventKind, Member, WatchdogEvent};
 use std::alloc::AllocError;
 use world_fields::machines::item_at;
 use world_parts::sources::source_of;
 use world_stage::Stage;
 
+/// The servers receive all that they lack, in script order, but for those that are frozen; nothing is done where all are known to have
+/// caught up. Answers whether they had.
+pub fn all_receive(
+    stage: &mut Stage,
+    caught_up: bool,
+    events: &mut Vec<Event>,
+) -> Result<bool, AllocError>
+    requires room { HasRoom stage.old receiving_cost }
+    requires caught_up { IfCaughtUp caught_up stage.old }
+    ensures emits { OnOk result (Emits stage.old stage.new events.old.items events.new.items (each receive_events_of stage.old stage.old.facts.members) receiving_cost) }
+    ensures caught_up { IfOk result (λ known. IfCaughtUp known stage.new) }
+{
+    if caught_up {
+        return Ok(true);
+    }
+    let before = events.len();
+    each_receives(stage, events)?;
+    Ok(events.len() == before)
+}
+
 /// The servers receive all that they lack, in script order, but for those that are frozen.
-pub fn all_receive(stage: &mut Stage, events: &mut Vec<Event>) -> Result<(), AllocError>
+fn each_receives(stage: &mut Stage, events: &mut Vec<Event>) -> Result<(), AllocError>
     requires { HasRoom stage.old receiving_cost }
     ensures { OnOk result (Emits stage.old stage.new events.old.items events.new.items (each receive_events_of stage.old stage.old.facts.members) receiving_cost) }
 {
@@ -21,6 +42,32 @@ pub fn all_receive(stage: &mut Stage, events: &mut Vec<Event>) -> Result<(), All
         receive_all(stage, member, events)?;
     }
     Ok(())
+}
+
+/// Whether after one of these events a server may have something to receive or to confirm.
+pub fn stir_replicas(events: &[Event]) -> bool
+    ensures { result ≡ stir_replicas events.now }
+{
+    events.iter().any(|event| stirs_replicas(&event.kind))
+}
+
+/// Whether what happened changes servers or links.
+fn stirs_replicas(kind: &EventKind) -> bool
+    ensures { result ≡ stirs_replicas kind.now }
+{
+    match kind {
+        EventKind::Tick
+        | EventKind::Watchdog(WatchdogEvent::Reset { .. })
+        | EventKind::Server(_)
+        | EventKind::Log(_)
+        | EventKind::Replication(_)
+        | EventKind::Link(_) => true,
+        EventKind::Watchdog(_)
+        | EventKind::Message(_)
+        | EventKind::Store(_)
+        | EventKind::Agent(_)
+        | EventKind::Note(_) => false,
+    }
 }
 
 /// The server of a member receives all that it lacks, unless it is frozen.

@@ -1,10 +1,12 @@
 //! Ticks: what they bring beside the clock.
-ghost use Rattle.std.specs.Prelude.{◌≡◌, ◌+◌, ◌*◌, ◌++◌, OnOk};
+ghost use Rattle.std.specs.Prelude.{◌≡◌, ◌+◌, ◌*◌, ◌++◌, OnOk, IfOk};
 ghost use Rattle.cluster_model.specs.Parts.{each, events_at};
 ghost use Rattle.cluster_model.specs.Ticking.{completion_events, expiry_of, expiries_of, reset_events, tick_events};
 ghost use Rattle.world_model.specs.Emits.{Emits};
+ghost use Rattle.world_model.specs.Idle.{IfCaughtUp, NothingEnds, at_moment};
 ghost use Rattle.world_model.specs.Room.{HasRoom, beginning_cost, completions_cost, resets_cost, tick_cost};
 
+use crate::idling::ends_from;
 use cluster_model::Completion;
 use event_book::{Event, EventKind, Member, ServerEvent, ServerOf, StoreEvent};
 use pat_base::Ticks;
@@ -16,10 +18,37 @@ use world_orders::order_kinds::declared_member;
 use world_orders::server_commands::completion_of;
 use world_stage::{Stage, begin_on};
 
+/// The clock grows by one. Where nothing ends with that, nothing else happens; else see `end_due`. Answers whether all servers are known to
+/// have caught up behind it, given whether they were before.
+pub fn tick(stage: &mut Stage, caught_up: bool, events: &mut Vec<Event>) -> Result<bool, AllocError>
+    requires room { HasRoom stage.old tick_cost }
+    requires caught_up { IfCaughtUp caught_up stage.old }
+    ensures emits { OnOk result (Emits stage.old stage.new events.old.items events.new.items (tick_events stage.old) tick_cost) }
+    ensures caught_up { IfOk result (λ known. IfCaughtUp known stage.new) }
+{
+    if stage.clock().0 + 1 < ends_from(stage).0 {
+        bare_tick(stage, events)?;
+        return Ok(caught_up);
+    }
+    end_due(stage, events)?;
+    Ok(false)
+}
+
+/// The clock grows by one, and nothing ends with that.
+pub fn bare_tick(stage: &mut Stage, events: &mut Vec<Event>) -> Result<(), AllocError>
+    requires room { HasRoom stage.old tick_cost }
+    requires ends { NothingEnds (stage.old.facts.clock + 1) stage.old }
+    ensures emits { OnOk result (Emits stage.old stage.new events.old.items events.new.items (tick_events stage.old) tick_cost) }
+    ensures clock { stage.new ≡ at_moment stage.old (stage.old.facts.clock + 1) }
+{
+    stage.pass(1);
+    write_down(events, stage.clock(), EventKind::Tick)
+}
+
 /// The clock grows by one, starts and stops of servers that don't write are complete, and the keys that have expired are
 /// dropped. The machines whose watchdogs are due are reset, what expired is told, and starts and stops of
 /// primaries are complete.
-pub fn tick(stage: &mut Stage, events: &mut Vec<Event>) -> Result<(), AllocError>
+fn end_due(stage: &mut Stage, events: &mut Vec<Event>) -> Result<(), AllocError>
     requires { HasRoom stage.old tick_cost }
     ensures { OnOk result (Emits stage.old stage.new events.old.items events.new.items (tick_events stage.old) tick_cost) }
 {

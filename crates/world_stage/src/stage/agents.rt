@@ -22,7 +22,7 @@ use agent_model::{Heard, Machine};
 use cluster_view::{AgentView, Snapshot};
 use event_book::{AgentEvent, AgentProcess, Body, Event, EventKind, LinkEnd, Member, Message};
 use lease_store::Copies;
-use pat_base::{MemberId, Ticks};
+use pat_base::{MemberId, Shared, Ticks};
 use std::alloc::AllocError;
 use std::mem;
 use store_keys::{Key, KeyEntry, OperatorAction};
@@ -201,7 +201,7 @@ impl Stage {
     }
 
     /// The snapshot of entries that nobody else has.
-    fn snapshot_read(&self, entries: Vec<(Key, KeyEntry)>) -> Result<Snapshot, AllocError>
+    fn snapshot_read(&self, entries: Vec<(Key, Shared<KeyEntry>)>) -> Result<Snapshot, AllocError>
         requires { IsRead entries.items }
         ensures { IfOk result (λ snapshot. snapshot ≡ snapshot_with self.now entries.items) }
     {

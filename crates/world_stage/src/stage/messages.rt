@@ -41,9 +41,7 @@ impl Stage {
         ensures last { IfSome result (λ n. n ≤ last) }
         ensures still { (k : ℕ) → from ≤ k → k ≤ last → IfSome result (λ n. k < n) → message_events self.now k ≡ [] }
     {
-        let Some(number) = self.index.first_from(from) else {
-            return None;
-        };
+        let number = self.index.first_from(from);
         if number > last {
             return None;
         }

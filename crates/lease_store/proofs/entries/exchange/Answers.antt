@@ -1,4 +1,5 @@
-use Rattle.std.proofs.Common.{sym, ◌∙◌}
+use Rattle.std.proofs.Common.{ap, sym, ◌∙◌}
+use Rattle.store_keys.specs.declared.value.KeyEntry.{KeyEntry}
 use Rattle.lease_store.proofs.Leasing.{found-lookup, put-inserted, same-expiry, none-some, clash}
 use Rattle.lease_store.proofs.entries.exchange.Goals as goal
 
@@ -7,7 +8,8 @@ returns-in-Ok-Some-clause-entries c = c.in-Ok-Some.ensures.entries ∙ put-inser
 
 pub returns-in-Ok-Some-clause-before : goal.returns-in-Ok-Some-clause-before
 returns-in-Ok-Some-clause-before c before found =
-    same-expiry c.in-Ok-Some.before before (sym c.in-Ok-Some.field-0-is ∙ c.in-Ok-Some.ensures.old ∙ found-lookup c.args.key c.args.entries.now.entries ∙ found)
+    ap (λ (stored : KeyEntry). stored.expiry) c.get.ensures
+    ∙ same-expiry c.in-Ok-Some.before before (sym c.in-Ok-Some.field-0-is ∙ c.in-Ok-Some.ensures.old ∙ found-lookup c.args.key c.args.entries.now.entries ∙ found)
 
 pub returns-in-Ok-None-clause-entries : goal.returns-in-Ok-None-clause-entries
 returns-in-Ok-None-clause-entries c = c.in-Ok-None.ensures.entries ∙ put-inserted c.args.key c.args.stored c.args.entries.now.entries

@@ -22,12 +22,13 @@ returns-in-Ok-clause-added t c lease =
     let begins : c.args.pairs.now ≡ c.in-Some.field-0-0.now ∷ c.in-Some.rest.now = search rules in
     c.in-Ok.ensures.added lease
     ∙ ap (λ (had : Bool). is_lease_among lease c.in-Some.rest.now || had) (c.in_ok-is_new.ensures.added lease)
+    ∙ ap (λ (stored : KeyEntry). is_lease_among lease c.in-Some.rest.now || (is_lease_of c.in-Some.field-0-0.now.0 stored.expiry lease || contains lease_cmp c.args.leases.now lease)) c.get.ensures
     ∙ among-both (is_lease_of c.in-Some.field-0-0.now.0 c.in-Some.field-0-0.now.1.expiry lease) (is_lease_among lease c.in-Some.rest.now) (contains lease_cmp c.args.leases.now lease)
     ∙ ap (λ (es : List (Key × KeyEntry)). is_lease_among lease es || contains lease_cmp c.args.leases.now lease) (sym begins)
 
 pub returns-in-Err-clause-err : goal.returns-in-Err-clause-err
 returns-in-Err-clause-err t c lease =
-    undone (is_lease_of c.in-Some.field-0-0.now.0 c.in-Some.field-0-0.now.1.expiry lease) (contains lease_cmp c.args.leases.now lease) (contains lease_cmp c.add_all.new.leases lease) (contains lease_cmp c.remove.new.leases lease)
+    undone (is_lease_of c.in-Some.field-0-0.now.0 c.get.result.now.expiry lease) (contains lease_cmp c.args.leases.now lease) (contains lease_cmp c.add_all.new.leases lease) (contains lease_cmp c.remove.new.leases lease)
     (c.remove.ensures lease) (c.in-Err.ensures.err lease ∙ c.in_ok-is_new.ensures.added lease) (c.in_ok-is_new.ensures.is_new c.if-is_new.true lease)
 
 pub returns-in-Err-2-clause-err : goal.returns-in-Err-2-clause-err

@@ -1,26 +1,12 @@
-use Rattle.std.proofs.Common.{◌≤◌, ◌*◌, arith, ap, length}
-use Rattle.pat_base.specs.declared.member_id.TheConstants.{MOST_MEMBERS}
-use Rattle.world_model.specs.Room.{receiving_cost, streaming_cost}
-use Rattle.world_model.proofs.Rest.{EachLeft-end, EachLeft-members, EachLeft-more, EachLeft-place, EachLeft-room}
-use Rattle.world_model.proofs.Rooms.{HasRoom-fewer}
-use Rattle.world_model.proofs.Taking.{Emits-weaker}
+use Rattle.std.proofs.Common.{arith, eqb-true}
+use Rattle.world_model.specs.Room.{receiving_cost}
+use Rattle.world_model.proofs.CaughtUp.{caught-up-where, none-received}
 use Rattle.world_ticks.proofs.receiving.all_receive.Goals as goal
 
-pub member-member-requires : goal.member-member-requires
-member-member-requires c = omega (arith, c.loop-place-test.true, c.member_count-place-end.ensures.count, ap length (EachLeft-members _ _ _ _ _ _ _ _ _ c.loop-place.invariant))
+pub returns-then-caught_up-clause-emits : goal.returns-then-caught_up-clause-emits
+returns-then-caught_up-clause-emits c = none-received c.args.stage.now c.args.events.now.items receiving_cost (c.requires.caught_up c.if-caught_up.true)
 
-pub receive_all-requires : goal.receive_all-requires
-receive_all-requires c =
-    let few : length c.args.stage.now.facts.members ≤ MOST_MEMBERS = omega (arith, c.member_count-place-end.ensures.few, c.member_count-place-end.ensures.count) in
-    EachLeft-room _ _ streaming_cost _ _ _ _ _ c.loop-place.place _ c.loop-place.invariant (EachLeft-place _ _ _ _ _ _ _ _ c.loop-place.invariant c.member-member.ensures)
-    (HasRoom-fewer _ receiving_cost (streaming_cost * length c.args.stage.now.facts.members) (omega (arith, few)) c.requires)
-
-pub loop-place-preserved : goal.loop-place-preserved
-loop-place-preserved c =
-    EachLeft-more _ _ _ _ _ _ _ _ _ _ c.loop-place.place _ c.loop-place.invariant (EachLeft-place _ _ _ _ _ _ _ _ c.loop-place.invariant c.member-member.ensures) c.in_ok-receive_all.ensures
-
-pub returns : goal.returns
-returns c =
-    let few : length c.args.stage.now.facts.members ≤ MOST_MEMBERS = omega (arith, c.member_count-place-end.ensures.few, c.member_count-place-end.ensures.count) in
-    let over : length c.args.stage.now.facts.members ≤ c.loop-place.place = omega (arith, c.loop-place-test.false, c.member_count-place-end.ensures.count) in
-    Emits-weaker _ _ _ _ _ _ receiving_cost (EachLeft-end _ _ _ _ _ _ _ _ c.loop-place.place c.loop-place.invariant over) (omega (arith, few))
+pub returns-clause-caught_up : goal.returns-clause-caught_up
+returns-clause-caught_up c = λ same.
+    caught-up-where c.args.stage.now c.each_receives.new.stage c.args.events.now.items c.each_receives.new.events.items receiving_cost c.in_ok-each_receives.ensures
+    (omega (arith, eqb-true c.len.result c.len-before.result same, c.len.ensures, c.len-before.ensures))

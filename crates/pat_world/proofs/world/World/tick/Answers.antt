@@ -1,24 +1,36 @@
-use Rattle.std.proofs.Common.{◌+◌, ap, arith, ◌∙◌}
+use Rattle.std.proofs.Common.{◌+◌, ◌*◌, arith, sym, subst}
 use Rattle.std.proofs.lemmas.Result.{on_ok_weaker}
+use Rattle.cluster_model.specs.Ticking.{tick_events}
 use Rattle.cluster_model.specs.declared.step.Step.TheVariants as steps
 use Rattle.simulation.specs.Steps.{WorldFacts}
-use Rattle.world_model.proofs.Idling.{at_moment}
-use Rattle.pat_world.proofs.IdleTicks.{idle-passed, tick-noted}
+use Rattle.world_model.specs.Emits.{Emits}
+use Rattle.world_model.specs.Idle.{IsIdleIn}
+use Rattle.world_model.specs.Room.{HasRoom, step_cost, tick_cost}
+use Rattle.world_model.proofs.CaughtUp.{later-caught-up}
+use Rattle.world_model.proofs.Idling.{idle-ends}
+use Rattle.world_model.proofs.Rooms.{HasRoom-fewer}
+use Rattle.pat_world.proofs.IdleTicks.{idle-passed, step-took}
 use Rattle.pat_world.proofs.world.World.tick.Goals as goal
+
+pub bare_tick-requires-clause-room : goal.bare_tick-requires-clause-room
+bare_tick-requires-clause-room c = subst (λ (w : WorldFacts). HasRoom w.cluster tick_cost) (sym c.self.view_is) (HasRoom-fewer c.args.self.now.cluster (step_cost * 1) tick_cost (omega arith) c.requires.room.room.room)
+
+pub bare_tick-requires-clause-ends : goal.bare_tick-requires-clause-ends
+bare_tick-requires-clause-ends c =
+    idle-ends c.args.step.now c.self.inside.stage (c.self.inside.stage.facts.clock + 1) (subst (λ (w : WorldFacts). IsIdleIn c.args.step.now (w.cluster.facts.clock + 1) w.cluster) (sym c.self.view_is) c.requires.idle)
 
 pub returns-clause-emits : goal.returns-clause-emits
 returns-clause-emits c =
     let old = c.args.self.now.cluster in
-    let new = c.pass.ensures ∙ ap (λ (w : WorldFacts). at_moment w.cluster (w.cluster.facts.clock + 1)) c.self.view_is in
-    on_ok_weaker c.write_down.result
-    (λ noted. tick-noted old c.pass.new.self c.args.events.now.items c.write_down.new.events.items c.args.step.now c.clock.result new c.clock.ensures noted c.requires.idle)
-    c.write_down.ensures
-
-pub pass-requires : goal.pass-requires
-pass-requires c = omega (arith, c.requires.room.room.room.clock, ap (λ (w : WorldFacts). w.cluster.facts.clock) c.self.view_is)
+    on_ok_weaker c.bare_tick.result
+    (λ took. step-took old c.bare_tick.new.stage c.args.events.now.items c.bare_tick.new.events.items c.args.step.now c.requires.idle
+    (subst (λ (w : WorldFacts). Emits w.cluster c.bare_tick.new.stage c.args.events.now.items c.bare_tick.new.events.items (tick_events w.cluster) tick_cost) c.self.view_is took))
+    c.bare_tick.ensures.emits
 
 pub invariant_of-self : goal.invariant_of-self
-invariant_of-self c = (
-  idle-passed steps.Scheduled c.self.inside.idle_before (c.self.inside.stage.facts.clock + 1) c.self.inside.stage c.pass.new.self c.pass.ensures c.self.invariant.0,
-  idle-passed steps.Tick c.self.inside.ticks_idle_before (c.self.inside.stage.facts.clock + 1) c.self.inside.stage c.pass.new.self c.pass.ensures c.self.invariant.1,
-)
+invariant_of-self c =
+    let now = c.self.inside.stage.facts.clock + 1 in (
+      idle-passed steps.Scheduled c.self.inside.idle_before now c.self.inside.stage c.bare_tick.new.stage c.bare_tick.ensures.clock c.self.invariant.0,
+      idle-passed steps.Tick c.self.inside.ticks_idle_before now c.self.inside.stage c.bare_tick.new.stage c.bare_tick.ensures.clock c.self.invariant.1,
+      (λ known. later-caught-up c.self.inside.stage c.bare_tick.new.stage now c.bare_tick.ensures.clock (c.self.invariant.2 known)),
+    )

@@ -24,7 +24,7 @@ invariant_of-self-2 c =
     let w = c.self.inside in (
       c.self.invariant.0,
       numbered-fewer w.sent w.flight c.land.new.self c.land.ensures.others c.self.invariant.1,
-      tended-without w.index c.remove.new.self c.args.number c.land.new.self w.processes.items w.cuts c.remove.ensures c.land.ensures.gone (tended-fewer w.index w.flight c.land.new.self w.processes.items w.cuts c.land.ensures.others c.self.invariant.2),
+      tended-without w.index c.remove.new.self c.args.number c.land.new.self w.processes.items w.cuts c.remove.ensures.looser c.land.ensures.gone (tended-fewer w.index w.flight c.land.new.self w.processes.items w.cuts c.land.ensures.others c.self.invariant.2),
       c.self.invariant.3,
       c.self.invariant.4,
     )

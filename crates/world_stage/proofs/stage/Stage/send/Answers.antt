@@ -1,4 +1,4 @@
-use Rattle.std.proofs.Common.{◌≡◌, ◌∙◌, ◌+◌, ◌++◌, [], ◌∷◌, refl, ap, sym, subst}
+use Rattle.std.proofs.Common.{◌≡◌, ◌∙◌, ◌+◌, ◌++◌, [], ◌∷◌, arith, refl, ap, sym, subst}
 use Rattle.std.proofs.lemmas.Result.{on_ok_weaker}
 use Rattle.lease_store.specs.Answers.{present_pairs}
 use Rattle.lease_store.specs.Copied.{items_if}
@@ -15,6 +15,9 @@ use Rattle.world_stage.proofs.Sending.{send-took, loaded-is, with_flight, with_k
 use Rattle.world_flight.proofs.Tending.{numbered-sent, tended-looser, tended-sent}
 use Rattle.world_stage.proofs.Worlds.{seen}
 use Rattle.world_stage.proofs.stage.Stage.send.Goals as goal
+
+pub launch-requires-clause-newest : goal.launch-requires-clause-newest
+launch-requires-clause-newest c = λ n message is. let numbered = c.self.invariant.1 n message is in omega (arith, numbered)
 
 pub invariant_of-self-in_err-insert : goal.invariant_of-self-in_err-insert
 invariant_of-self-in_err-insert c =

@@ -7,7 +7,7 @@ use Rattle.cluster_model.specs.Ticking.{expiries_of}
 use Rattle.world_model.specs.Room.{completions_cost, resets_cost, tick_cost}
 use Rattle.world_ticks.proofs.Expiring.{tick-took}
 use Rattle.world_model.proofs.Rooms.{HasRoom-fewer}
-use Rattle.world_ticks.proofs.ticks.tick.Goals as goal
+use Rattle.world_ticks.proofs.ticks.end_due.Goals as goal
 
 pub happen-requires-clause-room : goal.happen-requires-clause-room
 happen-requires-clause-room c = HasRoom-fewer c.args.stage.now tick_cost 1 (omega arith) c.requires

@@ -1,0 +1,210 @@
+-- What leaves agents with nothing to do.
+use Rattle.std.proofs.Common.{◌≡◌, ◌≢◌, ◌&&◌, ℕ, ◌+◌, ◌-◌, ◌≤◌, ◌<◌, ◌++◌, Bool, false, cond, List, [], ◌∷◌, drop, take, length, length-append, append_assoc, Option, Some, None, IfSome, option_and_then, is_some, arith, true≢false, zero, suc, inl, inr, refl, ap, sym, subst, ◌∙◌}
+use Rattle.std.specs.Prelude.{slice_get, slice_set}
+use Rattle.std.specs.Int.{bit_at}
+use Rattle.std.proofs.Math.Seq.{drop-append_seam}
+use Rattle.std.proofs.lemmas.Bool.{cases_eq, or_parts}
+use Rattle.std.proofs.lemmas.List.{take_rest}
+use Rattle.std.proofs.lemmas.Nat.Bits.{bit_at-zero}
+use Rattle.pat_base.specs.declared.member_set.MemberSet.{MemberSet}
+use Rattle.pat_base.specs.declared.ticks.Ticks.{Ticks}
+use Rattle.pat_base.specs.Changes.{changed_at, with_changed}
+use Rattle.pg_model.specs.Facts.{ServerFacts}
+use Rattle.pg_model.proofs.Lists.{got-set_other}
+use Rattle.event_book.specs.declared.agent_process.AgentProcess.{AgentProcess}
+use Rattle.event_book.specs.declared.event.AgentEvent.TheVariants.{Woken}
+use Rattle.event_book.specs.declared.event.Event.{Event}
+use Rattle.event_book.specs.declared.event.EventKind.{EventKind}
+use Rattle.event_book.specs.declared.event.EventKind.TheVariants as kinds
+use Rattle.event_book.specs.declared.event.MessageEvent.TheVariants as messages
+use Rattle.event_book.specs.declared.event.WatchdogEvent.TheVariants as watchdogs
+use Rattle.event_book.specs.declared.member.Member.{Member}
+use Rattle.event_book.specs.Watchdogs.{prolonged_to}
+use Rattle.agent_model.specs.declared.heard.Heard.TheVariants.{Wake}
+use Rattle.agent_model.specs.Agents.{AgentFacts, Outcome}
+use Rattle.cluster_model.specs.Cluster.{agent_after, cluster_after, cluster_over}
+use Rattle.cluster_model.specs.Inputs.{agent_at, has_work, may_act, outcome_of, standing_of}
+use Rattle.cluster_model.specs.Messages.{input_events, no_message, wake_events, wake_events_if, wake_events_of}
+use Rattle.cluster_model.specs.Parts.{event_of, for_some}
+use Rattle.cluster_model.specs.State.{Cluster}
+use Rattle.cluster_model.proofs.Places.{there}
+use Rattle.world_model.specs.Emits.{Emits}
+use Rattle.world_model.specs.Idle.{HasWorkFrom, IsAsleep, SleepsAt, work_moment}
+use Rattle.world_model.specs.Room.{input_cost}
+use Rattle.world_model.proofs.Idling.{work-from}
+use Rattle.world_model.proofs.Rest.{EachLeft, EachLeft-members, EachLeft-more}
+use Rattle.world_model.proofs.Taking.{Emits-nothing}
+use Rattle.world_acts.specs.Asleep.{AreAsleep, rouse_agents, rouses_agents}
+
+-- ---- lists of which one item changes
+set-there : {X : Type 0} (xs : List X) (i : ℕ) (y : X) (n : ℕ) → is_some (slice_get (slice_set xs i y) n) ≡ is_some (slice_get xs n)
+set-there [] i y n = refl
+set-there (x ∷ xs) zero y zero = refl
+set-there (x ∷ xs) zero y (suc n) = refl
+set-there (x ∷ xs) (suc i) y zero = refl
+set-there (x ∷ xs) (suc i) y (suc n) = set-there xs i y n
+
+changed-there : {X : Type 0} (xs : List X) (k : ℕ) (change : X → X) (found : Option X) (n : ℕ) → is_some (slice_get (changed_at xs k change found) n) ≡ is_some (slice_get xs n)
+changed-there xs k change None n = refl
+changed-there xs k change (Some x) n = set-there xs k (change x) n
+
+changed-elsewhere : {X : Type 0} (xs : List X) (k : ℕ) (change : X → X) (found : Option X) (n : ℕ) → n ≢ k → slice_get (changed_at xs k change found) n ≡ slice_get xs n
+changed-elsewhere xs k change None n other = refl
+changed-elsewhere xs k change (Some x) n other = got-set_other xs k n (change x) other
+
+-- ---- from when on there is something to do
+-- for the agent of the member of this number
+abbrev pub work_at : Cluster → ℕ → Option Ticks
+work_at cluster n = work_moment (slice_get cluster.options n) (slice_get cluster.facts.deadlines n) (slice_get cluster.facts.holds n) (slice_get cluster.facts.servers n) (agent_at cluster.agents n)
+
+-- that doesn't depend on which deadline and which hold there are
+work-by : (options : Option _) (deadline before hold held : Option (Option Ticks)) (s : Option ServerFacts) (agent : Option AgentFacts) → is_some deadline ≡ is_some before → is_some hold ≡ is_some held
+    → work_moment options deadline hold s agent ≡ work_moment options before held s agent
+work-by None deadline before hold held s agent same too = refl
+work-by (Some options) None None hold held s agent same too = refl
+work-by (Some options) None (Some b) hold held s agent same too = absurd (true≢false (sym same))
+work-by (Some options) (Some d) None hold held s agent same too = absurd (true≢false same)
+work-by (Some options) (Some d) (Some b) None None s agent same too = refl
+work-by (Some options) (Some d) (Some b) None (Some held) s agent same too = absurd (true≢false (sym too))
+work-by (Some options) (Some d) (Some b) (Some hold) None s agent same too = absurd (true≢false too)
+work-by (Some options) (Some d) (Some b) (Some hold) (Some held) s agent same too = refl
+
+work-same : (before after : Option Outcome) (from : Option Ticks) → HasWorkFrom before from → HasWorkFrom after from → (now : Ticks) → has_work now after ≡ has_work now before
+work-same before after None was is now = is now ∙ sym (was now)
+work-same before after (Some from) was is now = is now ∙ sym (was now)
+
+asleep-same : (now : ℕ) (found : Option AgentProcess) (before after : Option Outcome) → has_work (record { 0 = now }) after ≡ has_work (record { 0 = now }) before → IsAsleep now found before → IsAsleep now found after
+asleep-same now None before after same asleep = tt
+asleep-same now (Some process) before after same asleep = ap (λ (b : Bool). may_act process && b) same ∙ asleep
+
+-- an agent sleeps as another one does, here or before, that has something to do from the same moment on
+pub sleeps-as : (before after : Cluster) (now : ℕ) (member other : Member) → slice_get after.facts.processes other.id.number ≡ slice_get before.facts.processes member.id.number → work_at after other.id.number ≡ work_at before member.id.number
+    → SleepsAt now before member → SleepsAt now after other
+sleeps-as before after now member other process work asleep =
+    let was = work-from before member (work_at before member.id.number) refl in
+    let is = subst (HasWorkFrom (standing_of after other)) work (work-from after other (work_at after other.id.number) refl) in
+    subst (λ (found : Option AgentProcess). IsAsleep now found (standing_of after other)) (sym process)
+    (asleep-same now (slice_get before.facts.processes member.id.number) (standing_of before member) (standing_of after other) (work-same (standing_of before member) (standing_of after other) (work_at before member.id.number) was is (record { 0 = now })) asleep)
+
+-- ---- happenings that rouse nobody
+armed-asleep : (asleep : MemberSet) (cluster : Cluster) (deadlines holds : List (Option Ticks)) → ((n : ℕ) → is_some (slice_get deadlines n) ≡ is_some (slice_get cluster.facts.deadlines n))
+    → ((n : ℕ) → is_some (slice_get holds n) ≡ is_some (slice_get cluster.facts.holds n)) → AreAsleep asleep cluster → AreAsleep asleep (record cluster { facts = record cluster.facts { deadlines = deadlines; holds = holds } })
+armed-asleep asleep cluster deadlines holds same too sleep = record {
+  each = λ member is. let n = member.id.number in
+      sleeps-as cluster (record cluster { facts = record cluster.facts { deadlines = deadlines; holds = holds } }) cluster.facts.clock member member refl
+      (work-by (slice_get cluster.options n) (slice_get deadlines n) (slice_get cluster.facts.deadlines n) (slice_get holds n) (slice_get cluster.facts.holds n) (slice_get cluster.facts.servers n) (agent_at cluster.agents n) (same n) (too n))
+      (sleep.each member is);
+}
+
+changed-deadline : (asleep : MemberSet) (cluster : Cluster) (k : ℕ) (change : Option Ticks → Option Ticks) → AreAsleep asleep cluster
+    → AreAsleep asleep (record cluster { facts = record cluster.facts { deadlines = with_changed cluster.facts.deadlines k change } })
+changed-deadline asleep cluster k change sleep =
+    armed-asleep asleep cluster (with_changed cluster.facts.deadlines k change) cluster.facts.holds (λ n. changed-there cluster.facts.deadlines k change (slice_get cluster.facts.deadlines k) n) (λ n. refl) sleep
+
+changed-hold : (asleep : MemberSet) (cluster : Cluster) (k : ℕ) (change : Option Ticks → Option Ticks) → AreAsleep asleep cluster
+    → AreAsleep asleep (record cluster { facts = record cluster.facts { holds = with_changed cluster.facts.holds k change } })
+changed-hold asleep cluster k change sleep =
+    armed-asleep asleep cluster cluster.facts.deadlines (with_changed cluster.facts.holds k change) (λ n. refl) (λ n. changed-there cluster.facts.holds k change (slice_get cluster.facts.holds k) n) sleep
+
+asleep-after : (asleep : MemberSet) (cluster : Cluster) (kind : EventKind) → rouses_agents kind ≡ false → AreAsleep asleep cluster → AreAsleep asleep (cluster_after cluster kind)
+asleep-after asleep cluster (kinds.Message (messages.Sent number message)) isnt sleep = record { each = sleep.each }
+asleep-after asleep cluster (kinds.Message (messages.Lost number)) isnt sleep = record { each = sleep.each }
+asleep-after asleep cluster (kinds.Store happening) isnt sleep = record { each = sleep.each }
+asleep-after asleep cluster (kinds.Watchdog (watchdogs.Armed member until answer)) isnt sleep = record { each = (changed-deadline asleep cluster member.id.number (λ before. Some until) sleep).each }
+asleep-after asleep cluster (kinds.Watchdog (watchdogs.Fed member until basis)) isnt sleep = record { each = (changed-deadline asleep cluster member.id.number (λ before. Some until) sleep).each }
+asleep-after asleep cluster (kinds.Watchdog (watchdogs.Disarmed member)) isnt sleep = record { each = (changed-deadline asleep cluster member.id.number (λ before. None) sleep).each }
+asleep-after asleep cluster (kinds.Watchdog (watchdogs.Measured member since)) isnt sleep = record { each = sleep.each }
+asleep-after asleep cluster (kinds.Watchdog (watchdogs.HoldTaken member until from incarnation sequence)) isnt sleep = record { each = (changed-hold asleep cluster member.id.number (prolonged_to until) sleep).each }
+asleep-after asleep cluster (kinds.Note note) isnt sleep = record { each = sleep.each }
+asleep-after asleep cluster _ isnt sleep = absurd (true≢false isnt)
+
+pub asleep-over : (asleep : MemberSet) (cluster : Cluster) (events : List Event) → rouse_agents events ≡ false → AreAsleep asleep cluster → AreAsleep asleep (cluster_over cluster events)
+asleep-over asleep cluster [] isnt sleep = sleep
+asleep-over asleep cluster (event ∷ events) isnt sleep =
+    let both = or_parts (rouses_agents event.kind) (rouse_agents events) isnt in
+    asleep-over asleep (cluster_after cluster event.kind) events both.1 (asleep-after asleep cluster event.kind both.0 sleep)
+
+-- ---- agents that change
+pub agent-elsewhere : (agents : List (Option AgentFacts)) (k : ℕ) (change : Option AgentFacts → Option AgentFacts) (n : ℕ) → n ≢ k → agent_at (with_changed agents k change) n ≡ agent_at agents n
+agent-elsewhere agents k change n other = ap (λ (found : Option (Option AgentFacts)). option_and_then (λ agent. agent) found) (changed-elsewhere agents k change (slice_get agents k) n other)
+
+-- those that stay the same sleep as before
+pub agents-asleep : (was asleep : MemberSet) (cluster : Cluster) (agents : List (Option AgentFacts)) → AreAsleep was cluster
+    → ((n : ℕ) → bit_at asleep.bits n ≡ 1 → (bit_at was.bits n ≡ 1) × (agent_at agents n ≡ agent_at cluster.agents n)) → AreAsleep asleep (record cluster { agents = agents })
+agents-asleep was asleep cluster agents sleep same = record {
+  each = λ member is. let n = member.id.number in
+      sleeps-as cluster (record cluster { agents = agents }) cluster.facts.clock member member refl
+      (ap (work_moment (slice_get cluster.options n) (slice_get cluster.facts.deadlines n) (slice_get cluster.facts.holds n) (slice_get cluster.facts.servers n)) (same n is).1) (sleep.each member (same n is).0);
+}
+
+-- where an agent is woken that isn't known to sleep, the others sleep as before
+woken-asleep : (asleep : MemberSet) (cluster : Cluster) (member : Member) → bit_at asleep.bits member.id.number ≢ 1 → AreAsleep asleep cluster → AreAsleep asleep (cluster_after cluster (kinds.Agent (Woken member)))
+woken-asleep asleep cluster member out sleep =
+    let change = agent_after (outcome_of cluster member Wake) in
+    agents-asleep asleep asleep cluster (with_changed cluster.agents member.id.number change) sleep
+    (λ n is. (is, agent-elsewhere cluster.agents member.id.number change n (λ e. out (ap (bit_at asleep.bits) (sym e) ∙ is))))
+
+-- ---- who is known to sleep
+pub none-asleep : (asleep : MemberSet) (cluster : Cluster) → asleep.bits ≡ 0 → AreAsleep asleep cluster
+none-asleep asleep cluster empty = record { each = λ member is. absurd (omega (arith, is, ap (λ (bits : ℕ). bit_at bits member.id.number) empty, bit_at-zero member.id.number)) }
+
+-- one more agent, which has nothing to do
+pub one-more-asleep : (asleep more : MemberSet) (cluster : Cluster) (member : Member) → AreAsleep asleep cluster → SleepsAt cluster.facts.clock cluster member
+    → ((k : ℕ) → k ≢ member.id.number → bit_at more.bits k ≡ bit_at asleep.bits k) → AreAsleep more cluster
+one-more-asleep asleep more cluster member sleep here others = record {
+  each = λ other is. elim (cases_eq other.id.number member.id.number) [
+    | inl e ↦ sleeps-as cluster cluster cluster.facts.clock member other (ap (slice_get cluster.facts.processes) e) (ap (work_at cluster) e) here
+    | inr apart ↦ sleep.each other (sym (others other.id.number apart) ∙ is)
+  ];
+}
+
+-- behind these events, as by those behind a place in the list of all
+pub asleep-behind : (asleep left : MemberSet) (before after : Cluster) (had has all events : List Event) (from : ℕ) → after ≡ cluster_over before events → has ≡ had ++ events → from ≡ length had → all ≡ has → AreAsleep asleep before
+    → ((cluster : Cluster) → AreAsleep asleep cluster → AreAsleep left (cluster_over cluster (take (length all - from) (drop from all)))) → AreAsleep left after
+asleep-behind asleep left before after had has all events from state event is whole sleep still =
+    let behind : take (length all - from) (drop from all) ≡ events = take_rest all from ∙ ap (λ (n : ℕ). drop n all) is ∙ ap (drop (length had)) (whole ∙ event) ∙ drop-append_seam had events in
+    subst (AreAsleep left) (sym state) (subst (λ (es : List Event). AreAsleep left (cluster_over before es)) behind (still before sleep))
+
+-- an agent that sleeps isn't woken
+none-woken : (cluster : Cluster) (member : Member) (found : Option AgentProcess) → IsAsleep cluster.facts.clock found (standing_of cluster member) → for_some found (wake_events_if cluster member) ≡ []
+none-woken cluster member None asleep = refl
+none-woken cluster member (Some process) asleep = ap (λ (b : Bool). cond b (wake_events_of cluster member) []) asleep
+
+pub asleep-took : (asleep : MemberSet) (cluster : Cluster) (member : Member) (had : List Event) → AreAsleep asleep cluster → bit_at asleep.bits member.id.number ≡ 1 → Emits cluster cluster had had (wake_events cluster member) input_cost
+asleep-took asleep cluster member had sleep is =
+    let none = none-woken cluster member (slice_get cluster.facts.processes member.id.number) (sleep.each member is) in
+    subst (λ (es : List Event). Emits cluster cluster had had es input_cost) (sym none) (Emits-nothing cluster had input_cost)
+
+-- what an agent does that is woken: the events behind the first
+abbrev acts_of : Cluster → Member → List Event
+acts_of cluster member = input_events (cluster_after cluster (kinds.Agent (Woken member))) member no_message (outcome_of cluster member Wake)
+
+-- by those alone others may be roused
+pub woken-behind : (asleep left : MemberSet) (cluster after : Cluster) (member : Member) (had has all : List Event) (from : ℕ) → Emits cluster after had has (wake_events_of cluster member) input_cost → from ≡ length had → all ≡ has
+    → bit_at asleep.bits member.id.number ≢ 1 → AreAsleep asleep cluster → ((c : Cluster) → AreAsleep asleep c → AreAsleep left (cluster_over c (take (length all - (from + 1)) (drop (from + 1) all)))) → AreAsleep left after
+woken-behind asleep left cluster after member had has all from took is whole out sleep still =
+    let first = event_of cluster (kinds.Agent (Woken member)) in
+    asleep-behind asleep left (cluster_after cluster (kinds.Agent (Woken member))) after (had ++ first) has all (acts_of cluster member) (from + 1) took.state (took.event ∙ sym (append_assoc had first (acts_of cluster member)))
+    (omega (arith, is, length-append had first)) whole (woken-asleep asleep cluster member out sleep) still
+
+-- members that are known to have nothing to do may be passed over
+asleep-passed : (asleep : MemberSet) (start cluster : Cluster) (had has : List Event) (members : List Member) (from count : ℕ) → AreAsleep asleep cluster → EachLeft wake_events input_cost start cluster had has members from
+    → from + count ≤ length members → ((place : ℕ) → from ≤ place → place < from + count → IfSome (slice_get members place) (λ member. bit_at asleep.bits member.id.number ≡ 1)) → EachLeft wake_events input_cost start cluster had has members (from + count)
+asleep-passed asleep start cluster had has members from zero sleep left within passed =
+    subst (λ (place : ℕ). EachLeft wake_events input_cost start cluster had has members place) (omega arith) left
+asleep-passed asleep start cluster had has members from (suc count) sleep left within passed =
+    let found = there members (from + count) (omega (arith, within)) in
+    let is : bit_at asleep.bits found.0.id.number ≡ 1 = subst (λ (o : Option Member). IfSome o (λ member. bit_at asleep.bits member.id.number ≡ 1)) found.1 (passed (from + count) (omega arith) (omega arith)) in
+    let before = asleep-passed asleep start cluster had has members from count sleep left (omega (arith, within)) (λ place least most. passed place least (omega (arith, most))) in
+    subst (λ (place : ℕ). EachLeft wake_events input_cost start cluster had has members place) (omega arith)
+    (EachLeft-more Member wake_events input_cost start cluster cluster had has has members (from + count) found.0 before found.1 (asleep-took asleep cluster found.0 has sleep is))
+
+-- the next agent to wake is the first that isn't known to sleep
+pub passed-over : (asleep : MemberSet) (start cluster : Cluster) (had has : List Event) (members : List Member) (from to : ℕ) → members ≡ cluster.facts.members → AreAsleep asleep cluster
+    → EachLeft wake_events input_cost start cluster had has start.facts.members from → (from ≤ to) × (to ≤ length members)
+    → ((place : ℕ) → from ≤ place → place < to → IfSome (slice_get members place) (λ member. bit_at asleep.bits member.id.number ≡ 1)) → EachLeft wake_events input_cost start cluster had has start.facts.members to
+passed-over asleep start cluster had has members from to is sleep left range passed =
+    let same : members ≡ start.facts.members = is ∙ EachLeft-members Member wake_events input_cost start cluster had has start.facts.members from left in
+    subst (λ (place : ℕ). EachLeft wake_events input_cost start cluster had has start.facts.members place) (omega (arith, range.0))
+    (asleep-passed asleep start cluster had has start.facts.members from (to - from) sleep left (omega (arith, range.0, range.1, ap length same))
+    (λ place least most. subst (λ (ms : List Member). IfSome (slice_get ms place) (λ member. bit_at asleep.bits member.id.number ≡ 1)) same (passed place least (omega (arith, most, range.0)))))
