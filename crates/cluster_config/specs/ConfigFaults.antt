@@ -57,14 +57,9 @@ is_low d setting = is_low_if_some (range_of setting) (value_at setting d)
 abbrev pub keeps_times : Config → Bool
 keeps_times config = nat_le (config.loop_wait + 2 * config.retry_timeout) config.ttl
 
--- how many synchronous standbys may be asked for until more are built
-abbrev pub built_node_count : ℕ
-built_node_count = 1
-
 -- whether a configuration asks of a setting what isn't built yet
 abbrev pub is_unbuilt : Config → Setting → Bool
 is_unbuilt config settings.FailsafeMode = config.failsafe_mode
-is_unbuilt config settings.SynchronousNodeCount = nat_lt built_node_count config.synchronous_node_count
 is_unbuilt config _ = false
 
 -- whether a configuration changes a setting of another whose change isn't built yet

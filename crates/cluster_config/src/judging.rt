@@ -11,9 +11,6 @@ use crate::setting_value::{WholeNumber, truth_value, value_at, whole_number};
 use serde_json::Value;
 use store_keys::Config;
 
-/// How many synchronous standbys may be asked for until more are built.
-const BUILT_NODE_COUNT: u64 = 1;
-
 fn is_bad_number(range: SettingRange, number: Option<WholeNumber>) -> bool
     ensures { result ≡ is_bad_number range number }
 {
@@ -105,7 +102,6 @@ fn is_unbuilt(config: Config, setting: Setting) -> bool
 {
     match setting {
         Setting::FailsafeMode => config.failsafe_mode,
-        Setting::SynchronousNodeCount => BUILT_NODE_COUNT < config.synchronous_node_count,
         _ => false,
     }
 }

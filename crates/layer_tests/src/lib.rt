@@ -33,6 +33,8 @@ mod listeners;
 #[cfg(test)]
 mod logs;
 #[cfg(test)]
+mod node_counts;
+#[cfg(test)]
 mod operators;
 #[cfg(test)]
 mod pages;
