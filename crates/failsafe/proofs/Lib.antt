@@ -1,0 +1,3 @@
+pub mod Members
+pub mod Hearing
+pub mod Present

@@ -1,0 +1,4 @@
+pub mod Asks
+pub mod Hearings
+pub mod Holding
+pub mod Listing
