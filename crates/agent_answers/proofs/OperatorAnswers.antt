@@ -19,11 +19,11 @@ use Rattle.pg_model.specs.Running.{is_primary}
 use Rattle.cluster_view.specs.KeyValues.{failover_in}
 use Rattle.cluster_view.specs.Snapshots.{SnapshotFacts}
 use Rattle.operator_answers.specs.declared.answer_text.Text.TheVariants as texts
-use Rattle.operator_answers.specs.Statuses.{service_unavailable, ok}
+use Rattle.operator_answers.specs.Statuses.{service_unavailable, ok, internal_server_error}
 use Rattle.event_book.specs.declared.message.Body.TheVariants as bodies
 use Rattle.lease_law.proofs.Tools.{some-is, none-some}
 use Rattle.agent_model.specs.declared.heard.Heard.{Heard}
-use Rattle.agent_model.specs.declared.heard.Heard.TheVariants.{Wake, ReadAnswered, Granted as HeardGranted, Mismatch, Asked, Answered, Operated as HearsOperator}
+use Rattle.agent_model.specs.declared.heard.Heard.TheVariants.{Wake, ReadAnswered, Granted as HeardGranted, Mismatch, Asked, Answered, FailsafeAsked, FailsafeAnswered, Operated as HearsOperator}
 use Rattle.agent_model.specs.declared.knowledge.Knowledge.{Knowledge}
 use Rattle.agent_model.specs.declared.machine.Machine.{Machine}
 use Rattle.agent_model.specs.declared.operating.Operating.{Operating}
@@ -41,18 +41,21 @@ use Rattle.agent_model.specs.declared.why.Why.TheVariants.{HandOver, Lost}
 use Rattle.agent_model.specs.Agents.{RoleFacts, Outcome, outcome_from}
 use Rattle.agent_model.specs.Reconciling.{reconciled, has_ended}
 use Rattle.agent_model.specs.Decisions.{granted, is_write_of, refused}
-use Rattle.agent_answers.specs.OperatorAnswers.{told_in, HasNewLeader, HasOldLeader, IsResultBy, IsReason, AnswersWaiting, IsDoneIn, AnswersAtOnce, AnswersOneAtMost, IsWish, IsAskedFor, WaitsAsAsked, IsRefused, HasCause, HaveCauses, AwaitsDecision, TellsDecision}
-use Rattle.agent_model.specs.Operators.{awaits_number, answering, answering_if, operating, config_revision, operated, done_by, failed_by, done_text, failed_text, holder_in, holder_if, name_in, is_same_member, result_as, looked_by, uses_read, looked, operator_until, late_answer, given_up_by, given_up, learned, granted_as, is_asked_for, operates, grants_operator, operator_granted, refusal_of, operator_refused}
+use Rattle.agent_answers.specs.OperatorAnswers.{told_by, told_in, HasNewLeader, HasOldLeader, IsResultBy, IsReason, AnswersWaiting, IsDoneIn, AnswersAtOnce, AnswersOneAtMost, IsWish, IsAskedFor, WaitsAsAsked, IsRefused, HasCause, HaveCauses, AwaitsDecision, TellsDecision}
+use Rattle.agent_model.specs.Operators.{awaits_number, answering, answering_if, operating, config_revision, operated, done_by, failed_by, done_text, failed_text, holder_in, holder_if, name_in, is_same_member, result_as, looked_by, uses_read, looked, operator_until, late_answer, given_up_by, given_up, learned, granted_as, is_asked_for, operates, grants_operator, operator_granted, refusal_of, operator_refused, telling, unnumbered}
 use Rattle.agent_model.specs.Acting.{lease_span}
 use Rattle.agent_model.specs.Outputs.{with_output}
+use Rattle.agent_model.specs.StayingPrimary.{answering_failsafe, awaits_lease, holding_for, span_after}
 use Rattle.agent_model.specs.Table.{step}
 use Rattle.agent_model.specs.Wake.{woken}
 use Rattle.agent_roles.proofs.Granting.{both-true}
 use Rattle.agent_roles.proofs.Living.{no-way}
 use Rattle.agent_roles.proofs.Knowing.{before-onward, before-read}
-use Rattle.agent_answers.proofs.Replying.{Quiet, as-said, told-more, told-same, before-quiet, roused-quiet, got-quiet, refused-quiet, granted-quiet, answered-quiet}
+use Rattle.agent_answers.proofs.Replying.{Quiet, as-said, told-more, told-same, before-quiet, roused-quiet, got-quiet, refused-quiet, granted-quiet, answered-quiet, failsafe-quiet}
 use Rattle.agent_model.proofs.Judging.{if-true}
-use Rattle.agent_model.proofs.Rows.{before-by, if-cases, wake-by}
+use Rattle.agent_model.proofs.Rows.{before-by, if-cases, wake-by, failsafe-asked-by}
+use Rattle.agent_model.specs.Views.{shown as view_shown}
+use Rattle.failsafe.specs.Holding.{may_hold}
 
 -- no operator is told anything yet, and the same request waits as before
 abbrev Untold : Outcome → Outcome → Type 0
@@ -169,10 +172,10 @@ asks-store now action o b operation txn untold seen wish = let after : Outcome =
   waits = λ waiting is. inr (subst (IsAskedFor now action o after) (some-is _ waiting is) (record { request = refl; since = refl; leader = ap (λ (x : Option SnapshotFacts). holder_if x) seen; txn = txn; wish = wish; sent = Contains-push b.outputs _ }));
 }
 
-done-at-once : (now : Ticks) (action : OperatorAction) (o b x : Outcome) (output : Output) (told : Told) → Untold o b → told_in (with_output output b.outputs) ≡ told_in b.outputs → x.knows.operating ≡ b.knows.operating
-    → x.outputs ≡ with_output (outputs.Told action.request told) (with_output output b.outputs) → IsDoneIn x.outputs action.asked told → IsRight now (HearsOperator action) o x
-done-at-once now action o b x output told untold silent waits outs done = record {
-  answers = subst (AnswersOneAtMost now (HearsOperator action) o x) (sym (ap (λ (l : List Output). told_in l) outs ∙ (told-more (with_output output b.outputs) (outputs.Told action.request told) ∙ ap (λ (l : List (ℕ × Told)). l ++ (action.request, told) ∷ []) (silent ∙ untold.0)))) (inr (refl, done));
+done-at-once : (now : Ticks) (action : OperatorAction) (o b x : Outcome) (outs : List Output) (told : Told) → Untold o b → told_in outs ≡ told_in b.outputs → x.knows.operating ≡ b.knows.operating
+    → x.outputs ≡ with_output (outputs.Told action.request told) outs → IsDoneIn x.outputs action.asked told → IsRight now (HearsOperator action) o x
+done-at-once now action o b x outs told untold silent waits are done = record {
+  answers = subst (AnswersOneAtMost now (HearsOperator action) o x) (sym (ap (λ (l : List Output). told_in l) are ∙ (told-more outs (outputs.Told action.request told) ∙ ap (λ (l : List (ℕ × Told)). l ++ (action.request, told) ∷ []) (silent ∙ untold.0)))) (inr (refl, done));
   waits = λ waiting is. inl (sym untold.1 ∙ (sym waits ∙ is));
 }
 
@@ -180,9 +183,24 @@ does : (now : Ticks) (action : OperatorAction) (asked : OperatorRequest) (o b : 
 does now action (requests.Failover kind failover) o b untold seen is = asks-store now action o b (FailingOver kind) (txns.SetFailover failover (lease_span b.knows.settings)) untold seen (rw is (refl, (_, refl)))
 does now action (requests.Configuration config) o b untold seen is = asks-store now action o b Configuring (txns.SetConfig (config_revision b.knows.seen) config) untold seen (rw is (refl, (_, refl)))
 does now action requests.Restart o b untold seen is = let output : Output = outputs.Restart (is_primary b.machine.server.state) in
-    done-at-once now action o b (operated now action.request requests.Restart b) output (tolds.Text ok texts.Restarted) untold (told-same b.outputs output tt) refl refl (rw is ((_, Contains-append_left _ _ output (Contains-push b.outputs output)), refl))
-does now action requests.Reinit o b untold seen is = done-at-once now action o b (operated now action.request requests.Reinit b) outputs.Wipe (tolds.Text ok texts.ReinitializeStarted) untold (told-same b.outputs outputs.Wipe tt) refl refl
+    done-at-once now action o b (operated now action.request requests.Restart b) (with_output output b.outputs) (tolds.Text ok texts.Restarted) untold (told-same b.outputs output tt) refl refl (rw is ((_, Contains-append_left _ _ output (Contains-push b.outputs output)), refl))
+does now action requests.Reinit o b untold seen is = done-at-once now action o b (operated now action.request requests.Reinit b) (with_output outputs.Wipe b.outputs) (tolds.Text ok texts.ReinitializeStarted) untold (told-same b.outputs outputs.Wipe tt) refl refl
     (rw is (Contains-append_left _ _ outputs.Wipe (Contains-push b.outputs outputs.Wipe), refl))
+does now action (requests.Hold from ttl) o b untold seen is =
+    if-cases (λ (x : Outcome). IsRight now (HearsOperator action) o x) (may_hold (view_shown now b) (awaits_lease b.knows.waited)) (telling action.request (tolds.Text ok texts.Accepted) held) (telling action.request (tolds.Text internal_server_error texts.Refused) b)
+    (λ _. done-at-once now action o b (telling action.request (tolds.Text ok texts.Accepted) held) held.outputs (tolds.Text ok texts.Accepted) untold (told-same b.outputs output tt) refl refl
+    (rw is (inl ((_, (_, Contains-append_left _ _ output (Contains-push b.outputs output))), refl))))
+    (λ _. done-at-once now action o b (telling action.request (tolds.Text internal_server_error texts.Refused) b) b.outputs (tolds.Text internal_server_error texts.Refused) untold refl refl refl (rw is (inr refl)))
+  where
+    held : Outcome
+    held = holding_for now b.knows.who.me unnumbered (record { 0 = ttl }) b
+
+    output : Output
+    output = outputs.HoldTaken (span_after now (record { 0 = ttl })) b.knows.who.me unnumbered
+
+-- one more output that tells no operator anything
+told-none-more : (outs : List Output) (output : Output) → told_by output ≡ [] → told_in outs ≡ [] → told_in (with_output output outs) ≡ []
+told-none-more outs output none silent = told-more outs output ∙ (ap (λ (l : List (ℕ × Told)). told_in outs ++ l) none ∙ (append-nil (told_in outs) ∙ silent))
 
 pub step-right : (now : Ticks) (points : List HistoryPoint) (heard : Heard) (role : RoleFacts) (knows : Knowledge) (machine : Machine) → IsRight now heard (outcome_from role knows machine []) (step now points heard (outcome_from role knows machine []))
 step-right now points heard role knows machine = by heard
@@ -220,6 +238,14 @@ step-right now points heard role knows machine = by heard
     by (HearsOperator action) = does now action action.asked o b untold (before-read now o).1 refl
     by (Asked from incarnation sequence) = right-of now (Asked from incarnation sequence) o _ (Owed.Silent (told-more b.outputs _ ∙ (append-nil (told_in b.outputs) ∙ untold.0), untold.1))
     by (Answered sequence answer) = goes (Answered sequence answer) b _ (Owed.Silent untold) (answered-quiet b now sequence answer b (as-said b))
+    by (FailsafeAsked from incarnation sequence ttl) =
+        let heard : Heard = FailsafeAsked from incarnation sequence ttl in
+        let held : Outcome = holding_for now from sequence ttl b in
+        let holds : told_in held.outputs ≡ [] = told-none-more b.outputs (outputs.HoldTaken (span_after now ttl) from sequence) refl untold.0 in
+        failsafe-asked-by (IsRight now heard o) now from incarnation sequence ttl b
+        (λ _. right-of now heard o (answering_failsafe from incarnation sequence true held) (Owed.Silent (told-none-more held.outputs (outputs.FailsafeAnswer from incarnation sequence true) refl holds, untold.1)))
+        (right-of now heard o (answering_failsafe from incarnation sequence false b) (Owed.Silent (told-none-more b.outputs (outputs.FailsafeAnswer from incarnation sequence false) refl untold.0, untold.1)))
+    by (FailsafeAnswered from sequence accepted sent) = goes (FailsafeAnswered from sequence accepted sent) b _ (Owed.Silent untold) (failsafe-quiet b now from sequence accepted sent b (as-said b))
 
 -- ---- words that tell of want of time, or of a refusal, have their cause
 late-cause : (now : Ticks) (knows : Knowledge) (request : ℕ) (waiting : Operating) (operation : Operation) → knows.operating ≡ Some waiting → request ≡ waiting.request → waiting.operation ≡ operation
@@ -253,11 +279,15 @@ reason-cause now (Mismatch sequence key found) o request told waiting is number 
     (refusal-cause now (Mismatch sequence key found) o.knows request waiting waiting.operation is number refl (record { key = key; found = found; hears = ap (λ (s : ℕ). Mismatch s key found) (sym reason.0) }))
 reason-cause now (Asked from incarnation sequence) o request told waiting is number never = absurd never
 reason-cause now (Answered sequence answer) o request told waiting is number never = absurd never
+reason-cause now (FailsafeAsked from incarnation sequence ttl) o request told waiting is number never = absurd never
+reason-cause now (FailsafeAnswered from sequence accepted sent) o request told waiting is number never = absurd never
 reason-cause now (HearsOperator action) o request told waiting is number never = absurd never
 
 done-cause : (now : Ticks) (heard : Heard) (knows : Knowledge) (outs : List Output) (request : ℕ) (asked : OperatorRequest) (told : Told) → IsDoneIn outs asked told → HasCause now heard knows (request, told)
 done-cause now heard knows outs request requests.Restart told done = subst (λ (t : Told). HasCause now heard knows (request, t)) (sym done.1) tt
 done-cause now heard knows outs request requests.Reinit told done = subst (λ (t : Told). HasCause now heard knows (request, t)) (sym done.1) tt
+done-cause now heard knows outs request (requests.Hold from ttl) told (inl done) = subst (λ (t : Told). HasCause now heard knows (request, t)) (sym done.1) tt
+done-cause now heard knows outs request (requests.Hold from ttl) told (inr done) = subst (λ (t : Told). HasCause now heard knows (request, t)) (sym done) tt
 done-cause now heard knows outs request (requests.Failover kind failover) told never = absurd never
 done-cause now heard knows outs request (requests.Configuration config) told never = absurd never
 
@@ -269,6 +299,8 @@ at-once-cause now (HeardGranted sequence grant snapshot) knows after answer neve
 at-once-cause now (Mismatch sequence key found) knows after answer never = absurd never
 at-once-cause now (Asked from incarnation sequence) knows after answer never = absurd never
 at-once-cause now (Answered sequence told) knows after answer never = absurd never
+at-once-cause now (FailsafeAsked from incarnation sequence ttl) knows after answer never = absurd never
+at-once-cause now (FailsafeAnswered from sequence accepted sent) knows after answer never = absurd never
 
 -- each answer has its cause
 pub told-causes : (now : Ticks) (heard : Heard) (o after : Outcome) (told : List (ℕ × Told)) → AnswersOneAtMost now heard o after told → All (HasCause now heard o.knows) told
@@ -348,6 +380,8 @@ step-decides now points heard role knows machine = by heard
     by (ReadAnswered sequence snapshot) = tt
     by (Asked from incarnation sequence) = tt
     by (Answered sequence answer) = tt
+    by (FailsafeAsked from incarnation sequence ttl) = tt
+    by (FailsafeAnswered from sequence accepted sent) = tt
     by (HearsOperator action) = tt
 
 pub input-decides-as : (now : Ticks) (points : List HistoryPoint) (heard : Heard) (role : RoleFacts) (knows : Knowledge) (machine : Machine) (outs : List Output) (after : Outcome) → after ≡ step now points heard (outcome_from role knows machine outs)

@@ -3,16 +3,18 @@ use Rattle.std.proofs.Common.{Bool, true, false, ℕ, ◌≡◌, ◌+◌, ◌++�
 use Rattle.std.proofs.lemmas.List.Elements.{All-push, All-nil, All-weaker}
 use Rattle.pat_base.specs.MemberId.{member_of}
 use Rattle.pat_base.specs.declared.member_id.MemberId.{MemberId}
+use Rattle.pat_base.specs.declared.member_set.MemberSet.{MemberSet}
 use Rattle.pat_base.specs.declared.peer_answer.PeerAnswer.{PeerAnswer}
 use Rattle.pat_base.specs.declared.ticks.Ticks.{Ticks}
 use Rattle.lease_store.specs.declared.granted.Granted.{Granted}
 use Rattle.wal_model.specs.declared.entry.HistoryPoint.{HistoryPoint}
 use Rattle.cluster_view.specs.Snapshots.{SnapshotFacts}
 use Rattle.pg_model.specs.Running.{is_primary}
+use Rattle.failsafe.specs.Asks.{asked, has}
 use Rattle.event_book.specs.declared.agent_note.AgentNote.TheVariants as agent_notes
 use Rattle.event_book.specs.declared.message.Body.TheVariants as bodies
 use Rattle.agent_model.specs.declared.heard.Heard.{Heard}
-use Rattle.agent_model.specs.declared.heard.Heard.TheVariants.{Wake, ReadAnswered, Granted as HeardGranted, Mismatch, Asked, Answered, Operated as HearsOperator}
+use Rattle.agent_model.specs.declared.heard.Heard.TheVariants.{Wake, ReadAnswered, Granted as HeardGranted, Mismatch, Asked, Answered, FailsafeAsked, FailsafeAnswered, Operated as HearsOperator}
 use Rattle.agent_model.specs.declared.knowledge.Knowledge.{Knowledge}
 use Rattle.agent_model.specs.declared.machine.Machine.{Machine}
 use Rattle.agent_model.specs.declared.operating.Operating.{Operating}
@@ -23,7 +25,7 @@ use Rattle.agent_model.specs.declared.output.Target.TheVariants as targets
 use Rattle.agent_model.specs.declared.why.Why.{Why}
 use Rattle.agent_model.specs.declared.why.Why.TheVariants.{HandOver, Lost}
 use Rattle.agent_model.specs.declared.who.Who.{Who}
-use Rattle.agent_model.specs.Acting.{arming, waiting_no_more, armed, fed_until, disarmed, deadline_after, is_refusing, touching}
+use Rattle.agent_model.specs.Acting.{arming, lease_span, waiting_no_more, armed, fed_until, disarmed, deadline_after, is_refusing, touching}
 use Rattle.agent_model.specs.Agents.{RoleFacts, Follower, Outcome, outcome_from}
 use Rattle.agent_model.specs.Answers.{is_other, asking_one, asking_first}
 use Rattle.pat_base.specs.declared.member_id.TheConstants.{MOST_MEMBERS}
@@ -34,25 +36,28 @@ use Rattle.agent_answers.specs.OperatorAnswers.{told_by, told_in}
 use Rattle.agent_model.specs.Outputs.{with_output}
 use Rattle.agent_model.specs.Peers.{keeping, answered}
 use Rattle.agent_model.specs.HandingOver.{asking_whom}
-use Rattle.agent_model.specs.Operators.{looked, given_up, learned}
+use Rattle.agent_model.specs.Operators.{looked, given_up, learned, unnumbered}
 use Rattle.agent_model.specs.Racing.{judged, unheard, finds_free}
 use Rattle.agent_model.specs.Repairs.{repair_of}
+use Rattle.agent_model.specs.StayingPrimary.{counting, failsafe_answered, fed_by_failsafe, others_known, requesting_first, requesting_one, span_after, stays}
 use Rattle.agent_answers.specs.Replies.{RepliesTo}
 use Rattle.agent_model.specs.Snapshots.{follow_row, follows, read_noted, read_answered, informed, led_by_another}
 use Rattle.agent_model.specs.Table.{step}
 use Rattle.agent_model.specs.Wake.{overdue, turned, woken}
-use Rattle.agent_model.proofs.Rows.{HandoverRows, ReplyRows, ActRows, looked-by, given-up-by, granted-any-by, refused-any-by, operated-by, led_on, if-cases, renewed-by, passing-by, begins-or-claims-by, before-by, overdue-by, turn-by, wake-by, got-by, refused-by, follow-by, repaired-by, free-by, granted-by, judged-by, answered-by, DutyRows, duties-of, leading_in_pause, takes-in-pause-by}
+use Rattle.agent_model.proofs.Rows.{HandoverRows, ReplyRows, ActRows, looked-by, given-up-by, granted-any-by, refused-any-by, operated-by, led_on, if-cases, renewed-by, passing-by, begins-or-claims-by, before-by, overdue-by, turn-by, wake-by, got-by, refused-by, follow-by, repaired-by, free-by, granted-by, judged-by, answered-by, DutyRows, duties-of, leading_in_pause, takes-in-pause-by, failsafe-answered-by, failsafe-asked-by}
 use Rattle.agent_model.specs.Pausing.{may_start_behind, disabling_told, disabling_watchdog}
 
 -- an output that answers neither a member nor an operator
 abbrev pub NoReply : Output → Type 0
 NoReply (outputs.Answer to incarnation sequence answer) = ⊥
+NoReply (outputs.FailsafeAnswer to incarnation sequence accepted) = ⊥
 NoReply (outputs.Told request told) = ⊥
 NoReply _ = Unit {0}
 
 -- an output that answers no member
 abbrev pub NoAnswer : Output → Type 0
 NoAnswer (outputs.Answer to incarnation sequence answer) = ⊥
+NoAnswer (outputs.FailsafeAnswer to incarnation sequence accepted) = ⊥
 NoAnswer _ = Unit {0}
 
 -- no member is answered that this outcome doesn't answer, operators are told what it tells them, and the same request waits
@@ -66,6 +71,7 @@ Quiet f o = Says f o.outputs o.knows.operating
 
 no-answer : (output : Output) → NoReply output → NoAnswer output
 no-answer (outputs.Answer to incarnation sequence answer) none = none
+no-answer (outputs.FailsafeAnswer to incarnation sequence accepted) none = none
 no-answer _ none = tt
 
 none-told : (output : Output) → NoReply output → told_by output ≡ []
@@ -133,8 +139,37 @@ handover-quiet f now revision o all = record {
 postpones-quiet : (f : Outcome) (held : ℕ) (o : Outcome) → Quiet f o → Quiet f (postpones held o)
 postpones-quiet f held o all = said (disarmed o.machine.watchdog.deadline o.outputs) (outputs.Note agent_notes.PostponesPromotion) tt (disarmed-quiet f o.machine.watchdog.deadline o.outputs all)
 
+-- the requests to all other members to stay primary
+request-quiet : (f : Outcome) (w : Option Operating) (members : MemberSet) (sequence : ℕ) (ttl : Ticks) (member : Option MemberId) (outs : List Output) → Says f outs w → Says f (requesting_one members sequence ttl member outs) w
+request-quiet f w members sequence ttl None outs all = all
+request-quiet f w members sequence ttl (Some member) outs all = if-cases (λ (l : List Output). Says f l w) (has members member.number) (with_output (outputs.Send (targets.Member member) sequence (bodies.FailsafeRequest ttl)) outs) outs
+    (λ _. said outs (outputs.Send (targets.Member member) sequence (bodies.FailsafeRequest ttl)) tt all) (λ _. all)
+
+requests-quiet : (f : Outcome) (w : Option Operating) (members : MemberSet) (sequence : ℕ) (ttl : Ticks) (count : ℕ) (outs : List Output) → Says f outs w → Says f (requesting_first members sequence ttl count outs) w
+requests-quiet f w members sequence ttl zero outs all = all
+requests-quiet f w members sequence ttl (suc count) outs all = request-quiet f w members sequence ttl (member_of count) (requesting_first members sequence ttl count outs) (requests-quiet f w members sequence ttl count outs all)
+
+by-failsafe-quiet : (f : Outcome) (deadline : Option Ticks) (members : MemberSet) (sequence : ℕ) (since : Ticks) {w : Option Operating} (outs : List Output) → Says f outs w → Says f (fed_by_failsafe deadline members sequence since outs) w
+by-failsafe-quiet f None members sequence since outs all = all
+by-failsafe-quiet f (Some until) members sequence since outs all = said outs (outputs.FedByFailsafe until members sequence since) tt all
+
+-- a leader stays primary
+stays-quiet : (f : Outcome) (now ttl : Ticks) (sequence : ℕ) (since : Ticks) (o : Outcome) → Quiet f o → Quiet f (stays now ttl sequence since o)
+stays-quiet f now ttl sequence since o all = said _ outputs.StaysByFailsafe tt (by-failsafe-quiet f (deadline_after now ttl o.machine.watchdog) o.knows.failsafe.members sequence since o.outputs all)
+
 overdue-quiet : (f : Outcome) (now : Ticks) (o : Outcome) → Quiet f o → Quiet f (overdue now o)
-overdue-quiet f now o all = overdue-by (Quiet f) now o (record { kept = all; quiet = all; leader = λ _ _. said o.outputs _ tt all; unleased = λ _. said o.outputs _ tt all; judges = λ _. judged-quiet f now o all; ready = λ held _. postpones-quiet f held (waiting_no_more o) all; checks = λ held _. handover-quiet f now held o all })
+overdue-quiet f now o all = overdue-by (Quiet f) now o (record {
+  kept = all;
+  quiet = all;
+  leader = λ _ _. said o.outputs _ tt all;
+  seeks = λ _ _. requests-quiet f o.knows.operating (others_known o.knows) (o.knows.sequence + 1) (lease_span o.knows.settings) MOST_MEMBERS o.outputs all;
+  alone = λ _ _. stays-quiet f now (lease_span o.knows.settings) o.knows.sequence now (record (waiting_no_more o) { knows = record o.knows { waited = None; failsafe = asked (others_known o.knows) now } }) all;
+  silent = λ _ _. said o.outputs _ tt all;
+  unleased = λ _. said o.outputs _ tt all;
+  judges = λ _. judged-quiet f now o all;
+  ready = λ held _. postpones-quiet f held (waiting_no_more o) all;
+  checks = λ held _. handover-quiet f now held o all;
+})
 
 turn-quiet : (f : Outcome) (now : Ticks) (o : Outcome) → Quiet f o → Quiet f (turned now o)
 turn-quiet f now o all = turn-by (Quiet f) now o (record { kept = all; quiet = all; reads = λ _. said o.outputs _ tt all })
@@ -231,6 +266,7 @@ granted-quiet f now sequence grant snapshot o all = let told : Outcome = record 
       takes_in_pause = λ renews _ _. let rest : Outcome = disabling_watchdog renews told in let rested : Quiet f rest = disabled-quiet f renews o.machine.watchdog.deadline o.outputs all in
           takes-in-pause-by (Quiet f) now renews grant.revision told (said o.outputs _ tt all) (begins-quiet f now grant.revision rest rested) (said _ _ tt (passing-quiet f rest rested));
     })
+    (λ _ said-so. said-so)
     (record { other = all; begins = λ revision _. begins-quiet f now revision told all; postpones = λ revision _. postpones-quiet f revision told all; settles = λ required _. said o.outputs (outputs.Require required) tt all })
 
 pub answered-quiet : (f : Outcome) (now : Ticks) (sequence : ℕ) (answer : PeerAnswer) (o : Outcome) → Quiet f o → Quiet f (answered now sequence answer o)
@@ -240,6 +276,15 @@ answered-quiet f now sequence answer o all = answered-by (Quiet f) now sequence 
   keeps = all;
   judges = λ _. judged-quiet f now (keeping answer o) all;
   checks = λ revision _. handover-quiet f now revision (keeping answer o) all;
+})
+
+pub failsafe-quiet : (f : Outcome) (now : Ticks) (from : MemberId) (sequence : ℕ) (accepted : Bool) (sent : Ticks) (o : Outcome) → Quiet f o → Quiet f (failsafe_answered now from sequence accepted sent o)
+failsafe-quiet f now from sequence accepted sent o all = failsafe-answered-by (Quiet f) now from sequence accepted sent o (record {
+  kept = all;
+  quiet = all;
+  counts = λ _ _. all;
+  stays = λ _ _ waited _ _ since _. stays-quiet f now waited.ttl waited.sequence since (counting from sent o) all;
+  fails = λ _ _ _. said o.outputs _ tt all;
 })
 
 abbrev NoneAnswered : Outcome → Type 0
@@ -253,10 +298,13 @@ acts-none now request o all = record {
   asks = λ operation txn _. All-push NoAnswer o.outputs _ all tt;
   restarts = λ told. All-push NoAnswer _ (outputs.Told request told) (All-push NoAnswer o.outputs (outputs.Restart (is_primary o.machine.server.state)) all tt) tt;
   wipes = λ told. All-push NoAnswer _ (outputs.Told request told) (All-push NoAnswer o.outputs outputs.Wipe all tt) tt;
+  holds = λ ttl told _. All-push NoAnswer _ (outputs.Told request told) (All-push NoAnswer o.outputs (outputs.HoldTaken (span_after now ttl) o.knows.who.me unnumbered) all tt) tt;
+  refuses = λ told. All-push NoAnswer o.outputs (outputs.Told request told) all tt;
 }
 
 no-reply : (heard : Heard) (output : Output) → NoAnswer output → RepliesTo heard output
 no-reply heard (outputs.Answer to incarnation sequence answer) none = absurd none
+no-reply heard (outputs.FailsafeAnswer to incarnation sequence accepted) none = absurd none
 no-reply heard _ none = tt
 
 none-replies : (heard : Heard) (o : Outcome) → NoneAnswered o → All (RepliesTo heard) o.outputs
@@ -288,3 +336,9 @@ step-replies now points heard role knows machine = by heard
     by (HearsOperator action) = none-replies (HearsOperator action) (step now points (HearsOperator action) o) (operated-by NoneAnswered now action.request action.asked b (acts-none now action.request b none))
     by (Asked from incarnation sequence) = All-push (RepliesTo (Asked from incarnation sequence)) b.outputs _ (none-replies (Asked from incarnation sequence) b none) (refl, refl, refl)
     by (Answered sequence answer) = none-replies (Answered sequence answer) (answered now sequence answer b) ((answered-quiet b now sequence answer b (as-said b)).all none)
+    by (FailsafeAnswered from sequence accepted sent) =
+        none-replies (FailsafeAnswered from sequence accepted sent) (failsafe_answered now from sequence accepted sent b) ((failsafe-quiet b now from sequence accepted sent b (as-said b)).all none)
+    by (FailsafeAsked from incarnation sequence ttl) = let heard : Heard = FailsafeAsked from incarnation sequence ttl in
+        failsafe-asked-by (λ (x : Outcome). All (RepliesTo heard) x.outputs) now from incarnation sequence ttl b
+        (λ _. All-push (RepliesTo heard) _ (outputs.FailsafeAnswer from incarnation sequence true) (All-push (RepliesTo heard) b.outputs (outputs.HoldTaken (span_after now ttl) from sequence) (none-replies heard b none) tt) (refl, refl, refl))
+        (All-push (RepliesTo heard) b.outputs (outputs.FailsafeAnswer from incarnation sequence false) (none-replies heard b none) (refl, refl, refl))

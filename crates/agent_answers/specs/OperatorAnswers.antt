@@ -17,7 +17,7 @@ use Rattle.cluster_view.specs.KeyValues.{failover_in}
 use Rattle.cluster_view.specs.Snapshots.{SnapshotFacts}
 use Rattle.operator_answers.specs.declared.answer_text.Text.{Text}
 use Rattle.operator_answers.specs.declared.answer_text.Text.TheVariants as texts
-use Rattle.operator_answers.specs.Statuses.{service_unavailable, conflict, ok}
+use Rattle.operator_answers.specs.Statuses.{service_unavailable, conflict, ok, internal_server_error}
 use Rattle.event_book.specs.declared.message.Body.TheVariants as bodies
 use Rattle.agent_model.specs.declared.heard.Heard.{Heard}
 use Rattle.agent_model.specs.declared.heard.Heard.TheVariants.{Wake, ReadAnswered, Granted, Mismatch, Operated}
@@ -33,7 +33,7 @@ use Rattle.agent_model.specs.declared.output.Target.TheVariants as targets
 use Rattle.agent_model.specs.Agents.{Outcome}
 use Rattle.agent_model.specs.Reconciling.{reconciled}
 use Rattle.agent_model.specs.Decisions.{is_write_of}
-use Rattle.agent_model.specs.Operators.{awaits_number, done_text, failed_text, holder_in, holder_if, name_in, is_same_member, most_operator_ticks, uses_read, operator_until, late_answer, refusal_of}
+use Rattle.agent_model.specs.Operators.{awaits_number, done_text, failed_text, holder_in, holder_if, name_in, is_same_member, most_operator_ticks, uses_read, operator_until, late_answer, refusal_of, unnumbered}
 
 -- what an output tells an operator, with the number of the request; most tell none
 abbrev pub told_by : Output → List (ℕ × Told)
@@ -83,10 +83,13 @@ pub record AnswersWaiting (now : Ticks) (heard : Heard) (o after : Outcome) (ans
   pub reason : IsReason now heard o waiting answer.1
   pub over : after.knows.operating ≡ None
 
--- what an operator asks is done in this input, and answered so: the server restarts, or is wiped
+-- what an operator asks is done in this input, and answered so: the server restarts, or is wiped; the member holds on another one's request, or
+-- refuses to
 abbrev pub IsDoneIn : List Output → OperatorRequest → Told → Type 0
 IsDoneIn outs requests.Restart answer = ((as_primary : Bool) × Contains outs (outputs.Restart as_primary)) × (answer ≡ tolds.Text ok texts.Restarted)
 IsDoneIn outs requests.Reinit answer = Contains outs outputs.Wipe × (answer ≡ tolds.Text ok texts.ReinitializeStarted)
+IsDoneIn outs (requests.Hold from ttl) answer =
+    (((until : Ticks) × ((member : MemberId) × Contains outs (outputs.HoldTaken until member unnumbered))) × (answer ≡ tolds.Text ok texts.Accepted)) ⊎ (answer ≡ tolds.Text internal_server_error texts.Refused)
 IsDoneIn outs _ answer = ⊥
 
 -- the request that is heard is answered at once

@@ -17,7 +17,7 @@ use Rattle.cluster_view.specs.Snapshots.{SnapshotFacts, entry_in, settings_by, s
 use Rattle.lease_law.proofs.Tools.{some-is, none-some}
 use Rattle.agent_model.specs.declared.knowledge.Knowledge.{Knowledge}
 use Rattle.agent_model.specs.declared.knowledge.Question.{Question}
-use Rattle.agent_model.specs.declared.knowledge.Question.TheVariants.{Reading, ComparingPositions, Creating, Renewing, Claiming, Syncing, FindingCandidate}
+use Rattle.agent_model.specs.declared.knowledge.Question.TheVariants.{Reading, ComparingPositions, Creating, Renewing, Claiming, Syncing, FindingCandidate, StayingPrimary}
 use Rattle.agent_model.specs.declared.knowledge.PendingQuestion.{PendingQuestion}
 use Rattle.agent_model.specs.declared.operating.Operating.{Operating}
 use Rattle.agent_model.specs.declared.why.Why.{Why}
@@ -36,11 +36,12 @@ use Rattle.agent_roles.specs.Powers.{IsAwaitedLease}
 use Rattle.agent_model.specs.Racing.{judged, finds_free, unheard}
 use Rattle.agent_model.specs.Repairs.{repair_of, repairing}
 use Rattle.agent_model.specs.Snapshots.{follow_row, follows, read_noted, read_answered, led_by_another}
+use Rattle.agent_model.specs.StayingPrimary.{asking_to_stay, failsafe_answered, failsafe_asked, may_stay, others_known, seeks_to_stay, stays_alone, unacknowledged_as}
 use Rattle.agent_model.specs.Table.{refused_any}
-use Rattle.agent_model.specs.Wake.{out_of_reach_as, unanswered, overdue_for, overdue, turned, woken, out_of_reach}
+use Rattle.agent_model.specs.Wake.{leader_out_of_reach, out_of_reach_as, unanswered, overdue_for, overdue, turned, woken, out_of_reach}
 use Rattle.agent_roles.proofs.Granting.{both-true}
 use Rattle.agent_roles.proofs.Living.{no-way}
-use Rattle.agent_model.proofs.Rows.{ReplyRows, if-cases, before-by, turn-by, wake-by, got-by, refused-by, follow-by, repaired-by, free-by, judged-by, handover-by, looked-by, given-up-by, operator-granted-by, refused-any-by, operated-by}
+use Rattle.agent_model.proofs.Rows.{ReplyRows, if-cases, before-by, turn-by, wake-by, got-by, refused-by, follow-by, repaired-by, free-by, judged-by, handover-by, looked-by, given-up-by, operator-granted-by, refused-any-by, operated-by, failsafe-answered-by, failsafe-asked-by}
 use Rattle.agent_model.specs.Pausing.{is_paused, may_start_behind}
 
 -- nothing is waited for
@@ -70,13 +71,27 @@ before-asks now o on = before-by (λ (x : Outcome). AsksInSynchronousMode x.know
 judged-asks : (now : Ticks) (o : Outcome) → o.knows.turn_settings.synchronous_mode ≡ true → AsksInSynchronousMode (judged now o).knows
 judged-asks now o on = judged-by (λ (x : Outcome). AsksInSynchronousMode x.knows) now o (asks-it o.knows.turn_settings.synchronous_mode _ on) (λ bar. (λ waited is-it. absurd (none-some waited is-it)))
 
+-- who asks to stay primary
+seeks-asks : (now : Ticks) (o : Outcome) → AsksInSynchronousMode (seeks_to_stay now (others_known o.knows) (waiting_no_more o)).knows
+seeks-asks now o = if-cases (λ (x : Outcome). AsksInSynchronousMode x.knows) ((others_known o.knows).bits == 0) (stays_alone now (others_known o.knows) (waiting_no_more o)) (asking_to_stay now (others_known o.knows) (waiting_no_more o))
+    (λ _. (λ waited is-it. absurd (none-some waited is-it))) (λ _. asks-it o.knows.turn_settings.synchronous_mode _ tt)
+
 reach-asks : (now : Ticks) (role : RoleFacts) (o : Outcome) → AsksInSynchronousMode (out_of_reach_as now role (waiting_no_more o)).knows
-reach-asks now (Leader held) o = (λ waited is-it. absurd (none-some waited is-it))
+reach-asks now (Leader held) o = if-cases (λ (x : Outcome). AsksInSynchronousMode x.knows) (may_stay o.knows) (seeks_to_stay now (others_known o.knows) (waiting_no_more o)) (leader_out_of_reach now held (waiting_no_more o))
+    (λ _. seeks-asks now o) (λ _. (λ waited is-it. absurd (none-some waited is-it)))
 reach-asks now Unleased o = (λ waited is-it. absurd (none-some waited is-it))
 reach-asks now Follower o = (λ waited is-it. absurd (none-some waited is-it))
 reach-asks now (Holder held) o = (λ waited is-it. absurd (none-some waited is-it))
 reach-asks now (Ready held) o = (λ waited is-it. absurd (none-some waited is-it))
 reach-asks now (Ending held why) o = (λ waited is-it. absurd (none-some waited is-it))
+
+silent-asks : (now : Ticks) (role : RoleFacts) (o : Outcome) → AsksInSynchronousMode (unacknowledged_as now role (waiting_no_more o)).knows
+silent-asks now (Leader held) o = (λ waited is-it. absurd (none-some waited is-it))
+silent-asks now Unleased o = (λ waited is-it. absurd (none-some waited is-it))
+silent-asks now Follower o = (λ waited is-it. absurd (none-some waited is-it))
+silent-asks now (Holder held) o = (λ waited is-it. absurd (none-some waited is-it))
+silent-asks now (Ready held) o = (λ waited is-it. absurd (none-some waited is-it))
+silent-asks now (Ending held why) o = (λ waited is-it. absurd (none-some waited is-it))
 
 unreached-asks : (now : Ticks) (o : Outcome) → AsksInSynchronousMode (out_of_reach now o).knows
 unreached-asks now o = if-cases (λ (x : Outcome). AsksInSynchronousMode x.knows) (is_paused o.knows) (waiting_no_more o) (out_of_reach_as now o.role (waiting_no_more o)) (λ _. (λ waited is-it. absurd (none-some waited is-it))) (λ _. reach-asks now o.role o)
@@ -109,6 +124,8 @@ unanswered-asks now Creating o on = (λ waited is-it. absurd (none-some waited i
 unanswered-asks now Claiming o on = claim-asks o.role o
 unanswered-asks now (Syncing settling) o on = (λ waited is-it. absurd (none-some waited is-it))
 unanswered-asks now FindingCandidate o on = leading-asks now o.role o
+unanswered-asks now StayingPrimary o on =
+    if-cases (λ (x : Outcome). AsksInSynchronousMode x.knows) (is_paused o.knows) (waiting_no_more o) (unacknowledged_as now o.role (waiting_no_more o)) (λ _. (λ waited is-it. absurd (none-some waited is-it))) (λ _. silent-asks now o.role o)
 unanswered-asks now ComparingPositions o on = if-cases (λ (x : Outcome). AsksInSynchronousMode x.knows) (may_create o.role) (judged now o) (waiting_no_more o) (λ _. judged-asks now o on) (λ _. (λ waited is-it. absurd (none-some waited is-it)))
 
 overdue-asks : (now : Ticks) (waited : Option PendingQuestion) (o : Outcome) → o.knows.waited ≡ waited → AsksInSynchronousMode o.knows → AsksInSynchronousMode (overdue_for now waited o).knows
@@ -132,11 +149,12 @@ pub operator-granted-asks : (snapshot : SnapshotFacts) (waiting : Option Operati
 operator-granted-asks snapshot waiting o on = operator-granted-by (λ (x : Outcome). AsksInSynchronousMode x.knows) snapshot waiting o on (record { kept = on; answers = λ request answer. on })
 
 pub operated-asks : (now : Ticks) (request : ℕ) (asked : OperatorRequest) (o : Outcome) → AsksInSynchronousMode o.knows → AsksInSynchronousMode (operated now request asked o).knows
-operated-asks now request asked o on = operated-by (λ (x : Outcome). AsksInSynchronousMode x.knows) now request asked o (record { asks = λ operation txn is. on; restarts = λ answer. on; wipes = λ answer. on })
+operated-asks now request asked o on = operated-by (λ (x : Outcome). AsksInSynchronousMode x.knows) now request asked o (record { asks = λ operation txn is. on; restarts = λ answer. on; wipes = λ answer. on; holds = λ ttl answer _. on; refuses = λ answer. on })
 
-pub wake-asks : (now : Ticks) (o : Outcome) → AsksInSynchronousMode o.knows → AsksInSynchronousMode (woken now o).knows
-wake-asks now o on = let x : Outcome = given_up now (reconciled now o) in
-    wake-by (λ (y : Outcome). AsksInSynchronousMode y.knows) now o (before-asks now o on) (turn-asks now (overdue now x) (overdue-asks now x.knows.waited x refl (given-up-asks now (reconciled now o) (before-asks now o on))))
+-- a wake, behind what precedes it
+pub wake-asks-behind : (now : Ticks) (o : Outcome) → AsksInSynchronousMode (reconciled now o).knows → AsksInSynchronousMode (woken now o).knows
+wake-asks-behind now o on = let x : Outcome = given_up now (reconciled now o) in
+    wake-by (λ (y : Outcome). AsksInSynchronousMode y.knows) now o on (turn-asks now (overdue now x) (overdue-asks now x.knows.waited x refl (given-up-asks now (reconciled now o) on)))
 
 -- the settings of a snapshot that has the mode on have it on
 value-on : (settings : Config) (value : Value) → (settings_by default_config value).synchronous_mode ≡ true → (settings_by settings value).synchronous_mode ≡ true
@@ -209,6 +227,7 @@ asking-on Renewing on asks follows = absurd (no-way asks)
 asking-on Claiming on asks follows = absurd (no-way asks)
 asking-on (Syncing settling) on asks follows = absurd (no-way asks)
 asking-on FindingCandidate on asks follows = absurd (no-way asks)
+asking-on StayingPrimary on asks follows = absurd (no-way asks)
 
 -- an answer in a race with the mode on
 accepted-asks : (now : Ticks) (answer : PeerAnswer) (o : Outcome) → AsksInSynchronousMode o.knows → o.knows.turn_settings.synchronous_mode ≡ true → AsksInSynchronousMode (accepted_answer now answer o).knows
@@ -238,6 +257,19 @@ answered-on now sequence answer (Some waited) o is on = let P : Outcome → Type
 pub answered-asks : (now : Ticks) (sequence : ℕ) (answer : PeerAnswer) (o : Outcome) → AsksInSynchronousMode o.knows → AsksInSynchronousMode (answered now sequence answer o).knows
 answered-asks now sequence answer o on = answered-on now sequence answer o.knows.waited o refl on
 
+-- an answer to whether it may stay primary
+pub stay-answered-asks : (now : Ticks) (from : MemberId) (sequence : ℕ) (accepted : Bool) (sent : Ticks) (o : Outcome) → AsksInSynchronousMode o.knows → AsksInSynchronousMode (failsafe_answered now from sequence accepted sent o).knows
+stay-answered-asks now from sequence accepted sent o on = failsafe-answered-by (λ (x : Outcome). AsksInSynchronousMode x.knows) now from sequence accepted sent o (record {
+  kept = on;
+  quiet = (λ waited is-it. absurd (none-some waited is-it));
+  counts = λ _ _. on;
+  stays = λ _ _ _ _ _ _ _. (λ waited is-it. absurd (none-some waited is-it));
+  fails = λ _ _ _. (λ waited is-it. absurd (none-some waited is-it));
+})
+
+pub stay-asked-asks : (now : Ticks) (from : MemberId) (incarnation sequence : ℕ) (ttl : Ticks) (o : Outcome) → AsksInSynchronousMode o.knows → AsksInSynchronousMode (failsafe_asked now from incarnation sequence ttl o).knows
+stay-asked-asks now from incarnation sequence ttl o on = failsafe-asked-by (λ (x : Outcome). AsksInSynchronousMode x.knows) now from incarnation sequence ttl o (λ _. on) on
+
 lease-on : (question : Question) (on : Bool) → asks_lease question ≡ true → FollowsSynchronousMode on question → on ≡ true
 lease-on Creating on asks follows = follows
 lease-on Renewing on asks follows = follows
@@ -246,6 +278,7 @@ lease-on Reading on asks follows = absurd (no-way asks)
 lease-on Claiming on asks follows = absurd (no-way asks)
 lease-on (Syncing settling) on asks follows = absurd (no-way asks)
 lease-on FindingCandidate on asks follows = absurd (no-way asks)
+lease-on StayingPrimary on asks follows = absurd (no-way asks)
 
 -- whoever waits for a lease asked for it with the mode on
 pub leases-on : (sequence : ℕ) (grant : Granted) (knows : Knowledge) → AsksInSynchronousMode knows → IsAwaitedLease sequence grant knows → knows.turn_settings.synchronous_mode ≡ true

@@ -27,14 +27,15 @@ use Rattle.agent_model.specs.declared.output.Output.TheVariants as outputs
 use Rattle.agent_model.specs.declared.output.Target.TheVariants as targets
 use Rattle.agent_model.specs.Acting.{deadline_after}
 use Rattle.agent_model.specs.Agents.{RoleFacts, Ready, Leader, Outcome, is_ready, is_leader}
-use Rattle.agent_commit_law.specs.Committing.{StandsToCommit, IsAwaitedWrite, HearsLease, HearsWrite, GrowsByConnected, IsCommitInputOf, IsLawfulAs, StandsAlone}
+use Rattle.agent_commit_law.specs.Committing.{StandsToCommit, IsAwaitedWrite, HearsLease, HearsWrite, GrowsByConnected, IsLawfulAs}
+use Rattle.agent_commit_law.proofs.CommitShown.{IsShown}
 use Rattle.agent_model.specs.Planning.{naming}
 use Rattle.agent_roles.specs.Powers.{IsAwaitedLease}
 use Rattle.agent_model.specs.Synchronous.{sync_read_in, expected_of}
 use Rattle.agent_commit_law.proofs.CommitGrounds.{IsBehind, lease_granted_as, write_granted_as, hears-lease, hears-write, leads-live, IsLedBy, compared-as, has-confirmed, confirmed-any}
 use Rattle.agent_commit_law.proofs.CommitIdling.{Idle, idle-then, waits-nothing, waits-new}
 use Rattle.agent_commit_law.proofs.CommitLawful.{was_of, lawful-as, keeps-turn, keeps-live, keeps-server, keeps-ready, keeps-noted, sends-nothing, sends-one, idle-lawful}
-use Rattle.agent_commit_law.proofs.CommitQuiet.{IsUnasking, asks-none, asks-unbegun, quiet-fed, last-request, last-unbegun, unasking}
+use Rattle.agent_commit_law.proofs.CommitQuiet.{Stands, IsUnasking, asks-none, asks-unbegun, quiet-fed, last-request, last-unbegun, unasking}
 use Rattle.agent_commit_law.proofs.CommitTools.{IsWithin, HasReached, covers-required}
 use Rattle.agent_roles.proofs.Granting.{Told}
 use Rattle.agent_roles.proofs.Knowing.{Onward}
@@ -46,11 +47,11 @@ pub record Ground (s : State) (m quorum : ℕ) (o b : Outcome) : Type 0 where
   pub sound : IsSound s
   pub stands : StandsToCommit s m quorum o
   pub behind : IsBehind o b
-  pub quiet : All StandsAlone o.outputs
+  pub quiet : All (Stands true) o.outputs
 
 -- what is made of it is lawful, where the agent goes on
 abbrev pub Lawful : ℕ → Ticks → ℕ → Granted → SnapshotFacts → State → ℕ → AgentInput → Outcome → Outcome → Type 0
-Lawful quorum now sequence grant snapshot s m input o x = Onward (Some snapshot) o x → IsCommitInputOf s m o x input → IsLawfulAs now (HeardGranted sequence grant snapshot) quorum o s m input
+Lawful quorum now sequence grant snapshot s m input o x = Onward (Some snapshot) o x → IsShown s m o x input → IsLawfulAs now (HeardGranted sequence grant snapshot) quorum o s m input
 
 -- a row that leaves what commits depend on
 pub rests : {quorum : ℕ} (now : Ticks) (sequence : ℕ) (grant : Granted) (snapshot : SnapshotFacts) (s : State) (m : ℕ) (input : AgentInput) (o b x : Outcome) → Ground s m quorum o b → Idle None b x → Lawful quorum now sequence grant snapshot s m input o x
@@ -76,17 +77,17 @@ pub record Changes (s : State) (m : ℕ) (o x : Outcome) : Type 0 where
   pub ready : is_ready x.role ≡ false
   pub turn : x.knows.turn_sync ≡ o.knows.turn_sync
   pub waited : x.knows.waited ≡ None
-  pub unasking : All IsUnasking x.outputs
+  pub unasking : All (IsUnasking true) x.outputs
   pub notes : (noted_position x.knows.noted ≡ end_of (entries_of (s.members m).log)) ⊎ (Narrows (s.members m).required (confirmers_in x.machine.replication.required) × (x.knows.noted ≡ o.knows.noted))
 
-notes-shown : (s : State) (m : ℕ) (input : AgentInput) (o x : Outcome) → IsCommitInputOf s m o x input → Changes s m o x
+notes-shown : (s : State) (m : ℕ) (input : AgentInput) (o x : Outcome) → IsShown s m o x input → Changes s m o x
     → (input.agent.noted ≡ end_of (entries_of (s.members m).log)) ⊎ (Narrows (s.members m).required input.required × (input.agent.noted ≡ (was_of o).noted))
 notes-shown s m input o x is changes = elim changes.notes [
   | inl end ↦ inl (ap (λ (a : Agent). a.noted) is.agent ∙ end)
   | inr narrows ↦ inr (subst (Narrows (s.members m).required) (sym is.required) narrows.0, keeps-noted s m input o x is narrows.1)
 ]
 
-overlaps-shown : (s : State) (m : ℕ) (input : AgentInput) (o x : Outcome) (key : SyncKey) (standbys : ℕ → Bool) → IsCommitInputOf s m o x input → key.standbys ≡ standbys → Overlaps s.member_count standbys key.quorum (confirmers_in x.machine.replication.required)
+overlaps-shown : (s : State) (m : ℕ) (input : AgentInput) (o x : Outcome) (key : SyncKey) (standbys : ℕ → Bool) → IsShown s m o x input → key.standbys ≡ standbys → Overlaps s.member_count standbys key.quorum (confirmers_in x.machine.replication.required)
     → Overlaps s.member_count key.standbys key.quorum input.required
 overlaps-shown s m input o x key standbys is same over =
     subst (λ (n : Confirmers). Overlaps s.member_count key.standbys key.quorum n) (sym is.required)
@@ -100,8 +101,8 @@ changes-lawful now sequence grant snapshot s m input o b x ground leased led lea
     (ChangingRequired (record {
       grant = lease_granted_as m sequence grant.revision snapshot o;
       hears = hears-lease s m sequence grant snapshot input o leased.hears leased.awaited;
-      live = keeps-live s m input o x ground.stands is (asks-unbegun x.outputs changes.unasking);
-      sends = sends-nothing s m input o x is (asks-none m o.knows.incarnation x.outputs changes.unasking);
+      live = keeps-live s m input o x ground.stands is (asks-unbegun true x.outputs changes.unasking);
+      sends = sends-nothing s m input o x is (asks-none true m o.knows.incarnation x.outputs changes.unasking);
       ready = keeps-ready s m input o x is (λ e. absurd (no-way (sym changes.ready ∙ e)));
       leads = λ _. ground.behind.idle.leads leads;
       turn = keeps-turn s m input o x is changes.turn;
@@ -119,8 +120,8 @@ settles-lawful now sequence grant snapshot s m input o b x ground awaited hears 
     (SettlingRequired (record {
       sync_grant = write_granted_as m sequence hears.key o;
       hears = hears-write s m sequence grant input o awaited hears;
-      live = keeps-live s m input o x ground.stands is (asks-unbegun x.outputs changes.unasking);
-      sends = sends-nothing s m input o x is (asks-none m o.knows.incarnation x.outputs changes.unasking);
+      live = keeps-live s m input o x ground.stands is (asks-unbegun true x.outputs changes.unasking);
+      sends = sends-nothing s m input o x is (asks-none true m o.knows.incarnation x.outputs changes.unasking);
       ready = keeps-ready s m input o x is (λ e. absurd (no-way (sym changes.ready ∙ e)));
       leads = λ _. ground.behind.idle.leads leads;
       turn = keeps-turn s m input o x is changes.turn;
@@ -137,7 +138,7 @@ pub publishes-lawful : {quorum : ℕ} (now ttl : Ticks) (sequence : ℕ) (grant 
 publishes-lawful now ttl sequence grant snapshot s m input o b ground leased led leads settling set required each fewer onward is =
     let fed : Outcome = led_on now ttl grant.revision (Told snapshot b) in
     let x : Outcome = naming now grant.revision settling set fed in
-    let fed-quiet : All StandsAlone fed.outputs = quiet-fed (deadline_after now ttl b.machine.watchdog) b.outputs (ground.behind.idle.quiet ground.quiet) in
+    let fed-quiet : All (Stands true) fed.outputs = quiet-fed true (deadline_after now ttl b.machine.watchdog) b.outputs (ground.behind.idle.quiet true (λ _ _. refl) ground.quiet) in
     let txn : Txn = txns.SetSync grant.revision (expected_of (sync_read_in snapshot)) set in
     let output : Output = outputs.Send targets.Store (b.knows.sequence + 1) (bodies.Request txn) in
     let request : SyncRequest = publish_request m o.knows.incarnation (b.knows.sequence + 1) grant.revision (expected_of (sync_read_in snapshot)) set in
@@ -147,7 +148,7 @@ publishes-lawful now ttl sequence grant snapshot s m input o b ground leased led
     (Publishing (record {
       grant = lease_granted_as m sequence grant.revision snapshot o;
       hears = hears-lease s m sequence grant snapshot input o leased.hears leased.awaited;
-      keeps = keeps-server s m input o x ground.stands is (last-unbegun fed.outputs output (unasking fed.outputs fed-quiet) refl) (ap (λ (r : Replication). r.required) ground.behind.replication);
+      keeps = keeps-server s m input o x ground.stands is (last-unbegun true fed.outputs output (unasking true fed.outputs fed-quiet) refl) (ap (λ (r : Replication). r.required) ground.behind.replication);
       live = lives;
       led = ground.behind.idle.leads leads;
       ready = keeps-ready s m input o x is (λ e. absurd (no-way e));
@@ -156,7 +157,7 @@ publishes-lawful now ttl sequence grant snapshot s m input o b ground leased led
       key = led.key;
       key_is = led.seen;
       request = request;
-      sends = sends-one s m input o x request is (last-request m o.knows.incarnation fed.outputs output fed-quiet) refl refl (omega (arith, ground.behind.last)) (omega arith) refl;
+      sends = sends-one s m input o x request is (last-request true m o.knows.incarnation fed.outputs output fed-quiet) refl refl (omega (arith, ground.behind.last)) (omega arith) refl;
       leader = refl;
       sync = compared-as (sync_read_in snapshot) ∙ ap sync_revision_of led.seen;
       standbys = set_members set;

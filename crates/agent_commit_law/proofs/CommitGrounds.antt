@@ -47,6 +47,7 @@ use Rattle.agent_commit_law.proofs.CommitLawful.{was_of}
 use Rattle.agent_commit_law.proofs.CommitSteps.{IsForeign}
 use Rattle.agent_commit_law.proofs.CommitTools.{IsWithin, HasReached, required-covers}
 use Rattle.agent_roles.proofs.Fitting.{before-fits}
+use Rattle.agent_roles.proofs.Leaving.{before-leaves}
 use Rattle.agent_roles.proofs.Knowing.{Onward, before-onward}
 use Rattle.agent_roles.proofs.Staying.{before-waits}
 use Rattle.agent_roles.proofs.Living.{no-way}
@@ -94,7 +95,7 @@ before-behind now o = let onward : Onward None o (reconciled now o) = before-onw
   turn = untold o (reconciled now o) idle.turn;
   server = (before-machine now o).0;
   replication = (before-machine now o).1;
-  hold = onward.hold;
+  hold = (before-leaves now o).hold;
   fits = before-fits now o;
   idle = idle;
 }

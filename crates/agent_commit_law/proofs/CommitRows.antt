@@ -45,8 +45,9 @@ use Rattle.agent_model.specs.Acting.{deadline_after, ending_server, arming, requ
 use Rattle.agent_model.specs.Agents.{Ready, Ending, Outcome, is_leader, is_ready}
 use Rattle.agent_model.specs.Reconciling.{reconciled}
 use Rattle.agent_model.specs.Claiming.{begins, claims, passing, postpones, can_begin_on_claim, told_passing}
-use Rattle.agent_commit_law.specs.Committing.{sync_seen, StandsToCommit, IsAwaitedWrite, IsAskedBy, HearsWrite, HearsGranted, IsSynchronousSnapshot, FollowsSynchronousMode, AsksInSynchronousMode, ListsMember, IsCommitInputOf, is_claim_outside_sync, IsLawfulAs, StandsAlone}
-use Rattle.agent_model.specs.Decisions.{takes_over, gives_back, may_create, granted}
+use Rattle.agent_commit_law.specs.Committing.{sync_seen, StandsToCommit, IsAwaitedWrite, IsAskedBy, HearsWrite, HearsGranted, IsSynchronousSnapshot, FollowsSynchronousMode, AsksInSynchronousMode, ListsMember, is_claim_outside_sync, IsLawfulAs}
+use Rattle.agent_commit_law.proofs.CommitShown.{IsShown}
+use Rattle.agent_model.specs.Decisions.{confirming, takes_over, gives_back, may_create, granted}
 use Rattle.agent_model.specs.HandingOver.{checking, hands_over}
 use Rattle.agent_model.specs.Outputs.{has_one, with_output}
 use Rattle.agent_model.specs.Planning.{leader_view, noting}
@@ -59,7 +60,7 @@ use Rattle.agent_commit_law.proofs.CommitGrounds.{IsBehind, before-behind, befor
 use Rattle.agent_commit_law.proofs.CommitIdling.{Idle, idle-then, waits-nothing, waits-new, stays, falls, same-idle, quiet-idle, postpones-idle, failover-idle}
 use Rattle.agent_commit_law.proofs.CommitLawful.{lawful-as, keeps-turn, keeps-server, keeps-ready, sends-nothing, sends-one}
 use Rattle.agent_commit_law.proofs.CommitGrowing.{narrows-grows, required-needs, wanted-connected}
-use Rattle.agent_commit_law.proofs.CommitQuiet.{IsUnasking, asks-last, quietly, quiet-armed, quiet-fed, quiet-none, quiet-unbegun, last-unbegun, passing-unasked, unasked}
+use Rattle.agent_commit_law.proofs.CommitQuiet.{Stands, IsUnasking, asks-last, quietly, quiet-armed, quiet-fed, quiet-none, quiet-unbegun, last-unbegun, passing-unasked, unasked}
 use Rattle.agent_commit_law.proofs.CommitSteps.{IsForeign, wanted_at, confirmed_at, required_at, PlanSteps, LeaseSteps, WriteSteps, granted-steps}
 use Rattle.agent_commit_law.proofs.CommitTools.{IsWithin, HasReached, within-set, both-first, either-first, either-one, either-within, unnamed-confirmers, waiting-covers, waiting-narrows, confirmed-reached}
 use Rattle.agent_roles.proofs.Fitting.{ended-for}
@@ -84,7 +85,7 @@ arms-lawful now ttl sequence grant snapshot s m input o b ground leased creates 
     let arm : Outcome = arming now ttl (Told snapshot b) in
     let noted : Outcome = passing arm in
     let x : Outcome = claims now grant.revision noted in
-    let still : All IsUnasking noted.outputs = passing-unasked arm (quiet-armed (deadline_after now ttl b.machine.watchdog) b.outputs (behind.idle.quiet ground.quiet)) in
+    let still : All (IsUnasking true) noted.outputs = passing-unasked true arm (quiet-armed true (deadline_after now ttl b.machine.watchdog) b.outputs (behind.idle.quiet true (λ _ _. refl) ground.quiet)) in
     let output : Output = outputs.Send targets.Store (b.knows.sequence + 1) (bodies.Request (txns.Claim grant.revision (expected_of b.knows.turn_sync))) in
     let request : SyncRequest = claim_request m o.knows.incarnation (b.knows.sequence + 1) grant.revision (expected_of b.knows.turn_sync) in
     let named : WinsByName (sync_seen b.knows.turn_sync) m = wins-named b.knows.who.me m b.knows.turn_sync (none-lacks b.knows.turn_sync) (ap (λ (w : Who). w.me.number) behind.who ∙ ground.stands.me)
@@ -93,11 +94,11 @@ arms-lawful now ttl sequence grant snapshot s m input o b ground leased creates 
     (Arming (record {
       grant = lease_granted_as m sequence grant.revision snapshot o;
       hears = hears-lease s m sequence grant snapshot input o leased.hears leased.awaited;
-      keeps = keeps-server s m input o x ground.stands is (last-unbegun noted.outputs output still refl) (ap (λ (r : Replication). r.required) behind.replication);
+      keeps = keeps-server s m input o x ground.stands is (last-unbegun true noted.outputs output still refl) (ap (λ (r : Replication). r.required) behind.replication);
       not_live = ground.stands.live ∙ (sym (ap (λ (y : ServerStatus). live y.state) behind.server) ∙ ended-for b.role (live b.machine.server.state) creates behind.fits);
       turn = keeps-turn s m input o x is behind.turn;
       request = request;
-      sends = sends-one s m input o x request is (asks-last m o.knows.incarnation noted.outputs output still) refl refl (omega (arith, behind.last)) (omega arith) refl;
+      sends = sends-one s m input o x request is (asks-last true m o.knows.incarnation noted.outputs output still) refl refl (omega (arith, behind.last)) (omega arith) refl;
       aim = refl;
       leader = refl;
       sync = compared-as b.knows.turn_sync ∙ ap (λ (r : Option SyncRead). sync_revision_of (sync_seen r)) behind.turn;
@@ -110,11 +111,11 @@ takes-over-lawful : {quorum : ℕ} (now ttl : Ticks) (sequence : ℕ) (grant : G
 takes-over-lawful now ttl sequence grant snapshot s m input o b ground onward is =
     let behind : IsBehind o b = ground.behind in
     let x : Outcome = takes_over now grant.revision (arming now ttl (Told snapshot b)) in
-    let quiet : All StandsAlone x.outputs = quiet-armed (deadline_after now ttl b.machine.watchdog) b.outputs (behind.idle.quiet ground.quiet) in
+    let quiet : All (Stands true) x.outputs = quiet-armed true (deadline_after now ttl b.machine.watchdog) b.outputs (behind.idle.quiet true (λ _ _. refl) ground.quiet) in
     lawful-as now (HeardGranted sequence grant snapshot) (Some snapshot) s m input o x ground.stands is onward (waits-nothing o x refl)
     (TakingOver (record {
-      keeps = keeps-server s m input o x ground.stands is (quiet-unbegun x.outputs quiet) (ap (λ (r : Replication). r.required) behind.replication);
-      sends = sends-nothing s m input o x is (quiet-none m o.knows.incarnation x.outputs quiet);
+      keeps = keeps-server s m input o x ground.stands is (quiet-unbegun true x.outputs quiet) (ap (λ (r : Replication). r.required) behind.replication);
+      sends = sends-nothing s m input o x is (quiet-none true m o.knows.incarnation x.outputs quiet);
       ready = keeps-ready s m input o x is (λ e. absurd (no-way e));
       noted = ap (λ (a : Agent). a.noted) is.agent ∙ noted-end s m o b ground.stands behind;
       turn = keeps-turn s m input o x is behind.turn;
@@ -136,7 +137,7 @@ promotes-lawful now sequence revision grant snapshot s m input o b ground awaite
     let behind : IsBehind o b = ground.behind in
     let x : Outcome = begins now revision (Told snapshot b) in
     let required : Output = outputs.Require (unnamed b.knows.turn_settings) in
-    let all : All IsUnasking (with_output required b.outputs) = unasked b.outputs (unnamed b.knows.turn_settings) (behind.idle.quiet ground.quiet) in
+    let all : All (IsUnasking true) (with_output required b.outputs) = unasked true b.outputs (unnamed b.knows.turn_settings) (behind.idle.quiet true (λ _ _. refl) ground.quiet) in
     let asked : (n : ℕ) → hears.key.standbys n ≡ false = subst (λ (q : Question). IsAskedBy q hears.key) question hears.asked in
     lawful-as now (HeardGranted sequence grant snapshot) (Some snapshot) s m input o x ground.stands is onward (waits-nothing o x refl)
     (Promoting (record {
@@ -145,7 +146,7 @@ promotes-lawful now sequence revision grant snapshot s m input o b ground awaite
       was_ready = behind.idle.ready (rw role refl);
       ready = ap (λ (a : Agent). a.ready) is.agent;
       required = is.required ∙ unnamed-confirmers b.knows.turn_settings;
-      sends = sends-nothing s m input o x is (asks-last m o.knows.incarnation (with_output required b.outputs) outputs.Begin all);
+      sends = sends-nothing s m input o x is (asks-last true m o.knows.incarnation (with_output required b.outputs) outputs.Begin all);
       turn = keeps-turn s m input o x is behind.turn;
       log = ground.stands.has_log (ap (λ (y : ServerStatus). has_data y.state) (sym behind.server) ∙ begins-data b.machine.server.was_primary b.machine.server.state can);
       claim = asked;
@@ -168,7 +169,7 @@ withdrawn-lawful now sequence grant snapshot s m input o b ground awaited hears 
       ready = unready b.role leads;
       turn = behind.turn;
       waited = refl;
-      unasking = unasked b.outputs required (behind.idle.quiet ground.quiet);
+      unasking = unasked true b.outputs required (behind.idle.quiet true (λ _ _. refl) ground.quiet);
       notes = inr (narrows, behind.idle.noted);
     }) (waiting-covers s.member_count hears.key.quorum hears.key.standbys (Told snapshot b).knows.settings set (λ n e. sym (asked n) ∙ e)) (narrows-grows o (s.members m).required (confirmers_in required) narrows)
 
@@ -181,11 +182,11 @@ led-idle now ttl revision snapshot b leads = record {
   noted = refl;
   turn = inl refl;
   waits = waits-nothing b (led_on now ttl revision (Told snapshot b)) refl;
-  quiet = λ q. quiet-fed (deadline_after now ttl b.machine.watchdog) b.outputs q;
+  quiet = λ leads h q. quiet-fed leads (deadline_after now ttl b.machine.watchdog) b.outputs q;
 }
 
 told-idle : (snapshot : SnapshotFacts) (b : Outcome) → Idle None b (Told snapshot b)
-told-idle snapshot b = stays None b (Told snapshot b) refl refl refl refl (waits-nothing b (Told snapshot b) refl) (λ q. q)
+told-idle snapshot b = stays None b (Told snapshot b) refl refl refl refl (waits-nothing b (Told snapshot b) refl) (λ leads h q. q)
 
 -- what is required behind what comes before an input was required before it
 required-before : (o b : Outcome) → IsBehind o b → set_members (required_at b) ≡ set_members (required_at o)
@@ -205,7 +206,7 @@ plan-lawful : (now ttl : Ticks) (sequence : ℕ) (grant : Granted) (snapshot : S
 plan-lawful now ttl sequence grant snapshot s m input o b ground leased leads =
     let behind : IsBehind o b = ground.behind in
     let fed : Outcome = led_on now ttl grant.revision (Told snapshot b) in
-    let quiet : All StandsAlone fed.outputs = quiet-fed (deadline_after now ttl b.machine.watchdog) b.outputs (behind.idle.quiet ground.quiet) in
+    let quiet : All (Stands true) fed.outputs = quiet-fed true (deadline_after now ttl b.machine.watchdog) b.outputs (behind.idle.quiet true (λ _ _. refl) ground.quiet) in
     let lives : (s.members m).live ≡ true = leads-live s m o b ground.stands behind leads in
     let led : IsLedBy s m strict_quorum snapshot o = led-by s m sequence grant snapshot input o ground.sound ground.stands leased.hears leased.awaited lives in
     let covers : IsWithin (set_members (published_in snapshot)) (set_members (required_at o)) = led-covers s m snapshot o ground.sound ground.stands lives led in
@@ -224,7 +225,7 @@ plan-lawful now ttl sequence grant snapshot s m input o b ground leased leads =
             ready = refl;
             turn = behind.turn;
             waited = refl;
-            unasking = unasked fed.outputs (requireds.All set) quiet;
+            unasking = unasked true fed.outputs (requireds.All set) quiet;
             notes = inl (noted-end s m o b ground.stands behind);
           }) (λ n e. either-first (required_at b) wanted n (subst (λ (f : ℕ → Bool). f n ≡ true) (sym (required-before o b behind)) (covers n e)))
           (λ n e. elim (either-one (required_at b) wanted n e) [
@@ -240,7 +241,7 @@ plan-lawful now ttl sequence grant snapshot s m input o b ground leased leads =
             ready = refl;
             turn = behind.turn;
             waited = refl;
-            unasking = unasked fed.outputs list quiet;
+            unasking = unasked true fed.outputs list quiet;
             notes = inr (narrows, behind.idle.noted);
           }) (waiting-covers s.member_count led.key.quorum (set_members published) fed.knows.settings set (either-first published wanted)) (narrows-grows o (s.members m).required (confirmers_in list) narrows);
     }
@@ -278,13 +279,13 @@ lease-lawful now ttl sequence grant snapshot s m input o b ground leased unready
     let still : (x : Outcome) → Idle None b x → Lawful strict_quorum now sequence grant snapshot s m input o x = λ x idle. rests now sequence grant snapshot s m input o b x ground idle in
     record {
       other = still told (told-idle snapshot b);
-      ends = still ended (falls None b ended refl refl refl refl refl (waits-nothing b ended refl) (λ q. quietly fed.outputs (outputs.Stop StartTooLong) (quiet-fed (deadline_after now ttl b.machine.watchdog) b.outputs q) tt));
+      ends = still ended (falls None b ended refl refl refl refl refl (waits-nothing b ended refl) (λ leads h q. quietly leads fed.outputs (outputs.Stop StartTooLong) (quiet-fed leads (deadline_after now ttl b.machine.watchdog) b.outputs q) tt));
       plans = λ held is. plan-lawful now ttl sequence grant snapshot s m input o b ground leased (rw is refl);
       fails_over = λ held is. failover-lawful now ttl sequence grant snapshot s m input o b ground (rw is refl);
-      stops = λ _. still stopped (stays None b stopped refl refl refl refl (waits-nothing b stopped refl) (λ q. quietly b.outputs (outputs.Stop WatchdogNotArmed) q tt));
+      stops = λ _. still stopped (stays None b stopped refl refl refl refl (waits-nothing b stopped refl) (λ leads h q. quietly leads b.outputs (outputs.Stop WatchdogNotArmed) q tt));
       takes_over = λ _. takes-over-lawful now ttl sequence grant snapshot s m input o b ground;
-      returns = still back (falls None b back refl refl refl refl refl (waits-nothing b back refl) (λ q. quietly b.outputs _ q tt));
-      refuses = still refused (falls None b refused refl refl refl refl refl (waits-nothing b refused refl) (λ q. quietly (with_output (outputs.Note agent_notes.CannotArm) b.outputs) _ (quietly b.outputs (outputs.Note agent_notes.CannotArm) q tt) tt));
+      returns = still back (falls None b back refl refl refl refl refl (waits-nothing b back refl) (λ leads h q. quietly leads b.outputs _ q tt));
+      refuses = still refused (falls None b refused refl refl refl refl refl (waits-nothing b refused refl) (λ leads h q. quietly leads (with_output (outputs.Note agent_notes.CannotArm) b.outputs) _ (quietly leads b.outputs (outputs.Note agent_notes.CannotArm) q tt) tt));
       claims = λ creates. arms-lawful now ttl sequence grant snapshot s m input o b ground leased creates (unready-before creates);
     }
 
@@ -300,9 +301,15 @@ write-lawful now sequence grant snapshot s m input o b ground awaited hears foll
       empties = λ question. absurd (subst (λ (q : Question). FollowsSynchronousMode o.knows.turn_settings.synchronous_mode q) question follows);
     }
 
+-- the law doesn't see whether the failsafe set is confirmed
+confirmed-lawful : {quorum : ℕ} (now : Ticks) (sequence : ℕ) (grant : Granted) (snapshot : SnapshotFacts) (s : State) (m : ℕ) (input : AgentInput) (o after : Outcome) → Lawful quorum now sequence grant snapshot s m input o after → Lawful quorum now sequence grant snapshot s m input o (confirming snapshot after)
+confirmed-lawful now sequence grant snapshot s m input o after does onward is = does
+    (record { who = onward.who; incarnation = onward.incarnation; last = onward.last; waits = onward.waits; known = onward.known; informed = onward.informed; failsafe = onward.failsafe; leader = onward.leader; pauses = onward.pauses; hold = onward.hold; ends = onward.ends; counts = onward.counts })
+    (record { agent = is.agent; live = is.live; required = is.required; sends = is.sends; holder_was_live = is.holder_was_live; inside = is.inside })
+
 -- a granted request
-pub grant-commits : (now : Ticks) (sequence : ℕ) (grant : Granted) (snapshot : SnapshotFacts) (s : State) (m : ℕ) (input : AgentInput) (o : Outcome) → IsSound s → StandsToCommit s m strict_quorum o → All StandsAlone o.outputs → is_paused o.knows ≡ false → AsksInSynchronousMode o.knows → IsSynchronousSnapshot snapshot → HearsGranted s m input.heard sequence grant snapshot o.knows
-    → IsCommitInputOf s m o (granted now sequence grant snapshot (reconciled now o)) input → IsLawfulAs now (HeardGranted sequence grant snapshot) strict_quorum o s m input
+pub grant-commits : (now : Ticks) (sequence : ℕ) (grant : Granted) (snapshot : SnapshotFacts) (s : State) (m : ℕ) (input : AgentInput) (o : Outcome) → IsSound s → StandsToCommit s m strict_quorum o → All (Stands true) o.outputs → is_paused o.knows ≡ false → AsksInSynchronousMode o.knows → IsSynchronousSnapshot snapshot → HearsGranted s m input.heard sequence grant snapshot o.knows
+    → IsShown s m o (granted now sequence grant snapshot (reconciled now o)) input → IsLawfulAs now (HeardGranted sequence grant snapshot) strict_quorum o s m input
 grant-commits now sequence grant snapshot s m input o sound stands quiet was asks on hears is =
     let b : Outcome = reconciled now o in
     let behind : IsBehind o b = before-behind now o in
@@ -311,6 +318,7 @@ grant-commits now sequence grant snapshot s m input o sound stands quiet was ask
     granted-steps (Lawful strict_quorum now sequence grant snapshot s m input o) now sequence grant snapshot b on (record {
       kept = rests now sequence grant snapshot s m input o b b ground (same-idle None b);
       quiet = rests now sequence grant snapshot s m input o b (waiting_no_more b) ground (quiet-idle None b);
+      confirms = λ after does. confirmed-lawful now sequence grant snapshot s m input o after does;
       unpaused = stays-unpaused now snapshot o was on.unpaused;
       mode = mode;
       leases = λ awaited. let before-it : IsAwaitedLease sequence grant o.knows = lease-before sequence grant o b behind awaited in

@@ -20,7 +20,7 @@ use Rattle.sync_state.specs.Standbys.{standbys_in, required_members, confirmed_i
 use Rattle.sync_state.specs.declared.steps.Plan.{Plan}
 use Rattle.sync_state.specs.declared.steps.Plan.TheVariants as plans
 use Rattle.agent_model.specs.declared.knowledge.Question.{Question}
-use Rattle.agent_model.specs.declared.knowledge.Question.TheVariants.{Reading, ComparingPositions, Creating, Renewing, Claiming, Syncing, FindingCandidate}
+use Rattle.agent_model.specs.declared.knowledge.Question.TheVariants.{Reading, ComparingPositions, Creating, Renewing, Claiming, Syncing, FindingCandidate, StayingPrimary}
 use Rattle.agent_model.specs.declared.knowledge.Settling.{Settling}
 use Rattle.agent_model.specs.declared.knowledge.Settling.TheVariants.{KeepsList, NamesStandbys, ClearsList}
 use Rattle.agent_model.specs.declared.knowledge.PendingQuestion.{PendingQuestion}
@@ -30,7 +30,7 @@ use Rattle.agent_model.specs.Acting.{ending_server, arming, requiring, is_refusi
 use Rattle.agent_model.specs.Agents.{RoleFacts, Follower, Holder, Ready, Leader, Ending, Unleased, Outcome, is_leader}
 use Rattle.agent_model.specs.Claiming.{begins, claims, begins_or_claims, passing, postpones, can_begin_on_claim, may_begin_on_claim}
 use Rattle.agent_commit_law.specs.Committing.{IsAwaitedWrite, IsSynchronousSnapshot}
-use Rattle.agent_model.specs.Decisions.{is_decision, is_sync_decision, is_lease_of, is_write_of, belongs, is_start_too_long, takes_over, unleased_renewed, leader_renewed, may_create, may_take, gives_back, arms, takes_key, lease_granted, accepted_grant, sync_granted, accepted_sync, granted_write, granted_for, granted, asks_renewal, granted_in_pause, lease_used, uses_lease}
+use Rattle.agent_model.specs.Decisions.{confirming, is_decision, is_sync_decision, is_lease_of, is_write_of, belongs, is_start_too_long, takes_over, unleased_renewed, leader_renewed, may_create, may_take, gives_back, arms, takes_key, lease_granted, accepted_grant, sync_granted, accepted_sync, granted_write, granted_for, granted, asks_renewal, granted_in_pause, lease_used, uses_lease}
 use Rattle.agent_model.specs.HandingOver.{duties}
 use Rattle.agent_model.specs.Outputs.{with_output}
 use Rattle.agent_model.specs.Planning.{leader_view, naming, noting, planned_as, planned_on, settled}
@@ -167,11 +167,14 @@ write-steps P now question ComparingPositions snapshot role o unpaused is same f
 write-steps P now question Creating snapshot role o unpaused is same fits rows = rows.other
 write-steps P now question Renewing snapshot role o unpaused is same fits rows = rows.other
 write-steps P now question FindingCandidate snapshot role o unpaused is same fits rows = rows.other
+write-steps P now question StayingPrimary snapshot role o unpaused is same fits rows = rows.other
 
 -- a granted request
 pub record GrantSteps (P : Outcome → Type 0) (now : Ticks) (sequence : ℕ) (grant : Granted) (snapshot : SnapshotFacts) (o : Outcome) : Type 0 where
   pub kept : P o
   pub quiet : P (waiting_no_more o)
+  -- whether the failsafe set is confirmed changes nothing
+  pub confirms : (after : Outcome) → P after → P (confirming snapshot after)
   pub unpaused : is_paused (Told snapshot o).knows ≡ false
   pub mode : IsAwaitedLease sequence grant o.knows → o.knows.turn_settings.synchronous_mode ≡ true
   pub leases : (awaited : IsAwaitedLease sequence grant o.knows) → LeaseSteps P now awaited.waited.ttl grant.revision snapshot o
@@ -183,10 +186,10 @@ granted-for-steps P now sequence grant snapshot (Some waited) o is on rows =
     if-cases P (is_decision waited sequence && is_lease_of o.knows.who.me grant) (accepted_grant now waited grant.revision snapshot o) (granted_write now sequence grant snapshot waited o)
     (λ decides. let parts : (is_decision waited sequence ≡ true) × (is_lease_of o.knows.who.me grant ≡ true) = both-true (is_decision waited sequence) (is_lease_of o.knows.who.me grant) decides in
     let awaited : IsAwaitedLease sequence grant o.knows = record { waited = waited; is = is; decision = parts.0; mine = parts.1 } in
-    if-cases P (uses_lease (is_paused (Told snapshot o).knows) waited.question o.role) (lease_used now waited grant.revision (Told snapshot o)) (waiting_no_more o)
-    (λ _. if-cases P (is_paused (Told snapshot o).knows) (granted_in_pause now (asks_renewal waited.question) grant.revision o.role (Told snapshot o)) (lease_granted now waited.ttl grant.revision o.role (Told snapshot o))
+    if-cases P (uses_lease (is_paused (Told snapshot o).knows) waited.question o.role) (confirming snapshot (lease_used now waited grant.revision (Told snapshot o))) (waiting_no_more o)
+    (λ _. rows.confirms (lease_used now waited grant.revision (Told snapshot o)) (if-cases P (is_paused (Told snapshot o).knows) (granted_in_pause now (asks_renewal waited.question) grant.revision o.role (Told snapshot o)) (lease_granted now waited.ttl grant.revision o.role (Told snapshot o))
     (λ paused. absurd (no-way (sym rows.unpaused ∙ paused)))
-    (λ _. lease-steps P now waited.ttl grant.revision snapshot o.role o refl on (rows.mode awaited) (rows.leases awaited))) (λ _. rows.quiet))
+    (λ _. lease-steps P now waited.ttl grant.revision snapshot o.role o refl on (rows.mode awaited) (rows.leases awaited)))) (λ _. rows.quiet))
     (λ _. if-cases P (is_sync_decision waited sequence && is_write_of o.knows.who.me grant) (accepted_sync now waited snapshot o) o
     (λ decides. let parts : (is_sync_decision waited sequence ≡ true) × (is_write_of o.knows.who.me grant ≡ true) = both-true (is_sync_decision waited sequence) (is_write_of o.knows.who.me grant) decides in
     let awaited : IsAwaitedWrite sequence grant o.knows = record { waited = waited; is = is; decision = parts.0; mine = parts.1 } in

@@ -1,6 +1,7 @@
 pub mod CommitTools
 pub mod CommitGrowing
 pub mod CommitQuiet
+pub mod CommitShown
 pub mod CommitIdling
 pub mod CommitSteps
 pub mod CommitLawful

@@ -186,11 +186,10 @@ IsSent [] sends = sends ≡ None
 IsSent (request ∷ []) sends = (number : ℕ) × (sends ≡ Some (record { number = number; request = request }))
 IsSent (request ∷ other ∷ more) sends = ⊥
 
--- a request as synchronous mode has it, among so many members, of which so many standbys may lack a commit: a create compares no sync key, no
--- renewal lists members for failsafe mode, nobody removes the sync key, and whom it comes to name are members, of which at most so many may
+-- a request as synchronous mode has it, among so many members, of which so many standbys may lack a commit: a create compares no sync key,
+-- nobody removes the sync key, and whom it comes to name are members, of which at most so many may
 abbrev pub IsSynchronousTxn : ℕ → ℕ → Txn → Type 0
 IsSynchronousTxn count quorum (txns.Create info ttl failsafe (Some sync)) = ⊥
-IsSynchronousTxn count quorum (txns.Renew revision info ttl status row (Some members)) = ⊥
 IsSynchronousTxn count quorum (txns.DropSync revision sync) = ⊥
 IsSynchronousTxn count quorum (txns.SetSync revision sync standbys) = ((n : ℕ) → set_members standbys n ≡ true → n < count) × (quorum_written (txns.SetSync revision sync standbys) ≤ quorum)
 IsSynchronousTxn count quorum _ = Unit {0}
@@ -220,7 +219,7 @@ pub record KnowsBelow (count : ℕ) (heard : Heard) (o : Outcome) : Type 0 where
   pub published : HearsBelow count heard
   pub connected : (n : ℕ) (end : Lsn) → slice_get o.machine.replication.confirmed_positions n ≡ Some (Some end) → n < count
 
--- a request that neither compares the sync key nor writes it
+-- a request that neither compares the sync key nor writes it, nor carries a set for the failsafe key
 abbrev pub IsQuietTxn : Txn → Type 0
 IsQuietTxn (txns.Create info ttl failsafe sync) = sync ≡ None
 IsQuietTxn (txns.Renew revision info ttl status row failsafe) = failsafe ≡ None
@@ -252,6 +251,11 @@ StandsAlone (outputs.Require required) = ⊥
 StandsAlone outputs.Begin = ⊥
 StandsAlone outputs.ClaimsOutsideSync = ⊥
 StandsAlone _ = Unit {0}
+
+-- the output asks for a renewal that carries a set for the failsafe key
+abbrev pub is_carrying : Output → Bool
+is_carrying (outputs.Send targets.Store sequence (bodies.Request (txns.Renew revision info ttl status row (Some members)))) = true
+is_carrying _ = false
 
 -- the last output that the law's input covers, behind those that it covers in any case: none, a question to the key store, or whom commits wait
 -- for from now on
@@ -294,14 +298,20 @@ is_begin _ = false
 abbrev pub live_shown : Outcome → Outcome → Bool
 live_shown o after = if has_one is_begin after.outputs then live after.machine.server.state else live o.machine.server.state
 
--- the input of the law that stands for one of the table, where the member takes no leader key past the sync key. No renewal carries a set for
--- the failsafe key
+-- who holds the leader key asks for a renewal that carries a set for the failsafe key
+pub record HolderAsks (s : State) (m : ℕ) (after : Outcome) : Type 0 where
+  pub revision : ℕ
+  pub leader : s.leader ≡ Some revision
+  pub holder : s.holder ≡ m
+  pub carries : has_one is_carrying after.outputs ≡ true
+
+-- the input of the law that stands for one of the table, where the member takes no leader key past the sync key
 pub record IsCommitInputOf (s : State) (m : ℕ) (o after : Outcome) (input : AgentInput) : Type 0 where
   pub agent : input.agent ≡ committer_seen after.role after.knows
   pub live : input.live ≡ live_shown o after
   pub required : input.required ≡ confirmers_in after.machine.replication.required
   pub sends : IsSent (requests_of m o.knows.incarnation after.outputs) input.sends
-  pub holder_was_live : input.holder_was_live ≡ s.holder_was_live
+  pub holder_was_live : (input.holder_was_live ≡ s.holder_was_live) ⊎ HolderAsks s m after
   pub inside : has_one is_claim_outside_sync after.outputs ≡ false
 
 -- on a lease of this revision an agent claims the sync key: it hears the grant that it waits for, and wasn't about to begin
@@ -347,13 +357,14 @@ pub record IsLawfulAs (now : Ticks) (heard : Heard) (quorum : ℕ) (o : Outcome)
 
 -- an input leaves the synchronous mode on: what it waits for it asked with the mode on; it sends one request at most that compares the
 -- sync key; what it sends is as the mode has it, among members of whom it knows, and of which at most so many may lack a commit; its outputs
--- have one of the forms; and the server begins only where it can
+-- have one of the forms; the server begins only where it can; and a renewal carries a set for the failsafe key only where the server is live
 pub record StaysInSynchronousMode (quorum : ℕ) (heard : Heard) (o after : Outcome) : Type 0 where
   pub asks : AsksInSynchronousMode after.knows
   pub one : IsOneAtMost (requests_of o.knows.who.me.number o.knows.incarnation after.outputs)
   pub sends : (count : ℕ) → KnowsBelow count heard o → All (IsSynchronousOutput count quorum) after.outputs
   pub form : HasForm after.outputs
   pub begins : has_one is_begin after.outputs ≡ true → can_begin_on_claim o.machine.server.was_primary o.machine.server.state ≡ true
+  pub carries : has_one is_carrying after.outputs ≡ true → live_shown o after ≡ true
 
 -- while the synchronous mode is on, and no pause, whatever input of the law stands for this one of the table is lawful. No standby may lack a
 -- commit: an agent has no quorum mode

@@ -11,8 +11,8 @@ ghost use Rattle.agent_model.specs.Views.{view_of};
 use crate::following::start_replica;
 use agent_model::{Knowledge, Machine, Output, PendingQuestion, Question};
 use agent_turn::{
-    Role, Turn, all_answered, answers_until, ask_all, info_of, is_paused, may_create, view_of,
-    word_of,
+    Role, Turn, all_answered, answers_until, ask_all, failsafe_compared, info_of, is_paused,
+    may_create, view_of, word_of,
 };
 use cluster_view::RoleWord;
 use event_book::{AgentNote, Body};
@@ -158,7 +158,7 @@ pub(crate) fn create(turn: &mut Turn)
     let create = Txn::Create {
         info: info_of(&turn.knows.who, &turn.machine.server),
         ttl: turn.knows.settings.ttl_ticks(),
-        failsafe: None,
+        failsafe: failsafe_compared(turn.knows),
         sync: None,
     };
     let until = turn.moment + turn.knows.settings.retry_timeout_ticks();

@@ -5,6 +5,7 @@ mod claiming;
 mod handing_over;
 mod leading;
 mod planning;
+mod staying;
 
 pub use claiming::{claim_fails, claim_granted};
 pub use handing_over::{hear_successor, judge_if_leading};
@@ -13,3 +14,4 @@ pub use leading::{
     unleased_renewed_in_pause,
 };
 pub use planning::settle;
+pub use staying::{failsafe_answered, leader_unanswered, unacknowledged};

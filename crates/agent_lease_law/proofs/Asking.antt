@@ -1,7 +1,8 @@
 -- What an input asks is what its agent waits for after it.
-use Rattle.std.proofs.Common.{Bool, ◌≡◌, ◌⊎◌, ℕ, ◌+◌, ◌≤◌, ◌<◌, true, false, List, [], Some, None, All, Contains, refl, sym, subst, ap, ◌∙◌, arith, inl, inr}
+use Rattle.std.proofs.Common.{Bool, ◌≡◌, ◌⊎◌, ℕ, ◌+◌, ◌≤◌, ◌<◌, ◌==◌, true, false, List, [], Option, Some, None, All, Contains, refl, sym, subst, ap, ◌∙◌, arith, inl, inr}
 use Rattle.std.proofs.lemmas.List.Elements.{All-push, All-weaker, All-nil}
 use Rattle.pat_base.specs.declared.member_id.MemberId.{MemberId}
+use Rattle.pat_base.specs.declared.member_set.MemberSet.{MemberSet}
 use Rattle.pat_base.specs.declared.peer_answer.PeerAnswer.{PeerAnswer}
 use Rattle.pat_base.specs.declared.ticks.Ticks.{Ticks}
 use Rattle.lease_store.specs.declared.granted.Granted.{Granted}
@@ -14,7 +15,7 @@ use Rattle.event_book.specs.declared.reason.Reason.TheVariants.{StartTooLong, Wa
 use Rattle.lease_law.specs.Past.{query_of, lease_span as span_asked}
 use Rattle.lease_law.proofs.Tools.{some-is, none-some}
 use Rattle.agent_model.specs.declared.heard.Heard.{Heard}
-use Rattle.agent_model.specs.declared.heard.Heard.TheVariants.{Wake, ReadAnswered, Granted as HeardGranted, Mismatch, Asked, Answered, Operated as HearsOperator}
+use Rattle.agent_model.specs.declared.heard.Heard.TheVariants.{Wake, ReadAnswered, Granted as HeardGranted, Mismatch, Asked, Answered, FailsafeAsked, FailsafeAnswered, Operated as HearsOperator}
 use Rattle.agent_model.specs.declared.knowledge.Knowledge.{Knowledge}
 use Rattle.agent_model.specs.declared.knowledge.PendingQuestion.{PendingQuestion}
 use Rattle.agent_model.specs.declared.machine.Machine.{Machine}
@@ -22,11 +23,12 @@ use Rattle.agent_model.specs.declared.output.Output.{Output}
 use Rattle.agent_model.specs.declared.output.Output.TheVariants as outputs
 use Rattle.agent_model.specs.declared.output.Target.TheVariants as targets
 use Rattle.agent_model.specs.Acting.{requiring, touching, starting_replica, arming, ending_server, is_refusing, waiting_no_more}
-use Rattle.agent_model.specs.Agents.{RoleFacts, Follower, Ending, IsSoundAgent, Outcome, outcome_from}
-use Rattle.agent_lease_law.specs.Asking.{IsNumbered, IsAskedNow, AsksAsWaited}
+use Rattle.agent_model.specs.Agents.{EndsAlone, RoleFacts, Follower, Ending, IsSoundAgent, Outcome, outcome_from}
+use Rattle.agent_lease_law.specs.Asking.{IsNumbered, IsAskedNow, AsksAsWaited, StandsOn, HearsFailsafe, FeedsAsAsked, awaits_stay}
 use Rattle.agent_model.specs.Reconciling.{reconciled}
 use Rattle.agent_model.specs.Claiming.{begins, claims, begins_or_claims, passing, postpones}
-use Rattle.agent_model.specs.Decisions.{asks_lease, leader_renewed, takes_over, unleased_renewed, may_take, gives_back, arms, takes_key, granted, refused}
+use Rattle.agent_model.specs.StayingPrimary.{answering_failsafe, asking_to_stay, counting, holding_for, is_staying, leader_unacknowledged, others_known, stays, stays_alone}
+use Rattle.agent_model.specs.Decisions.{asks_lease, confirming, leader_renewed, takes_over, unleased_renewed, may_take, gives_back, arms, takes_key, granted, refused}
 use Rattle.agent_model.specs.Planning.{writing_sync, noting}
 use Rattle.agent_model.specs.Outputs.{with_output}
 use Rattle.agent_model.specs.Repairs.{repair_of}
@@ -34,7 +36,7 @@ use Rattle.agent_model.specs.Snapshots.{renewing, follow_row, follows, leader_lo
 use Rattle.agent_model.specs.Racing.{creating, barred, finds_free, judged, asking_others, unheard}
 use Rattle.agent_model.specs.Peers.{asked, keeping, answered}
 use Rattle.agent_model.specs.HandingOver.{checking, hands_over}
-use Rattle.agent_model.specs.Operators.{answering, given_up, learned, looked, operating, restarting, telling, wiping}
+use Rattle.agent_model.specs.Operators.{answering, given_up, learned, looked, operating, restarting, telling, unnumbered, wiping}
 use Rattle.agent_model.specs.Table.{step}
 use Rattle.agent_model.specs.Wake.{reading, turn_noted, leader_out_of_reach, unleased_out_of_reach, overdue, turned, woken}
 use Rattle.agent_model.specs.declared.why.Why.TheVariants.{HandOver}
@@ -42,8 +44,14 @@ use Rattle.agent_roles.proofs.Granting.{Told}
 use Rattle.agent_roles.proofs.Knowing.{IsAlone, alone-of, before-onward, given-up-onward}
 use Rattle.agent_roles.proofs.Staying.{before-waits}
 use Rattle.agent_roles.proofs.Living.{no-way}
-use Rattle.agent_model.proofs.Rows.{led_on, if-cases, renewed-by, begins-or-claims-by, overdue-by, turn-by, wake-by, got-by, refused-by, follow-by, repaired-by, free-by, granted-by, judged-by, answered-by, HandoverRows, ReplyRows, dropping, granted-any-by, refused-any-by, given-up-by, looked-by, operated-by, DutyRows, duties-of, leading_in_pause, takes-in-pause-by}
-use Rattle.agent_lease_law.proofs.Sending.{IsSilent, silently, MayPut, AllMay, Fronts, before-fronts, got-none, wake-may, got-may, refused-may, granted-may, overdue-none, answered-none, answered-may, asked-may, operated-may, given-up-fronts, looked-fronts, looked-later}
+use Rattle.agent_model.proofs.Rows.{led_on, if-cases, renewed-by, begins-or-claims-by, overdue-by, turn-by, wake-by, got-by, refused-by, follow-by, repaired-by, free-by, granted-by, judged-by, answered-by, failsafe-asked-by, failsafe-answered-by, HandoverRows, ReplyRows, dropping, granted-any-by, refused-any-by, given-up-by, looked-by, operated-by, DutyRows, duties-of, leading_in_pause, takes-in-pause-by}
+use Rattle.store_keys.specs.declared.action.OperatorRequest.TheVariants as requests
+use Rattle.store_keys.specs.declared.config_value.ConfigValue.{ConfigValue}
+use Rattle.store_keys.specs.declared.txn.Txn.TheVariants as txns
+use Rattle.event_book.specs.declared.message.Body.{Body}
+use Rattle.lease_law.specs.Modes.{IsModeAsked, IsModeSet}
+use Rattle.agent_lease_law.specs.Modes.{AsksMode, HearsMode, IsModeRequested}
+use Rattle.agent_lease_law.proofs.Sending.{MayAskMember, MayAskStore, MayTransact, Grounds, staying, failsafe-asked-may, failsafe-answered-may, IsSilent, silently, MayPut, AllMay, Fronts, before-fronts, got-none, wake-may, got-may, refused-may, granted-may, overdue-none, answered-none, answered-may, asked-may, operated-may, given-up-fronts, looked-fronts, looked-later}
 use Rattle.agent_lease_law.proofs.Sending.Fronts.{Silent, Released}
 use Rattle.agent_roles.proofs.Fitting.{before-fits}
 use Rattle.agent_model.specs.Pausing.{may_start_behind, disabling_watchdog, running_without_key}
@@ -104,6 +112,9 @@ overdue-silent now o b later same silent = overdue-by (Holds now o) now b (recor
   kept = as-before now o b same;
   quiet = nothing now o (waiting_no_more b) refl;
   leader = λ held _. nothing now o (leader_out_of_reach now held (waiting_no_more b)) refl;
+  seeks = λ held _. only-reads now o (asking_to_stay now (others_known b.knows) (waiting_no_more b)) _ refl refl;
+  alone = λ held _. nothing now o (stays_alone now (others_known b.knows) (waiting_no_more b)) refl;
+  silent = λ held _. nothing now o (leader_unacknowledged now held (waiting_no_more b)) refl;
   unleased = λ _. nothing now o (unleased_out_of_reach now (waiting_no_more b)) refl;
   judges = λ _. judged-holds now o b later silent;
   ready = λ held _. nothing now o (postpones held (waiting_no_more b)) refl;
@@ -246,6 +257,7 @@ granted-holds now sequence grant snapshot o b same = granted-by (Holds now o) no
       takes_in_pause = λ renews _ _. let rest : Outcome = disabling_watchdog renews (Told snapshot b) in
           takes-in-pause-by (Holds now o) now renews grant.revision (Told snapshot b) (nothing now o (gives_back grant.revision (Told snapshot b)) refl) (nothing now o (begins now grant.revision rest) refl) (only-reads now o (claims now grant.revision (passing rest)) _ refl refl);
     })
+    (λ after holds. same-holds now o after (confirming snapshot after) holds refl refl)
     (record {
       other = nothing now o (Told snapshot b) refl;
       begins = λ revision _. nothing now o (begins now revision (Told snapshot b)) refl;
@@ -275,34 +287,153 @@ step-holds now points (HeardGranted sequence grant snapshot) o alone silent =
 step-holds now points (Mismatch sequence key found) o alone silent =
     refused-any-by (Holds now o) now sequence (reconciled now o) (told-holds now o (reconciled now o) (before-waits now o)) (refused-holds now sequence o (reconciled now o) (before-waits now o))
 step-holds now points (Asked from incarnation sequence) o alone silent = as-before now o (asked from incarnation sequence (reconciled now o)) (before-waits now o)
+step-holds now points (FailsafeAsked from incarnation sequence ttl) o alone silent = let b : Outcome = reconciled now o in
+    failsafe-asked-by (Holds now o) now from incarnation sequence ttl b (λ _. as-before now o (answering_failsafe from incarnation sequence true (holding_for now from sequence ttl b)) (before-waits now o)) (as-before now o (answering_failsafe from incarnation sequence false b) (before-waits now o))
+step-holds now points (FailsafeAnswered from sequence accepted sent) o alone silent = let b : Outcome = reconciled now o in
+    failsafe-answered-by (Holds now o) now from sequence accepted sent b (record {
+      kept = as-before now o b (before-waits now o);
+      quiet = nothing now o (waiting_no_more b) refl;
+      counts = λ held _. as-before now o (counting from sent b) (before-waits now o);
+      stays = λ held _ waited _ _ since _. nothing now o (stays now waited.ttl waited.sequence since (counting from sent b)) refl;
+      fails = λ held _ _. nothing now o (leader_unacknowledged now held (waiting_no_more b)) refl;
+    })
 step-holds now points (Answered sequence answer) o alone silent = answered-holds now sequence answer o (reconciled now o) (before-onward None now o).last (before-waits now o) (before-fronts now o alone silent)
 step-holds now points (HearsOperator action) o alone silent = let b : Outcome = reconciled now o in
     operated-by (Holds now o) now action.request action.asked b (record {
       asks = λ operation txn _. as-before now o (operating now action.request operation (bodies.Request txn) b) (before-waits now o);
       restarts = λ told. as-before now o (telling action.request told (restarting now b)) (before-waits now o);
       wipes = λ told. as-before now o (telling action.request told (wiping b)) (before-waits now o);
+      holds = λ ttl told _. as-before now o (telling action.request told (holding_for now b.knows.who.me unnumbered ttl b)) (before-waits now o);
+      refuses = λ told. as-before now o (telling action.request told b) (before-waits now o);
     })
 
--- whatever is granted
-abbrev Any : ℕ → Type 0
-Any revision = Unit {0}
+-- whatever is granted, expected and asked, where this holds of what an operator has it configure, of what is acknowledged and of what feeds it
+abbrev Any : (ConfigValue → Type 0) → (MemberId → ℕ → ℕ → Type 0) → (MemberSet → ℕ → Type 0) → Grounds
+Any C K F = record { gives = λ revision. Unit {0}; creates = λ expected. Unit {0}; requests = λ sequence ttl. Unit {0}; acknowledges = K; configures = C; feeds = F }
 
-step-sends : (now : Ticks) (points : List HistoryPoint) (heard : Heard) (o : Outcome) → IsAlone o → All IsSilent o.outputs → AllMay Any o (step now points heard o)
-step-sends now points Wake o alone silent = wake-may Any now o alone silent
-step-sends now points (ReadAnswered sequence snapshot) o alone silent = got-may Any now points sequence snapshot o alone silent
-step-sends now points (HeardGranted sequence grant snapshot) o alone silent = granted-may Any now sequence grant snapshot o alone (before-onward None now o).last (before-fits now o) (λ _. tt) (λ revision _. tt) silent
-step-sends now points (Mismatch sequence key found) o alone silent = refused-may Any now sequence o alone silent
-step-sends now points (Asked from incarnation sequence) o alone silent = asked-may Any now from incarnation sequence o alone silent
-step-sends now points (Answered sequence answer) o alone silent = answered-may Any now sequence answer o alone (before-onward None now o).last silent
-step-sends now points (HearsOperator action) o alone silent = operated-may Any now action o alone silent
+-- an output that sends a message does so under a new number that is counted
+numbered : (G : Grounds) (o after : Outcome) (output : Output) → MayPut G o after output → IsNumbered o.knows.sequence after.knows.sequence output
+numbered G o after (outputs.Send targets.Store sequence body) may = (may.later, may.counted)
+numbered G o after (outputs.Send (targets.Member member) sequence body) may = (may.0, may.1)
+numbered G o after _ may = tt
 
-numbered : (o after : Outcome) (output : Output) → MayPut Any o after output → IsNumbered o.knows.sequence after.knows.sequence output
-numbered o after (outputs.Send targets.Store sequence body) may = (may.later, may.counted)
-numbered o after (outputs.Send (targets.Member member) sequence body) may = (may.0, may.1)
-numbered o after _ may = tt
+all-numbered : (G : Grounds) (o after : Outcome) → AllMay G o after → All (IsNumbered o.knows.sequence after.knows.sequence) after.outputs
+all-numbered G o after all = All-weaker (MayPut G o after) (IsNumbered o.knows.sequence after.knows.sequence) (numbered G o after) after.outputs all
 
-pub input-asks : (now : Ticks) (points : List HistoryPoint) (heard : Heard) (role : RoleFacts) (knows : Knowledge) (machine : Machine) → IsSoundAgent role knows → AsksAsWaited now (outcome_from role knows machine []) (step now points heard (outcome_from role knows machine []))
-input-asks now points heard role knows machine sound = let o : Outcome = outcome_from role knows machine [] in let alone : IsAlone o = alone-of o sound.ends in let after : Outcome = step now points heard o in record {
-  numbered = All-weaker (MayPut Any o after) (IsNumbered o.knows.sequence after.knows.sequence) (numbered o after) after.outputs (step-sends now points heard o alone (All-nil IsSilent));
-  waits = step-holds now points heard o alone (All-nil IsSilent);
+-- what an operator asks for, of which this holds where it is a configuration
+abbrev Configures : (ConfigValue → Type 0) → Heard → Type 0
+Configures C (HearsOperator action) = (config : ConfigValue) → action.asked ≡ requests.Configuration config → C config
+Configures C _ = Unit {0}
+
+-- so is what is acknowledged, where a request is heard
+abbrev Acknowledges : (MemberId → ℕ → ℕ → Type 0) → Heard → Type 0
+Acknowledges K (FailsafeAsked from incarnation sequence ttl) = K from incarnation sequence
+Acknowledges K _ = Unit {0}
+
+-- and what feeds it: those that were asked by the request whose answers are waited for, or nobody where none are
+record MayFeed (F : MemberSet → ℕ → Type 0) (o : Outcome) : Type 0 where
+  answers : (waited : PendingQuestion) → o.knows.waited ≡ Some waited → is_staying waited.question ≡ true → F o.knows.failsafe.members waited.sequence
+  nobody : awaits_stay o.knows.waited ≡ false → (members : MemberSet) (sequence : ℕ) → members.bits == 0 ≡ true → F members sequence
+
+-- such grounds
+record IsAny (C : ConfigValue → Type 0) (K : MemberId → ℕ → ℕ → Type 0) (F : MemberSet → ℕ → Type 0) (G : Grounds) : Type 0 where
+  configures : (config : ConfigValue) → G.configures config → C config
+  acknowledges : (to : MemberId) (run sequence : ℕ) → G.acknowledges to run sequence → K to run sequence
+  feeds : (members : MemberSet) (sequence : ℕ) → G.feeds members sequence → F members sequence
+
+any-is : (C : ConfigValue → Type 0) (K : MemberId → ℕ → ℕ → Type 0) (F : MemberSet → ℕ → Type 0) → IsAny C K F (Any C K F)
+any-is C K F = record { configures = λ config e. e; acknowledges = λ to run sequence e. e; feeds = λ members sequence e. e }
+
+-- what any input sends
+abbrev Sends : (ConfigValue → Type 0) → (MemberId → ℕ → ℕ → Type 0) → (MemberSet → ℕ → Type 0) → Outcome → Outcome → Type 1
+Sends C K F o after = (G : Grounds) × (IsAny C K F G × AllMay G o after)
+
+step-may : (C : ConfigValue → Type 0) (K : MemberId → ℕ → ℕ → Type 0) (F : MemberSet → ℕ → Type 0) (now : Ticks) (points : List HistoryPoint) (heard : Heard) (o : Outcome) → Configures C heard → Acknowledges K heard → MayFeed F o → IsAlone o → All IsSilent o.outputs → Sends C K F o (step now points heard o)
+step-may C K F now points Wake o is says feed alone silent = (staying now (woken now o) (Any C K F), (record { configures = λ config e. e; acknowledges = λ to run sequence e. e; feeds = λ members sequence e. e }, wake-may (Any C K F) now o (λ _. tt) feed.nobody alone silent))
+step-may C K F now points (ReadAnswered sequence snapshot) o is says feed alone silent = (Any C K F, (any-is C K F, got-may (Any C K F) now points sequence snapshot o (record { free = λ _. tt; paused = λ _. tt }) alone silent))
+step-may C K F now points (HeardGranted sequence grant snapshot) o is says feed alone silent = (Any C K F, (any-is C K F, granted-may (Any C K F) now sequence grant snapshot o alone (before-onward None now o).last (before-fits now o) (λ _. tt) (λ revision _. tt) silent))
+step-may C K F now points (Mismatch sequence key found) o is says feed alone silent = (Any C K F, (any-is C K F, refused-may (Any C K F) now sequence o alone silent))
+step-may C K F now points (Asked from incarnation sequence) o is says feed alone silent = (Any C K F, (any-is C K F, asked-may (Any C K F) now from incarnation sequence o alone silent))
+step-may C K F now points (Answered sequence answer) o is says feed alone silent = (Any C K F, (any-is C K F, answered-may (Any C K F) now sequence answer o (λ _. tt) alone (before-onward None now o).last silent))
+step-may C K F now points (FailsafeAsked from incarnation sequence ttl) o is says feed alone silent = (Any C K F, (any-is C K F, failsafe-asked-may (Any C K F) now from incarnation sequence ttl o says alone silent))
+step-may C K F now points (FailsafeAnswered from sequence accepted sent) o is says feed alone silent = (Any C K F, (any-is C K F, failsafe-answered-may (Any C K F) now from sequence accepted sent o feed.answers alone silent))
+step-may C K F now points (HearsOperator action) o is says feed alone silent = (Any C K F, (any-is C K F, operated-may (Any C K F) now action o is alone silent))
+
+-- what is acknowledged is what is heard
+says-heard : (heard : Heard) → Acknowledges (HearsFailsafe heard) heard
+says-heard (FailsafeAsked from incarnation sequence ttl) = (ttl, refl)
+says-heard _ = tt
+
+-- the acknowledgements that are waited for feed it
+feeds-asked : (o : Outcome) → MayFeed (FeedsAsAsked o.knows) o
+feeds-asked o = record {
+  answers = λ waited is staying. record {
+    asked = λ other same _. (refl, ap (λ (w : PendingQuestion). w.sequence) (some-is waited other (sym is ∙ same)));
+    nobody = λ none. absurd (no-way (sym none ∙ ap (λ (w : Option PendingQuestion). awaits_stay w) is ∙ staying));
+  };
+  nobody = λ none members sequence empty. record {
+    asked = λ other same staying. absurd (no-way (sym none ∙ ap (λ (w : Option PendingQuestion). awaits_stay w) same ∙ staying));
+    nobody = λ _. empty;
+  };
 }
+
+step-sends : (now : Ticks) (points : List HistoryPoint) (heard : Heard) (o : Outcome) → IsAlone o → All IsSilent o.outputs → Sends (λ config. Unit {0}) (HearsFailsafe heard) (FeedsAsAsked o.knows) o (step now points heard o)
+step-sends now points heard o alone silent = step-may (λ config. Unit {0}) (HearsFailsafe heard) (FeedsAsAsked o.knows) now points heard o (any heard) (says-heard heard) (feeds-asked o) alone silent
+  where
+    any : (heard : Heard) → Configures (λ config. Unit {0}) heard
+    any (HearsOperator action) = λ config _. tt
+    any _ = tt
+
+-- what an output stands on
+stands-put : (C : ConfigValue → Type 0) (heard : Heard) (G : Grounds) (o after : Outcome) → IsAny C (HearsFailsafe heard) (FeedsAsAsked o.knows) G → (output : Output) → MayPut G o after output → StandsOn heard o.knows output
+stands-put C heard G o after is (outputs.HoldTaken until from sequence) may = elim may [
+  | inl none ↦ inl none
+  | inr run ↦ inr (run.0, is.acknowledges from run.0 sequence run.1)
+]
+stands-put C heard G o after is (outputs.FailsafeAnswer to run sequence accepted) may = λ e. is.acknowledges to run sequence (may e)
+stands-put C heard G o after is (outputs.FedByFailsafe until members sequence since) may = is.feeds members sequence may
+stands-put C heard G o after is _ may = tt
+
+-- an operator's configuration has failsafe mode as it is declared, and so has what is asked for
+mode-put : (mode : Bool) (G : Grounds) (o after : Outcome) → ((config : ConfigValue) → G.configures config → config.config.failsafe_mode ≡ mode) → (output : Output) → MayPut G o after output → AsksMode mode output
+mode-put mode G o after so (outputs.Send targets.Store sequence body) may = by body may.asks
+  where
+    by-txn : (txn : Txn) → MayTransact G o after sequence txn → IsModeSet mode txn
+    by-txn (txns.SetConfig revision config) may = so config may
+    by-txn _ may = tt
+
+    by : (body : Body) → MayAskStore G o after sequence body → IsModeAsked mode body
+    by (bodies.Request txn) may = by-txn txn may
+    by _ may = tt
+mode-put mode G o after so (outputs.Send (targets.Member member) sequence body) may = by body may.2
+  where
+    by : (body : Body) → MayAskMember G sequence body → IsModeAsked mode body
+    by bodies.Ask may = tt
+    by (bodies.FailsafeRequest ttl) may = tt
+    by _ may = absurd may
+mode-put mode G o after so _ may = tt
+
+pub mode-asked-from : (now : Ticks) (points : List HistoryPoint) (heard : Heard) (role : RoleFacts) (knows : Knowledge) (machine : Machine) → EndsAlone role knows.waited → (mode : Bool) → HearsMode mode heard → All (AsksMode mode) (step now points heard (outcome_from role knows machine [])).outputs
+mode-asked-from now points heard role knows machine ends mode hears =
+    let o : Outcome = outcome_from role knows machine [] in let after : Outcome = step now points heard o in
+    let sends = step-may (λ config. config.config.failsafe_mode ≡ mode) (HearsFailsafe heard) (FeedsAsAsked o.knows) now points heard o (by heard hears) (says-heard heard) (feeds-asked o) (alone-of o ends) (All-nil IsSilent) in
+    All-weaker (MayPut sends.0 o after) (AsksMode mode) (mode-put mode sends.0 o after sends.1.0.configures) after.outputs sends.1.1
+  where
+    by : (heard : Heard) → HearsMode mode heard → Configures (λ config. config.config.failsafe_mode ≡ mode) heard
+    by (HearsOperator action) hears = λ config is. subst (IsModeRequested mode) is hears
+    by _ hears = tt
+
+pub mode-asked : (now : Ticks) (points : List HistoryPoint) (heard : Heard) (role : RoleFacts) (knows : Knowledge) (machine : Machine) → IsSoundAgent role knows → (mode : Bool) → HearsMode mode heard → All (AsksMode mode) (step now points heard (outcome_from role knows machine [])).outputs
+mode-asked now points heard role knows machine sound = mode-asked-from now points heard role knows machine sound.ends
+
+pub input-asks-from : (now : Ticks) (points : List HistoryPoint) (heard : Heard) (role : RoleFacts) (knows : Knowledge) (machine : Machine) → EndsAlone role knows.waited → AsksAsWaited now heard (outcome_from role knows machine []) (step now points heard (outcome_from role knows machine []))
+input-asks-from now points heard role knows machine ends =
+    let o : Outcome = outcome_from role knows machine [] in let alone : IsAlone o = alone-of o ends in let after : Outcome = step now points heard o in
+    let sends = step-sends now points heard o alone (All-nil IsSilent) in record {
+      stands = All-weaker (MayPut sends.0 o after) (StandsOn heard o.knows) (stands-put (λ config. Unit {0}) heard sends.0 o after sends.1.0) after.outputs sends.1.1;
+      numbered = all-numbered sends.0 o after sends.1.1;
+      waits = step-holds now points heard o alone (All-nil IsSilent);
+    }
+
+pub input-asks : (now : Ticks) (points : List HistoryPoint) (heard : Heard) (role : RoleFacts) (knows : Knowledge) (machine : Machine) → IsSoundAgent role knows → AsksAsWaited now heard (outcome_from role knows machine []) (step now points heard (outcome_from role knows machine []))
+input-asks now points heard role knows machine sound = input-asks-from now points heard role knows machine sound.ends

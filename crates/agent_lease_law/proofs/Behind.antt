@@ -32,7 +32,8 @@ use Rattle.agent_roles.proofs.Leaving.{ready-is}
 use Rattle.agent_roles.proofs.Living.{no-way}
 use Rattle.agent_model.proofs.Rows.{HandoverRows, ReplyRows, dropping, granted-any-by, led_on, if-cases, renewed-by, begins-or-claims-by, granted-by}
 use Rattle.agent_model.specs.Pausing.{is_paused}
-use Rattle.agent_lease_law.proofs.Sending.{IsSilent, MayPut, AllMay, silently, silent-armed, silent-fed, IsReleaseOr, Fronts, IsMild, AllMild, handover-mild, checking-mild, before-fronts, postpones-silent, told-fronts, silent-passing, Decides, learned-fronts, granted-none}
+use Rattle.store_keys.specs.declared.txn.Expected.{Expected}
+use Rattle.agent_lease_law.proofs.Sending.{Grounds, IsSilent, MayPut, AllMay, silently, silent-armed, silent-fed, IsReleaseOr, Fronts, IsMild, AllMild, handover-mild, checking-mild, before-fronts, postpones-silent, told-fronts, silent-passing, Decides, learned-fronts, granted-none}
 use Rattle.agent_lease_law.proofs.Sending.Fronts.{Silent, Released}
 
 begins-one : (P Q : Type 0) → (P → Q) → (output : Output) → BeginsOnly P output → BeginsOnly Q output
@@ -41,10 +42,10 @@ begins-one P Q more (outputs.Restart as_primary) e = λ is. more (e is)
 begins-one P Q more _ e = tt
 
 -- where nothing is granted, only a server that was live before comes to accept writes
-unbegun : (o after : Outcome) (output : Output) → MayPut (λ r. ⊥) o after output → BeginsOnly (live o.machine.server.state ≡ true) output
-unbegun o after outputs.Begin may = absurd may.1
-unbegun o after (outputs.Restart as_primary) may = may
-unbegun o after _ may = tt
+unbegun : (G : Grounds) (o after : Outcome) → ((revision : ℕ) → G.gives revision → ⊥) → (output : Output) → MayPut G o after output → BeginsOnly (live o.machine.server.state ≡ true) output
+unbegun G o after none outputs.Begin may = absurd (none may.0 may.1)
+unbegun G o after none (outputs.Restart as_primary) may = may
+unbegun G o after none _ may = tt
 
 all-begin : (P : List Output → Type 0) (Q : Type 0) → ((outs : List Output) → Q → P outs) → (before-it outs : List Output) → All (BeginsOnly Q) outs → OutputsBeginBehind P before-it outs
 all-begin P Q gives before-it [] all = tt
@@ -54,16 +55,20 @@ all-begin P Q gives before-it (output ∷ outs) all =
 never : (P : List Output → Type 0) (before-it outs : List Output) → All (BeginsOnly ⊥) outs → OutputsBeginBehind P before-it outs
 never P before-it outs all = all-begin P ⊥ (λ _ no. absurd no) before-it outs all
 
-pub nobody-begins : (P : List Output → Type 0) (o after : Outcome) → ((outs : List Output) → live o.machine.server.state ≡ true → P outs) → AllMay (λ r. ⊥) o after → OutputsBeginBehind P [] after.outputs
-nobody-begins P o after gives all = all-begin P (live o.machine.server.state ≡ true) gives [] after.outputs (All-weaker (MayPut (λ r. ⊥) o after) (BeginsOnly (live o.machine.server.state ≡ true)) (unbegun o after) after.outputs all)
+pub nobody-begins : (P : List Output → Type 0) (G : Grounds) (o after : Outcome) → ((revision : ℕ) → G.gives revision → ⊥) → ((outs : List Output) → live o.machine.server.state ≡ true → P outs) → AllMay G o after → OutputsBeginBehind P [] after.outputs
+nobody-begins P G o after none gives all = all-begin P (live o.machine.server.state ≡ true) gives [] after.outputs (All-weaker (MayPut G o after) (BeginsOnly (live o.machine.server.state ≡ true)) (unbegun G o after none) after.outputs all)
 
-mild-never : (low high : ℕ) (output : Output) → IsMild low high output → BeginsOnly ⊥ output
-mild-never low high outputs.Begin mild = mild
-mild-never low high (outputs.Restart as_primary) mild = absurd mild
-mild-never low high _ mild = tt
+-- whatever a create expects
+abbrev Whatever : Option Expected → Type 0
+Whatever expected = Unit {0}
 
-mild-begins : (P : List Output → Type 0) (low : ℕ) (x : Outcome) → AllMild low x → OutputsBeginBehind P [] x.outputs
-mild-begins P low x mild = never P [] x.outputs (All-weaker (IsMild low x.knows.sequence) (BeginsOnly ⊥) (mild-never low x.knows.sequence) x.outputs mild)
+mild-never : (K : Option Expected → Type 0) (low high : ℕ) (output : Output) → IsMild K low high output → BeginsOnly ⊥ output
+mild-never K low high outputs.Begin mild = mild
+mild-never K low high (outputs.Restart as_primary) mild = absurd mild
+mild-never K low high _ mild = tt
+
+mild-begins : (P : List Output → Type 0) (K : Option Expected → Type 0) (low : ℕ) (x : Outcome) → AllMild K low x → OutputsBeginBehind P [] x.outputs
+mild-begins P K low x mild = never P [] x.outputs (All-weaker (IsMild K low x.knows.sequence) (BeginsOnly ⊥) (mild-never K low x.knows.sequence) x.outputs mild)
 
 -- one more output, behind which P holds if a server comes to accept writes by it
 behind-push : (P : List Output → Type 0) (before-it outs : List Output) (output : Output) → OutputsBeginBehind P before-it outs → ((all : List Output) → all ≡ before-it ++ outs → BeginsOnly (P all) output) → OutputsBeginBehind P before-it (with_output output outs)
@@ -137,11 +142,11 @@ granted-begins now sequence grant snapshot b unpaused armable silent =
               drops = λ required. silent-begins Mine (with_output (outputs.Require required) led.outputs) (silently led.outputs (outputs.Require required) rest tt);
             };
             clears = λ compared. behind-push Mine [] led.outputs _ (silent-begins Mine led.outputs rest) (λ all is. tt);
-            asks = λ candidate. mild-begins Mine b.knows.sequence (checking now candidate (unheard led)) (checking-mild b.knows.sequence now candidate (unheard led) (omega arith) rest);
-            judges = let rows : HandoverRows (AllMild b.knows.sequence) now grant.revision (unheard led) = handover-mild b.knows.sequence now grant.revision (unheard led) (omega arith) rest in record {
-              kept = mild-begins Mine b.knows.sequence (waiting_no_more (unheard led)) rows.kept;
-              clears = λ compared. mild-begins Mine b.knows.sequence (dropping compared (waiting_no_more (unheard led))) (rows.clears compared);
-              hands = λ candidate. mild-begins Mine b.knows.sequence (hands_over now grant.revision candidate (waiting_no_more (unheard led))) (rows.hands candidate);
+            asks = λ candidate. mild-begins Mine Whatever b.knows.sequence (checking now candidate (unheard led)) (checking-mild Whatever b.knows.sequence now candidate (unheard led) (omega arith) rest);
+            judges = let rows : HandoverRows (AllMild Whatever b.knows.sequence) now grant.revision (unheard led) = handover-mild Whatever b.knows.sequence now grant.revision (unheard led) (omega arith) rest in record {
+              kept = mild-begins Mine Whatever b.knows.sequence (waiting_no_more (unheard led)) rows.kept;
+              clears = λ compared. mild-begins Mine Whatever b.knows.sequence (dropping compared (waiting_no_more (unheard led))) (rows.clears compared);
+              hands = λ candidate. mild-begins Mine Whatever b.knows.sequence (hands_over now grant.revision candidate (waiting_no_more (unheard led))) (rows.hands candidate);
             };
           });
       unleased = λ _. if-cases (λ (x : Outcome). OutputsBeginBehind Mine [] x.outputs) (is_refusing b.machine.watchdog.mode b.machine.watchdog.works) (ending_server now WatchdogNotArmed told) over
@@ -152,6 +157,7 @@ granted-begins now sequence grant snapshot b unpaused armable silent =
       unleased_in_pause = λ _ paused _. absurd (no-way (sym unpaused ∙ paused));
       takes_in_pause = λ _ paused _. absurd (no-way (sym unpaused ∙ paused));
     })
+    (λ after begin. begin)
     (record {
       other = silent-begins Mine b.outputs silent;
       begins = λ revision is. begins-begins Mine now revision told silent (λ all _. WasReady (ready-is b.role revision is));

@@ -76,7 +76,7 @@ fed-of s m runs sequence heard now grant snapshot o stands hears awaited span = 
   hears = hears-grant s m runs sequence heard now grant snapshot o stands hears awaited;
   deadline = now.0 + timeout_of o.machine.watchdog.margin awaited.waited.ttl.0;
   deadline_is = subst (λ (margin : Option ℕ). IsDeadline margin s.clock tells.told.ttl tells.told.sent (now.0 + timeout_of o.machine.watchdog.margin awaited.waited.ttl.0)) (sym stands.margin)
-      (deadline-of o.machine.watchdog.margin now awaited.waited s.clock tells.told.ttl tells.told.sent stands.clock tells.ttl tells.sent span tells.margin tells.young);
+      (deadline-of o.machine.watchdog.margin now awaited.waited s.clock tells.told.ttl tells.told.sent stands.clock tells.ttl tells.sent span tells.feeds.margin tells.young);
 }
 
 -- the members that the grant's failsafe key lists
@@ -104,7 +104,7 @@ same-watchdog o b leaves = elim leaves.deadline [
 same-armable : (w v : WatchdogFacts) → SameWatchdog w v → is_armable w.mode w.works ≡ true → is_armable v.mode v.works ≡ true
 same-armable w v same armable = ap (λ (x : Mode). is_armable x v.works) same.mode ∙ (ap (λ (x : Bool). is_armable w.mode x) same.works ∙ armable)
 
-fed-deadline : (n ttl : ℕ) (v : WatchdogFacts) → is_armable v.mode v.works ≡ true → moment_seen (fed n ttl v).deadline ≡ Some (n + timeout_of v.margin ttl)
+pub fed-deadline : (n ttl : ℕ) (v : WatchdogFacts) → is_armable v.mode v.works ≡ true → moment_seen (fed n ttl v).deadline ≡ Some (n + timeout_of v.margin ttl)
 fed-deadline n ttl v armable = rw armable refl
 
 pub armable-before : (o b : Outcome) → LeavesMachine o b → is_armable o.machine.watchdog.mode o.machine.watchdog.works ≡ true → is_armable b.machine.watchdog.mode b.machine.watchdog.works ≡ true

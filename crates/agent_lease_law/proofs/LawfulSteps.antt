@@ -1,6 +1,6 @@
 -- Each input of the table is lawful, by what is heard.
-use Rattle.std.proofs.Common.{◌≡◌, ◌⊎◌, ℕ, true, false, List, [], Option, Some, None, All, refl, sym, subst, ap, ◌∙◌, inl, inr}
-use Rattle.std.proofs.lemmas.List.Elements.{All-nil}
+use Rattle.std.proofs.Common.{◌≡◌, ◌⊎◌, ℕ, ◌+◌, ◌≤◌, ◌<◌, ◌==◌, ◌&&◌, ◌||◌, not, cond, if◌then◌else◌, Bool, true, false, List, [], ◌∷◌, Option, Some, None, IfSome, All, refl, sym, subst, ap, ◌∙◌, arith, inl, inr}
+use Rattle.std.proofs.lemmas.List.Elements.{All-head, All-nil, All-tail, All-weaker}
 use Rattle.std.specs.Option.{ForSome}
 use Rattle.pat_base.specs.declared.member_id.MemberId.{MemberId}
 use Rattle.pat_base.specs.declared.member_set.MemberSet.{MemberSet}
@@ -10,70 +10,179 @@ use Rattle.pat_base.specs.ServerState.{live}
 use Rattle.lease_store.specs.declared.granted.Granted.{Granted}
 use Rattle.store_keys.specs.declared.key.Key.TheVariants as keys
 use Rattle.wal_model.specs.declared.entry.HistoryPoint.{HistoryPoint}
-use Rattle.cluster_view.specs.Snapshots.{SnapshotFacts, entry_in}
-use Rattle.leader_key.specs.Watchdog.{IsLeaseSpan}
-use Rattle.lease_law.specs.Leases.{LeaderSeen, FailsafeKey}
-use Rattle.lease_law.specs.States.{Machine as MachineSeen, State}
-use Rattle.lease_law.specs.Inputs.{AgentInput, HeardLeader, HeardFailsafe, FedKnown, WatchdogMay, SetByGrant, Owns}
+use Rattle.cluster_view.specs.Snapshots.{SnapshotFacts, entry_in, failsafe_by}
+use Rattle.leader_key.specs.Watchdog.{IsLeaseSpan, WatchdogFacts, greatest_margin, is_armable, timeout_of}
+use Rattle.event_book.specs.Watchdogs.{prolonged_to}
+use Rattle.store_keys.specs.declared.config.Config.{Config}
+use Rattle.store_keys.specs.declared.value.KeyEntry.{KeyEntry}
+use Rattle.failsafe.specs.Asks.{asked as ask_of, counts, earliest_or, has, heard as ask_heard, is_within, moment_of_all, with_acknowledgement}
+use Rattle.failsafe.specs.declared.asks.Ask.{Ask}
+use Rattle.failsafe.specs.Listing.{without_member}
+use Rattle.failsafe.proofs.Members.{differ, has-nobody, has-with, numbers-same, within-has}
+use Rattle.failsafe.proofs.Present.{without-has}
+use Rattle.lease_law.specs.Leases.{LeaderSeen, FailsafeKey, FailsafeRequest, Acknowledgement, Flying}
+use Rattle.lease_law.specs.States.{Agent as AgentSeen, FailsafeCheck, Machine as MachineSeen, State}
+use Rattle.lease_law.specs.Inputs.{AgentInput, HeardLeader, HeardFailsafe, HeardYes, IsDeadline, FedKnown, WatchdogMay, SetByGrant, SetByFailsafe, SetAlone, Owns, MayAcknowledge, MayCreate, MayRequestFailsafe, MayTake, ContinuesCheck, BeginsCheck}
 use Rattle.event_book.specs.Functions.{set_members}
 use Rattle.lease_law.proofs.Tools.{some-is, none-some}
 use Rattle.agent_model.specs.declared.heard.Heard.{Heard}
-use Rattle.agent_model.specs.declared.heard.Heard.TheVariants.{Wake, ReadAnswered, Granted as HeardGranted, Mismatch, Asked, Answered, Operated as HearsOperator}
+use Rattle.agent_model.specs.declared.heard.Heard.TheVariants.{Wake, ReadAnswered, Granted as HeardGranted, Mismatch, Asked, Answered, FailsafeAsked, FailsafeAnswered, Operated as HearsOperator}
+use Rattle.agent_model.specs.declared.knowledge.FailsafeRead.{FailsafeRead}
+use Rattle.agent_model.specs.declared.output.Output.TheVariants as outputs
+use Rattle.agent_model.specs.FailsafeKeys.{failsafe_compared, failsafe_expected, failsafe_read_by, failsafe_read_of_entry}
+use Rattle.agent_model.specs.StayingPrimary.{accepted_failsafe, awaits_failsafe, failsafe_answered, failsafe_answered_for, failsafe_asked, is_staying, others_known, span_after, unacknowledged_as}
+use Rattle.agent_model.specs.Acting.{lease_span, waiting_no_more}
+use Rattle.agent_model.specs.Outputs.{has_one, with_output}
+use Rattle.agent_model.specs.Pausing.{is_paused}
+use Rattle.agent_model.specs.Peers.{awaits_others}
+use Rattle.agent_model.specs.Snapshots.{read_noted}
 use Rattle.agent_model.specs.declared.knowledge.Knowledge.{Knowledge}
 use Rattle.agent_model.specs.declared.knowledge.PendingQuestion.{PendingQuestion}
 use Rattle.agent_model.specs.declared.machine.Machine.{Machine}
 use Rattle.agent_model.specs.declared.output.Output.{Output}
 use Rattle.agent_model.specs.declared.who.Who.{Who}
-use Rattle.agent_model.specs.Agents.{RoleFacts, EndsAlone, IsSoundAgent, Outcome, outcome_from, is_ready}
+use Rattle.agent_model.specs.Agents.{RoleFacts, Follower, Holder, Ready, Leader, Ending, Unleased, EndsAlone, IsSoundAgent, Outcome, outcome_from, is_leader, is_ready}
 use Rattle.agent_model.specs.Reconciling.{reconciled}
-use Rattle.agent_model.specs.Decisions.{is_lease_of}
-use Rattle.agent_lease_law.specs.Lawful.{StandsIn, HearsAnswer, TellsLease, HearsGrant, IsInputOf, MayPromote, IsLawfulAnd, IsLawfulFrom}
-use Rattle.agent_roles.specs.Powers.{BringsNothing, LeavesMachine, IsAwaitedLease, GrantMay, leads, lease_of}
+use Rattle.agent_model.specs.Decisions.{asks_lease, is_lease_of}
+use Rattle.agent_lease_law.specs.Modes.{KeepsMode, MayTakeKey}
+use Rattle.agent_lease_law.specs.Lawful.{CanFeed, HearsRequest, HearsYes, is_yes, request_heard, request_in, request_taken, StandsIn, HearsAnswer, TellsLease, HearsGrant, IsInputOf, MayPromote, IsLawfulAnd, IsLawfulFrom}
+use Rattle.agent_roles.specs.Powers.{AcknowledgesOperated, BringsNothing, DeadlineMay, LeavesMachine, IsAwaitedLease, IsFedByFailsafe, StaysAlone, StaysByWord, GrantMay, leads, lease_of}
+use Rattle.agent_roles.specs.Powers.DeadlineMay.{Kept as DeadlineKept, Removed as DeadlineRemoved, Undone as DeadlineUndone}
+use Rattle.agent_roles.proofs.Leaving.WatchdogStays.{Same}
+use Rattle.agent_roles.proofs.Acknowledging.{answer-leaves, operated-leaves, request-leaves, wake-leaves}
 use Rattle.agent_roles.specs.Powers.GrantMay.{Nothing, Leads, Rests, Begins}
-use Rattle.agent_roles.specs.Seen.{leader_seen_if, failsafe_seen_if}
+use Rattle.agent_roles.specs.Seen.{check_seen, failsafe_entry_seen, failsafe_listed, failsafe_read_seen, hold_seen, leader_seen_if, moment_seen, failsafe_seen_if}
 use Rattle.agent_model.specs.Peers.{asked, answered}
 use Rattle.agent_model.specs.Snapshots.{read_answered}
 use Rattle.store_keys.specs.declared.action.OperatorAction.{OperatorAction}
+use Rattle.store_keys.specs.declared.action.OperatorRequest.{OperatorRequest}
+use Rattle.store_keys.specs.declared.action.OperatorRequest.TheVariants as requests
 use Rattle.agent_model.specs.Fits.{Fits}
 use Rattle.agent_model.specs.Operators.{given_up, looked, operated}
 use Rattle.agent_model.specs.Table.{step, granted_any, refused_any}
 use Rattle.agent_model.specs.Wake.{overdue, turned, woken}
-use Rattle.agent_roles.proofs.Bringing.{acting-brings, any-refused-brings, operated-brings, ready-leads, brings-then, before-brings, overdue-brings, turn-brings, wake-brings, got-brings, answer-brings, read-brings, refusal-brings, asked-brings, answered-brings}
+use Rattle.agent_roles.proofs.Bringing.{holding-brings, staying-brings, acting-brings, any-refused-brings, operated-brings, ready-leads, brings-then, before-brings, overdue-brings, turn-brings, wake-brings, got-brings, answer-brings, read-brings, refusal-brings, asked-brings, answered-brings}
 use Rattle.agent_roles.proofs.Fitting.{before-fits, ready-same}
-use Rattle.agent_roles.proofs.Granting.{awaited-lease, any-granted-may as grant-may}
-use Rattle.agent_roles.proofs.Knowing.{any-granted-onward, any-refused-onward, looked-onward, operated-onward, IsAlone, alone-of, Onward, before-onward, wake-onward, got-onward, answered-onward, asked-onward, onward-then}
-use Rattle.agent_lease_law.proofs.Lawful.{was_of, acts-seen, seen-acts, watchdog-kept, watchdog-leaves, parted-by, lawful-of}
-use Rattle.agent_lease_law.proofs.LawfulGrants.{heard-leader, heard-failsafe, hears-grant, fed-of, entry-known, armable-before, new-deadline, free-of}
-use Rattle.agent_roles.proofs.Leaving.{given-up-fits, told-fits, operated-leaves, leaves-then, before-leaves, wake-leaves, read-leaves, refusal-leaves, asked-leaves, answered-leaves}
+use Rattle.agent_roles.proofs.Granting.{both-true, awaited-lease, any-granted-may as grant-may}
+use Rattle.agent_roles.proofs.Knowing.{step-onward, told-pause, any-granted-onward, any-refused-onward, looked-onward, operated-onward, IsAlone, alone-of, Onward, before-onward, wake-onward, got-onward, answered-onward, asked-onward, onward-then}
+use Rattle.agent_lease_law.proofs.Checking.{Begins as BeginsToStay, Counts, Goes, answered-step-goes, asked-step-goes, failsafe-answered-goes, failsafe-asked-step-goes, free-takes, got-step-goes, granted-step-goes, operated-step-goes, refused-step-goes, wake-goes}
+use Rattle.agent_lease_law.proofs.Lawful.{AreLawfulGrounds, lease-only, ready-left, takes-nothing, watchdog-left, was_of, acts-seen, seen-acts, watchdog-kept, watchdog-leaves, parted-by, lawful-of}
+use Rattle.agent_lease_law.proofs.LawfulGrants.{deadline-of, fed-deadline, heard-leader, heard-failsafe, hears-grant, fed-of, entry-known, armable-before, new-deadline, free-of}
+use Rattle.agent_roles.proofs.Leaving.{given-up-fits, Stays, acts-before, behind, stays, told-fits, leaves-then, before-leaves, read-leaves, refusal-leaves, asked-leaves, answered-leaves}
 use Rattle.agent_roles.proofs.Living.{no-way}
 use Rattle.agent_roles.proofs.Staying.{before-waits, stays-unpaused}
-use Rattle.agent_model.proofs.Rows.{wake-by, looked-by}
+use Rattle.agent_model.proofs.Rows.{failsafe-asked-by, if-cases, wake-by, looked-by}
 use Rattle.agent_lease_law.proofs.Behind.{BeginsOn, nobody-begins, grant-begins, begins-weaker}
 use Rattle.agent_lease_law.proofs.Behind.BeginsOn.{WasReady, OnLease}
-use Rattle.agent_lease_law.proofs.Sending.{operated-may, IsSilent, AllMay, Decides, wake-may, got-may, refused-may, granted-may as granted-sends, asked-may, answered-may}
+use Rattle.agent_lease_law.proofs.Sending.Fronts.{Silent, Released}
+use Rattle.agent_lease_law.proofs.Sending.{AsksToStay, CreatesOnRead, Fronts, Grounds, IsReleaseOr, before-fronts, failsafe-answered-may, failsafe-asked-may, staying, operated-may, IsSilent, AllMay, Decides, wake-may, got-may, refused-may, granted-may as granted-sends, asked-may, answered-may}
 
--- no revision is granted
-abbrev Nobody : ℕ → Type 0
-Nobody revision = ⊥
+-- the grounds of an input that hears no grant, and acknowledges nothing: a create may expect what the law lets it
+abbrev Ungranted : State → ℕ → AgentInput → Outcome → Grounds
+Ungranted s m input o = record { gives = λ revision. ⊥; creates = λ expected. MayCreate s m input.heard (was_of o) expected; requests = λ sequence ttl. ⊥; acknowledges = λ to run sequence. ⊥; configures = λ config. Unit {0}; feeds = λ members number. Unit {0} }
 
--- an input that hears no grant is lawful
-without-grant : (s : State) (m runs : ℕ) (input : AgentInput) (now : Ticks) (told : Option SnapshotFacts) (o after : Outcome) → StandsIn s m runs now o → IsInputOf s m runs o after input → Onward told o after → LeavesMachine o after → BringsNothing o after
-    → (is_ready after.role ≡ true → live after.machine.server.state ≡ false) → AllMay Nobody o after → ((key : FailsafeKey) → failsafe_seen_if told ≡ Some key → HeardFailsafe s input.heard key) → ((seen : LeaderSeen) → leader_seen_if told ≡ Some seen → HeardLeader s input.heard seen)
+-- such grounds are lawful
+ungranted-lawful : (s : State) (m : ℕ) (input : AgentInput) (o after : Outcome) → AreLawfulGrounds s m input (Ungranted s m input o) o after
+ungranted-lawful s m input o after = record { owns = λ revision e. absurd e; creates = λ expected may. may; requests = λ sequence ttl e. absurd e; acknowledges = λ to run sequence _ e. absurd e }
+
+-- ---- acknowledgements that are waited for
+some-check : FailsafeCheck → Option FailsafeCheck
+some-check check = Some check
+
+-- they are of what is waited for
+pub record ChecksWaited (ask : Ask) (waited : Option PendingQuestion) (check : FailsafeCheck) : Type 0 where
+  pub one : PendingQuestion
+  pub is : waited ≡ Some one
+  pub staying : is_staying one.question ≡ true
+  pub check_is : check ≡ (record { sequence = one.sequence; ttl = one.ttl.0; sent = one.sent.0; members = set_members ask.members; yes = set_members ask.acknowledged })
+
+checks-waited : (ask : Ask) (waited : Option PendingQuestion) (check : FailsafeCheck) → check_seen ask waited ≡ Some check → ChecksWaited ask waited check
+checks-waited ask None check e = absurd (none-some check e)
+checks-waited ask (Some one) check e = by (is_staying one.question) refl e
+  where
+    by : (test : Bool) → is_staying one.question ≡ test
+        → (if test then Some (record { sequence = one.sequence; ttl = one.ttl.0; sent = one.sent.0; members = set_members ask.members; yes = set_members ask.acknowledged }) else None) ≡ Some check → ChecksWaited ask (Some one) check
+    by true staying e = record { one = one; is = refl; staying = staying; check_is = sym (some-is _ check e) }
+    by false staying e = absurd (none-some check e)
+
+seen-check : (ask : Ask) (waited : PendingQuestion) → is_staying waited.question ≡ true → check_seen ask (Some waited) ≡ Some (record { sequence = waited.sequence; ttl = waited.ttl.0; sent = waited.sent.0; members = set_members ask.members; yes = set_members ask.acknowledged })
+seen-check ask waited staying = rw staying refl
+
+-- an input that goes on waiting for the same ones
+goes-check : (s : State) (m : ℕ) (mode : Bool) (o after : Outcome) → Goes mode o after → (check : FailsafeCheck) → check_seen after.knows.failsafe after.knows.waited ≡ Some check → ContinuesCheck s m (was_of o) check ⊎ BeginsCheck s m (was_of o) (was_of after) check
+goes-check s m mode o after goes check e =
+    let waits = checks-waited after.knows.failsafe after.knows.waited check e in
+    let was = goes.check waits.one waits.is waits.staying in
+    let before-it : FailsafeCheck = record { sequence = waits.one.sequence; ttl = waits.one.ttl.0; sent = waits.one.sent.0; members = set_members o.knows.failsafe.members; yes = set_members o.knows.failsafe.acknowledged } in
+    let same : check ≡ before-it = waits.check_is ∙ ap (λ (ask : Ask). let one : FailsafeCheck = record { sequence = waits.one.sequence; ttl = waits.one.ttl.0; sent = waits.one.sent.0; members = set_members ask.members; yes = set_members ask.acknowledged } in one) was.1 in
+    inl (record {
+      before = before-it;
+      is = ap (λ (w : Option PendingQuestion). check_seen o.knows.failsafe w) was.0 ∙ seen-check o.knows.failsafe waits.one waits.staying;
+      sequence = ap (λ (x : FailsafeCheck). x.sequence) same;
+      ttl = ap (λ (x : FailsafeCheck). x.ttl) same;
+      sent = ap (λ (x : FailsafeCheck). x.sent) same;
+      members = ap (λ (x : FailsafeCheck). x.members) same;
+      yes = λ p said. inl (sym (ap (λ (x : FailsafeCheck). x.yes p) same) ∙ said);
+    })
+
+-- an input that hears no grant is lawful, by what it does to the watchdog
+lawful-with : (s : State) (m runs : ℕ) (input : AgentInput) (now : Ticks) (told : Option SnapshotFacts) (G : Grounds) (o after : Outcome) → StandsIn s m runs now o → IsInputOf s m runs o after input → Onward told o after → WatchdogMay s m input (was_of o) (was_of after) → BringsNothing o after
+    → (is_ready after.role ≡ true → (live after.machine.server.state ≡ false) × (after.machine.by_failsafe ≡ false)) → KeepsMode s.declared.failsafe after.knows → AllMay G o after → AreLawfulGrounds s m input G o after → ((revision : ℕ) → G.gives revision → ⊥)
+    → ((request : FailsafeRequest) → input.takes ≡ Some request → MayTake s input request)
+    → ((check : FailsafeCheck) → check_seen after.knows.failsafe after.knows.waited ≡ Some check → ContinuesCheck s m (was_of o) check ⊎ BeginsCheck s m (was_of o) (was_of after) check)
+    → ((key : FailsafeKey) → failsafe_seen_if told ≡ Some key → HeardFailsafe s input.heard key) → ((seen : LeaderSeen) → leader_seen_if told ≡ Some seen → HeardLeader s input.heard seen)
     → IsLawfulAnd s m after input
-without-grant s m runs input now told o after stands is onward leaves brings parted sends failsafe leader = record {
-  lawful = lawful-of s m runs input now told Nobody o after stands is (record {
+lawful-with s m runs input now told G o after stands is onward watchdog brings ready mode sends grounds none takes check failsafe leader = record {
+  lawful = lawful-of s m runs input now told G o after stands is (record {
     onward = onward;
-    watchdog = watchdog-leaves s m runs input now o after stands is leaves brings;
-    parted = parted;
+    watchdog = watchdog;
+    parted = λ e. (ready e).0;
+    ready = λ e. (ready e).1;
+    mode = mode;
     sends = sends;
-    owns = λ revision e. absurd e;
+    grounds = grounds;
+    takes = takes;
+    check = check;
     leads_by = λ e. inl (brings.leads e);
     lease = λ revision e. inl (brings.lease revision e);
     failsafe = failsafe;
     leader = leader;
   });
-  begins = nobody-begins (MayPromote s m input) o after (λ outs lives. inl (seen-acts (s.members m) runs o stands.member (inl lives))) sends;
+  begins = nobody-begins (MayPromote s m input) G o after none (λ outs lives. inl (seen-acts (s.members m) runs o stands.member (inl lives))) sends;
 }
+
+-- one that hears no grant and no failsafe request, nor an answer to one, and feeds nothing
+without-grant : (s : State) (m runs : ℕ) (input : AgentInput) (now : Ticks) (told : Option SnapshotFacts) (o after : Outcome) → StandsIn s m runs now o → IsInputOf s m runs o after input → Onward told o after → LeavesMachine o after → BringsNothing o after
+    → (is_ready after.role ≡ true → live after.machine.server.state ≡ false) → Goes s.declared.failsafe o after → AllMay (Ungranted s m input o) o after
+    → ((key : FailsafeKey) → failsafe_seen_if told ≡ Some key → HeardFailsafe s input.heard key) → ((seen : LeaderSeen) → leader_seen_if told ≡ Some seen → HeardLeader s input.heard seen)
+    → IsLawfulAnd s m after input
+without-grant s m runs input now told o after stands is onward leaves brings parted goes sends failsafe leader =
+    lawful-with s m runs input now told (Ungranted s m input o) o after stands is onward (watchdog-leaves s m runs input now o after stands is leaves brings) brings
+    (λ e. (parted e, ready-left s m runs now o after stands brings leaves.basis e)) (goes.keeps stands.mode) sends (ungranted-lawful s m input o after) (λ revision e. e)
+    (takes-nothing s m runs input (Ungranted s m input o) o after is (λ to run sequence e. e) sends) (goes-check s m s.declared.failsafe o after goes) failsafe leader
+
+-- ---- what a create expects
+-- who may take the key may create as it compares
+may-create : (s : State) (m : ℕ) (heard : Option ℕ) (was : AgentSeen) (knows : Knowledge) → MayTakeKey s.declared.failsafe knows → knows.who.me.number ≡ m → ((key : FailsafeKey) → failsafe_read_seen knows.turn_failsafe ≡ Some key → (was.failsafe ≡ Some key) ⊎ HeardFailsafe s heard key)
+    → MayCreate s m heard was (failsafe_compared knows)
+may-create s m heard was knows may me read = by knows.turn_settings.failsafe_mode refl
+  where
+    expects : s.declared.failsafe ≡ true → (turn : Option FailsafeRead) → knows.turn_failsafe ≡ turn → MayCreate s m heard was (Some (failsafe_expected turn))
+    expects on None is = tt
+    expects on (Some one) is = (
+      record { revision = one.revision; members = set_members one.members },
+      read (record { revision = one.revision; members = set_members one.members }) (ap (λ (x : Option FailsafeRead). failsafe_read_seen x) is),
+      refl,
+      subst (λ (n : ℕ). set_members one.members n ≡ true) me (may.listed on one is),
+    )
+
+    by : (mode : Bool) → knows.turn_settings.failsafe_mode ≡ mode → MayCreate s m heard was (if mode then Some (failsafe_expected knows.turn_failsafe) else None)
+    by true is = expects (sym may.turn ∙ is) knows.turn_failsafe refl
+    by false is = sym may.turn ∙ is
+
+-- one that compares positions
+compares-create : (s : State) (m runs : ℕ) (now : Ticks) (input : AgentInput) (o : Outcome) → StandsIn s m runs now o → awaits_others o.knows.waited ≡ true → MayCreate s m input.heard (was_of o) (failsafe_compared o.knows)
+compares-create s m runs now input o stands awaits = may-create s m input.heard (was_of o) o.knows (stands.mode.races awaits) stands.me (λ key e. inl e)
 
 wake-parted : (now : Ticks) (o : Outcome) → is_ready (woken now o).role ≡ true → live (woken now o).machine.server.state ≡ false
 wake-parted now o = let b : Outcome = given_up now (reconciled now o) in
@@ -116,54 +225,240 @@ record Brought (s : State) (m : ℕ) (input : AgentInput) (o after : Outcome) : 
   parted : is_ready after.role ≡ true → live after.machine.server.state ≡ false
   leads_by : leads after.role ≡ true → (leads o.role ≡ true) ⊎ FedKnown s m input (was_of after)
   lease : (revision : ℕ) → lease_of after.role ≡ Some revision → Owns s m input.heard (was_of o) revision
+  ready : is_ready after.role ≡ true → after.machine.by_failsafe ≡ false
+
+-- what two inputs, one behind the other, do to the deadline
+deadline-then : (o middle after : Outcome) → LeavesMachine o middle → Fits middle.role (live middle.machine.server.state) → DeadlineMay middle after → BringsNothing middle after → DeadlineMay o after
+deadline-then o middle after first fits deadline brings = elim (leaves-then o middle kept first fits (record { deadline = second; basis = refl; hold = refl }) (record { live = brings.live; leads = brings.leads; ready = brings.ready; lease = brings.lease })).deadline [
+  | DeadlineKept same ↦ DeadlineKept same
+  | DeadlineRemoved is rests ↦ DeadlineRemoved is rests
+  | DeadlineUndone is ready lives ↦ DeadlineUndone is ready lives
+]
+  where
+    kept : Outcome
+    kept = record after { machine = record after.machine { by_failsafe = middle.machine.by_failsafe; hold = middle.machine.hold } }
+
+    second : DeadlineMay middle kept
+    second = elim deadline [ DeadlineKept same ↦ DeadlineKept same | DeadlineRemoved is rests ↦ DeadlineRemoved is rests | DeadlineUndone is ready lives ↦ DeadlineUndone is ready lives ]
+
+-- who waited for a lease waits for no acknowledgements behind its grant
+no-check : (mode : Bool) (sequence : ℕ) (grant : Granted) (o after : Outcome) → Goes mode o after → IsAwaitedLease sequence grant o.knows → check_seen after.knows.failsafe after.knows.waited ≡ None
+no-check mode sequence grant o after goes awaited = by after.knows.waited refl
+  where
+    by-test : (one : PendingQuestion) (test : Bool) → is_staying one.question ≡ test → after.knows.waited ≡ Some one → check_seen after.knows.failsafe (Some one) ≡ None
+    by-test one false staying is = rw staying refl
+    by-test one true staying is =
+        let same : one ≡ awaited.waited = some-is one awaited.waited (sym (goes.check one is staying).0 ∙ awaited.is) in
+        absurd (no-way (sym (lease-only awaited.waited.question (both-true (asks_lease awaited.waited.question) (awaited.waited.sequence == sequence) awaited.decision).0) ∙ (ap (λ (w : PendingQuestion). is_staying w.question) (sym same) ∙ staying)))
+
+    by : (waited : Option PendingQuestion) → after.knows.waited ≡ waited → check_seen after.knows.failsafe waited ≡ None
+    by None is = refl
+    by (Some one) is = by-test one (is_staying one.question) refl is
+
+-- a deadline by a grant is by no acknowledgements
+by-grant-now : (armable by_failsafe : Bool) → armable ≡ true → not armable && by_failsafe ≡ false
+by-grant-now armable by_failsafe is = rw is refl
 
 leads-brought : (s : State) (m runs sequence : ℕ) (input : AgentInput) (now : Ticks) (grant : Granted) (snapshot : SnapshotFacts) (o after : Outcome) → AsksLeases o.knows → StandsIn s m runs now o → HearsGrant s m input.heard now sequence grant snapshot o → IsInputOf s m runs o after input
-    → GrantMay now sequence grant snapshot (reconciled now o) after → after.machine.hold ≡ (reconciled now o).machine.hold → Brought s m input o after
-leads-brought s m runs sequence input now grant snapshot o after sound stands hears is (Nothing brings deadline) hold =
+    → GrantMay now sequence grant snapshot (reconciled now o) after → Goes s.declared.failsafe o after → Brought s m input o after
+leads-brought s m runs sequence input now grant snapshot o after sound stands hears is (Nothing brings deadline basis) goes =
     let all : BringsNothing o after = brings-then o (reconciled now o) after (before-brings now o) brings in record {
-      watchdog = watchdog-leaves s m runs input now o after stands is (leaves-then o (reconciled now o) after (before-leaves now o) (before-fits now o) (record { deadline = deadline; hold = hold }) brings) all;
+      watchdog = watchdog-left s m runs input now o after stands is (deadline-then o (reconciled now o) after (before-leaves now o) (before-fits now o) deadline brings) (basis ∙ (before-leaves now o).basis) all;
       parted = parted-by (reconciled now o) after (before-fits now o) brings;
       leads_by = λ e. inl (all.leads e);
       lease = λ revision e. inl (all.lease revision e);
+      ready = ready-left s m runs now o after stands all (basis ∙ (before-leaves now o).basis);
     }
-leads-brought s m runs sequence input now grant snapshot o after sound stands hears is (Begins was-ready ready same lease) hold =
+leads-brought s m runs sequence input now grant snapshot o after sound stands hears is (Begins was-ready ready same basis lease) goes =
     let ready-before : is_ready o.role ≡ true = (before-brings now o).ready was-ready in record {
-      watchdog = watchdog-kept s m runs input now o after stands is (same ∙ ready-same now o was-ready) (λ _. seen-acts (s.members m) runs o stands.member (inr ready-before));
+      watchdog = watchdog-kept s m runs input now o after stands is (same ∙ ready-same now o was-ready) (basis ∙ (before-leaves now o).basis) (λ _. seen-acts (s.members m) runs o stands.member (inr ready-before));
       parted = λ e. absurd (no-way (sym ready ∙ e));
       leads_by = λ _. inl (ready-leads o.role ready-before);
       lease = λ revision e. inl ((before-brings now o).lease revision (sym lease ∙ e));
+      ready = λ e. absurd (no-way (sym ready ∙ e));
     }
-leads-brought s m runs sequence input now grant snapshot o after sound stands hears is (Leads later fed lease parted known told free armed) hold =
+leads-brought s m runs sequence input now grant snapshot o after sound stands hears is (Leads later fed basis lease parted known told free armed) goes =
     let b : Outcome = reconciled now o in
     let awaited : IsAwaitedLease sequence grant o.knows = awaited-before sequence grant o b (before-waits now o) (before-onward None now o).who later in
     let tells : TellsLease now grant snapshot o.machine awaited.waited hears.answer.answer = hears.lease awaited in
+    let can : is_armable b.machine.watchdog.mode b.machine.watchdog.works ≡ true = armable-before o b (before-leaves now o) tells.feeds.armable in
+    let by-grant : after.machine.by_failsafe ≡ false = basis ∙ by-grant-now (is_armable b.machine.watchdog.mode b.machine.watchdog.works) b.machine.by_failsafe can in
+    let waits-else : check_seen after.knows.failsafe after.knows.waited ≡ None = no-check s.declared.failsafe sequence grant o after goes awaited in
     let knows-it : FedKnown s m input (was_of after) = record {
       fed = fed-of s m runs sequence input.heard now grant snapshot o stands hears awaited (span-of o.knows awaited.waited sound awaited.is);
-      feeds = is.feeds ∙ told (armable-before o b (before-leaves now o) tells.armable);
-      by_grant = ap (λ (x : MachineSeen). x.by_failsafe) is.machine;
+      feeds = is.feeds ∙ told can;
+      by_grant = ap (λ (x : MachineSeen). x.by_failsafe) is.machine ∙ by-grant;
       known = λ key e p listed. ap (λ (set : MemberSet). set_members set p) known ∙ entry-known b.knows.known (entry_in keys.Failsafe snapshot) key (sym tells.failsafe ∙ e) p listed;
     } in record {
-      watchdog = SetByGrant knows-it (ap (λ (x : MachineSeen). x.deadline) is.machine ∙ new-deadline now awaited.waited.ttl.0 o b after (before-leaves now o) tells.armable fed) refl
+      watchdog = SetByGrant knows-it (ap (λ (x : MachineSeen). x.deadline) is.machine ∙ new-deadline now awaited.waited.ttl.0 o b after (before-leaves now o) tells.feeds.armable fed) waits-else
           (λ acts. elim (free (acts-seen input.machine runs after is.machine acts)) [ inl was ↦ inl (seen-acts (s.members m) runs o stands.member (inl ((before-brings now o).live was))) | inr over ↦ inr (free-of s m runs now o b stands (before-leaves now o) over) ]);
       parted = parted;
       leads_by = λ e. inr knows-it;
       lease = λ revision e. gives-owns s m runs sequence input now grant snapshot o stands hears awaited revision (some-is grant.revision revision (sym lease ∙ e));
+      ready = λ _. by-grant;
     }
-leads-brought s m runs sequence input now grant snapshot o after sound stands hears is (Rests paused later rested lease free) hold =
+leads-brought s m runs sequence input now grant snapshot o after sound stands hears is (Rests paused later rested lease free) goes =
     absurd (no-way (sym (stays-unpaused now snapshot o stands.unpaused hears.answer.unpaused) ∙ paused))
 
-wake-lawful : (s : State) (m runs : ℕ) (input : AgentInput) (now : Ticks) (o : Outcome) → IsAlone o → All IsSilent o.outputs → StandsIn s m runs now o → IsInputOf s m runs o (woken now o) input → IsLawfulAnd s m (woken now o) input
-wake-lawful s m runs input now o alone silent stands is = without-grant s m runs input now None o (woken now o) stands is (wake-onward None now o) (wake-leaves now o) (wake-brings now o) (wake-parted now o)
-    (wake-may Nobody now o alone silent) (λ key e. absurd (none-some _ e)) (λ seen e. absurd (none-some _ e))
+-- ---- deadlines by acknowledgements
+later-deadline : (margin : Option Ticks) (n ttl : ℕ) → IsLeaseSpan ttl → IfSome margin (λ at_most. at_most.0 ≤ greatest_margin) → n < n + timeout_of margin ttl
+later-deadline None n ttl span has = omega (arith, span.least)
+later-deadline (Some margin) n ttl span has = omega (arith, span.least, has)
 
--- what an operator asks
+settings-span : (settings : Config) → IsLeaseSpan (lease_span settings).0
+settings-span settings = record { least = omega (arith, settings.ttl_range); greatest = omega (arith, settings.ttl_range) }
+
+leader-leads : (role : RoleFacts) → is_leader role ≡ true → leads role ≡ true
+leader-leads (Leader held) e = refl
+leader-leads Follower e = absurd (no-way e)
+leader-leads (Holder held) e = absurd (no-way e)
+leader-leads (Ready held) e = absurd (no-way e)
+leader-leads (Ending held why) e = absurd (no-way e)
+leader-leads Unleased e = absurd (no-way e)
+
+leader-unready : (role : RoleFacts) → is_leader role ≡ true → is_ready role ≡ true → ⊥
+leader-unready (Leader held) e ready = no-way ready
+leader-unready Follower e ready = no-way ready
+leader-unready (Holder held) e ready = no-way ready
+leader-unready (Ready held) e ready = no-way e
+leader-unready (Ending held why) e ready = no-way ready
+leader-unready Unleased e ready = no-way ready
+
+-- what a feed on acknowledgements leaves of the deadline
+failsafe-deadline : (now ttl : Ticks) (o after : Outcome) → CanFeed o.machine → IsFedByFailsafe now ttl o after → moment_seen after.machine.watchdog.deadline ≡ Some (now.0 + timeout_of o.machine.watchdog.margin ttl.0)
+failsafe-deadline now ttl o after can fed = ap (λ (w : WatchdogFacts). moment_seen w.deadline) fed.fed ∙ fed-deadline now.0 ttl.0 o.machine.watchdog can.armable
+
+failsafe-basis : (now ttl : Ticks) (o after : Outcome) → CanFeed o.machine → IsFedByFailsafe now ttl o after → after.machine.by_failsafe ≡ true
+failsafe-basis now ttl o after can fed = fed.basis ∙ ap (λ (b : Bool). b || o.machine.by_failsafe) can.armable
+
+others-none : (known : MemberSet) (me : MemberId) → (without_member known me).bits ≡ 0 → (p : ℕ) → set_members known p ≡ true → p ≡ me.number
+others-none known me nobody p e = by (p == me.number) refl
+  where
+    absent : set_members (without_member known me) p ≡ false
+    absent = ap (λ (bits : ℕ). set_members (record { bits = bits }) p) nobody ∙ has-nobody p
+
+    by : (same : Bool) → (p == me.number) ≡ same → p ≡ me.number
+    by true is = numbers-same p me.number is
+    by false is = absurd (no-way (sym absent ∙ (without-has known me p ∙ (ap (λ (b : Bool). b && not (p == me.number)) e ∙ ap not is))))
+
+-- a leader with nobody to ask
+alone-watchdog : (s : State) (m runs : ℕ) (input : AgentInput) (now : Ticks) (o after : Outcome) → StandsIn s m runs now o → IsInputOf s m runs o after input → CanFeed o.machine → BringsNothing o after → StaysAlone now o after → WatchdogMay s m input (was_of o) (was_of after)
+alone-watchdog s m runs input now o after stands is can brings alone =
+    SetAlone (now.0 + timeout_of o.machine.watchdog.margin (lease_span o.knows.settings).0)
+    (ap (λ (x : MachineSeen). x.deadline) is.machine ∙ failsafe-deadline now (lease_span o.knows.settings) o after can alone.fed)
+    (ap (λ (x : MachineSeen). x.by_failsafe) is.machine ∙ failsafe-basis now (lease_span o.knows.settings) o after can alone.fed)
+    (λ acts. seen-acts (s.members m) runs o stands.member (acts-before o after brings (acts-seen input.machine runs after is.machine acts)))
+    (record {
+      leads = leader-leads after.role alone.fed.leads;
+      informed = alone.fed.informed ∙ stands.mode.confirmed (both-true o.knows.settings.failsafe_mode o.knows.confirmed alone.may).1;
+      later = subst (λ (n : ℕ). n < now.0 + timeout_of o.machine.watchdog.margin (lease_span o.knows.settings).0) (sym stands.clock) (later-deadline o.machine.watchdog.margin now.0 (lease_span o.knows.settings).0 (settings-span o.knows.settings) can.margin);
+      alone = λ p e. others-none o.knows.known o.knows.who.me alone.nobody p (sym (ap (λ (set : MemberSet). set_members set p) alone.fed.known) ∙ e) ∙ stands.me;
+    })
+
+-- a leader begins to wait for all others that it knows
+begins-check : (s : State) (m runs : ℕ) (now : Ticks) (o after : Outcome) → StandsIn s m runs now o → after.knows.who ≡ o.knows.who → (begun : BeginsToStay now s.declared.failsafe o after) → (check : FailsafeCheck) → check_seen after.knows.failsafe after.knows.waited ≡ Some check → ContinuesCheck s m (was_of o) check ⊎ BeginsCheck s m (was_of o) (was_of after) check
+begins-check s m runs now o after stands who begun check e =
+    let waits = checks-waited after.knows.failsafe after.knows.waited check e in
+    let same : begun.waited ≡ waits.one = some-is begun.waited waits.one (sym begun.is ∙ waits.is) in
+    let number : check.sequence ≡ begun.waited.sequence = ap (λ (x : FailsafeCheck). x.sequence) waits.check_is ∙ ap (λ (w : PendingQuestion). w.sequence) (sym same) in
+    let ask : after.knows.failsafe ≡ ask_of (others_known after.knows) now = begun.ask in
+    let me : after.knows.who.me.number ≡ m = ap (λ (w : Who). w.me.number) who ∙ stands.me in
+    inr (record {
+      later = subst (λ (n : ℕ). o.knows.sequence < n) (sym number) begun.later;
+      counted = subst (λ (n : ℕ). n ≤ after.knows.sequence) (sym number) begun.counted;
+      yes = λ p. ap (λ (x : FailsafeCheck). x.yes p) waits.check_is ∙ (ap (λ (x : Ask). set_members x.acknowledged p) ask ∙ has-nobody p);
+      leads = leader-leads after.role begun.leads;
+      informed = (begun.keeps stands.mode).confirmed begun.confirmed;
+      all = λ p known other. ap (λ (x : FailsafeCheck). x.members p) waits.check_is ∙ (ap (λ (x : Ask). set_members x.members p) ask ∙ (without-has after.knows.known after.knows.who.me p ∙ (ap (λ (b : Bool). b && not (p == after.knows.who.me.number)) known ∙ ap not (differ p after.knows.who.me.number (λ same. other (same ∙ me))))));
+    })
+
+-- its requests are of what it waits for
+stay-requests : (s : State) (m runs : ℕ) (now : Ticks) (o after : Outcome) → StandsIn s m runs now o → (sequence : ℕ) (ttl : Ticks) → AsksToStay now after sequence ttl
+    → MayRequestFailsafe s m (was_of o) (was_of after) (record { member = m; incarnation = o.knows.incarnation; sequence = sequence; ttl = ttl.0; sent = s.clock })
+stay-requests s m runs now o after stands sequence ttl asks = record {
+  member = refl;
+  incarnation = refl;
+  sent = refl;
+  failsafe_check = record { sequence = asks.waited.sequence; ttl = asks.waited.ttl.0; sent = asks.waited.sent.0; members = set_members after.knows.failsafe.members; yes = set_members after.knows.failsafe.acknowledged };
+  is = ap (λ (w : Option PendingQuestion). check_seen after.knows.failsafe w) asks.is ∙ seen-check after.knows.failsafe asks.waited asks.staying;
+  sequence = asks.sequence_is;
+  ttl = ap (λ (t : Ticks). t.0) asks.ttl_is;
+  check_sent = ap (λ (t : Ticks). t.0) asks.sent ∙ sym stands.clock;
+}
+
+wake-lawful : (s : State) (m runs : ℕ) (input : AgentInput) (now : Ticks) (o : Outcome) → IsAlone o → All IsSilent o.outputs → StandsIn s m runs now o → CanFeed o.machine → IsInputOf s m runs o (woken now o) input → IsLawfulAnd s m (woken now o) input
+wake-lawful s m runs input now o alone silent stands can is =
+    lawful-with s m runs input now None G o after stands is (wake-onward None now o) watchdog brings ready mode sends grounds (λ revision e. e)
+    (takes-nothing s m runs input G o after is (λ to run sequence e. e) sends) check (λ key e. absurd (none-some _ e)) (λ seen e. absurd (none-some _ e))
+  where
+    after : Outcome
+    after = woken now o
+
+    G : Grounds
+    G = staying now after (Ungranted s m input o)
+
+    brings : BringsNothing o after
+    brings = wake-brings now o
+
+    sends : AllMay G o after
+    sends = wake-may (Ungranted s m input o) now o (compares-create s m runs now input o stands) (λ _ members number _. tt) alone silent
+
+    grounds : AreLawfulGrounds s m input G o after
+    grounds = record { owns = λ revision e. absurd e; creates = λ expected may. may; requests = stay-requests s m runs now o after stands; acknowledges = λ to run sequence _ e. absurd e }
+
+    watchdog : WatchdogMay s m input (was_of o) (was_of after)
+    watchdog = elim (wake-leaves now o) [ inl leaves ↦ watchdog-leaves s m runs input now o after stands is leaves brings | inr stays ↦ alone-watchdog s m runs input now o after stands is can brings stays ]
+
+    ready : is_ready after.role ≡ true → (live after.machine.server.state ≡ false) × (after.machine.by_failsafe ≡ false)
+    ready e = (wake-parted now o e, elim (wake-leaves now o) [ inl leaves ↦ ready-left s m runs now o after stands brings leaves.basis e | inr stays ↦ absurd (leader-unready after.role stays.fed.leads e) ])
+
+    mode : KeepsMode s.declared.failsafe after.knows
+    mode = elim (wake-goes s.declared.failsafe now o) [ inl goes ↦ goes.keeps stands.mode | inr begun ↦ begun.keeps stands.mode ]
+
+    check : (check : FailsafeCheck) → check_seen after.knows.failsafe after.knows.waited ≡ Some check → ContinuesCheck s m (was_of o) check ⊎ BeginsCheck s m (was_of o) (was_of after) check
+    check one e = elim (wake-goes s.declared.failsafe now o) [ inl goes ↦ goes-check s m s.declared.failsafe o after goes one e | inr begun ↦ begins-check s m runs now o after stands (wake-onward None now o).who begun one e ]
+
+-- what an operator asks leaves the machine but for a hold, which is for no message
+operated-left : (now : Ticks) (asked : OperatorRequest) (o after : Outcome) → LeavesMachine o after ⊎ AcknowledgesOperated now asked o after → DeadlineMay o after × (after.machine.by_failsafe ≡ o.machine.by_failsafe)
+operated-left now asked o after (inl leaves) = (leaves.deadline, leaves.basis)
+operated-left now (requests.Hold from ttl) o after (inr holds) = (holds.deadline, holds.basis)
+operated-left now (requests.Failover kind failover) o after (inr never) = absurd never
+operated-left now (requests.Configuration config) o after (inr never) = absurd never
+operated-left now requests.Restart o after (inr never) = absurd never
+operated-left now requests.Reinit o after (inr never) = absurd never
+
 operated-lawful : (s : State) (m runs : ℕ) (input : AgentInput) (now : Ticks) (action : OperatorAction) (o : Outcome) → IsAlone o → All IsSilent o.outputs → StandsIn s m runs now o
     → IsInputOf s m runs o (operated now action.request action.asked (reconciled now o)) input → IsLawfulAnd s m (operated now action.request action.asked (reconciled now o)) input
-operated-lawful s m runs input now action o alone silent stands is = let b : Outcome = reconciled now o in
+operated-lawful s m runs input now action o alone silent stands is =
+    let b : Outcome = reconciled now o in
     let after : Outcome = operated now action.request action.asked b in
-    without-grant s m runs input now None o after stands is (onward-then None o b after (before-onward None now o) (operated-onward now action b))
-    (operated-leaves now action o) (operated-brings now action o) (parted-by b after (before-fits now o) (acting-brings now action b))
-    (operated-may Nobody now action o alone silent) (λ key e. absurd (none-some _ e)) (λ seen e. absurd (none-some _ e))
+    let left = operated-left now action.asked o after (operated-leaves now action o) in
+    let brings : BringsNothing o after = operated-brings now action o in
+    let goes : Goes s.declared.failsafe o after = operated-step-goes s.declared.failsafe now action o in
+    let sends : AllMay (Ungranted s m input o) o after = operated-may (Ungranted s m input o) now action o (λ config _. tt) alone silent in
+    lawful-with s m runs input now None (Ungranted s m input o) o after stands is (onward-then None o b after (before-onward None now o) (operated-onward now action b)) (watchdog-left s m runs input now o after stands is left.0 left.1 brings) brings
+    (λ e. (parted-by b after (before-fits now o) (acting-brings now action b) e, ready-left s m runs now o after stands brings left.1 e)) (goes.keeps stands.mode) sends (ungranted-lawful s m input o after) (λ revision e. e)
+    (takes-nothing s m runs input (Ungranted s m input o) o after is (λ to run sequence e. e) sends) (goes-check s m s.declared.failsafe o after goes) (λ key e. absurd (none-some _ e)) (λ seen e. absurd (none-some _ e))
+
+-- who read that the key is free creates as its turn's failsafe key was read then
+read-creates : (s : State) (m runs : ℕ) (input : AgentInput) (now : Ticks) (sequence : ℕ) (snapshot : SnapshotFacts) (o : Outcome) → StandsIn s m runs now o → HearsAnswer s m input.heard sequence snapshot o.knows → CreatesOnRead (Ungranted s m input o) now snapshot (looked sequence snapshot (reconciled now o))
+read-creates s m runs input now sequence snapshot o stands hears = let p : Outcome = looked sequence snapshot (reconciled now o) in
+    let who : p.knows.who ≡ o.knows.who = (looked-onward None now sequence snapshot o).who in record {
+      free = λ free. may-create s m input.heard (was_of o) (read_noted now snapshot p.knows) (free-takes s.declared.failsafe now snapshot p hears.mode free) (ap (λ (w : Who). w.me.number) who ∙ stands.me)
+          (λ key e. inr (heard-failsafe s m sequence input.heard snapshot o.knows hears key (sym (read-seen (entry_in keys.Failsafe snapshot)) ∙ e)));
+      paused = λ paused. absurd (elim (told-pause p.knows.settings (entry_in keys.Config snapshot) paused) [
+        | inl before-it ↦ elim ((looked-onward None now sequence snapshot o).pauses before-it) [ inl was ↦ no-way (sym stands.unpaused ∙ was) | inr new ↦ no-way new ]
+        | inr new ↦ no-way (sym hears.unpaused ∙ new)
+      ]);
+    }
+  where
+    read-seen : (found : Option KeyEntry) → failsafe_read_seen (failsafe_read_of_entry found) ≡ failsafe_entry_seen found
+    read-seen None = refl
+    read-seen (Some found) = by (failsafe_by found.value)
+      where
+        by : (listed : Option MemberSet) → failsafe_read_seen (failsafe_read_by found.revision listed) ≡ failsafe_listed found.revision listed
+        by None = refl
+        by (Some members) = refl
 
 got-lawful : (s : State) (m runs : ℕ) (input : AgentInput) (now : Ticks) (points : List HistoryPoint) (sequence : ℕ) (snapshot : SnapshotFacts) (o : Outcome) → IsAlone o → All IsSilent o.outputs → StandsIn s m runs now o
     → HearsAnswer s m input.heard sequence snapshot o.knows → IsInputOf s m runs o (read_answered now points sequence snapshot (looked sequence snapshot (reconciled now o))) input → IsLawfulAnd s m (read_answered now points sequence snapshot (looked sequence snapshot (reconciled now o))) input
@@ -171,7 +466,7 @@ got-lawful s m runs input now points sequence snapshot o alone silent stands hea
     without-grant s m runs input now (Some snapshot) o (read_answered now points sequence snapshot p) stands is (onward-then (Some snapshot) o p (read_answered now points sequence snapshot p) (looked-onward (Some snapshot) now sequence snapshot o) (got-onward now points sequence snapshot p))
     (read-leaves now points sequence snapshot o) (read-brings now points sequence snapshot o)
     (parted-by p (read_answered now points sequence snapshot p) (looked-by (λ (x : Outcome). Fits x.role (live x.machine.server.state)) sequence snapshot (reconciled now o) (told-fits now o)) (got-brings now points sequence snapshot p))
-    (got-may Nobody now points sequence snapshot o alone silent)
+    (got-step-goes s.declared.failsafe now points sequence snapshot o hears.mode) (got-may (Ungranted s m input o) now points sequence snapshot o (read-creates s m runs input now sequence snapshot o stands hears) alone silent)
     (heard-failsafe s m sequence input.heard snapshot o.knows hears) (heard-leader s m sequence input.heard snapshot o.knows hears)
 
 refused-lawful : (s : State) (m runs : ℕ) (input : AgentInput) (now : Ticks) (sequence : ℕ) (o : Outcome) → IsAlone o → All IsSilent o.outputs → StandsIn s m runs now o
@@ -180,21 +475,21 @@ refused-lawful s m runs input now sequence o alone silent stands is = let b : Ou
     let after : Outcome = refused_any now sequence b in
     without-grant s m runs input now None o after stands is (onward-then None o b after (before-onward None now o) (any-refused-onward now sequence b))
     (refusal-leaves now sequence o) (refusal-brings now sequence o) (parted-by b after (before-fits now o) (any-refused-brings now sequence b))
-    (refused-may Nobody now sequence o alone silent) (λ key e. absurd (none-some _ e)) (λ seen e. absurd (none-some _ e))
+    (refused-step-goes s.declared.failsafe now sequence o) (refused-may (Ungranted s m input o) now sequence o alone silent) (λ key e. absurd (none-some _ e)) (λ seen e. absurd (none-some _ e))
 
 answered-lawful : (s : State) (m runs : ℕ) (input : AgentInput) (now : Ticks) (sequence : ℕ) (answer : PeerAnswer) (o : Outcome) → IsAlone o → All IsSilent o.outputs → StandsIn s m runs now o
     → IsInputOf s m runs o (answered now sequence answer (reconciled now o)) input → IsLawfulAnd s m (answered now sequence answer (reconciled now o)) input
 answered-lawful s m runs input now sequence answer o alone silent stands is = let b : Outcome = reconciled now o in
     without-grant s m runs input now None o (answered now sequence answer b) stands is (onward-then None o b (answered now sequence answer b) (before-onward None now o) (answered-onward None now sequence answer b))
     (answered-leaves now sequence answer o) (answered-brings now sequence answer o) (parted-by b (answered now sequence answer b) (before-fits now o) (answer-brings now sequence answer b))
-    (answered-may Nobody now sequence answer o alone (before-onward None now o).last silent) (λ key e. absurd (none-some _ e)) (λ seen e. absurd (none-some _ e))
+    (answered-step-goes s.declared.failsafe now sequence answer o) (answered-may (Ungranted s m input o) now sequence answer o (compares-create s m runs now input o stands) alone (before-onward None now o).last silent) (λ key e. absurd (none-some _ e)) (λ seen e. absurd (none-some _ e))
 
 asked-lawful : (s : State) (m runs : ℕ) (input : AgentInput) (now : Ticks) (from : MemberId) (incarnation sequence : ℕ) (o : Outcome) → IsAlone o → All IsSilent o.outputs → StandsIn s m runs now o
     → IsInputOf s m runs o (asked from incarnation sequence (reconciled now o)) input → IsLawfulAnd s m (asked from incarnation sequence (reconciled now o)) input
 asked-lawful s m runs input now from incarnation sequence o alone silent stands is = let b : Outcome = reconciled now o in
     without-grant s m runs input now None o (asked from incarnation sequence b) stands is (onward-then None o b (asked from incarnation sequence b) (before-onward None now o) (asked-onward None from incarnation sequence b))
     (asked-leaves now from incarnation sequence o) (asked-brings now from incarnation sequence o) (parted-by b b (before-fits now o) (record { live = λ e. e; leads = λ e. e; ready = λ e. e; lease = λ revision e. e }))
-    (asked-may Nobody now from incarnation sequence o alone silent) (λ key e. absurd (none-some _ e)) (λ seen e. absurd (none-some _ e))
+    (asked-step-goes s.declared.failsafe now from incarnation sequence o) (asked-may (Ungranted s m input o) now from incarnation sequence o alone silent) (λ key e. absurd (none-some _ e)) (λ seen e. absurd (none-some _ e))
 
 may-promote : (s : State) (m runs sequence : ℕ) (input : AgentInput) (now : Ticks) (grant : Granted) (snapshot : SnapshotFacts) (o : Outcome) → AsksLeases o.knows → StandsIn s m runs now o → HearsGrant s m input.heard now sequence grant snapshot o
     → (outs : List Output) → BeginsOn now sequence grant (reconciled now o) outs → MayPromote s m input outs
@@ -215,30 +510,316 @@ grant-lawful s m runs input now sequence grant snapshot o sound alone silent sta
       | inr held ↦ inl ((before-brings now o).lease revision held)
     ] in
     let onward : Onward (Some snapshot) b after = any-granted-onward now sequence grant snapshot b in
-    let brought : Brought s m input o after = leads-brought s m runs sequence input now grant snapshot o after sound stands hears is (grant-may now sequence grant snapshot b (before-fits now o)) onward.hold in
+    let goes : Goes s.declared.failsafe o after = granted-step-goes s.declared.failsafe now sequence grant snapshot o hears.answer.mode in
+    let brought : Brought s m input o after = leads-brought s m runs sequence input now grant snapshot o after sound stands hears is (grant-may now sequence grant snapshot b (before-fits now o)) goes in
+    let G : Grounds = record { gives = Gives sequence grant b; creates = λ expected. ⊥; requests = λ number ttl. ⊥; acknowledges = λ to run number. ⊥; configures = λ config. Unit {0}; feeds = λ members number. Unit {0} } in
+    let sends : AllMay G o after = granted-sends G now sequence grant snapshot o alone (before-onward None now o).last (before-fits now o) (λ decides. inl (decides, refl)) (λ revision ready. inr (rw ready refl)) silent in
     record {
-      lawful = lawful-of s m runs input now (Some snapshot) (Gives sequence grant b) o after stands is (record {
+      lawful = lawful-of s m runs input now (Some snapshot) G o after stands is (record {
         onward = onward-then (Some snapshot) o b after (before-onward (Some snapshot) now o) onward;
         watchdog = brought.watchdog;
         parted = brought.parted;
-        sends = granted-sends (Gives sequence grant b) now sequence grant snapshot o alone (before-onward None now o).last (before-fits now o) (λ decides. inl (decides, refl)) (λ revision ready. inr (rw ready refl)) silent;
-        owns = gives;
+        ready = brought.ready;
+        mode = goes.keeps stands.mode;
+        sends = sends;
+        grounds = record { owns = gives; creates = λ expected e. absurd e; requests = λ number ttl e. absurd e; acknowledges = λ to run number _ e. absurd e };
+        takes = takes-nothing s m runs input G o after is (λ to run number e. e) sends;
+        check = goes-check s m s.declared.failsafe o after goes;
         leads_by = brought.leads_by;
         lease = brought.lease;
         failsafe = heard-failsafe s m sequence input.heard snapshot o.knows hears.answer;
         leader = heard-leader s m sequence input.heard snapshot o.knows hears.answer;
       });
       begins = begins-weaker (BeginsOn now sequence grant b) (MayPromote s m input) (may-promote s m runs sequence input now grant snapshot o sound stands hears) [] after.outputs
-          (grant-begins now sequence grant snapshot o alone (stays-unpaused now snapshot o stands.unpaused hears.answer.unpaused) (λ decides. armable-before o b (before-leaves now o) (hears.lease (awaited-by sequence grant now o decides)).armable) silent);
+          (grant-begins now sequence grant snapshot o alone (stays-unpaused now snapshot o stands.unpaused hears.answer.unpaused) (λ decides. armable-before o b (before-leaves now o) (hears.lease (awaited-by sequence grant now o decides)).feeds.armable) silent);
     }
 
+-- ---- a failsafe request
+acknowledges-taken : (s : State) (m runs : ℕ) (input : AgentInput) (now : Ticks) (from : MemberId) (incarnation sequence : ℕ) (ttl : Ticks) (o after : Outcome) → StandsIn s m runs now o → IsInputOf s m runs o after input → HearsRequest s input.heard from incarnation sequence ttl → has_one is_yes after.outputs ≡ true
+    → MayAcknowledge m input (record { member = from.number; incarnation = incarnation; sequence = sequence; by = m })
+acknowledges-taken s m runs input now from incarnation sequence ttl o after stands is hears says = record {
+  by = refl;
+  failsafe_request = record { member = from.number; incarnation = incarnation; sequence = sequence; ttl = ttl.0; sent = hears.sent };
+  takes = is.takes ∙ (ap (λ (b : Bool). request_taken b (request_heard s.flight input.heard)) says ∙ (ap (λ (h : Option ℕ). request_heard s.flight h) hears.heard_is ∙ ap (λ (f : Option Flying). request_in f) hears.is));
+  member = refl;
+  incarnation = refl;
+  sequence = refl;
+}
+
+taken-request : (s : State) (m runs : ℕ) (input : AgentInput) (from : MemberId) (incarnation sequence : ℕ) (ttl : Ticks) (o after : Outcome) → IsInputOf s m runs o after input → (hears : HearsRequest s input.heard from incarnation sequence ttl) → (says : Bool) → has_one is_yes after.outputs ≡ says → (request : FailsafeRequest) → input.takes ≡ Some request
+    → (says ≡ true) × (request ≡ (record { member = from.number; incarnation = incarnation; sequence = sequence; ttl = ttl.0; sent = hears.sent }))
+taken-request s m runs input from incarnation sequence ttl o after is hears true says request takes =
+    (refl, some-is request _ (sym takes ∙ (is.takes ∙ (ap (λ (b : Bool). request_taken b (request_heard s.flight input.heard)) says ∙ (ap (λ (h : Option ℕ). request_heard s.flight h) hears.heard_is ∙ ap (λ (f : Option Flying). request_in f) hears.is)))))
+taken-request s m runs input from incarnation sequence ttl o after is hears false says request takes =
+    absurd (none-some request (sym (is.takes ∙ ap (λ (b : Bool). request_taken b (request_heard s.flight input.heard)) says) ∙ takes))
+
+holds-for : (now ttl : Ticks) (hold : Option Ticks) → now.0 + ttl.0 ≤ hold_seen (prolonged_to (span_after now ttl) hold)
+holds-for now ttl None = omega arith
+holds-for now ttl (Some before-it) = omega arith
+
+-- a member that answers a failsafe request either left its machine so, and says no, or holds
+record AnswersRequest (now ttl : Ticks) (o after : Outcome) : Type 0 where
+  deadline : DeadlineMay o after
+  basis : after.machine.by_failsafe ≡ o.machine.by_failsafe
+  held : has_one is_yes after.outputs ≡ true → now.0 + ttl.0 ≤ hold_seen after.machine.hold
+
+no-yes-before : (outs : List Output) → All (λ (output : Output). is_yes output ≡ false) outs → (output : Output) → has_one is_yes (with_output output outs) ≡ is_yes output
+no-yes-before [] all output = or-false (is_yes output)
+  where
+    or-false : (b : Bool) → b || false ≡ b
+    or-false true = refl
+    or-false false = refl
+no-yes-before (one ∷ outs) all output = rw (All-head (λ (x : Output). is_yes x ≡ false) one outs all) (no-yes-before outs (All-tail (λ (x : Output). is_yes x ≡ false) one outs all) output)
+
+front-no : (o b : Outcome) → Fronts o b → All (λ (output : Output). is_yes output ≡ false) b.outputs
+front-no o b (Silent all) = All-weaker IsSilent (λ (output : Output). is_yes output ≡ false) silent-no b.outputs all
+  where
+    silent-no : (output : Output) → IsSilent output → is_yes output ≡ false
+    silent-no (outputs.FailsafeAnswer to run sequence accepted) e = absurd e
+    silent-no _ e = refl
+front-no o b (Released revision held alone role ended counted all) = All-weaker (IsReleaseOr (o.knows.sequence + 1) revision) (λ (output : Output). is_yes output ≡ false) release-no b.outputs all
+  where
+    silent-no : (output : Output) → IsSilent output → is_yes output ≡ false
+    silent-no (outputs.FailsafeAnswer to run sequence accepted) e = absurd e
+    silent-no _ e = refl
+
+    release-no : (output : Output) → IsReleaseOr (o.knows.sequence + 1) revision output → is_yes output ≡ false
+    release-no output (inl silent) = silent-no output silent
+    release-no output (inr is) = ap is_yes is
+
+request-answers : (now : Ticks) (from : MemberId) (incarnation sequence : ℕ) (ttl : Ticks) (o : Outcome) → IsAlone o → All IsSilent o.outputs → AnswersRequest now ttl o (failsafe_asked now from incarnation sequence ttl (reconciled now o))
+request-answers now from incarnation sequence ttl o alone silent = let b : Outcome = reconciled now o in
+    elim (request-leaves now from incarnation sequence ttl o) [
+      | inl leaves ↦ record { deadline = leaves.deadline; basis = leaves.basis; held = held-so }
+      | inr holds ↦ record { deadline = holds.deadline; basis = holds.basis; held = held-so }
+    ]
+  where
+    before-it : All (λ (output : Output). is_yes output ≡ false) (reconciled now o).outputs
+    before-it = front-no o (reconciled now o) (before-fronts now o alone silent)
+
+    held-so : has_one is_yes (failsafe_asked now from incarnation sequence ttl (reconciled now o)).outputs ≡ true → now.0 + ttl.0 ≤ hold_seen (failsafe_asked now from incarnation sequence ttl (reconciled now o)).machine.hold
+    held-so = failsafe-asked-by (λ (x : Outcome). has_one is_yes x.outputs ≡ true → now.0 + ttl.0 ≤ hold_seen x.machine.hold) now from incarnation sequence ttl (reconciled now o)
+        (λ _ _. holds-for now ttl (reconciled now o).machine.hold)
+        (λ e. absurd (no-way (sym (no-yes-before (reconciled now o).outputs before-it (outputs.FailsafeAnswer from incarnation sequence false)) ∙ e)))
+
+-- this member's yes to that request
+abbrev yes-to : ℕ → MemberId → ℕ → ℕ → Acknowledgement
+yes-to m to run sequence = record { member = to.number; incarnation = run; sequence = sequence; by = m }
+
+failsafe-asked-lawful : (s : State) (m runs : ℕ) (input : AgentInput) (now : Ticks) (from : MemberId) (incarnation sequence : ℕ) (ttl : Ticks) (o : Outcome) → IsAlone o → All IsSilent o.outputs → StandsIn s m runs now o → HearsRequest s input.heard from incarnation sequence ttl
+    → IsInputOf s m runs o (failsafe_asked now from incarnation sequence ttl (reconciled now o)) input → IsLawfulAnd s m (failsafe_asked now from incarnation sequence ttl (reconciled now o)) input
+failsafe-asked-lawful s m runs input now from incarnation sequence ttl o alone silent stands hears is = by (has_one is_yes after.outputs) refl
+  where
+    b : Outcome
+    b = reconciled now o
+
+    after : Outcome
+    after = failsafe_asked now from incarnation sequence ttl b
+
+    answers : AnswersRequest now ttl o after
+    answers = request-answers now from incarnation sequence ttl o alone silent
+
+    brings : BringsNothing o after
+    brings = brings-then o b after (before-brings now o) (holding-brings now from incarnation sequence ttl b)
+
+    goes : Goes s.declared.failsafe o after
+    goes = failsafe-asked-step-goes s.declared.failsafe now from incarnation sequence ttl o
+
+    by : (says : Bool) → has_one is_yes after.outputs ≡ says → IsLawfulAnd s m after input
+    by says e = lawful-with s m runs input now None G o after stands is (step-onward now [] (FailsafeAsked from incarnation sequence ttl) o) (watchdog-left s m runs input now o after stands is answers.deadline answers.basis brings) brings
+        (λ ready. (parted-by b after (before-fits now o) (holding-brings now from incarnation sequence ttl b) ready, ready-left s m runs now o after stands brings answers.basis ready)) (goes.keeps stands.mode) sends grounds (λ revision none. none) takes
+        (goes-check s m s.declared.failsafe o after goes) (λ key none. absurd (none-some _ none)) (λ seen none. absurd (none-some _ none))
+      where
+        G : Grounds
+        G = record { gives = λ revision. ⊥; creates = λ expected. ⊥; requests = λ number span. ⊥; acknowledges = λ to run number. yes-to m to run number ≡ yes-to m from incarnation sequence; configures = λ config. Unit {0}; feeds = λ members number. Unit {0} }
+
+        sends : AllMay G o after
+        sends = failsafe-asked-may G now from incarnation sequence ttl o refl alone silent
+
+        grounds : AreLawfulGrounds s m input G o after
+        grounds = record {
+          owns = λ revision none. absurd none;
+          creates = λ expected none. absurd none;
+          requests = λ number span none. absurd none;
+          acknowledges = λ to run number said same. subst (λ (said : Acknowledgement). MayAcknowledge m input said) (sym same) (acknowledges-taken s m runs input now from incarnation sequence ttl o after stands is hears said);
+        }
+
+        takes : (request : FailsafeRequest) → input.takes ≡ Some request → MayTake s input request
+        takes request taken =
+            let it = taken-request s m runs input from incarnation sequence ttl o after is hears says e request taken in
+            let held : now.0 + ttl.0 ≤ hold_seen after.machine.hold = answers.held (e ∙ it.0) in
+            let hold : input.machine.hold ≡ hold_seen after.machine.hold = ap (λ (x : MachineSeen). x.hold) is.machine in
+            subst (λ (r : FailsafeRequest). MayTake s input r) (sym it.1) (record { number = hears.number; is = hears.is; lasts = omega (arith, held, hold, stands.clock) })
+
+-- ---- an answer to a failsafe request
+all-within : (ask : Ask) (since : Ticks) → moment_of_all ask ≡ Some since → is_within ask.members ask.acknowledged ≡ true
+all-within ask since e = by (is_within ask.members ask.acknowledged) refl e
+  where
+    by : (test : Bool) → is_within ask.members ask.acknowledged ≡ test → (if test then Some (earliest_or ask.made ask.earliest) else None) ≡ Some since → is_within ask.members ask.acknowledged ≡ true
+    by true is e = is
+    by false is e = absurd (none-some since e)
+
+heard-members : (ask : Ask) (from : MemberId) (sent : Ticks) → (ask_heard ask from true sent).members ≡ ask.members
+heard-members ask from sent = if-cases (λ (x : Ask). x.members ≡ ask.members) (counts ask from true) (with_acknowledgement ask from sent) ask (λ _. refl) (λ _. refl)
+
+heard-has : (ask : Ask) (from : MemberId) (sent : Ticks) (p : ℕ) → set_members (ask_heard ask from true sent).acknowledged p ≡ true → (set_members ask.acknowledged p ≡ true) ⊎ (from.number ≡ p)
+heard-has ask from sent p = if-cases (λ (x : Ask). set_members x.acknowledged p ≡ true → (set_members ask.acknowledged p ≡ true) ⊎ (from.number ≡ p)) (counts ask from true) (with_acknowledgement ask from sent) ask
+    (λ _ e. elim (either (has ask.acknowledged p) (from.number == p) (sym (has-with ask.acknowledged from p) ∙ e)) [ inl before ↦ inl before | inr same ↦ inr (numbers-same from.number p same) ]) (λ _ e. inl e)
+  where
+    either : (a b : Bool) → a || b ≡ true → (a ≡ true) ⊎ (b ≡ true)
+    either true b e = inl refl
+    either false b e = inr e
+
+-- the acknowledgement that is heard
+heard-yes : (s : State) (m : ℕ) (heard : Option ℕ) (now : Ticks) (from : MemberId) (sequence number p : ℕ) (o : Outcome) → HearsYes s m heard now from sequence o → number ≡ sequence → from.number ≡ p → HeardYes s m o.knows.incarnation number p
+heard-yes s m heard now from sequence number p o hears same by = record { number = hears.number; said = record { member = m; incarnation = o.knows.incarnation; sequence = sequence; by = from.number }; is = hears.is; member = refl; run_is = refl; sequence_is = sym same; by = by }
+
+-- a leader that counts one more yes
+counts-check : (s : State) (m : ℕ) (mode : Bool) (now : Ticks) (heard : Option ℕ) (from : MemberId) (sequence : ℕ) (sent : Ticks) (o after : Outcome) → HearsYes s m heard now from sequence o → Counts from sequence sent mode o after → (check : FailsafeCheck) → check_seen after.knows.failsafe after.knows.waited ≡ Some check
+    → ContinuesCheck s m (was_of o) check ⊎ BeginsCheck s m (was_of o) (was_of after) check
+counts-check s m mode now heard from sequence sent o after hears said check e =
+    let waits = checks-waited after.knows.failsafe after.knows.waited check e in
+    let was : o.knows.waited ≡ Some waits.one = sym said.waits ∙ waits.is in
+    let before-it : FailsafeCheck = record { sequence = waits.one.sequence; ttl = waits.one.ttl.0; sent = waits.one.sent.0; members = set_members o.knows.failsafe.members; yes = set_members o.knows.failsafe.acknowledged } in
+    inl (record {
+      before = before-it;
+      is = ap (λ (w : Option PendingQuestion). check_seen o.knows.failsafe w) was ∙ seen-check o.knows.failsafe waits.one waits.staying;
+      sequence = ap (λ (x : FailsafeCheck). x.sequence) waits.check_is;
+      ttl = ap (λ (x : FailsafeCheck). x.ttl) waits.check_is;
+      sent = ap (λ (x : FailsafeCheck). x.sent) waits.check_is;
+      members = ap (λ (x : FailsafeCheck). x.members) waits.check_is ∙ ap (λ (set : MemberSet). set_members set) (ap (λ (x : Ask). x.members) said.ask ∙ heard-members o.knows.failsafe from sent);
+      yes = λ p acked. elim (heard-has o.knows.failsafe from sent p (sym (ap (λ (x : FailsafeCheck). x.yes p) waits.check_is ∙ ap (λ (x : Ask). set_members x.acknowledged p) said.ask) ∙ acked)) [
+        | inl before ↦ inl before
+        | inr it ↦ inr (heard-yes s m heard now from sequence waits.one.sequence p o hears (said.awaited waits.one was) it)
+      ];
+    })
+
+-- a leader stays primary, since all acknowledged
+word-watchdog : (s : State) (m runs : ℕ) (input : AgentInput) (now : Ticks) (from : MemberId) (sequence : ℕ) (sent : Ticks) (o after : Outcome) → AsksLeases o.knows → StandsIn s m runs now o → IsInputOf s m runs o after input → HearsYes s m input.heard now from sequence o → BringsNothing o after
+    → (word : StaysByWord now from sent o after) → word.waited.sequence ≡ sequence → WatchdogMay s m input (was_of o) (was_of after)
+word-watchdog s m runs input now from sequence sent o after sound stands is hears brings word number =
+    let one : PendingQuestion = word.waited in
+    let span : IsLeaseSpan one.ttl.0 = sound one word.is in
+    let until : ℕ = now.0 + timeout_of o.machine.watchdog.margin one.ttl.0 in
+    let check : FailsafeCheck = record { sequence = one.sequence; ttl = one.ttl.0; sent = one.sent.0; members = set_members o.knows.failsafe.members; yes = set_members o.knows.failsafe.acknowledged } in
+    SetByFailsafe until (is.feeds ∙ word.fed.told hears.feeds.armable)
+    (ap (λ (x : MachineSeen). x.deadline) is.machine ∙ failsafe-deadline now one.ttl o after hears.feeds word.fed)
+    (ap (λ (x : MachineSeen). x.by_failsafe) is.machine ∙ failsafe-basis now one.ttl o after hears.feeds word.fed)
+    (λ acts. seen-acts (s.members m) runs o stands.member (acts-before o after brings (acts-seen input.machine runs after is.machine acts)))
+    (record {
+      failsafe_check = check;
+      is = ap (λ (w : Option PendingQuestion). check_seen o.knows.failsafe w) word.is ∙ seen-check o.knows.failsafe one word.staying;
+      later = subst (λ (n : ℕ). n < until) (sym stands.clock) (later-deadline o.machine.watchdog.margin now.0 one.ttl.0 span hears.feeds.margin);
+      deadline_is = subst (λ (margin : Option ℕ). IsDeadline margin s.clock one.ttl.0 one.sent.0 until) (sym stands.margin) (deadline-of o.machine.watchdog.margin now one s.clock one.ttl.0 one.sent.0 stands.clock refl refl span hears.feeds.margin (hears.young one word.is));
+      yes = λ p asked. elim (heard-has o.knows.failsafe from sent p (within-has (ask_heard o.knows.failsafe from true sent).members (ask_heard o.knows.failsafe from true sent).acknowledged (all-within (ask_heard o.knows.failsafe from true sent) word.since word.all) p
+          (ap (λ (set : MemberSet). set_members set p) (heard-members o.knows.failsafe from sent) ∙ asked))) [
+            | inl before ↦ inl before
+            | inr it ↦ inr (heard-yes s m input.heard now from sequence one.sequence p o hears number it)
+          ];
+    })
+
+-- a refusal leaves the machine so
+refused-stays : (now : Ticks) (from : MemberId) (sequence : ℕ) (sent : Ticks) (b : Outcome) → Stays b (failsafe_answered now from sequence false sent b)
+refused-stays now from sequence sent b = by b.knows.waited
+  where
+    quiet : Stays b (waiting_no_more b)
+    quiet = record { watchdog = Same refl; basis = refl; hold = refl }
+
+    by-role : (role : RoleFacts) → Stays b (unacknowledged_as now role (waiting_no_more b))
+    by-role (Leader held) = record { watchdog = Same refl; basis = refl; hold = refl }
+    by-role Follower = quiet
+    by-role (Holder held) = quiet
+    by-role (Ready held) = quiet
+    by-role (Ending held why) = quiet
+    by-role Unleased = quiet
+
+    accepted : (waited : PendingQuestion) (role : RoleFacts) → Stays b (accepted_failsafe now waited from false sent role b)
+    accepted waited (Leader held) = if-cases (Stays b) (is_paused b.knows) (waiting_no_more b) (unacknowledged_as now b.role (waiting_no_more b)) (λ _. quiet) (λ _. by-role b.role)
+    accepted waited Follower = quiet
+    accepted waited (Holder held) = quiet
+    accepted waited (Ready held) = quiet
+    accepted waited (Ending held why) = quiet
+    accepted waited Unleased = quiet
+
+    by : (waited : Option PendingQuestion) → Stays b (failsafe_answered_for now from sequence false sent waited b)
+    by None = stays
+    by (Some waited) = if-cases (Stays b) (awaits_failsafe waited sequence) (accepted_failsafe now waited from false sent b.role b) b (λ _. accepted waited b.role) (λ _. stays)
+
+-- an answer leaves the machine so, or it is a yes to what is waited for, the last one
+abbrev WordFor : Ticks → MemberId → ℕ → Ticks → Outcome → Outcome → Type 0
+WordFor now from sequence sent o after = (word : StaysByWord now from sent o after) × (word.waited.sequence ≡ sequence)
+
+answer-does : (now : Ticks) (from : MemberId) (sequence : ℕ) (accepted : Bool) (sent : Ticks) (o : Outcome) → LeavesMachine o (failsafe_answered now from sequence accepted sent (reconciled now o)) ⊎ ((accepted ≡ true) × WordFor now from sequence sent o (failsafe_answered now from sequence accepted sent (reconciled now o)))
+answer-does now from sequence false sent o = let b : Outcome = reconciled now o in inl (behind o b (failsafe_answered now from sequence false sent b) (before-leaves now o) (refused-stays now from sequence sent b) (staying-brings now from sequence false sent b))
+answer-does now from sequence true sent o = elim (answer-leaves now from sequence true sent o) [
+  | inl leaves ↦ inl leaves
+  | inr word ↦ by word (awaits_failsafe word.waited sequence) refl
+]
+  where
+    b : Outcome
+    b = reconciled now o
+
+    after : Outcome
+    after = failsafe_answered now from sequence true sent b
+
+    other : (waited : PendingQuestion) → b.knows.waited ≡ Some waited → awaits_failsafe waited sequence ≡ false → after ≡ b
+    other waited is test = ap (λ (w : Option PendingQuestion). failsafe_answered_for now from sequence true sent w b) is ∙ ap (λ (t : Bool). cond t (accepted_failsafe now waited from true sent b.role b) b) test
+
+    by : (word : StaysByWord now from sent o after) (test : Bool) → awaits_failsafe word.waited sequence ≡ test → LeavesMachine o after ⊎ ((true ≡ true) × WordFor now from sequence sent o after)
+    by word true test = inr (refl, (word, numbers-same word.waited.sequence sequence (both-true (is_staying word.waited.question) (word.waited.sequence == sequence) test).1))
+    by word false test = inl (subst (λ (x : Outcome). LeavesMachine o x) (sym (other word.waited (before-waits now o ∙ word.is) test)) (before-leaves now o))
+
+failsafe-answered-lawful : (s : State) (m runs : ℕ) (input : AgentInput) (now : Ticks) (from : MemberId) (sequence : ℕ) (accepted : Bool) (sent : Ticks) (o : Outcome) → AsksLeases o.knows → IsAlone o → All IsSilent o.outputs → StandsIn s m runs now o → (accepted ≡ true → HearsYes s m input.heard now from sequence o)
+    → IsInputOf s m runs o (failsafe_answered now from sequence accepted sent (reconciled now o)) input → IsLawfulAnd s m (failsafe_answered now from sequence accepted sent (reconciled now o)) input
+failsafe-answered-lawful s m runs input now from sequence accepted sent o sound alone silent stands hears is =
+    lawful-with s m runs input now None G o after stands is (step-onward now [] (FailsafeAnswered from sequence accepted sent) o) watchdog brings ready mode sends (ungranted-lawful s m input o after) (λ revision e. e)
+    (takes-nothing s m runs input G o after is (λ to run number e. e) sends) check (λ key e. absurd (none-some _ e)) (λ seen e. absurd (none-some _ e))
+  where
+    b : Outcome
+    b = reconciled now o
+
+    after : Outcome
+    after = failsafe_answered now from sequence accepted sent b
+
+    G : Grounds
+    G = Ungranted s m input o
+
+    brings : BringsNothing o after
+    brings = brings-then o b after (before-brings now o) (staying-brings now from sequence accepted sent b)
+
+    sends : AllMay G o after
+    sends = failsafe-answered-may G now from sequence accepted sent o (λ waited is _. tt) alone silent
+
+    watchdog : WatchdogMay s m input (was_of o) (was_of after)
+    watchdog = elim (answer-does now from sequence accepted sent o) [
+      | inl leaves ↦ watchdog-leaves s m runs input now o after stands is leaves brings
+      | inr does ↦ word-watchdog s m runs input now from sequence sent o after sound stands is (hears does.0) brings does.1.0 does.1.1
+    ]
+
+    ready : is_ready after.role ≡ true → (live after.machine.server.state ≡ false) × (after.machine.by_failsafe ≡ false)
+    ready e = (
+      parted-by b after (before-fits now o) (staying-brings now from sequence accepted sent b) e,
+      elim (answer-does now from sequence accepted sent o) [ inl leaves ↦ ready-left s m runs now o after stands brings leaves.basis e | inr does ↦ absurd (leader-unready after.role does.1.0.fed.leads e) ],
+    )
+
+    mode : KeepsMode s.declared.failsafe after.knows
+    mode = elim (failsafe-answered-goes now from sequence accepted sent s.declared.failsafe o) [ inl goes ↦ goes.keeps stands.mode | inr said ↦ said.1.keeps stands.mode ]
+
+    check : (check : FailsafeCheck) → check_seen after.knows.failsafe after.knows.waited ≡ Some check → ContinuesCheck s m (was_of o) check ⊎ BeginsCheck s m (was_of o) (was_of after) check
+    check one e = elim (failsafe-answered-goes now from sequence accepted sent s.declared.failsafe o) [
+      | inl goes ↦ goes-check s m s.declared.failsafe o after goes one e
+      | inr said ↦ counts-check s m s.declared.failsafe now input.heard from sequence sent o after (hears said.0) said.1 one e
+    ]
+
 step-lawful : (now : Ticks) (points : List HistoryPoint) (heard : Heard) (o : Outcome) → AsksLeases o.knows → IsAlone o → All IsSilent o.outputs → IsLawfulFrom now heard o (step now points heard o)
-step-lawful now points Wake o sound alone silent s m runs input stands hears is = wake-lawful s m runs input now o alone silent stands is
+step-lawful now points Wake o sound alone silent s m runs input stands hears is = wake-lawful s m runs input now o alone silent stands hears is
 step-lawful now points (ReadAnswered sequence snapshot) o sound alone silent s m runs input stands hears is = got-lawful s m runs input now points sequence snapshot o alone silent stands hears is
 step-lawful now points (HeardGranted sequence grant snapshot) o sound alone silent s m runs input stands hears is = grant-lawful s m runs input now sequence grant snapshot o sound alone silent stands hears is
 step-lawful now points (Mismatch sequence key found) o sound alone silent s m runs input stands hears is = refused-lawful s m runs input now sequence o alone silent stands is
 step-lawful now points (Asked from incarnation sequence) o sound alone silent s m runs input stands hears is = asked-lawful s m runs input now from incarnation sequence o alone silent stands is
 step-lawful now points (Answered sequence answer) o sound alone silent s m runs input stands hears is = answered-lawful s m runs input now sequence answer o alone silent stands is
+step-lawful now points (FailsafeAsked from incarnation sequence ttl) o sound alone silent s m runs input stands hears is = failsafe-asked-lawful s m runs input now from incarnation sequence ttl o alone silent stands hears is
+step-lawful now points (FailsafeAnswered from sequence accepted sent) o sound alone silent s m runs input stands hears is = failsafe-answered-lawful s m runs input now from sequence accepted sent o sound alone silent stands hears is
 step-lawful now points (HearsOperator action) o sound alone silent s m runs input stands hears is = operated-lawful s m runs input now action o alone silent stands is
 
 -- each input of the table is lawful, whenever the agent's turns began

@@ -3,6 +3,7 @@ use Rattle.std.proofs.Common.{ℕ, ◌+◌, ◌≤◌, ◌^◌, Bool, true, fals
 use Rattle.std.proofs.lemmas.List.Elements.{All-push}
 use Rattle.pat_base.specs.MemberId.{member_of}
 use Rattle.pat_base.specs.declared.member_id.MemberId.{MemberId}
+use Rattle.pat_base.specs.declared.member_set.MemberSet.{MemberSet}
 use Rattle.pat_base.specs.declared.peer_answer.PeerAnswer.{PeerAnswer}
 use Rattle.pat_base.specs.declared.ticks.Ticks.{Ticks}
 use Rattle.store_keys.specs.declared.action.OperatorRequest.{OperatorRequest}
@@ -23,21 +24,23 @@ use Rattle.agent_model.specs.declared.who.Who.{Who}
 use Rattle.event_book.specs.declared.agent_note.AgentNote.TheVariants as agent_notes
 use Rattle.event_book.specs.declared.message.Body.TheVariants as bodies
 use Rattle.agent_model.specs.declared.why.Why.TheVariants.{HandOver, Lost}
-use Rattle.agent_model.specs.Acting.{arming, armed, deadline_after, disarmed, fed_until, is_refusing, touching, waiting_no_more}
+use Rattle.agent_model.specs.Acting.{arming, armed, deadline_after, disarmed, fed_until, is_refusing, lease_span, touching, waiting_no_more}
 use Rattle.agent_model.specs.Agents.{Follower, Outcome}
 use Rattle.agent_model.specs.Reconciling.{reconciled, has_ended}
 use Rattle.agent_model.specs.Claiming.{begins, begins_or_claims, claims, passing, postpones}
 use Rattle.agent_model.specs.Decisions.{arms, gives_back, granted, leader_renewed, may_take, refused, unleased_renewed, takes_key, takes_over, takes_key_in_pause}
 use Rattle.agent_model.specs.HandingOver.{asking_whom, hands_over}
-use Rattle.agent_model.specs.Operators.{given_up, looked, operated}
+use Rattle.agent_model.specs.Operators.{given_up, looked, operated, unnumbered}
 use Rattle.agent_model.specs.Outputs.{with_output}
 use Rattle.agent_model.specs.Racing.{finds_free, judged, unheard}
 use Rattle.agent_model.specs.Repairs.{repair_of}
 use Rattle.agent_model.specs.Snapshots.{follow_row, follows, read_answered, informed, read_noted, led_by_another}
+use Rattle.agent_model.specs.StayingPrimary.{others_known, requesting_one, requesting_first, asking_to_stay, fed_by_failsafe, stays, leader_unacknowledged, counting, span_after, holding_for, failsafe_asked, failsafe_answered}
+use Rattle.failsafe.specs.Asks.{asked, has}
 use Rattle.agent_model.specs.Table.{granted_any, refused_any, step}
 use Rattle.agent_model.specs.Wake.{overdue, turned, woken}
 use Rattle.agent_model.specs.Bounds.{IsSmall}
-use Rattle.agent_model.proofs.Rows.{HandoverRows, ReplyRows, WritesSync, led_on, if-cases, begins-or-claims-by, passing-by, renewed-by, before-by, overdue-by, turn-by, wake-by, got-by, refused-by, granted-by, follow-by, repaired-by, free-by, judged-by, answered-by, given-up-by, looked-by, granted-any-by, refused-any-by, DutyRows, duties-of, leading_in_pause, takes-in-pause-by}
+use Rattle.agent_model.proofs.Rows.{HandoverRows, ReplyRows, WritesSync, led_on, if-cases, begins-or-claims-by, passing-by, renewed-by, before-by, overdue-by, turn-by, wake-by, got-by, refused-by, granted-by, follow-by, repaired-by, free-by, judged-by, answered-by, given-up-by, looked-by, failsafe-asked-by, failsafe-answered-by, granted-any-by, refused-any-by, DutyRows, duties-of, leading_in_pause, takes-in-pause-by, asked-to-hold-by}
 use Rattle.agent_model.specs.Answers.{is_other, asking_one, asking_first}
 use Rattle.pat_base.specs.declared.member_id.TheConstants.{MOST_MEMBERS}
 use Rattle.agent_model.specs.Peers.{keeping, answered}
@@ -182,16 +185,67 @@ operated-row now request requests.Restart o =
 operated-row now request requests.Reinit o =
     grows-then 1 1 2 o.knows.sequence o.knows.sequence o.knows.sequence o.outputs _ _ (omega arith)
     (one o.knows.sequence o.knows.sequence o.outputs outputs.Wipe (omega arith) tt) (one o.knows.sequence o.knows.sequence _ _ (omega arith) tt)
+operated-row now request (requests.Hold from ttl) o =
+    asked-to-hold-by (Brings 2 o) now request (record { 0 = ttl }) o
+    (λ text _. grows-then 1 1 2 o.knows.sequence o.knows.sequence o.knows.sequence o.outputs held.outputs _ (omega arith)
+    (one o.knows.sequence o.knows.sequence o.outputs (outputs.HoldTaken (span_after now (record { 0 = ttl })) o.knows.who.me unnumbered) (omega arith) tt) (one o.knows.sequence o.knows.sequence held.outputs _ (omega arith) tt))
+    (λ text. weaker 1 2 _ _ _ _ (omega arith) (one o.knows.sequence o.knows.sequence o.outputs _ (omega arith) tt))
+  where
+    held : Outcome
+    held = holding_for now o.knows.who.me unnumbered (record { 0 = ttl }) o
 
-overdue-row : (now : Ticks) (o : Outcome) → Row o (overdue now o)
-overdue-row now o = overdue-by (Row o) now o (record {
-  kept = kept;
-  quiet = kept;
-  leader = λ held _. said o.knows.sequence o.knows.sequence o.outputs _ (omega arith) tt;
-  unleased = λ _. said o.knows.sequence o.knows.sequence o.outputs _ (omega arith) tt;
-  judges = λ _. judged-row now o;
-  ready = λ held _. postponed-row held (waiting_no_more o);
-  checks = λ held _. handed-on 1 9 now held o o (omega arith) (none o.knows.sequence o.outputs);
+-- the requests to those that a leader asks to let it stay
+requested-few : (members : MemberSet) (sequence : ℕ) (ttl : Ticks) (member : Option MemberId) (outs : List Output) → length (requesting_one members sequence ttl member outs) ≤ length outs + 1
+requested-few members sequence ttl None outs = omega arith
+requested-few members sequence ttl (Some member) outs = if-cases (λ (l : List Output). length l ≤ length outs + 1) (has members member.number) (with_output (outputs.Send (targets.Member member) sequence (bodies.FailsafeRequest ttl)) outs) outs
+    (λ _. omega (arith, length-append outs (outputs.Send (targets.Member member) sequence (bodies.FailsafeRequest ttl) ∷ []))) (λ _. omega arith)
+
+requests-few : (members : MemberSet) (sequence : ℕ) (ttl : Ticks) (count : ℕ) (outs : List Output) → length (requesting_first members sequence ttl count outs) ≤ length outs + count
+requests-few members sequence ttl zero outs = omega arith
+requests-few members sequence ttl (suc count) outs = omega (arith, requested-few members sequence ttl (member_of count) (requesting_first members sequence ttl count outs), requests-few members sequence ttl count outs)
+
+requested-short : (members : MemberSet) (sequence : ℕ) (ttl : Ticks) (member : Option MemberId) (outs : List Output) → ttl.0 ≤ 2 ^ 40 → All AsksShortly outs → All AsksShortly (requesting_one members sequence ttl member outs)
+requested-short members sequence ttl None outs few all = all
+requested-short members sequence ttl (Some member) outs few all = if-cases (λ (l : List Output). All AsksShortly l) (has members member.number) (with_output (outputs.Send (targets.Member member) sequence (bodies.FailsafeRequest ttl)) outs) outs
+    (λ _. All-push AsksShortly outs (outputs.Send (targets.Member member) sequence (bodies.FailsafeRequest ttl)) all few) (λ _. all)
+
+requests-short : (members : MemberSet) (sequence : ℕ) (ttl : Ticks) (count : ℕ) (outs : List Output) → ttl.0 ≤ 2 ^ 40 → All AsksShortly outs → All AsksShortly (requesting_first members sequence ttl count outs)
+requests-short members sequence ttl zero outs few all = all
+requests-short members sequence ttl (suc count) outs few all = requested-short members sequence ttl (member_of count) (requesting_first members sequence ttl count outs) few (requests-short members sequence ttl count outs few all)
+
+seeks-row : (now : Ticks) (members : MemberSet) (o : Outcome) → Brings MOST_MEMBERS o (asking_to_stay now members o)
+seeks-row now members o = record {
+  numbers = omega arith;
+  few = requests-few members (o.knows.sequence + 1) (lease_span o.knows.settings) MOST_MEMBERS o.outputs;
+  short = requests-short members (o.knows.sequence + 1) (lease_span o.knows.settings) MOST_MEMBERS o.outputs (omega (arith, o.knows.settings.ttl_range));
+}
+
+-- a leader stays
+stay-fed-one : (sequence number : ℕ) (deadline : Option Ticks) (members : MemberSet) (since : Ticks) (before : List Output) → Grows 1 sequence sequence before (fed_by_failsafe deadline members number since before)
+stay-fed-one sequence number None members since before = none sequence before
+stay-fed-one sequence number (Some until) members since before = one sequence sequence before (outputs.FedByFailsafe until members number since) (omega arith) tt
+
+stays-row : (now ttl : Ticks) (sequence : ℕ) (since : Ticks) (o : Outcome) → Row o (stays now ttl sequence since o)
+stays-row now ttl sequence since o =
+    let told : List Output = fed_by_failsafe (deadline_after now ttl o.machine.watchdog) o.knows.failsafe.members sequence since o.outputs in
+    grows-then 1 1 9 o.knows.sequence o.knows.sequence o.knows.sequence o.outputs told _ (omega arith) (stay-fed-one o.knows.sequence sequence (deadline_after now ttl o.machine.watchdog) o.knows.failsafe.members since o.outputs)
+    (one o.knows.sequence o.knows.sequence told outputs.StaysByFailsafe (omega arith) tt)
+
+ends-row : (now : Ticks) (held : ℕ) (o : Outcome) → Row o (leader_unacknowledged now held (waiting_no_more o))
+ends-row now held o = said o.knows.sequence o.knows.sequence o.outputs _ (omega arith) tt
+
+overdue-row : (now : Ticks) (o : Outcome) → Brings MOST_MEMBERS o (overdue now o)
+overdue-row now o = overdue-by (Brings MOST_MEMBERS o) now o (record {
+  kept = more _ _ _ _ kept;
+  quiet = more _ _ _ _ kept;
+  leader = λ held _. more _ _ _ _ (said o.knows.sequence o.knows.sequence o.outputs _ (omega arith) tt);
+  seeks = λ held _. seeks-row now (others_known o.knows) (waiting_no_more o);
+  alone = λ held _. more _ _ _ _ (stays-row now (lease_span o.knows.settings) o.knows.sequence now (record o { knows = record o.knows { waited = None; failsafe = asked (others_known o.knows) now } }));
+  silent = λ held _. more _ _ _ _ (ends-row now held o);
+  unleased = λ _. more _ _ _ _ (said o.knows.sequence o.knows.sequence o.outputs _ (omega arith) tt);
+  judges = λ _. more _ _ _ _ (judged-row now o);
+  ready = λ held _. more _ _ _ _ (postponed-row held (waiting_no_more o));
+  checks = λ held _. handed-on 1 MOST_MEMBERS now held o o (omega arith) (none o.knows.sequence o.outputs);
 })
 
 turn-row : (now : Ticks) (o : Outcome) → Row o (turned now o)
@@ -375,15 +429,16 @@ granted-row : (now : Ticks) (sequence : ℕ) (grant : Granted) (snapshot : Snaps
 granted-row now sequence grant snapshot o =
     let told : Outcome = record o { knows = informed snapshot o.knows } in
     let still : Grows 18 o.knows.sequence o.knows.sequence o.outputs o.outputs = as-much _ _ _ _ kept in
-    granted-by (Brings 18 o) now sequence grant snapshot o still still (λ asked _ _. record {
+    granted-by (Brings 18 o) now sequence grant snapshot o still still (λ given _ _. record {
       other = still;
-      leader = λ held _. weaker 17 18 _ _ _ _ (omega arith) (renewed-row now asked.ttl grant.revision told);
-      unleased = λ _. as-much _ _ _ _ (unleased-row now asked.ttl grant.revision told);
-      takes = λ _. as-much _ _ _ _ (takes-row now asked.ttl grant.revision told);
+      leader = λ held _. weaker 17 18 _ _ _ _ (omega arith) (renewed-row now given.ttl grant.revision told);
+      unleased = λ _. as-much _ _ _ _ (unleased-row now given.ttl grant.revision told);
+      takes = λ _. as-much _ _ _ _ (takes-row now given.ttl grant.revision told);
       leads_in_pause = λ renews _ held _. let led : Outcome = leading_in_pause renews grant.revision told in duties-of (Brings 18 o) now grant.revision led (duties-row 2 18 now grant.revision o led (omega arith) (disabling-row renews told));
       unleased_in_pause = λ renews _ _. weaker 2 18 _ _ _ _ (omega arith) (disabling-row renews told);
       takes_in_pause = λ renews _ _. as-much _ _ _ _ (takes-in-pause-row now renews grant.revision told);
     })
+    (λ after row. row)
     (record {
       other = still;
       begins = λ held _. weaker 2 18 _ _ _ _ (omega arith) (begins-row now held told);
@@ -403,7 +458,7 @@ granted-any-row now sequence grant snapshot o =
 refused-any-row : (now : Ticks) (sequence : ℕ) (o : Outcome) → Row o (refused_any now sequence o)
 refused-any-row now sequence o = refused-any-by (Row o) now sequence o (reply-rows 9 o (omega arith)) (refused-row now sequence o)
 
-small : (o mid after : Outcome) → Row o mid → Brings 19 mid after → IsSmall o after
+small : (o mid after : Outcome) → Row o mid → Brings 31 mid after → IsSmall o after
 small o mid after one two = record { sequence = omega (arith, one.numbers, two.numbers); few = omega (arith, one.few, two.few); short = λ all. two.short (one.short all) }
 
 woken-small : (now : Ticks) (o : Outcome) → IsSmall o (woken now o)
@@ -411,13 +466,30 @@ woken-small now o =
     let found : Outcome = reconciled now o in
     let over : Outcome = given_up now found in
     wake-by (IsSmall o) now o
-    (small o found found (before-row now o) (weaker 9 19 _ _ _ _ (omega arith) kept))
+    (small o found found (before-row now o) (weaker 9 31 _ _ _ _ (omega arith) kept))
     (small o found _ (before-row now o)
-    (grows-then 10 9 19 _ _ _ _ _ _ (omega arith)
-    (grows-then 1 9 10 _ _ _ _ _ _ (omega arith) (given-up-row now found) (overdue-row now over)) (turn-row now (overdue now over))))
+    (grows-then 17 9 31 _ _ _ _ _ _ (omega arith)
+    (grows-then 1 16 17 _ _ _ _ _ _ (omega arith) (given-up-row now found) (overdue-row now over)) (turn-row now (overdue now over))))
 
 one-more : (o mid after : Outcome) → Row o mid → Row mid after → IsSmall o after
-one-more o mid after one two = small o mid after one (weaker 9 19 _ _ _ _ (omega arith) two)
+one-more o mid after one two = small o mid after one (weaker 9 31 _ _ _ _ (omega arith) two)
+
+-- another member asks to stay primary, or answers this one
+failsafe-asked-row : (now : Ticks) (from : MemberId) (incarnation sequence : ℕ) (ttl : Ticks) (o : Outcome) → Row o (failsafe_asked now from incarnation sequence ttl o)
+failsafe-asked-row now from incarnation sequence ttl o = failsafe-asked-by (Row o) now from incarnation sequence ttl o
+    (λ _. let held : Outcome = holding_for now from sequence ttl o in
+    grows-then 1 1 9 o.knows.sequence o.knows.sequence o.knows.sequence o.outputs held.outputs _ (omega arith) (one o.knows.sequence o.knows.sequence o.outputs (outputs.HoldTaken (span_after now ttl) from sequence) (omega arith) tt)
+    (one o.knows.sequence o.knows.sequence held.outputs (outputs.FailsafeAnswer from incarnation sequence true) (omega arith) tt))
+    (said o.knows.sequence o.knows.sequence o.outputs (outputs.FailsafeAnswer from incarnation sequence false) (omega arith) tt)
+
+failsafe-answered-row : (now : Ticks) (from : MemberId) (sequence : ℕ) (accepted : Bool) (sent : Ticks) (o : Outcome) → Row o (failsafe_answered now from sequence accepted sent o)
+failsafe-answered-row now from sequence accepted sent o = failsafe-answered-by (Row o) now from sequence accepted sent o (record {
+  kept = kept;
+  quiet = kept;
+  counts = λ held _. kept;
+  stays = λ held _ waited _ _ since _. stays-row now waited.ttl waited.sequence since (counting from sent o);
+  fails = λ held _ _. ends-row now held o;
+})
 
 -- so it is with each input
 pub step-small : (now : Ticks) (points : List HistoryPoint) (heard : Heard) (o : Outcome) → IsSmall o (step now points heard o)
@@ -425,10 +497,12 @@ step-small now points heards.Wake o = woken-small now o
 step-small now points (heards.ReadAnswered sequence snapshot) o =
     let found : Outcome = reconciled now o in
     small o found _ (before-row now o)
-    (grows-then 1 16 19 _ _ _ _ _ _ (omega arith) (looked-row sequence snapshot found) (got-row now points sequence snapshot (looked sequence snapshot found)))
+    (grows-then 1 16 31 _ _ _ _ _ _ (omega arith) (looked-row sequence snapshot found) (got-row now points sequence snapshot (looked sequence snapshot found)))
 step-small now points (heards.Granted sequence grant snapshot) o =
-    small o (reconciled now o) _ (before-row now o) (weaker 18 19 _ _ _ _ (omega arith) (granted-any-row now sequence grant snapshot (reconciled now o)))
+    small o (reconciled now o) _ (before-row now o) (weaker 18 31 _ _ _ _ (omega arith) (granted-any-row now sequence grant snapshot (reconciled now o)))
 step-small now points (heards.Mismatch sequence key found) o = one-more o (reconciled now o) _ (before-row now o) (refused-any-row now sequence (reconciled now o))
 step-small now points (heards.Asked from incarnation sequence) o = one-more o (reconciled now o) _ (before-row now o) (said (reconciled now o).knows.sequence (reconciled now o).knows.sequence (reconciled now o).outputs _ (omega arith) tt)
 step-small now points (heards.Answered sequence answer) o = one-more o (reconciled now o) _ (before-row now o) (answered-row now sequence answer (reconciled now o))
-step-small now points (heards.Operated action) o = small o (reconciled now o) _ (before-row now o) (weaker 2 19 _ _ _ _ (omega arith) (operated-row now action.request action.asked (reconciled now o)))
+step-small now points (heards.FailsafeAsked from incarnation sequence ttl) o = one-more o (reconciled now o) _ (before-row now o) (failsafe-asked-row now from incarnation sequence ttl (reconciled now o))
+step-small now points (heards.FailsafeAnswered from sequence accepted sent) o = one-more o (reconciled now o) _ (before-row now o) (failsafe-answered-row now from sequence accepted sent (reconciled now o))
+step-small now points (heards.Operated action) o = small o (reconciled now o) _ (before-row now o) (weaker 2 31 _ _ _ _ (omega arith) (operated-row now action.request action.asked (reconciled now o)))

@@ -16,7 +16,7 @@ use Rattle.agent_model.specs.declared.output.Output.TheVariants as outputs
 use Rattle.agent_model.specs.declared.output.Repair.{Repair}
 use Rattle.agent_model.specs.Repairs.{is_upstream, repairing, repaired_if}
 use Rattle.agent_model.specs.declared.knowledge.Question.{Question}
-use Rattle.agent_model.specs.declared.knowledge.Question.TheVariants.{Reading, ComparingPositions, Creating, Renewing, Claiming, Syncing, FindingCandidate}
+use Rattle.agent_model.specs.declared.knowledge.Question.TheVariants.{Reading, ComparingPositions, Creating, Renewing, Claiming, Syncing, FindingCandidate, StayingPrimary}
 use Rattle.agent_model.specs.declared.knowledge.Settling.{Settling}
 use Rattle.agent_model.specs.declared.knowledge.Settling.TheVariants.{KeepsList, NamesStandbys, ClearsList}
 use Rattle.agent_model.specs.declared.knowledge.SyncRead.{SyncRead}
@@ -37,14 +37,14 @@ use Rattle.agent_model.specs.Acting.{sending, lease_span, disarming, feeding, en
 use Rattle.agent_model.specs.Agents.{RoleFacts, Follower, Holder, Ready, Leader, Ending, Unleased, Outcome, is_leader}
 use Rattle.agent_model.specs.Reconciling.{leader_finds_ended, has_ended, finds_live, unleased_finds_ended, before_as, reconciled}
 use Rattle.agent_model.specs.Pausing.{is_paused, ends_forks, is_wanted, disabling_watchdog, running_without_key}
-use Rattle.agent_model.specs.Decisions.{takes_over, may_take, gives_back, takes_key_in_pause, granted_in_pause, uses_lease, asks_renewal, lease_used, may_create, has_primary, leader_renewed, is_start_too_long, unleased_renewed, takes_key, lease_granted, belongs, accepted_grant, is_lease_of, granted_write, granted_for, granted, is_decision, is_sync_decision, awaits_decision, is_write_of, sync_granted, accepted_sync, follower_for, renewal_refused, refused_as, refused_for, refused}
+use Rattle.agent_model.specs.Decisions.{takes_over, may_take, gives_back, takes_key_in_pause, granted_in_pause, uses_lease, asks_renewal, lease_used, may_create, has_primary, leader_renewed, is_start_too_long, unleased_renewed, takes_key, lease_granted, belongs, confirming, accepted_grant, is_lease_of, granted_write, granted_for, granted, is_decision, is_sync_decision, awaits_decision, is_write_of, sync_granted, accepted_sync, follower_for, renewal_refused, refused_as, refused_for, refused}
 use Rattle.agent_model.specs.Claiming.{begins, claims, begins_or_claims, passing, told_passing, postpones, claim_fails_as, claim_fails, may_begin_on_claim}
 use Rattle.agent_model.specs.Planning.{leader_view, writing_sync, switching_off, noting, planned_as, planned_on, planned, settled}
 use Rattle.agent_model.specs.Fits.{Fits}
 use Rattle.agent_model.specs.Outputs.{with_output}
 use Rattle.agent_model.specs.HandingOver.{is_done, leader_revision, clearing_under, clearing, successor_by, hands_over, hands_over_to, handover_judged, judged_if_leading, whom_answered, checking, checks, checks_unless_paused, failover_duty, duty_on, duties, check_answered}
-use Rattle.agent_model.specs.Operators.{telling, answering, answering_if, operating, config_revision, restarting, wiping, operated, result_as, looked_by, uses_read, looked, operator_until, late_answer, given_up_by, given_up, learned, granted_as, operates, grants_operator, operator_granted, refusal_of, operator_refused}
-use Rattle.operator_answers.specs.Statuses.{ok}
+use Rattle.agent_model.specs.Operators.{telling, answering, answering_if, operating, config_revision, restarting, wiping, operated, result_as, looked_by, uses_read, looked, operator_until, late_answer, given_up_by, given_up, learned, granted_as, operates, grants_operator, operator_granted, refusal_of, operator_refused, unnumbered, asked_to_hold}
+use Rattle.operator_answers.specs.Statuses.{ok, internal_server_error}
 use Rattle.agent_model.specs.declared.operating.Operating.{Operating}
 use Rattle.agent_model.specs.declared.operating.Operation.{Operation}
 use Rattle.agent_model.specs.declared.operating.Operation.TheVariants.{FailingOver, Configuring}
@@ -60,8 +60,13 @@ use Rattle.agent_model.specs.Snapshots.{leader_loses_key, unleased_loses_key, re
 use Rattle.agent_model.specs.Racing.{can_start, starts_alone, bar_of, creating, barred, races_unless, free_key, finds_free, outcome_at, judged_as, judged, asking_others, unheard}
 use Rattle.agent_model.specs.Answers.{all_answered}
 use Rattle.agent_model.specs.Peers.{is_asking, awaits_others, awaits_answer, awaits_check, judged_if_all, keeping, accepted_answer, answered_for, answered}
+use Rattle.agent_model.specs.StayingPrimary.{others_known, asking_to_stay, stays, stays_alone, seeks_to_stay, may_stay, leader_unacknowledged, unacknowledged_as, unacknowledged, stays_if, counting, accepted_failsafe, is_staying, awaits_failsafe, failsafe_answered_for, failsafe_answered, awaits_lease, answering_failsafe, holding_for, failsafe_asked}
+use Rattle.failsafe.specs.Asks.{heard, moment_of_all}
+use Rattle.failsafe.specs.Holding.{may_hold}
+use Rattle.agent_model.specs.Views.{shown}
 use Rattle.agent_model.specs.Table.{granted_any, refused_any}
 use Rattle.agent_model.specs.Wake.{roused, is_due, has_turn, leader_out_of_reach, unleased_out_of_reach, out_of_reach_as, out_of_reach, unanswered, overdue_for, overdue, is_stopping, reading, turn_noted, turn_as, turn_begins, turned, woken}
+use Rattle.operator_answers.specs.declared.answer_text.Text.{Text}
 
 and-left : (a b : Bool) → a && b ≡ true → a ≡ true
 and-left true b e = refl
@@ -189,30 +194,48 @@ IsOperatorTxn (txns.SetFailover failover ttl) = Unit {0}
 IsOperatorTxn (txns.SetConfig revision config) = Unit {0}
 IsOperatorTxn _ = ⊥
 
+-- another member asks by the REST interface to stay primary, and is answered in words
+pub asked-to-hold-by : (P : Outcome → Type 0) (now : Ticks) (request : ℕ) (ttl : Ticks) (o : Outcome)
+    → ((text : Text) → may_hold (shown now o) (awaits_lease o.knows.waited) ≡ true → P (telling request (tolds.Text ok text) (holding_for now o.knows.who.me unnumbered ttl o))) → ((text : Text) → P (telling request (tolds.Text internal_server_error text) o))
+    → P (asked_to_hold now request ttl o)
+asked-to-hold-by P now request ttl o holds refuses =
+    if-cases P (may_hold (shown now o) (awaits_lease o.knows.waited)) (telling request (tolds.Text ok texts.Accepted) (holding_for now o.knows.who.me unnumbered ttl o)) (telling request (tolds.Text internal_server_error texts.Refused) o)
+    (holds texts.Accepted) (λ _. refuses texts.Refused)
+
 -- what an operator asks is done
 pub record ActRows (P : Outcome → Type 0) (now : Ticks) (request : ℕ) (o : Outcome) : Type 0 where
   pub asks : (operation : Operation) (txn : Txn) → IsOperatorTxn txn → P (operating now request operation (bodies.Request txn) o)
   pub restarts : (told : Told) → P (telling request told (restarting now o))
   pub wipes : (told : Told) → P (telling request told (wiping o))
+  pub holds : (ttl : Ticks) (told : Told) → may_hold (shown now o) (awaits_lease o.knows.waited) ≡ true → P (telling request told (holding_for now o.knows.who.me unnumbered ttl o))
+  pub refuses : (told : Told) → P (telling request told o)
 
 pub operated-by : (P : Outcome → Type 0) (now : Ticks) (request : ℕ) (asked : OperatorRequest) (o : Outcome) → ActRows P now request o → P (operated now request asked o)
 operated-by P now request (requests.Failover kind failover) o rows = rows.asks (FailingOver kind) (txns.SetFailover failover (lease_span o.knows.settings)) tt
 operated-by P now request (requests.Configuration config) o rows = rows.asks Configuring (txns.SetConfig (config_revision o.knows.seen) config) tt
 operated-by P now request requests.Restart o rows = rows.restarts (tolds.Text ok texts.Restarted)
 operated-by P now request requests.Reinit o rows = rows.wipes (tolds.Text ok texts.ReinitializeStarted)
+operated-by P now request (requests.Hold from ttl) o rows =
+    asked-to-hold-by P now request (record { 0 = ttl }) o (λ text may. rows.holds (record { 0 = ttl }) (tolds.Text ok text) may) (λ text. rows.refuses (tolds.Text internal_server_error text))
 
 -- a deadline that has passed, by when each row applies
 pub record OverdueWhen (P : Outcome → Type 0) (now : Ticks) (o : Outcome) : Type 0 where
   pub kept : P o
   pub quiet : P (waiting_no_more o)
   pub leader : (revision : ℕ) → o.role ≡ Leader revision → is_paused o.knows ≡ false → P (leader_out_of_reach now revision (waiting_no_more o))
+  pub seeks : (revision : ℕ) → o.role ≡ Leader revision → is_paused o.knows ≡ false → may_stay o.knows ≡ true → P (asking_to_stay now (others_known o.knows) (waiting_no_more o))
+  pub alone : (revision : ℕ) → o.role ≡ Leader revision → is_paused o.knows ≡ false → may_stay o.knows ≡ true → (others_known o.knows).bits == 0 ≡ true → P (stays_alone now (others_known o.knows) (waiting_no_more o))
+  pub silent : (revision : ℕ) → o.role ≡ Leader revision → is_paused o.knows ≡ false → P (leader_unacknowledged now revision (waiting_no_more o))
   pub unleased : o.role ≡ Unleased → is_paused o.knows ≡ false → P (unleased_out_of_reach now (waiting_no_more o))
   pub judges : awaits_others o.knows.waited ≡ true → may_create o.role ≡ true → P (judged now o)
   pub ready : (revision : ℕ) → o.role ≡ Ready revision → P (postpones revision (waiting_no_more o))
   pub checks : (revision : ℕ) → o.role ≡ Leader revision → HandoverRows P now revision o
 
 out-of-reach-as : (P : Outcome → Type 0) (now : Ticks) (role : RoleFacts) (o : Outcome) → o.role ≡ role → is_paused o.knows ≡ false → OverdueWhen P now o → P (out_of_reach_as now role (waiting_no_more o))
-out-of-reach-as P now (Leader r) o is unpaused rows = rows.leader r is unpaused
+out-of-reach-as P now (Leader r) o is unpaused rows = let quiet : Outcome = waiting_no_more o in
+    if-cases P (may_stay o.knows) (seeks_to_stay now (others_known o.knows) quiet) (leader_out_of_reach now r quiet)
+    (λ may. if-cases P ((others_known o.knows).bits == 0) (stays_alone now (others_known o.knows) quiet) (asking_to_stay now (others_known o.knows) quiet) (rows.alone r is unpaused may) (λ _. rows.seeks r is unpaused may))
+    (λ _. rows.leader r is unpaused)
 out-of-reach-as P now Unleased o is unpaused rows = rows.unleased is unpaused
 out-of-reach-as P now Follower o is unpaused rows = rows.quiet
 out-of-reach-as P now (Holder r) o is unpaused rows = rows.quiet
@@ -222,6 +245,18 @@ out-of-reach-as P now (Ending r why) o is unpaused rows = rows.quiet
 out-of-reach : (P : Outcome → Type 0) (now : Ticks) (o : Outcome) → OverdueWhen P now o → P (out_of_reach now o)
 out-of-reach P now o rows = if-cases P (is_paused o.knows) (waiting_no_more o) (out_of_reach_as now o.role (waiting_no_more o)) (λ _. rows.quiet) (λ unpaused. out-of-reach-as P now o.role o refl unpaused rows)
 
+unacknowledged-as : (P : Outcome → Type 0) (now : Ticks) (role : RoleFacts) (o : Outcome) → o.role ≡ role → P (waiting_no_more o) → ((revision : ℕ) → o.role ≡ Leader revision → P (leader_unacknowledged now revision (waiting_no_more o))) → P (unacknowledged_as now role (waiting_no_more o))
+unacknowledged-as P now (Leader r) o is quiet fails = fails r is
+unacknowledged-as P now Unleased o is quiet fails = quiet
+unacknowledged-as P now Follower o is quiet fails = quiet
+unacknowledged-as P now (Holder r) o is quiet fails = quiet
+unacknowledged-as P now (Ready r) o is quiet fails = quiet
+unacknowledged-as P now (Ending r why) o is quiet fails = quiet
+
+-- one that was asked to let the leader stay doesn't acknowledge
+unacknowledged-by : (P : Outcome → Type 0) (now : Ticks) (o : Outcome) → P (waiting_no_more o) → ((revision : ℕ) → o.role ≡ Leader revision → is_paused o.knows ≡ false → P (leader_unacknowledged now revision (waiting_no_more o))) → P (unacknowledged now o)
+unacknowledged-by P now o quiet fails = if-cases P (is_paused o.knows) (waiting_no_more o) (unacknowledged_as now o.role (waiting_no_more o)) (λ _. quiet) (λ unpaused. unacknowledged-as P now o.role o refl quiet (λ r is. fails r is unpaused))
+
 unanswered-by : (P : Outcome → Type 0) (now : Ticks) (question : Question) (o : Outcome) → (is_asking question ≡ true → awaits_others o.knows.waited ≡ true) → OverdueWhen P now o → P (unanswered now question o)
 unanswered-by P now Reading o asked rows = out-of-reach P now o rows
 unanswered-by P now Renewing o asked rows = out-of-reach P now o rows
@@ -229,6 +264,7 @@ unanswered-by P now Creating o asked rows = rows.quiet
 unanswered-by P now Claiming o asked rows = claim-fails-by P (waiting_no_more o) rows.quiet rows.ready
 unanswered-by P now (Syncing settling) o asked rows = rows.quiet
 unanswered-by P now FindingCandidate o asked rows = judged-if-leading P now o.role o refl rows.quiet rows.checks
+unanswered-by P now StayingPrimary o asked rows = unacknowledged-by P now o rows.quiet rows.silent
 unanswered-by P now ComparingPositions o asked rows = if-cases P (may_create o.role) (judged now o) (waiting_no_more o) (rows.judges (asked refl)) (λ _. rows.quiet)
 
 overdue-for : (P : Outcome → Type 0) (now : Ticks) (waited : Option PendingQuestion) (o : Outcome) → o.knows.waited ≡ waited → OverdueWhen P now o → P (overdue_for now waited o)
@@ -243,6 +279,9 @@ pub record OverdueRows (P : Outcome → Type 0) (now : Ticks) (o : Outcome) : Ty
   pub kept : P o
   pub quiet : P (waiting_no_more o)
   pub leader : (revision : ℕ) → o.role ≡ Leader revision → P (leader_out_of_reach now revision (waiting_no_more o))
+  pub seeks : (revision : ℕ) → o.role ≡ Leader revision → P (asking_to_stay now (others_known o.knows) (waiting_no_more o))
+  pub alone : (revision : ℕ) → o.role ≡ Leader revision → P (stays_alone now (others_known o.knows) (waiting_no_more o))
+  pub silent : (revision : ℕ) → o.role ≡ Leader revision → P (leader_unacknowledged now revision (waiting_no_more o))
   pub unleased : o.role ≡ Unleased → P (unleased_out_of_reach now (waiting_no_more o))
   pub judges : may_create o.role ≡ true → P (judged now o)
   pub ready : (revision : ℕ) → o.role ≡ Ready revision → P (postpones revision (waiting_no_more o))
@@ -253,6 +292,9 @@ overdue-by P now o rows = overdue-when P now o (record {
   kept = rows.kept;
   quiet = rows.quiet;
   leader = λ revision is _. rows.leader revision is;
+  seeks = λ revision is _ _. rows.seeks revision is;
+  alone = λ revision is _ _ _. rows.alone revision is;
+  silent = λ revision is _. rows.silent revision is;
   unleased = λ is _. rows.unleased is;
   judges = λ _ may. rows.judges may;
   ready = rows.ready;
@@ -408,6 +450,7 @@ refused-as P now Reading o rows = rows.quiet
 refused-as P now ComparingPositions o rows = rows.quiet
 refused-as P now (Syncing settling) o rows = rows.quiet
 refused-as P now FindingCandidate o rows = rows.quiet
+refused-as P now StayingPrimary o rows = rows.quiet
 
 refused-for : (P : Outcome → Type 0) (now : Ticks) (sequence : ℕ) (waited : Option PendingQuestion) (o : Outcome) → RefusedWhen P now o → P (refused_for now sequence waited o)
 refused-for P now sequence None o rows = rows.kept
@@ -704,17 +747,18 @@ sync-granted P now ComparingPositions role o is fits rows = rows.other
 sync-granted P now Creating role o is fits rows = rows.other
 sync-granted P now Renewing role o is fits rows = rows.other
 sync-granted P now FindingCandidate role o is fits rows = rows.other
+sync-granted P now StayingPrimary role o is fits rows = rows.other
 
 granted-for : (P : Outcome → Type 0) (now : Ticks) (sequence : ℕ) (grant : Granted) (snapshot : SnapshotFacts) (waited : Option PendingQuestion) (o : Outcome) → o.knows.waited ≡ waited → P o → P (waiting_no_more o)
     → ((asked : PendingQuestion) → o.knows.waited ≡ Some asked → is_decision asked sequence && is_lease_of o.knows.who.me grant ≡ true → GrantWhen P now asked.ttl grant.revision (record o { knows = informed snapshot o.knows }))
-    → SyncWhen P now (record o { knows = informed snapshot o.knows }) → P (granted_for now sequence grant snapshot waited o)
-granted-for P now sequence grant snapshot None o is kept quiet rows syncs = kept
-granted-for P now sequence grant snapshot (Some waited) o is kept quiet rows syncs = let told : Outcome = record o { knows = informed snapshot o.knows } in
+    → ((after : Outcome) → P after → P (confirming snapshot after)) → SyncWhen P now (record o { knows = informed snapshot o.knows }) → P (granted_for now sequence grant snapshot waited o)
+granted-for P now sequence grant snapshot None o is kept quiet rows confirms syncs = kept
+granted-for P now sequence grant snapshot (Some waited) o is kept quiet rows confirms syncs = let told : Outcome = record o { knows = informed snapshot o.knows } in
     if-cases P (is_decision waited sequence && is_lease_of o.knows.who.me grant) (accepted_grant now waited grant.revision snapshot o) (granted_write now sequence grant snapshot waited o)
-    (λ decision. if-cases P (uses_lease (is_paused told.knows) waited.question o.role) (lease_used now waited grant.revision told) (waiting_no_more o)
-    (λ _. if-cases P (is_paused told.knows) (granted_in_pause now (asks_renewal waited.question) grant.revision o.role told) (lease_granted now waited.ttl grant.revision o.role told)
+    (λ decision. if-cases P (uses_lease (is_paused told.knows) waited.question o.role) (confirming snapshot (lease_used now waited grant.revision told)) (waiting_no_more o)
+    (λ _. confirms (lease_used now waited grant.revision told) (if-cases P (is_paused told.knows) (granted_in_pause now (asks_renewal waited.question) grant.revision o.role told) (lease_granted now waited.ttl grant.revision o.role told)
     (λ paused. granted-in-pause P now waited.ttl (asks_renewal waited.question) grant.revision o.role told refl paused (rows waited is decision))
-    (λ unpaused. lease-granted P now waited.ttl grant.revision o.role told refl unpaused (rows waited is decision))) (λ _. quiet))
+    (λ unpaused. lease-granted P now waited.ttl grant.revision o.role told refl unpaused (rows waited is decision)))) (λ _. quiet))
     (λ _. if-cases P (is_sync_decision waited sequence && is_write_of o.knows.who.me grant) (accepted_sync now waited snapshot o) o
     (λ _. if-cases P (belongs waited.question o.role) (sync_granted now waited.question o.role told) (waiting_no_more o)
     (λ fits. sync-granted P now waited.question o.role told refl fits syncs) (λ _. quiet)) (λ _. kept))
@@ -722,15 +766,15 @@ granted-for P now sequence grant snapshot (Some waited) o is kept quiet rows syn
 -- a request was granted, by when each row applies
 pub granted-when : (P : Outcome → Type 0) (now : Ticks) (sequence : ℕ) (grant : Granted) (snapshot : SnapshotFacts) (o : Outcome) → P o → P (waiting_no_more o)
     → ((asked : PendingQuestion) → o.knows.waited ≡ Some asked → is_decision asked sequence && is_lease_of o.knows.who.me grant ≡ true → GrantWhen P now asked.ttl grant.revision (record o { knows = informed snapshot o.knows }))
-    → SyncWhen P now (record o { knows = informed snapshot o.knows }) → P (granted now sequence grant snapshot o)
-granted-when P now sequence grant snapshot o kept quiet rows syncs = granted-for P now sequence grant snapshot o.knows.waited o refl kept quiet rows syncs
+    → ((after : Outcome) → P after → P (confirming snapshot after)) → SyncWhen P now (record o { knows = informed snapshot o.knows }) → P (granted now sequence grant snapshot o)
+granted-when P now sequence grant snapshot o kept quiet rows confirms syncs = granted-for P now sequence grant snapshot o.knows.waited o refl kept quiet rows confirms syncs
 
 -- the same, whenever they apply
 pub granted-by : (P : Outcome → Type 0) (now : Ticks) (sequence : ℕ) (grant : Granted) (snapshot : SnapshotFacts) (o : Outcome) → P o → P (waiting_no_more o)
     → ((asked : PendingQuestion) → o.knows.waited ≡ Some asked → is_decision asked sequence && is_lease_of o.knows.who.me grant ≡ true → GrantRows P now asked.ttl grant.revision (record o { knows = informed snapshot o.knows }))
-    → SyncRows P now (record o { knows = informed snapshot o.knows }) → P (granted now sequence grant snapshot o)
-granted-by P now sequence grant snapshot o kept quiet rows syncs = let told : Outcome = record o { knows = informed snapshot o.knows } in
-    granted-when P now sequence grant snapshot o kept quiet (λ asked is decision. grant-rows P now asked.ttl grant.revision told (rows asked is decision)) (sync-rows P now told syncs)
+    → ((after : Outcome) → P after → P (confirming snapshot after)) → SyncRows P now (record o { knows = informed snapshot o.knows }) → P (granted now sequence grant snapshot o)
+granted-by P now sequence grant snapshot o kept quiet rows confirms syncs = let told : Outcome = record o { knows = informed snapshot o.knows } in
+    granted-when P now sequence grant snapshot o kept quiet (λ asked is decision. grant-rows P now asked.ttl grant.revision told (rows asked is decision)) confirms (sync-rows P now told syncs)
 
 -- a request was granted: what an operator wants, or the agent by itself
 pub granted-any-by : (P : Outcome → Type 0) (now : Ticks) (sequence : ℕ) (grant : Granted) (snapshot : SnapshotFacts) (o : Outcome) → P o → ReplyRows P (learned snapshot o) → P (granted now sequence grant snapshot o) → P (granted_any now sequence grant snapshot o)
@@ -740,3 +784,42 @@ granted-any-by P now sequence grant snapshot o kept rows own =
 -- a request was refused: what an operator wants, or the agent by itself
 pub refused-any-by : (P : Outcome → Type 0) (now : Ticks) (sequence : ℕ) (o : Outcome) → ReplyRows P o → P (refused now sequence o) → P (refused_any now sequence o)
 refused-any-by P now sequence o rows own = if-cases P (operates o.knows sequence) (operator_refused o.knows.operating o) (refused now sequence o) (λ _. operator-refused-by P o.knows.operating o rows) (λ _. own)
+
+-- the answer of another member to a failsafe request, by when each row applies
+pub record StayRows (P : Outcome → Type 0) (now : Ticks) (from : MemberId) (sent : Ticks) (o : Outcome) : Type 0 where
+  pub kept : P o
+  pub quiet : P (waiting_no_more o)
+  pub counts : (revision : ℕ) → o.role ≡ Leader revision → P (counting from sent o)
+  pub stays : (revision : ℕ) → o.role ≡ Leader revision → (waited : PendingQuestion) → o.knows.waited ≡ Some waited → is_staying waited.question ≡ true → (since : Ticks) → moment_of_all (heard o.knows.failsafe from true sent) ≡ Some since
+      → P (stays now waited.ttl waited.sequence since (counting from sent o))
+  pub fails : (revision : ℕ) → o.role ≡ Leader revision → is_paused o.knows ≡ false → P (leader_unacknowledged now revision (waiting_no_more o))
+
+acknowledged-by : (P : Outcome → Type 0) (now : Ticks) (waited : PendingQuestion) (from : MemberId) (sent : Ticks) (moment : Option Ticks) (revision : ℕ) (o : Outcome) → o.role ≡ Leader revision → o.knows.waited ≡ Some waited → is_staying waited.question ≡ true → moment_of_all (heard o.knows.failsafe from true sent) ≡ moment → StayRows P now from sent o
+    → P (stays_if now waited moment (counting from sent o))
+acknowledged-by P now waited from sent None revision o role is staying all rows = rows.counts revision role
+acknowledged-by P now waited from sent (Some since) revision o role is staying all rows = rows.stays revision role waited is staying since all
+
+accepted-failsafe : (P : Outcome → Type 0) (now : Ticks) (waited : PendingQuestion) (from : MemberId) (accepted : Bool) (sent : Ticks) (role : RoleFacts) (o : Outcome) → o.role ≡ role → o.knows.waited ≡ Some waited → is_staying waited.question ≡ true → StayRows P now from sent o
+    → P (accepted_failsafe now waited from accepted sent role o)
+accepted-failsafe P now waited from true sent (Leader revision) o role is staying rows = acknowledged-by P now waited from sent (moment_of_all (heard o.knows.failsafe from true sent)) revision o role is staying refl rows
+accepted-failsafe P now waited from false sent (Leader revision) o role is staying rows = unacknowledged-by P now o rows.quiet rows.fails
+accepted-failsafe P now waited from accepted sent Follower o role is staying rows = rows.quiet
+accepted-failsafe P now waited from accepted sent (Holder held) o role is staying rows = rows.quiet
+accepted-failsafe P now waited from accepted sent (Ready held) o role is staying rows = rows.quiet
+accepted-failsafe P now waited from accepted sent (Ending held why) o role is staying rows = rows.quiet
+accepted-failsafe P now waited from accepted sent Unleased o role is staying rows = rows.quiet
+
+failsafe-answered-for : (P : Outcome → Type 0) (now : Ticks) (from : MemberId) (sequence : ℕ) (accepted : Bool) (sent : Ticks) (waited : Option PendingQuestion) (o : Outcome) → o.knows.waited ≡ waited → StayRows P now from sent o → P (failsafe_answered_for now from sequence accepted sent waited o)
+failsafe-answered-for P now from sequence accepted sent None o is rows = rows.kept
+failsafe-answered-for P now from sequence accepted sent (Some waited) o is rows =
+    if-cases P (awaits_failsafe waited sequence) (accepted_failsafe now waited from accepted sent o.role o) o
+    (λ awaits. accepted-failsafe P now waited from accepted sent o.role o refl is (and-left (is_staying waited.question) (waited.sequence == sequence) awaits) rows) (λ _. rows.kept)
+
+pub failsafe-answered-by : (P : Outcome → Type 0) (now : Ticks) (from : MemberId) (sequence : ℕ) (accepted : Bool) (sent : Ticks) (o : Outcome) → StayRows P now from sent o → P (failsafe_answered now from sequence accepted sent o)
+failsafe-answered-by P now from sequence accepted sent o rows = failsafe-answered-for P now from sequence accepted sent o.knows.waited o refl rows
+
+-- another member asks to stay primary
+pub failsafe-asked-by : (P : Outcome → Type 0) (now : Ticks) (from : MemberId) (incarnation sequence : ℕ) (ttl : Ticks) (o : Outcome) → (may_hold (shown now o) (awaits_lease o.knows.waited) ≡ true → P (answering_failsafe from incarnation sequence true (holding_for now from sequence ttl o)))
+    → P (answering_failsafe from incarnation sequence false o) → P (failsafe_asked now from incarnation sequence ttl o)
+failsafe-asked-by P now from incarnation sequence ttl o holds refuses =
+    if-cases P (may_hold (shown now o) (awaits_lease o.knows.waited)) (answering_failsafe from incarnation sequence true (holding_for now from sequence ttl o)) (answering_failsafe from incarnation sequence false o) holds (λ _. refuses)

@@ -1,5 +1,5 @@
 -- What an agent does, of which the rows are made: messages, orders to its server, and its watchdog.
-use Rattle.std.specs.Prelude.{ℕ, ◌+◌, ◌*◌, nat_lt, if◌then◌else◌, not, Bool, false, List, Option, Some, None}
+use Rattle.std.specs.Prelude.{ℕ, ◌+◌, ◌*◌, ◌&&◌, nat_lt, if◌then◌else◌, not, Bool, false, List, Option, Some, None}
 use Rattle.pat_base.specs.declared.member_id.MemberId.{MemberId}
 use Rattle.pat_base.specs.declared.server_id.ServerId.{ServerId}
 use Rattle.pat_base.specs.declared.server_state.Required.{Required}
@@ -117,9 +117,9 @@ disarming o = record o { machine = without_deadline o.machine; outputs = disarme
 abbrev pub deadline_after : Ticks → Ticks → WatchdogFacts → Option Ticks
 deadline_after now ttl watchdog = if is_armable watchdog.mode watchdog.works then Some (record { 0 = now.0 + timeout_of watchdog.margin ttl.0 }) else None
 
--- the machine once its watchdog was fed, over leases of this span
+-- the machine once a grant fed its watchdog, over leases of this span
 abbrev pub with_feed : Ticks → Ticks → Machine → Machine
-with_feed now ttl machine = record machine { watchdog = fed now.0 ttl.0 machine.watchdog }
+with_feed now ttl machine = record machine { watchdog = fed now.0 ttl.0 machine.watchdog; by_failsafe = not (is_armable machine.watchdog.mode machine.watchdog.works) && machine.by_failsafe }
 
 -- whether the member needs a watchdog whose device doesn't work
 abbrev pub is_refusing : Mode → Bool → Bool

@@ -14,6 +14,7 @@ use Rattle.agent_model.specs.declared.output.Output.{Output}
 use Rattle.agent_model.specs.declared.why.Why.{Why}
 use Rattle.agent_model.specs.declared.who.Who.{Who}
 use Rattle.pat_base.specs.Moments.{latest}
+use Rattle.failsafe.specs.Asks.{asked}
 
 -- a role: in place of its values the revisions of the leader key that they were granted with
 pub data RoleFacts : Type 0 where
@@ -95,11 +96,14 @@ fresh_knowledge who first incarnation = record {
   turn_settings = default_config;
   turn_sync = None;
   turn_failover = None;
+  turn_failsafe = None;
   noted = None;
   begun = None;
   crashed = None;
   known = record { bits = 0 };
   informed = false;
+  confirmed = false;
+  failsafe = asked (record { bits = 0 }) (record { 0 = 0 });
   handed_over = false;
   answers = [];
   operating = None;

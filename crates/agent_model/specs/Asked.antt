@@ -11,6 +11,7 @@ abbrev pub IsAsked : Body → Type 0
 IsAsked bodies.Read = Unit {0}
 IsAsked bodies.Ask = Unit {0}
 IsAsked (bodies.Request txn) = ttl_of txn ≤ 2 ^ 40
+IsAsked (bodies.FailsafeRequest ttl) = ttl.0 ≤ 2 ^ 40
 IsAsked _ = ⊥
 
 -- so does an output

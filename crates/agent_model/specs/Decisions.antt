@@ -1,5 +1,5 @@
 -- What an agent does once the key store has decided on its request for the leader key.
-use Rattle.std.specs.Prelude.{ℕ, ◌-◌, ◌*◌, ◌==◌, ◌&&◌, ◌||◌, nat_le, nat_lt, if◌then◌else◌, not, Bool, true, false, Option, Some, None}
+use Rattle.std.specs.Prelude.{ℕ, ◌-◌, ◌*◌, ◌==◌, ◌&&◌, ◌||◌, nat_le, nat_lt, if◌then◌else◌, not, Bool, true, false, is_some, Option, Some, None}
 use Rattle.pat_base.specs.declared.member_id.MemberId.{MemberId}
 use Rattle.pat_base.specs.declared.server_state.State.{State}
 use Rattle.pat_base.specs.declared.server_state.State.TheVariants as states
@@ -8,10 +8,10 @@ use Rattle.lease_store.specs.declared.granted.Granted.{Granted}
 use Rattle.pg_model.specs.declared.status.ServerStatus.{ServerStatus}
 use Rattle.event_book.specs.declared.agent_note.AgentNote.TheVariants as agent_notes
 use Rattle.event_book.specs.declared.reason.Reason.TheVariants.{StartTooLong, WatchdogNotArmed}
-use Rattle.cluster_view.specs.Snapshots.{SnapshotFacts}
+use Rattle.cluster_view.specs.Snapshots.{SnapshotFacts, failsafe_in}
 use Rattle.agent_model.specs.declared.knowledge.Knowledge.{Knowledge}
 use Rattle.agent_model.specs.declared.knowledge.Question.{Question}
-use Rattle.agent_model.specs.declared.knowledge.Question.TheVariants.{ComparingPositions, Creating, Renewing, Claiming, Syncing, FindingCandidate}
+use Rattle.agent_model.specs.declared.knowledge.Question.TheVariants.{ComparingPositions, Creating, Renewing, Claiming, Syncing, FindingCandidate, StayingPrimary}
 use Rattle.agent_model.specs.declared.knowledge.PendingQuestion.{PendingQuestion}
 use Rattle.agent_model.specs.declared.machine.Machine.{Machine}
 use Rattle.agent_model.specs.declared.output.Output.TheVariants as outputs
@@ -130,6 +130,7 @@ belongs Creating role = may_create role
 belongs Claiming role = is_ready role
 belongs (Syncing settling) role = is_leader role
 belongs FindingCandidate role = is_leader role
+belongs StayingPrimary role = is_leader role
 belongs _ role = is_active role
 
 -- in a pause who runs on without the leader key asks for it too
@@ -150,10 +151,14 @@ asks_renewal _ = false
 abbrev pub lease_used : Ticks → PendingQuestion → ℕ → Outcome → Outcome
 lease_used now waited revision o = if is_paused o.knows then granted_in_pause now (asks_renewal waited.question) revision o.role o else lease_granted now waited.ttl revision o.role o
 
+-- a leader's failsafe set is confirmed by a grant of its key whose snapshot has a failsafe key
+abbrev pub confirming : SnapshotFacts → Outcome → Outcome
+confirming snapshot o = record o { knows = record o.knows { confirmed = o.knows.confirmed || (is_leader o.role && is_some (failsafe_in snapshot)) } }
+
 -- a grant that is waited for is used where its question belongs to the role; its snapshot is then the newest, also for whether there is a pause
 abbrev pub accepted_grant : Ticks → PendingQuestion → ℕ → SnapshotFacts → Outcome → Outcome
 accepted_grant now waited revision snapshot o =
-    if uses_lease (is_paused (informed snapshot o.knows)) waited.question o.role then lease_used now waited revision (record o { knows = informed snapshot o.knows }) else waiting_no_more o
+    if uses_lease (is_paused (informed snapshot o.knows)) waited.question o.role then confirming snapshot (lease_used now waited revision (record o { knows = informed snapshot o.knows })) else waiting_no_more o
 
 -- a question that asks for a lease of the leader key
 abbrev pub asks_lease : Question → Bool

@@ -6,6 +6,7 @@ pub mod Reconciling
 pub mod Bounds
 pub mod Claiming
 pub mod Decisions
+pub mod FailsafeKeys
 pub mod Fits
 pub mod HandingOver
 pub mod Info
@@ -18,6 +19,7 @@ pub mod Racing
 pub mod Repairs
 pub mod Snapshots
 pub mod Start
+pub mod StayingPrimary
 pub mod Synchronous
 pub mod Table
 pub mod Views

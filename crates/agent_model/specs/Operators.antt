@@ -22,7 +22,8 @@ use Rattle.cluster_view.specs.Naming.{is_member}
 use Rattle.cluster_view.specs.Snapshots.{SnapshotFacts, entry_in, leader_in}
 use Rattle.operator_answers.specs.declared.answer_text.Text.{Text}
 use Rattle.operator_answers.specs.declared.answer_text.Text.TheVariants as texts
-use Rattle.operator_answers.specs.Statuses.{ok, conflict, service_unavailable}
+use Rattle.operator_answers.specs.Statuses.{ok, conflict, internal_server_error, service_unavailable}
+use Rattle.failsafe.specs.Holding.{may_hold}
 use Rattle.event_book.specs.declared.message.Body.{Body}
 use Rattle.event_book.specs.declared.message.Body.TheVariants as bodies
 use Rattle.agent_model.specs.declared.knowledge.Knowledge.{Knowledge}
@@ -38,6 +39,8 @@ use Rattle.agent_model.specs.Agents.{Outcome}
 use Rattle.agent_model.specs.Decisions.{is_write_of}
 use Rattle.agent_model.specs.Outputs.{with_output}
 use Rattle.agent_model.specs.Snapshots.{informed, is_active, awaits_read}
+use Rattle.agent_model.specs.StayingPrimary.{awaits_lease, holding_for}
+use Rattle.agent_model.specs.Views.{shown}
 
 -- for so many ticks an operator waits for what comes of a switchover or a failover
 abbrev pub most_operator_ticks : ℕ
@@ -95,12 +98,23 @@ restarting now o = record o {
 abbrev pub wiping : Outcome → Outcome
 wiping o = record o { machine = record o.machine { server = status_wiped o.machine.server }; outputs = with_output outputs.Wipe o.outputs }
 
+-- the number of a failsafe request that no message brings: those of messages are counted from 1
+abbrev pub unnumbered : ℕ
+unnumbered = 0
+
+-- a member that another one asks to let it stay primary for this span acknowledges, where it may, and holds: of its own accord, as no message has it
+-- do so
+abbrev pub asked_to_hold : Ticks → ℕ → Ticks → Outcome → Outcome
+asked_to_hold now request ttl o =
+    if may_hold (shown now o) (awaits_lease o.knows.waited) then telling request (tolds.Text ok texts.Accepted) (holding_for now o.knows.who.me unnumbered ttl o) else telling request (tolds.Text internal_server_error texts.Refused) o
+
 -- what an agent does on a request of this number, which passed its checks
 abbrev pub operated : Ticks → ℕ → OperatorRequest → Outcome → Outcome
 operated now request (requests.Failover kind failover) o = operating now request (FailingOver kind) (bodies.Request (txns.SetFailover failover (lease_span o.knows.settings))) o
 operated now request (requests.Configuration config) o = operating now request Configuring (bodies.Request (txns.SetConfig (config_revision o.knows.seen) config)) o
 operated now request requests.Restart o = telling request (tolds.Text ok texts.Restarted) (restarting now o)
 operated now request requests.Reinit o = telling request (tolds.Text ok texts.ReinitializeStarted) (wiping o)
+operated now request (requests.Hold from ttl) o = asked_to_hold now request (record { 0 = ttl }) o
 
 -- the words for a switchover or a failover to this member that is done
 abbrev pub done_text : FailoverKind → Name → Text

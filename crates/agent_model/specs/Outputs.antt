@@ -20,6 +20,7 @@ is_arming _ = false
 abbrev pub is_feeding : Output → Bool
 is_feeding (outputs.Armed until) = true
 is_feeding (outputs.Fed until) = true
+is_feeding (outputs.FedByFailsafe until members sequence since) = true
 is_feeding _ = false
 
 -- one of these passes the test

@@ -21,6 +21,7 @@ use Rattle.agent_model.specs.declared.output.Output.TheVariants as outputs
 use Rattle.agent_model.specs.Acting.{seconds_after, lease_span, counted, waiting, asking, touching, starting_replica, waiting_no_more}
 use Rattle.agent_model.specs.Agents.{Follower, Outcome}
 use Rattle.agent_model.specs.Answers.{asking_all, all_answered}
+use Rattle.agent_model.specs.FailsafeKeys.{failsafe_compared}
 use Rattle.agent_model.specs.Info.{info_of}
 use Rattle.agent_model.specs.Outputs.{with_output}
 use Rattle.agent_model.specs.Pausing.{is_paused}
@@ -41,7 +42,7 @@ bar_of now knows machine = bar_by (view_of now words.Follower knows machine) kno
 
 -- the agent asks for the leader key
 abbrev pub creating : Ticks → Outcome → Outcome
-creating now o = asking now Creating (seconds_after now o.knows.settings.retry_timeout) (bodies.Request (txns.Create (info_of o.knows.who o.machine.server) (lease_span o.knows.settings) None None)) o
+creating now o = asking now Creating (seconds_after now o.knows.settings.retry_timeout) (bodies.Request (txns.Create (info_of o.knows.who o.machine.server) (lease_span o.knows.settings) (failsafe_compared o.knows) None)) o
 
 -- a member that is barred tells by what, and tells of itself
 abbrev pub barred : Ineligibility → Outcome → Outcome

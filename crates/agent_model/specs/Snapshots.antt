@@ -26,6 +26,7 @@ use Rattle.agent_model.specs.declared.knowledge.PendingQuestion.{PendingQuestion
 use Rattle.agent_model.specs.declared.why.Why.TheVariants.{Lost}
 use Rattle.agent_model.specs.Acting.{seconds_after, lease_span, asking, touching, waiting_no_more, ending_server, shutting_down, starting_replica, following_server, is_hold_active}
 use Rattle.agent_model.specs.Agents.{RoleFacts, Follower, Holder, Leader, Ending, Unleased, Outcome}
+use Rattle.agent_model.specs.FailsafeKeys.{failsafe_read_in, set_carried}
 use Rattle.agent_model.specs.Info.{info_of}
 use Rattle.agent_model.specs.Repairs.{is_upstream, repair_of, repaired_if}
 use Rattle.agent_model.specs.Pausing.{is_paused, may_start_behind, ends_forks, running_without_key}
@@ -96,18 +97,26 @@ missing_row now me (Some snapshot) points = option_map (row_at now me) (missing_
 abbrev pub row_told : Ticks → List HistoryPoint → Knowledge → ServerStatus → Option HistoryRow
 row_told now points knows server = if is_primary server.state then missing_row now knows.who.me knows.seen points else None
 
--- the renewal of this revision, with what it tells of the member and of its server
-abbrev pub renewal : Ticks → List HistoryPoint → ℕ → Knowledge → ServerStatus → Txn
-renewal now points revision knows server = txns.Renew revision (info_of knows.who server) (lease_span knows.settings) (status_told server) (row_told now points knows server) None
+-- the renewal of this revision, with what it tells of the member and of its server, and whom it writes into the failsafe key
+abbrev pub renewal : Ticks → List HistoryPoint → ℕ → Knowledge → ServerStatus → Option MemberSet → Txn
+renewal now points revision knows server carried = txns.Renew revision (info_of knows.who server) (lease_span knows.settings) (status_told server) (row_told now points knows server) carried
 
 -- when the turn began that asks this
 abbrev pub turn_start : Ticks → Option Ticks → Ticks
 turn_start now None = now
 turn_start now (Some moment) = moment
 
+-- the members that it writes into the failsafe key are known
+abbrev pub carrying : Option MemberSet → Outcome → Outcome
+carrying carried o = record o { knows = record o.knows { known = known_with o.knows.known carried } }
+
+-- the agent asks for the renewal of the leader key that it read, and writes these members into the failsafe key, if any
+abbrev pub renewing_with : Ticks → List HistoryPoint → ℕ → Option MemberSet → Outcome → Outcome
+renewing_with now points revision carried o = asking now Renewing (seconds_after (turn_start now o.knows.last_turn) o.knows.settings.retry_timeout) (bodies.Request (renewal now points revision o.knows o.machine.server carried)) (carrying carried o)
+
 -- the agent asks for the renewal of the leader key that it read
 abbrev pub renewing : Ticks → List HistoryPoint → ℕ → Outcome → Outcome
-renewing now points revision o = asking now Renewing (seconds_after (turn_start now o.knows.last_turn) o.knows.settings.retry_timeout) (bodies.Request (renewal now points revision o.knows o.machine.server)) o
+renewing now points revision o = renewing_with now points revision (set_carried o) o
 
 -- an agent that isn't leading finds the leader key its own: it asks for the renewal, unless its hold is active; in a pause it asks in any case
 abbrev pub finds_own_key : Ticks → List HistoryPoint → ℕ → Outcome → Outcome
@@ -195,9 +204,10 @@ abbrev pub awaits_read : Option PendingQuestion → ℕ → Bool
 awaits_read None sequence = false
 awaits_read (Some waited) sequence = is_read waited.question && waited.sequence == sequence
 
--- a read was answered at this moment, with this snapshot: what this turn asks for is judged by its settings, its sync key and its failover key
+-- a read was answered at this moment, with this snapshot: what this turn asks for is judged by its settings, its sync key, its failover key and its
+-- failsafe key
 abbrev pub read_noted : Ticks → SnapshotFacts → Knowledge → Knowledge
-read_noted now snapshot knows = record (informed snapshot knows) { last_read = Some now; turn_settings = settings_in knows.settings snapshot; turn_sync = sync_read_in snapshot; turn_failover = failover_in snapshot }
+read_noted now snapshot knows = record (informed snapshot knows) { last_read = Some now; turn_settings = settings_in knows.settings snapshot; turn_sync = sync_read_in snapshot; turn_failover = failover_in snapshot; turn_failsafe = failsafe_read_in snapshot }
 
 -- the answer to a read that is waited for is used by a role that reads
 abbrev pub accepted : Ticks → List HistoryPoint → SnapshotFacts → Outcome → Outcome

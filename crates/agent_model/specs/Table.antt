@@ -5,13 +5,14 @@ use Rattle.lease_store.specs.declared.granted.Granted.{Granted}
 use Rattle.cluster_view.specs.Snapshots.{SnapshotFacts}
 use Rattle.wal_model.specs.declared.entry.HistoryPoint.{HistoryPoint}
 use Rattle.agent_model.specs.declared.heard.Heard.{Heard}
-use Rattle.agent_model.specs.declared.heard.Heard.TheVariants.{Wake, ReadAnswered, Granted as HeardGranted, Mismatch, Asked, Answered, Operated}
+use Rattle.agent_model.specs.declared.heard.Heard.TheVariants.{Wake, ReadAnswered, Granted as HeardGranted, Mismatch, Asked, Answered, FailsafeAsked, FailsafeAnswered, Operated}
 use Rattle.agent_model.specs.Agents.{Outcome}
 use Rattle.agent_model.specs.Reconciling.{reconciled}
 use Rattle.agent_model.specs.Decisions.{granted, refused}
 use Rattle.agent_model.specs.Operators.{looked, operates, grants_operator, operator_granted, operator_refused, operated, given_up}
 use Rattle.agent_model.specs.Peers.{asked, answered}
 use Rattle.agent_model.specs.Snapshots.{read_answered}
+use Rattle.agent_model.specs.StayingPrimary.{failsafe_asked, failsafe_answered}
 use Rattle.agent_model.specs.Wake.{is_due, woken}
 
 -- what precedes an input's own rows: the role is brought to what is found of the server, and then an operator is answered that waits for this
@@ -36,4 +37,6 @@ step now points (HeardGranted sequence grant snapshot) o = granted_any now seque
 step now points (Mismatch sequence key found) o = refused_any now sequence (reconciled now o)
 step now points (Asked from incarnation sequence) o = asked from incarnation sequence (reconciled now o)
 step now points (Answered sequence answer) o = answered now sequence answer (reconciled now o)
+step now points (FailsafeAsked from incarnation sequence ttl) o = failsafe_asked now from incarnation sequence ttl (reconciled now o)
+step now points (FailsafeAnswered from sequence accepted sent) o = failsafe_answered now from sequence accepted sent (reconciled now o)
 step now points (Operated action) o = operated now action.request action.asked (reconciled now o)

@@ -8,7 +8,7 @@ use Rattle.event_book.specs.declared.message.Body.TheVariants as bodies
 use Rattle.event_book.specs.declared.reason.Reason.TheVariants.{StoreOutOfReach}
 use Rattle.agent_model.specs.declared.knowledge.Knowledge.{Knowledge}
 use Rattle.agent_model.specs.declared.knowledge.Question.{Question}
-use Rattle.agent_model.specs.declared.knowledge.Question.TheVariants.{Reading, ComparingPositions, Creating, Renewing, Claiming, Syncing, FindingCandidate}
+use Rattle.agent_model.specs.declared.knowledge.Question.TheVariants.{Reading, ComparingPositions, Creating, Renewing, Claiming, Syncing, FindingCandidate, StayingPrimary}
 use Rattle.agent_model.specs.declared.knowledge.PendingQuestion.{PendingQuestion}
 use Rattle.agent_model.specs.declared.machine.Machine.{Machine}
 use Rattle.agent_model.specs.declared.why.Why.TheVariants.{Lost}
@@ -20,6 +20,7 @@ use Rattle.agent_model.specs.Claiming.{claim_fails}
 use Rattle.agent_model.specs.HandingOver.{judged_if_leading}
 use Rattle.agent_model.specs.Operators.{given_up}
 use Rattle.agent_model.specs.Peers.{judged_if_racing}
+use Rattle.agent_model.specs.StayingPrimary.{may_stay, others_known, seeks_to_stay, unacknowledged}
 
 -- an agent that ends its server can find that it has ended
 abbrev pub finds_ended : RoleFacts → State → Bool
@@ -52,13 +53,17 @@ due_from role knows state = if finds_ended role state then record { 0 = 0 } else
 abbrev pub leader_out_of_reach : Ticks → ℕ → Outcome → Outcome
 leader_out_of_reach now revision o = record (ending_server now StoreOutOfReach o) { role = Ending revision Lost }
 
--- so does one that has no lease while its server is live
+-- with failsafe mode it may ask the other members first
+abbrev pub leader_unanswered : Ticks → ℕ → Outcome → Outcome
+leader_unanswered now revision o = if may_stay o.knows then seeks_to_stay now (others_known o.knows) o else leader_out_of_reach now revision o
+
+-- one that has no lease while its server is live ends that
 abbrev pub unleased_out_of_reach : Ticks → Outcome → Outcome
 unleased_out_of_reach now o = ending_server now StoreOutOfReach o
 
--- what each role does without an answer: who has a live server ends it
+-- what each role does without an answer: who has a live server ends it, but a leader that may ask the other members to let it stay
 abbrev pub out_of_reach_as : Ticks → RoleFacts → Outcome → Outcome
-out_of_reach_as now (Leader revision) o = leader_out_of_reach now revision o
+out_of_reach_as now (Leader revision) o = leader_unanswered now revision o
 out_of_reach_as now Unleased o = unleased_out_of_reach now o
 out_of_reach_as now _ o = o
 
@@ -75,6 +80,7 @@ unanswered now Claiming o = claim_fails (waiting_no_more o)
 unanswered now (Syncing settling) o = waiting_no_more o
 unanswered now ComparingPositions o = judged_if_racing now o
 unanswered now FindingCandidate o = judged_if_leading now o.role o
+unanswered now StayingPrimary o = unacknowledged now o
 
 -- a deadline that has passed, by what is waited for
 abbrev pub overdue_for : Ticks → Option PendingQuestion → Outcome → Outcome

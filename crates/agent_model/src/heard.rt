@@ -2,7 +2,7 @@
 
 use cluster_view::Snapshot;
 use lease_store::Granted;
-use pat_base::{MemberId, PeerAnswer};
+use pat_base::{MemberId, PeerAnswer, Ticks};
 use store_keys::{Expected, Key, OperatorAction};
 
 /// What comes to an agent: a wake, an answer of the key store or of another member to the question of this number in its incarnation, a
@@ -37,6 +37,21 @@ pub enum Heard {
     Answered {
         sequence: u64,
         answer: PeerAnswer,
+    },
+    /// Another member, which leads without the key store, asks under this number of that one's incarnation to go on so for this
+    /// span.
+    FailsafeAsked {
+        from: MemberId,
+        incarnation: u64,
+        sequence: u64,
+        ttl: Ticks,
+    },
+    /// Another member acknowledges the failsafe request of this number, or refuses it, by a message that it sent at this moment.
+    FailsafeAnswered {
+        from: MemberId,
+        sequence: u64,
+        accepted: bool,
+        sent: Ticks,
     },
     /// An operator asks for this, which passed its checks.
     Operated {

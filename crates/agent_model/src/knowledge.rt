@@ -2,6 +2,7 @@
 
 use crate::{Answers, Operating, Who};
 use cluster_view::Snapshot;
+use failsafe::Ask;
 use pat_base::{Lsn, MemberSet, Ticks};
 use store_keys::{Config, FailoverKey, SyncKey};
 
@@ -33,12 +34,21 @@ pub enum Question {
     Syncing(Settling),
     /// Which other member may lead in its place?
     FindingCandidate,
+    /// May it go on without the key store, by the word of all other members?
+    StayingPrimary,
 }
 
 /// A sync key that was read, with its revision.
 #[derive(Clone, Copy, PartialEq, Eq)]
 pub struct SyncRead {
     pub key: SyncKey,
+    pub revision: u64,
+}
+
+/// A failsafe key that was read, with its revision.
+#[derive(Clone, Copy, PartialEq, Eq)]
+pub struct FailsafeRead {
+    pub members: MemberSet,
     pub revision: u64,
 }
 
@@ -70,10 +80,12 @@ pub struct Knowledge {
     /// The newest snapshot, and the settings of its configuration.
     pub seen: Option<Snapshot>,
     pub settings: Config,
-    /// The settings, the sync key and the failover key that the last turn read: what it asked for is judged by them.
+    /// The settings, the sync key, the failover key and the failsafe key that the last turn read: what it asked for is judged by
+    /// them.
     pub turn_settings: Config,
     pub turn_sync: Option<SyncRead>,
     pub turn_failover: Option<FailoverKey>,
+    pub turn_failsafe: Option<FailsafeRead>,
     /// Where its log ended when a standby was last added to the required list, or the server taken over: who becomes a
     /// standby must have confirmed this position.
     pub noted: Option<Lsn>,
@@ -81,9 +93,14 @@ pub struct Knowledge {
     pub begun: Option<Ticks>,
     /// When a leader was first found without its server.
     pub crashed: Option<Ticks>,
-    /// The members that a failsafe key of a snapshot listed which this incarnation accepted, and whether there was such a key.
+    /// The members that a failsafe key of a snapshot listed which this incarnation accepted, or that it wrote into that key itself with a
+    /// renewal; and whether there was such a key.
     pub known: MemberSet,
     pub informed: bool,
+    /// Whether this incarnation was granted the leader key while it led, or to lead, with a failsafe key in the grant's snapshot.
+    pub confirmed: bool,
+    /// Its last failsafe request, and who acknowledged it.
+    pub failsafe: Ask,
     /// Whether this incarnation ended its server to hand over, and read of no other leader since.
     pub handed_over: bool,
     /// What other members answered since this one asked them last.

@@ -14,7 +14,7 @@ mod why;
 
 pub use answers::Answers;
 pub use heard::Heard;
-pub use knowledge::{Knowledge, PendingQuestion, Question, Settling, SyncRead};
+pub use knowledge::{FailsafeRead, Knowledge, PendingQuestion, Question, Settling, SyncRead};
 pub use laws::inputs_are_small;
 pub use machine::{Machine, Replication};
 pub use operating::{Operating, Operation, Told};

@@ -12,12 +12,13 @@ pub struct Replication {
     pub confirmed_positions: [Option<Lsn>; MOST_MEMBERS],
 }
 
-/// What an agent sees of its machine, and reckons with in one input: its server, synchronous replication on it, its watchdog,
-/// and until when it has promised not to take the leader key.
+/// What an agent sees of its machine, and reckons with in one input: its server, synchronous replication on it, its watchdog and
+/// whether acknowledgements of other members set its deadline last, and until when it has promised not to take the leader key.
 #[derive(Drop)]
 pub struct Machine {
     pub server: ServerStatus,
     pub replication: Replication,
     pub watchdog: Watchdog,
+    pub by_failsafe: bool,
     pub hold: Option<Ticks>,
 }

@@ -2,7 +2,7 @@
 
 use crate::Told;
 use event_book::{AgentNote, Body, Reason};
-use pat_base::{MemberId, PeerAnswer, Required, Ticks};
+use pat_base::{MemberId, MemberSet, PeerAnswer, Required, Ticks};
 
 /// Whom an agent writes to.
 #[derive(Clone, Copy, PartialEq, Eq)]
@@ -35,6 +35,13 @@ pub enum Output {
         incarnation: u64,
         sequence: u64,
         answer: PeerAnswer,
+    },
+    /// Whether it acknowledges this member's failsafe request of this number in that one's incarnation.
+    FailsafeAnswer {
+        to: MemberId,
+        incarnation: u64,
+        sequence: u64,
+        accepted: bool,
     },
     /// The server begins to accept writes: a replica is promoted, and one that is down and was a primary starts as one again.
     Begin,
@@ -75,6 +82,16 @@ pub enum Output {
     Fed {
         until: Ticks,
     },
+    /// The watchdog got a new deadline, since these members acknowledged the failsafe request of this number, the first of them at this
+    /// moment; where nobody was asked at the moment of the input.
+    FedByFailsafe {
+        until: Ticks,
+        members: MemberSet,
+        sequence: u64,
+        since: Ticks,
+    },
+    /// It is printed that the member stays primary without the key store.
+    StaysByFailsafe,
     /// The watchdog has no deadline any more.
     Disarmed,
     /// The member takes the leader key though the sync key doesn't name it: a failover by hand names it.

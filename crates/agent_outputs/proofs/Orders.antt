@@ -1,5 +1,5 @@
 -- The machine that an input leaves is what its outputs make of the machine before.
-use Rattle.std.proofs.Common.{◌≡◌, ◌+◌, ◌++◌, ℕ, Bool, true, false, if◌then◌else◌, List, [], ◌∷◌, Option, Some, None, All, refl, sym, subst, ap, ◌∙◌, zero, suc}
+use Rattle.std.proofs.Common.{◌≡◌, ◌+◌, ◌++◌, ◌&&◌, ◌||◌, not, ℕ, Bool, true, false, if◌then◌else◌, List, [], ◌∷◌, Option, Some, None, All, refl, sym, subst, ap, ◌∙◌, zero, suc}
 use Rattle.std.proofs.lemmas.List.Elements.{All-push, All-nil, All-weaker, All-head, All-tail}
 use Rattle.pat_base.specs.MemberId.{member_of}
 use Rattle.pat_base.specs.declared.member_id.MemberId.{MemberId}
@@ -13,12 +13,12 @@ use Rattle.event_book.specs.declared.agent_note.AgentNote.TheVariants as agent_n
 use Rattle.event_book.specs.declared.message.Body.{Body}
 use Rattle.event_book.specs.declared.message.Body.TheVariants as bodies
 use Rattle.event_book.specs.declared.reason.Reason.{Reason}
-use Rattle.event_book.specs.declared.reason.Reason.TheVariants.{StoreOutOfReach, LeaderKeyLost, StartTooLong, WatchdogNotArmed}
+use Rattle.event_book.specs.declared.reason.Reason.TheVariants.{FailsafeNotAcknowledged, StoreOutOfReach, LeaderKeyLost, StartTooLong, WatchdogNotArmed}
 use Rattle.leader_key.specs.Watchdog.{is_armable, timeout_of}
 use Rattle.agent_model.specs.declared.output.Repair.{Repair}
 use Rattle.agent_model.specs.Repairs.{repair_of, repairing}
 use Rattle.agent_model.specs.declared.heard.Heard.{Heard}
-use Rattle.agent_model.specs.declared.heard.Heard.TheVariants.{Wake, ReadAnswered, Granted as HeardGranted, Mismatch, Asked, Answered, Operated as HearsOperator}
+use Rattle.agent_model.specs.declared.heard.Heard.TheVariants.{Wake, ReadAnswered, Granted as HeardGranted, Mismatch, Asked, Answered, FailsafeAsked, FailsafeAnswered, Operated as HearsOperator}
 use Rattle.agent_model.specs.declared.knowledge.Knowledge.{Knowledge}
 use Rattle.agent_model.specs.declared.machine.Machine.{Machine}
 use Rattle.agent_model.specs.declared.output.Output.{Output}
@@ -26,7 +26,7 @@ use Rattle.agent_model.specs.declared.output.Output.TheVariants as outputs
 use Rattle.agent_model.specs.declared.output.Target.TheVariants as targets
 use Rattle.agent_model.specs.declared.why.Why.{Why}
 use Rattle.agent_model.specs.declared.why.Why.TheVariants.{HandOver, Lost}
-use Rattle.agent_model.specs.Acting.{arming, requiring, feeding, armed, fed_until, disarmed, without_deadline, disarming, sending, touching, ending_server, starting_replica, following_server, is_refusing, shutting_down, waiting_no_more}
+use Rattle.agent_model.specs.Acting.{arming, requiring, feeding, armed, fed_until, disarmed, without_deadline, disarming, sending, touching, ending_server, starting_replica, following_server, is_refusing, shutting_down, waiting_no_more, deadline_after, lease_span}
 use Rattle.agent_model.specs.Agents.{RoleFacts, Follower, Outcome, outcome_from}
 use Rattle.agent_model.specs.Reconciling.{has_ended, reconciled}
 use Rattle.agent_model.specs.Claiming.{begins, begins_or_claims, passing, postpones}
@@ -40,11 +40,14 @@ use Rattle.agent_model.specs.Outputs.{with_output}
 use Rattle.agent_model.specs.Snapshots.{informed, follows, read_noted, read_answered, follow_row, leader_loses_key, unleased_loses_key, renewing, asks_as_unleased, led_by_another}
 use Rattle.agent_model.specs.Racing.{finds_free, judged, unheard}
 use Rattle.agent_model.specs.HandingOver.{asking_whom}
-use Rattle.agent_model.specs.Operators.{looked, given_up, learned, operated, restarting, wiping}
+use Rattle.agent_model.specs.Operators.{looked, given_up, learned, operated, restarting, wiping, unnumbered}
+use Rattle.pat_base.specs.declared.member_set.MemberSet.{MemberSet}
+use Rattle.failsafe.specs.Asks.{asked, has}
+use Rattle.agent_model.specs.StayingPrimary.{counting, failsafe_answered, failsafe_asked, fed_by_failsafe, holding_for, others_known, requesting_first, requesting_one, span_after, stays, with_failsafe_feed}
 use Rattle.agent_model.specs.Table.{step, granted_any, refused_any}
 use Rattle.pg_model.specs.Running.{is_primary}
 use Rattle.agent_model.specs.Wake.{overdue, turned, woken}
-use Rattle.agent_model.proofs.Rows.{HandoverRows, ReplyRows, ActRows, looked-by, given-up-by, granted-any-by, refused-any-by, operated-by, led_on, if-cases, renewed-by, passing-by, begins-or-claims-by, before-by, overdue-by, turn-by, wake-by, got-by, refused-by, follow-by, free-by, granted-by, repaired-by, judged-by, answered-by, DutyRows, duties-of, leading_in_pause, takes-in-pause-by}
+use Rattle.agent_model.proofs.Rows.{HandoverRows, ReplyRows, ActRows, looked-by, given-up-by, granted-any-by, refused-any-by, operated-by, led_on, if-cases, renewed-by, passing-by, begins-or-claims-by, before-by, overdue-by, turn-by, wake-by, got-by, refused-by, follow-by, free-by, granted-by, repaired-by, judged-by, answered-by, failsafe-asked-by, failsafe-answered-by, DutyRows, duties-of, leading_in_pause, takes-in-pause-by}
 use Rattle.agent_model.specs.Answers.{is_other, asking_one, asking_first}
 use Rattle.pat_base.specs.declared.member_id.TheConstants.{MOST_MEMBERS}
 use Rattle.agent_model.specs.Peers.{keeping, answered}
@@ -55,9 +58,8 @@ after-push : (now : Ticks) (machine : Machine) (outs : List Output) (output : Ou
 after-push now machine [] output = refl
 after-push now machine (one ∷ outs) output = after-push now (machine_after_output now machine one) outs output
 
--- an output that the table makes so far, and that repairs no log
+-- an output that the table makes, and that repairs no log
 abbrev IsPlain : Output → Type 0
-IsPlain (outputs.HoldTaken until from sequence) = ⊥
 IsPlain (outputs.Send (targets.Member member) sequence body) = IsAsk body
 IsPlain (outputs.Repair leader repair) = ⊥
 IsPlain _ = Unit {0}
@@ -74,7 +76,6 @@ one-more now start machine outs output plain r = record {
 }
 
 plain-table : (output : Output) → IsPlain output → IsOfTable output
-plain-table (outputs.HoldTaken until from sequence) plain = plain
 plain-table (outputs.Send (targets.Member member) sequence body) plain = plain
 plain-table (outputs.Repair leader repair) plain = tt
 plain-table _ plain = tt
@@ -108,14 +109,19 @@ disarms now start machine outs (Some deadline) is r = one-more now start machine
 disarms now start machine outs None is r = subst (λ (x : Machine). Reached now start x outs) (ap (λ (d : Option Ticks). record machine { watchdog = record machine.watchdog { deadline = d } }) is) r
 
 feeds : (now : Ticks) (start machine : Machine) (outs : List Output) (until : Ticks) (armable : Bool) → Reached now start machine outs
-    → Reached now start (record machine { watchdog = if armable then record machine.watchdog { deadline = Some until } else machine.watchdog }) (fed_until (if armable then Some until else None) outs)
+    → Reached now start (record machine { watchdog = if armable then record machine.watchdog { deadline = Some until } else machine.watchdog; by_failsafe = not armable && machine.by_failsafe }) (fed_until (if armable then Some until else None) outs)
 feeds now start machine outs until true r = one-more now start machine outs (outputs.Fed until) tt r
 feeds now start machine outs until false r = r
 
 arms-it : (now : Ticks) (start machine : Machine) (outs : List Output) (until : Ticks) (armable : Bool) → Reached now start machine outs
-    → Reached now start (record machine { watchdog = if armable then record machine.watchdog { deadline = Some until } else machine.watchdog }) (armed (if armable then Some until else None) outs)
+    → Reached now start (record machine { watchdog = if armable then record machine.watchdog { deadline = Some until } else machine.watchdog; by_failsafe = not armable && machine.by_failsafe }) (armed (if armable then Some until else None) outs)
 arms-it now start machine outs until true r = one-more now start machine outs (outputs.Armed until) tt r
 arms-it now start machine outs until false r = r
+
+stays-fed : (now : Ticks) (start machine : Machine) (outs : List Output) (until : Ticks) (members : MemberSet) (sequence : ℕ) (since : Ticks) (armable : Bool) → Reached now start machine outs
+    → Reached now start (record machine { watchdog = if armable then record machine.watchdog { deadline = Some until } else machine.watchdog; by_failsafe = armable || machine.by_failsafe }) (fed_by_failsafe (if armable then Some until else None) members sequence since outs)
+stays-fed now start machine outs until members sequence since true r = one-more now start machine outs (outputs.FedByFailsafe until members sequence since) tt r
+stays-fed now start machine outs until members sequence since false r = r
 
 abbrev Reaches : Ticks → Machine → Outcome → Type 0
 Reaches now start o = Reached now start o.machine o.outputs
@@ -198,11 +204,33 @@ require-reaches now start required o r = one-more now start o.machine o.outputs 
 postpone-reaches : (now : Ticks) (start : Machine) (held : ℕ) (o : Outcome) → Reaches now start o → Reaches now start (postpones held o)
 postpone-reaches now start held o r = one-more now start (disarming o).machine (disarming o).outputs (outputs.Note agent_notes.PostponesPromotion) tt (disarm-reaches now start o r)
 
+-- requests to other members leave the machine alone
+request-reaches : (now : Ticks) (start machine : Machine) (members : MemberSet) (sequence : ℕ) (ttl : Ticks) (member : Option MemberId) (outs : List Output) → Reached now start machine outs → Reached now start machine (requesting_one members sequence ttl member outs)
+request-reaches now start machine members sequence ttl None outs r = r
+request-reaches now start machine members sequence ttl (Some member) outs r =
+    if-cases (Reached now start machine) (has members member.number) (with_output (outputs.Send (targets.Member member) sequence (bodies.FailsafeRequest ttl)) outs) outs
+    (λ _. one-more now start machine outs (outputs.Send (targets.Member member) sequence (bodies.FailsafeRequest ttl)) tt r) (λ _. r)
+
+requests-reach : (now : Ticks) (start machine : Machine) (members : MemberSet) (sequence : ℕ) (ttl : Ticks) (count : ℕ) (outs : List Output) → Reached now start machine outs → Reached now start machine (requesting_first members sequence ttl count outs)
+requests-reach now start machine members sequence ttl zero outs r = r
+requests-reach now start machine members sequence ttl (suc count) outs r =
+    request-reaches now start machine members sequence ttl (member_of count) (requesting_first members sequence ttl count outs) (requests-reach now start machine members sequence ttl count outs r)
+
+-- a leader stays primary
+stays-reaches : (now ttl : Ticks) (sequence : ℕ) (since : Ticks) (start : Machine) (o : Outcome) → Reaches now start o → Reaches now start (stays now ttl sequence since o)
+stays-reaches now ttl sequence since start o r =
+    let until : Ticks = record { 0 = now.0 + timeout_of o.machine.watchdog.margin ttl.0 } in
+    one-more now start (with_failsafe_feed now ttl o.machine) (fed_by_failsafe (deadline_after now ttl o.machine.watchdog) o.knows.failsafe.members sequence since o.outputs) outputs.StaysByFailsafe tt
+    (stays-fed now start o.machine o.outputs until o.knows.failsafe.members sequence since (is_armable o.machine.watchdog.mode o.machine.watchdog.works) r)
+
 overdue-reaches : (now : Ticks) (start : Machine) (o : Outcome) → Reaches now start o → Reaches now start (overdue now o)
 overdue-reaches now start o r = overdue-by (Reaches now start) now o (record {
   kept = r;
   quiet = r;
   leader = λ held _. end-reaches now start StoreOutOfReach o r;
+  seeks = λ held _. requests-reach now start o.machine (others_known o.knows) (o.knows.sequence + 1) (lease_span o.knows.settings) MOST_MEMBERS o.outputs r;
+  alone = λ held _. stays-reaches now (lease_span o.knows.settings) o.knows.sequence now start (record (waiting_no_more o) { knows = record (waiting_no_more o).knows { failsafe = asked (others_known o.knows) now } }) r;
+  silent = λ held _. end-reaches now start FailsafeNotAcknowledged o r;
   unleased = λ _. end-reaches now start StoreOutOfReach o r;
   judges = λ _. judged-reaches now start o r;
   ready = λ held _. postpone-reaches now start held (waiting_no_more o) r;
@@ -343,6 +371,7 @@ granted-reaches now start sequence grant snapshot o r = let told : Outcome = rec
       unleased_in_pause = λ renews _ _. disabled-reaches now start renews told r;
       takes_in_pause = λ renews _ _. leading-in-pause-reaches now start renews grant.revision told r;
     })
+    (λ after reached. reached)
     (record {
       other = r;
       begins = λ revision _. begin-reaches now start revision told r;
@@ -355,6 +384,9 @@ act-rows now start request o r = record {
   asks = λ operation txn _. send-reaches now start (bodies.Request txn) o r;
   restarts = λ told. one-more now start (restarting now o).machine (restarting now o).outputs (outputs.Told request told) tt (one-more now start o.machine o.outputs (outputs.Restart (is_primary o.machine.server.state)) tt r);
   wipes = λ told. one-more now start (wiping o).machine (wiping o).outputs (outputs.Told request told) tt (one-more now start o.machine o.outputs outputs.Wipe tt r);
+  holds = λ ttl told _. let held : Outcome = holding_for now o.knows.who.me unnumbered ttl o in
+      one-more now start held.machine held.outputs (outputs.Told request told) tt (one-more now start o.machine o.outputs (outputs.HoldTaken (span_after now ttl) o.knows.who.me unnumbered) tt r);
+  refuses = λ told. one-more now start o.machine o.outputs (outputs.Told request told) tt r;
 }
 
 step-carries : (now : Ticks) (points : List HistoryPoint) (heard : Heard) (start : Machine) (o : Outcome) → Reaches now start o → IsCarriedOut now start (step now points heard o)
@@ -374,6 +406,21 @@ step-carries now points (Mismatch sequence key found) start o r =
 step-carries now points (Asked from incarnation sequence) start o r =
     carried-out now start (step now points (Asked from incarnation sequence) o) (one-more now start (reconciled now o).machine (reconciled now o).outputs _ tt (before-reaches now start o r))
 step-carries now points (Answered sequence answer) start o r = carried-out now start (answered now sequence answer (reconciled now o)) (answered-reaches now start sequence answer (reconciled now o) (before-reaches now start o r))
+step-carries now points (FailsafeAsked from incarnation sequence ttl) start o r = let first : Outcome = reconciled now o in
+    let fresh : Reaches now start first = before-reaches now start o r in
+    carried-out now start (failsafe_asked now from incarnation sequence ttl first) (failsafe-asked-by (Reaches now start) now from incarnation sequence ttl first
+    (λ _. one-more now start (holding_for now from sequence ttl first).machine (holding_for now from sequence ttl first).outputs (outputs.FailsafeAnswer from incarnation sequence true) tt
+    (one-more now start first.machine first.outputs (outputs.HoldTaken (span_after now ttl) from sequence) tt fresh))
+    (one-more now start first.machine first.outputs (outputs.FailsafeAnswer from incarnation sequence false) tt fresh))
+step-carries now points (FailsafeAnswered from sequence accepted sent) start o r = let first : Outcome = reconciled now o in
+    let fresh : Reaches now start first = before-reaches now start o r in
+    carried-out now start (failsafe_answered now from sequence accepted sent first) (failsafe-answered-by (Reaches now start) now from sequence accepted sent first (record {
+      kept = fresh;
+      quiet = fresh;
+      counts = λ _ _. fresh;
+      stays = λ _ _ waited _ _ since _. stays-reaches now waited.ttl waited.sequence since start (counting from sent first) fresh;
+      fails = λ _ _ _. end-reaches now start FailsafeNotAcknowledged first fresh;
+    }))
 step-carries now points (HearsOperator action) start o r = let first : Outcome = reconciled now o in
     carried-out now start (operated now action.request action.asked first) (operated-by (Reaches now start) now action.request action.asked first (act-rows now start action.request first (before-reaches now start o r)))
 

@@ -1,8 +1,9 @@
 -- What the outputs of an input, carried out in their order, make of a machine.
-use Rattle.std.specs.Prelude.{◌≡◌, nat_le, if◌then◌else◌, List, [], ◌∷◌, Option, Some, None, All}
+use Rattle.std.specs.Prelude.{◌≡◌, Bool, true, false, List, [], ◌∷◌, Some, All}
 use Rattle.pat_base.specs.declared.ticks.Ticks.{Ticks}
 use Rattle.pg_model.specs.Status.{status_replica_started, status_stopping, status_following, status_restarted, status_wiped}
 use Rattle.event_book.specs.Members.{server_id_of}
+use Rattle.event_book.specs.Watchdogs.{prolonged_to}
 use Rattle.pg_model.specs.declared.status.ServerStatus.{ServerStatus}
 use Rattle.agent_model.specs.declared.machine.Machine.{Machine}
 use Rattle.agent_model.specs.declared.output.Output.{Output}
@@ -16,14 +17,9 @@ use Rattle.agent_roles.specs.Asks.{IsAsk}
 abbrev pub with_server : ServerStatus → Machine → Machine
 with_server server machine = record machine { server = server }
 
--- the machine with this deadline of its watchdog
-abbrev pub with_deadline : Ticks → Machine → Machine
-with_deadline deadline machine = record machine { watchdog = record machine.watchdog { deadline = Some deadline } }
-
--- until when a member holds that promises it until this moment: a hold never ends earlier
-abbrev pub later_hold : Ticks → Option Ticks → Ticks
-later_hold until None = until
-later_hold until (Some hold) = if nat_le hold.0 until.0 then until else hold
+-- the machine with this deadline of its watchdog, which acknowledgements set or a grant
+abbrev pub with_deadline : Ticks → Bool → Machine → Machine
+with_deadline deadline by_failsafe machine = record machine { watchdog = record machine.watchdog { deadline = Some deadline }; by_failsafe = by_failsafe }
 
 -- the machine once this output is carried out at this moment
 abbrev pub machine_after_output : Ticks → Machine → Output → Machine
@@ -34,11 +30,12 @@ machine_after_output now machine outputs.ShutDown = with_server (status_stopping
 machine_after_output now machine (outputs.Restart as_primary) = with_server (status_restarted now machine.server) machine
 machine_after_output now machine outputs.Wipe = with_server (status_wiped machine.server) machine
 machine_after_output now machine (outputs.Follow leader) = with_server (status_following (server_id_of leader) machine.server) machine
-machine_after_output now machine (outputs.Armed until) = with_deadline until machine
-machine_after_output now machine (outputs.Fed until) = with_deadline until machine
+machine_after_output now machine (outputs.Armed until) = with_deadline until false machine
+machine_after_output now machine (outputs.Fed until) = with_deadline until false machine
+machine_after_output now machine (outputs.FedByFailsafe until members sequence since) = with_deadline until true machine
 machine_after_output now machine outputs.Disarmed = without_deadline machine
 machine_after_output now machine (outputs.Require required) = with_required required machine
-machine_after_output now machine (outputs.HoldTaken until from sequence) = record machine { hold = Some (later_hold until machine.hold) }
+machine_after_output now machine (outputs.HoldTaken until from sequence) = record machine { hold = prolonged_to until machine.hold }
 machine_after_output now machine _ = machine
 
 -- the machine once these outputs are carried out at this moment, in their order
@@ -46,9 +43,8 @@ abbrev pub machine_after_outputs : Ticks → Machine → List Output → Machine
 machine_after_outputs now machine [] = machine
 machine_after_outputs now machine (output ∷ later) = machine_after_outputs now (machine_after_output now machine output) later
 
--- an output that the table makes so far: it takes no hold, and of another member it only asks how far its server is
+-- an output that the table makes: of another member it only asks how far its server is, and whether it may stay primary
 abbrev pub IsOfTable : Output → Type 0
-IsOfTable (outputs.HoldTaken until from sequence) = ⊥
 IsOfTable (outputs.Send (targets.Member member) sequence body) = IsAsk body
 IsOfTable _ = Unit {0}
 

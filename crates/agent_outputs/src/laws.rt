@@ -10,7 +10,8 @@ ghost use Rattle.agent_outputs.specs.Orders.{IsCarriedOut};
 ghost use Rattle.agent_model.specs.Table.{step};
 
 /// The outputs of an input are all that becomes of its machine: the machine that it leaves is what they, carried out in their
-/// order, make of the machine before. None takes a hold, and of another member none asks more than how far its server is.
+/// order, make of the machine before. Of another member none asks more than how far its server is,
+/// and whether this one may stay primary.
 pub fn outputs_make_the_machine()
     ensures { (now : Ticks) (points : List HistoryPoint) (heard : Heard) (role : RoleFacts) (knows : Knowledge) (machine : Machine) → IsCarriedOut now machine (step now points heard (outcome_from role knows machine [])) }
 {}

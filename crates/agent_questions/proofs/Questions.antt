@@ -22,10 +22,10 @@ use Rattle.sync_state.specs.declared.steps.Plan.{Plan}
 use Rattle.sync_state.specs.declared.steps.Plan.TheVariants as plans
 use Rattle.sync_state.specs.Plans.{plan_of}
 use Rattle.agent_model.specs.declared.heard.Heard.{Heard}
-use Rattle.agent_model.specs.declared.heard.Heard.TheVariants.{Wake, ReadAnswered, Granted as HeardGranted, Mismatch, Asked, Answered, Operated}
+use Rattle.agent_model.specs.declared.heard.Heard.TheVariants.{Wake, ReadAnswered, Granted as HeardGranted, Mismatch, Asked, Answered, FailsafeAsked, FailsafeAnswered, Operated}
 use Rattle.agent_model.specs.declared.knowledge.Knowledge.{Knowledge}
 use Rattle.agent_model.specs.declared.knowledge.Question.{Question}
-use Rattle.agent_model.specs.declared.knowledge.Question.TheVariants.{Reading, ComparingPositions, FindingCandidate, Creating, Renewing, Claiming, Syncing}
+use Rattle.agent_model.specs.declared.knowledge.Question.TheVariants.{Reading, ComparingPositions, FindingCandidate, Creating, Renewing, Claiming, Syncing, StayingPrimary}
 use Rattle.agent_model.specs.declared.knowledge.Settling.{Settling}
 use Rattle.agent_model.specs.declared.knowledge.Settling.TheVariants.{KeepsList, NamesStandbys, ClearsList}
 use Rattle.agent_model.specs.declared.knowledge.SyncRead.{SyncRead}
@@ -41,20 +41,24 @@ use Rattle.agent_model.specs.Acting.{requiring, ending_server, seconds_after, le
 use Rattle.agent_model.specs.Agents.{RoleFacts, Follower, Ending, Outcome, outcome_from}
 use Rattle.agent_model.specs.Reconciling.{has_ended, reconciled}
 use Rattle.agent_model.specs.Claiming.{begins, claims, begins_or_claims, passing, postpones}
-use Rattle.agent_model.specs.Decisions.{asks_lease, asks_sync, is_start_too_long, leader_renewed, takes_over, unleased_renewed, may_take, gives_back, arms, takes_key, granted, refused}
+use Rattle.agent_model.specs.Decisions.{confirming, asks_lease, asks_sync, is_start_too_long, leader_renewed, takes_over, unleased_renewed, may_take, gives_back, arms, takes_key, granted, refused}
 use Rattle.agent_model.specs.Planning.{writing_sync, switching_off, planned_as, planned_on, leader_view, noting}
 use Rattle.agent_model.specs.Synchronous.{expected_of, sync_read_if, unnamed, waiting_for}
 use Rattle.pat_base.specs.declared.server_state.Required.{Required}
 use Rattle.pat_base.specs.declared.server_state.Required.TheVariants as needs
 use Rattle.agent_model.specs.HandingOver.{asking_whom, checking, duties, hands_over}
-use Rattle.agent_model.specs.Operators.{answering, given_up, learned, looked, operated, operating, restarting, wiping}
+use Rattle.agent_model.specs.Operators.{answering, given_up, learned, looked, operated, operating, restarting, wiping, unnumbered}
 use Rattle.agent_model.specs.Outputs.{with_output}
 use Rattle.agent_model.specs.Racing.{finds_free, judged, answers_until, asking_others, unheard}
 use Rattle.agent_model.specs.Repairs.{repair_of}
-use Rattle.agent_model.specs.Snapshots.{informed, follows, read_noted, read_answered, follow_row, led_by_another}
+use Rattle.agent_model.specs.Snapshots.{carrying, informed, follows, read_noted, read_answered, follow_row, led_by_another}
+use Rattle.pat_base.specs.declared.member_set.MemberSet.{MemberSet}
+use Rattle.failsafe.specs.Asks.{asked as asked_nobody, has}
+use Rattle.agent_model.specs.FailsafeKeys.{set_carried}
+use Rattle.agent_model.specs.StayingPrimary.{asking_to_stay, counting, failsafe_answered, fed_by_failsafe, holding_for, others_known, requesting_all, requesting_first, requesting_one, span_after, stays}
 use Rattle.agent_model.specs.Table.{granted_any, refused_any, step}
 use Rattle.agent_model.specs.Wake.{turn_noted, overdue, turned, woken}
-use Rattle.agent_model.proofs.Rows.{HandoverRows, IsOperatorTxn, ReplyRows, dropping, led_on, if-cases, begins-or-claims-by, passing-by, before-by, duties-by, given-up-by, granted-any-by, looked-by, operated-by, overdue-by, refused-any-by, turn-by, wake-by, got-by, refused-by, follow-by, repaired-by, free-by, granted-by, judged-by, answered-by, leading_in_pause, takes-in-pause-by}
+use Rattle.agent_model.proofs.Rows.{HandoverRows, IsOperatorTxn, ReplyRows, dropping, led_on, if-cases, begins-or-claims-by, passing-by, before-by, duties-by, given-up-by, granted-any-by, looked-by, operated-by, overdue-by, refused-any-by, turn-by, wake-by, got-by, refused-by, follow-by, repaired-by, free-by, granted-by, judged-by, answered-by, failsafe-asked-by, failsafe-answered-by, leading_in_pause, takes-in-pause-by}
 use Rattle.agent_model.specs.declared.who.Who.{Who}
 use Rattle.agent_model.specs.Answers.{is_other, asking_all, asking_one, asking_first}
 use Rattle.pat_base.specs.declared.member_id.TheConstants.{MOST_MEMBERS}
@@ -289,6 +293,37 @@ reply-reaches now known o r = record { kept = r; answers = λ request told. answ
 postpone-reaches : (now : Ticks) (known : Knowledge) (held : ℕ) (o : Outcome) → Reaches now known o → Reaches now known (postpones held o)
 postpone-reaches now known held o r = one-more now known o.knows (disarmed o.machine.watchdog.deadline o.outputs) (outputs.Note agent_notes.PostponesPromotion) tt (disarm-reaches now known o r)
 
+-- requests to other members, all under one number
+request-sends : (low high : ℕ) (members : MemberSet) (sequence : ℕ) (ttl : Ticks) (member : Option MemberId) (outs : List Output) → low < sequence → sequence ≤ high → All (SendsBetween low high) outs → All (SendsBetween low high) (requesting_one members sequence ttl member outs)
+request-sends low high members sequence ttl None outs later less all = all
+request-sends low high members sequence ttl (Some member) outs later less all =
+    if-cases (λ (l : List Output). All (SendsBetween low high) l) (has members member.number) (with_output (outputs.Send (targets.Member member) sequence (bodies.FailsafeRequest ttl)) outs) outs
+    (λ _. All-push (SendsBetween low high) outs (outputs.Send (targets.Member member) sequence (bodies.FailsafeRequest ttl)) all (later, less, tt)) (λ _. all)
+
+requests-send : (low high : ℕ) (members : MemberSet) (sequence : ℕ) (ttl : Ticks) (count : ℕ) (outs : List Output) → low < sequence → sequence ≤ high → All (SendsBetween low high) outs → All (SendsBetween low high) (requesting_first members sequence ttl count outs)
+requests-send low high members sequence ttl zero outs later less all = all
+requests-send low high members sequence ttl (suc count) outs later less all =
+    request-sends low high members sequence ttl (member_of count) (requesting_first members sequence ttl count outs) later less (requests-send low high members sequence ttl count outs later less all)
+
+seek-reaches : (now : Ticks) (known : Knowledge) (members : MemberSet) (o : Outcome) → Reaches now known o → Reaches now known (asking_to_stay now members o)
+seek-reaches now known members o r =
+    let outs : List Output = requesting_all members (o.knows.sequence + 1) (lease_span o.knows.settings) o.outputs in
+    goes-on now known (waiting now StayingPrimary (answers_until now) (counted o.knows)) (asking_to_stay now members o).knows outs refl refl refl refl
+    (peers-reach now known StayingPrimary o outs refl refl
+    (requests-send known.sequence (o.knows.sequence + 1) members (o.knows.sequence + 1) (lease_span o.knows.settings) MOST_MEMBERS o.outputs (omega (arith, r.last)) (omega arith)) r)
+
+-- a leader stays primary
+stay-fed : (now : Ticks) (known knows : Knowledge) (outs : List Output) (until : Option Ticks) (members : MemberSet) (sequence : ℕ) (since : Ticks) → AsksAnew now known knows outs → AsksAnew now known knows (fed_by_failsafe until members sequence since outs)
+stay-fed now known knows outs None members sequence since r = r
+stay-fed now known knows outs (Some until) members sequence since r = one-more now known knows outs (outputs.FedByFailsafe until members sequence since) tt r
+
+stay-reaches : (now ttl : Ticks) (known : Knowledge) (sequence : ℕ) (since : Ticks) (o : Outcome) → Reaches now known o → Reaches now known (stays now ttl sequence since o)
+stay-reaches now ttl known sequence since o r =
+    let until : Option Ticks = deadline_after now ttl o.machine.watchdog in
+    let fed : List Output = fed_by_failsafe until o.knows.failsafe.members sequence since o.outputs in
+    rests now known o.knows (stays now ttl sequence since o).knows (with_output outputs.StaysByFailsafe fed) refl refl refl refl
+    (one-more now known o.knows fed outputs.StaysByFailsafe tt (stay-fed now known o.knows o.outputs until o.knows.failsafe.members sequence since r))
+
 overdue-reaches : (now : Ticks) (known : Knowledge) (o : Outcome) → Reaches now known o → Reaches now known (overdue now o)
 overdue-reaches now known o r =
     let quiet : AsksAnew now known (let none : Knowledge = record o.knows { waited = None } in none) o.outputs = rests now known o.knows _ o.outputs refl refl refl refl r in
@@ -296,6 +331,10 @@ overdue-reaches now known o r =
       kept = r;
       quiet = quiet;
       leader = λ held _. one-more now known _ o.outputs _ tt quiet;
+      seeks = λ held _. seek-reaches now known (others_known o.knows) (waiting_no_more o) quiet;
+      alone = λ held _. let begun : Outcome = record (waiting_no_more o) { knows = record (waiting_no_more o).knows { failsafe = asked_nobody (others_known o.knows) now } } in
+          stay-reaches now (lease_span o.knows.settings) known o.knows.sequence now begun (goes-on now known (waiting_no_more o).knows begun.knows o.outputs refl refl refl refl quiet);
+      silent = λ held _. one-more now known _ o.outputs _ tt quiet;
       unleased = λ _. one-more now known _ o.outputs _ tt quiet;
       judges = λ _. judged-reaches now known o r;
       ready = λ held _. postpone-reaches now known held (waiting_no_more o) quiet;
@@ -341,6 +380,19 @@ free-reaches now known o r = let x : Outcome = record o { role = Follower } in
       asks = others-reach now known (unheard x) alone;
     })
 
+-- another member answers a failsafe request
+staying-reaches : (now : Ticks) (known : Knowledge) (from : MemberId) (sequence : ℕ) (accepted : Bool) (sent : Ticks) (o : Outcome) → Reaches now known o → Reaches now known (failsafe_answered now from sequence accepted sent o)
+staying-reaches now known from sequence accepted sent o r =
+    let quiet : AsksAnew now known (let none : Knowledge = record o.knows { waited = None } in none) o.outputs = rests now known o.knows _ o.outputs refl refl refl refl r in
+    let counts : Reaches now known (counting from sent o) = goes-on now known o.knows (counting from sent o).knows o.outputs refl refl refl refl r in
+    failsafe-answered-by (Reaches now known) now from sequence accepted sent o (record {
+      kept = r;
+      quiet = quiet;
+      counts = λ _ _. counts;
+      stays = λ _ _ waited _ _ since _. stay-reaches now waited.ttl known waited.sequence since (counting from sent o) counts;
+      fails = λ _ _ _. one-more now known _ o.outputs _ tt quiet;
+    })
+
 answered-reaches : (now : Ticks) (known : Knowledge) (sequence : ℕ) (answer : PeerAnswer) (o : Outcome) → Reaches now known o → Reaches now known (answered now sequence answer o)
 answered-reaches now known sequence answer o r =
     let kept : Reaches now known (keeping answer o) = goes-on now known o.knows (keeping answer o).knows o.outputs refl refl refl refl r in
@@ -362,7 +414,8 @@ got-reaches now points known sequence snapshot o r =
       other = told;
       leader = λ held _. one-more now known read.knows o.outputs _ tt told;
       unleased = λ _. one-more now known read.knows o.outputs _ tt told;
-      renews = λ _ leader _ _. ask-reaches now known Renewing _ _ read tt (λ _. refl) (λ e. absurd (both e)) told;
+      renews = λ _ leader _ _. let lists : Outcome = carrying (set_carried read) read in
+          ask-reaches now known Renewing _ _ lists tt (λ _. refl) (λ e. absurd (both e)) (goes-on now known read.knows lists.knows o.outputs refl refl refl refl told);
       touches = touch-reaches now known read told;
       follows = λ leader _ _. follow-reaches now known leader.holder read told;
       free = λ _ _. free-reaches now known read told;
@@ -486,6 +539,7 @@ granted-reaches now known sequence grant snapshot o r =
       takes_in_pause = λ renews _ _. let rest : Outcome = disabling_watchdog renews told in let rested : Reaches now known rest = disabled-reaches now known renews told next in
           takes-in-pause-by (Reaches now known) now renews grant.revision told (send-reaches now known (bodies.Request (txns.Release grant.revision)) told tt next) (begin-reaches now known grant.revision rest rested) (claim-reaches now known grant.revision rest rested);
     })
+    (λ after reached. goes-on now known after.knows (confirming snapshot after).knows after.outputs refl refl refl refl reached)
     (record {
       other = next;
       begins = λ revision _. begin-reaches now known revision told next;
@@ -517,6 +571,8 @@ operated-reaches now known request asked o r = operated-by (Reaches now known) n
       let again : Outcome = restarting now o in
       one-more now known again.knows again.outputs (outputs.Told request told) tt (goes-on now known o.knows again.knows again.outputs refl refl refl refl (one-more now known o.knows o.outputs _ tt r));
   wipes = λ told. one-more now known o.knows (wiping o).outputs (outputs.Told request told) tt (one-more now known o.knows o.outputs outputs.Wipe tt r);
+  holds = λ ttl told _. one-more now known o.knows (holding_for now o.knows.who.me unnumbered ttl o).outputs (outputs.Told request told) tt (one-more now known o.knows o.outputs (outputs.HoldTaken (span_after now ttl) o.knows.who.me unnumbered) tt r);
+  refuses = λ told. one-more now known o.knows o.outputs (outputs.Told request told) tt r;
 })
 
 step-reaches : (now : Ticks) (points : List HistoryPoint) (heard : Heard) (known : Knowledge) (o : Outcome) → Reaches now known o → Reaches now known (step now points heard o)
@@ -527,6 +583,12 @@ step-reaches now points (HeardGranted sequence grant snapshot) known o r = grant
 step-reaches now points (Mismatch sequence key found) known o r = refused-any-reaches now known sequence (reconciled now o) (before-reaches now known o r)
 step-reaches now points (Asked from incarnation sequence) known o r = one-more now known (reconciled now o).knows (reconciled now o).outputs _ tt (before-reaches now known o r)
 step-reaches now points (Answered sequence answer) known o r = answered-reaches now known sequence answer (reconciled now o) (before-reaches now known o r)
+step-reaches now points (FailsafeAsked from incarnation sequence ttl) known o r = let first : Outcome = reconciled now o in
+    let fresh : Reaches now known first = before-reaches now known o r in
+    failsafe-asked-by (Reaches now known) now from incarnation sequence ttl first
+    (λ _. one-more now known first.knows (holding_for now from sequence ttl first).outputs (outputs.FailsafeAnswer from incarnation sequence true) tt (one-more now known first.knows first.outputs (outputs.HoldTaken (span_after now ttl) from sequence) tt fresh))
+    (one-more now known first.knows first.outputs (outputs.FailsafeAnswer from incarnation sequence false) tt fresh)
+step-reaches now points (FailsafeAnswered from sequence accepted sent) known o r = staying-reaches now known from sequence accepted sent (reconciled now o) (before-reaches now known o r)
 step-reaches now points (Operated action) known o r = operated-reaches now known action.request action.asked (reconciled now o) (before-reaches now known o r)
 
 pub step-asks-anew : (now : Ticks) (points : List HistoryPoint) (heard : Heard) (role : RoleFacts) (knows : Knowledge) (machine : Machine)

@@ -21,12 +21,13 @@ use Rattle.agent_model.specs.Snapshots.{leader_loses_key, unleased_loses_key, re
 use Rattle.agent_model.specs.Racing.{creating, barred, finds_free, judged, asking_others, unheard}
 use Rattle.agent_model.specs.Wake.{leader_out_of_reach, unleased_out_of_reach, reading, turn_noted, overdue, turned, woken}
 use Rattle.agent_model.specs.HandingOver.{hands_over}
-use Rattle.agent_model.specs.Operators.{answering, given_up, looked, operated, operating, restarting, telling, wiping}
+use Rattle.agent_model.specs.Operators.{answering, given_up, looked, operated, operating, restarting, telling, wiping, unnumbered}
 use Rattle.agent_model.specs.Table.{refused_any}
 use Rattle.store_keys.specs.declared.action.OperatorAction.{OperatorAction}
 use Rattle.event_book.specs.declared.message.Body.TheVariants as bodies
 use Rattle.agent_roles.proofs.Living.{no-way, stop-live, start-live, follow-live, restart-live, wipe-live}
-use Rattle.agent_model.proofs.Rows.{HandoverRows, ReplyRows, ActRows, dropping, looked-by, given-up-by, refused-any-by, operated-by, before-by, overdue-by, turn-by, wake-by, got-by, refused-by, follow-by, repaired-by, free-by, judged-by, answered-by}
+use Rattle.agent_model.proofs.Rows.{HandoverRows, ReplyRows, ActRows, dropping, looked-by, given-up-by, refused-any-by, operated-by, before-by, overdue-by, turn-by, wake-by, got-by, refused-by, follow-by, repaired-by, free-by, judged-by, answered-by, failsafe-asked-by, failsafe-answered-by}
+use Rattle.agent_model.specs.StayingPrimary.{answering_failsafe, asking_to_stay, counting, failsafe_answered, failsafe_asked, holding_for, leader_unacknowledged, others_known, stays, stays_alone}
 use Rattle.agent_model.specs.Peers.{asked, keeping, answered}
 use Rattle.agent_model.specs.Pausing.{may_start_behind, running_without_key}
 
@@ -126,13 +127,22 @@ acts-bring now request o = record {
   asks = λ operation txn _. same-role o (operating now request operation (bodies.Request txn) o) refl (λ e. e);
   restarts = λ told. same-role o (telling request told (restarting now o)) refl (restart-live now o.machine.server);
   wipes = λ told. same-role o (telling request told (wiping o)) refl (wipe-live o.machine.server);
+  holds = λ ttl told _. same-role o (telling request told (holding_for now o.knows.who.me unnumbered ttl o)) refl (λ e. e);
+  refuses = λ told. same-role o (telling request told o) refl (λ e. e);
 }
+
+-- a leader that isn't acknowledged ends its server
+unacknowledged-brings : (now : Ticks) (held : ℕ) (o : Outcome) → o.role ≡ Leader held → BringsNothing o (leader_unacknowledged now held (waiting_no_more o))
+unacknowledged-brings now held o is = keeps-lease o (leader_unacknowledged now held (waiting_no_more o)) held (leader-lease o held is) refl refl (stop-live now o.machine.server)
 
 pub overdue-brings : (now : Ticks) (o : Outcome) → BringsNothing o (overdue now o)
 overdue-brings now o = overdue-by (BringsNothing o) now o (record {
   kept = same-role o o refl (λ e. e);
   quiet = same-role o (waiting_no_more o) refl (λ e. e);
   leader = λ held is. keeps-lease o (leader_out_of_reach now held (waiting_no_more o)) held (leader-lease o held is) refl refl (stop-live now o.machine.server);
+  seeks = λ held _. same-role o (asking_to_stay now (others_known o.knows) (waiting_no_more o)) refl (λ e. e);
+  alone = λ held _. same-role o (stays_alone now (others_known o.knows) (waiting_no_more o)) refl (λ e. e);
+  silent = λ held is. unacknowledged-brings now held o is;
   unleased = λ _. same-role o (unleased_out_of_reach now (waiting_no_more o)) refl (stop-live now o.machine.server);
   judges = λ _. judged-brings now o;
   ready = λ held is. postpones-brings o held (waiting_no_more o) is refl;
@@ -235,6 +245,27 @@ answered-brings now sequence answer o = brings-then o (reconciled now o) (answer
 -- the question of another member
 pub asked-brings : (now : Ticks) (from : MemberId) (incarnation sequence : ℕ) (o : Outcome) → BringsNothing o (asked from incarnation sequence (reconciled now o))
 asked-brings now from incarnation sequence o = brings-then o (reconciled now o) (asked from incarnation sequence (reconciled now o)) (before-brings now o) (same-role (reconciled now o) (asked from incarnation sequence (reconciled now o)) refl (λ e. e))
+
+-- another member asks to stay primary, or answers such a request
+pub holding-brings : (now : Ticks) (from : MemberId) (incarnation sequence : ℕ) (ttl : Ticks) (o : Outcome) → BringsNothing o (failsafe_asked now from incarnation sequence ttl o)
+holding-brings now from incarnation sequence ttl o = failsafe-asked-by (BringsNothing o) now from incarnation sequence ttl o
+    (λ _. same-role o (answering_failsafe from incarnation sequence true (holding_for now from sequence ttl o)) refl (λ e. e))
+    (same-role o (answering_failsafe from incarnation sequence false o) refl (λ e. e))
+
+pub staying-brings : (now : Ticks) (from : MemberId) (sequence : ℕ) (accepted : Bool) (sent : Ticks) (o : Outcome) → BringsNothing o (failsafe_answered now from sequence accepted sent o)
+staying-brings now from sequence accepted sent o = failsafe-answered-by (BringsNothing o) now from sequence accepted sent o (record {
+  kept = same-role o o refl (λ e. e);
+  quiet = same-role o (waiting_no_more o) refl (λ e. e);
+  counts = λ held _. same-role o (counting from sent o) refl (λ e. e);
+  stays = λ held _ waited _ _ since _. same-role o (stays now waited.ttl waited.sequence since (counting from sent o)) refl (λ e. e);
+  fails = λ held is _. unacknowledged-brings now held o is;
+})
+
+pub failsafe-asked-brings : (now : Ticks) (from : MemberId) (incarnation sequence : ℕ) (ttl : Ticks) (o : Outcome) → BringsNothing o (failsafe_asked now from incarnation sequence ttl (reconciled now o))
+failsafe-asked-brings now from incarnation sequence ttl o = let b : Outcome = reconciled now o in brings-then o b (failsafe_asked now from incarnation sequence ttl b) (before-brings now o) (holding-brings now from incarnation sequence ttl b)
+
+pub failsafe-answered-brings : (now : Ticks) (from : MemberId) (sequence : ℕ) (accepted : Bool) (sent : Ticks) (o : Outcome) → BringsNothing o (failsafe_answered now from sequence accepted sent (reconciled now o))
+failsafe-answered-brings now from sequence accepted sent o = let b : Outcome = reconciled now o in brings-then o b (failsafe_answered now from sequence accepted sent b) (before-brings now o) (staying-brings now from sequence accepted sent b)
 
 -- what an operator asks
 pub acting-brings : (now : Ticks) (action : OperatorAction) (o : Outcome) → BringsNothing o (operated now action.request action.asked o)

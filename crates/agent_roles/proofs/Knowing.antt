@@ -20,7 +20,9 @@ use Rattle.lease_law.specs.Leases.{LeaderSeen, FailsafeKey}
 use Rattle.event_book.specs.Functions.{set_members}
 use Rattle.lease_law.proofs.Tools.{some-is, none-some}
 use Rattle.agent_model.specs.declared.heard.Heard.{Heard}
-use Rattle.agent_model.specs.declared.heard.Heard.TheVariants.{Wake, ReadAnswered, Granted as HeardGranted, Mismatch, Asked, Answered, Operated as HearsOperator}
+use Rattle.agent_model.specs.declared.heard.Heard.TheVariants.{Wake, ReadAnswered, Granted as HeardGranted, Mismatch, Asked, Answered, FailsafeAsked, FailsafeAnswered, Operated as HearsOperator}
+use Rattle.agent_model.specs.declared.knowledge.FailsafeRead.{FailsafeRead}
+use Rattle.agent_model.specs.declared.knowledge.Knowledge.{Knowledge}
 use Rattle.agent_model.specs.declared.knowledge.PendingQuestion.{PendingQuestion}
 use Rattle.agent_model.specs.declared.output.Output.{Output}
 use Rattle.agent_model.specs.declared.output.Output.TheVariants as outputs
@@ -29,23 +31,26 @@ use Rattle.agent_model.specs.declared.why.Why.TheVariants.{HandOver, Lost}
 use Rattle.agent_model.specs.Acting.{disarming, arming, ending_server, requiring, shutting_down, touching, starting_replica, following_server, is_refusing, waiting_no_more}
 use Rattle.agent_model.specs.Agents.{EndsAlone, HasCounted, RoleFacts, Follower, Holder, Ready, Leader, Ending, Unleased, Outcome}
 use Rattle.agent_model.specs.Reconciling.{leader_finds_ended, has_ended, finds_live, unleased_finds_ended, reconciled}
-use Rattle.agent_model.specs.Decisions.{may_create, leader_renewed, takes_over, unleased_renewed, may_take, gives_back, arms, takes_key, granted, refused, takes_key_in_pause}
+use Rattle.agent_model.specs.Decisions.{confirming, may_create, leader_renewed, takes_over, unleased_renewed, may_take, gives_back, arms, takes_key, granted, refused, takes_key_in_pause}
 use Rattle.agent_model.specs.Claiming.{begins, claims, begins_or_claims, passing, postpones}
 use Rattle.agent_model.specs.Planning.{writing_sync, noting}
 use Rattle.agent_model.specs.Outputs.{with_output}
-use Rattle.agent_roles.specs.Seen.{lease_asked, leader_seen_if, failsafe_listed, failsafe_entry_seen, failsafe_seen_if}
+use Rattle.agent_roles.specs.Seen.{lease_asked, leader_seen_if, failsafe_listed, failsafe_entry_seen, failsafe_read_seen, failsafe_seen, failsafe_seen_if, hold_seen}
 use Rattle.agent_model.specs.Repairs.{repair_of, repairing}
-use Rattle.agent_model.specs.Snapshots.{known_with, informed, is_active, renewing, follow_row, follows, leader_loses_key, unleased_loses_key, read_noted, read_answered, asks_as_unleased, led_by_another}
+use Rattle.agent_model.specs.Snapshots.{known_with, informed, is_active, carrying, renewing_with, follow_row, follows, leader_loses_key, unleased_loses_key, read_noted, read_answered, asks_as_unleased, led_by_another}
 use Rattle.agent_model.specs.Racing.{creating, barred, finds_free, judged, asking_others, unheard}
 use Rattle.agent_model.specs.Peers.{asked, keeping, answered}
 use Rattle.agent_model.specs.HandingOver.{checking, hands_over}
-use Rattle.agent_model.specs.Operators.{answering, given_up, learned, looked, operated, operating, restarting, telling, wiping}
+use Rattle.agent_model.specs.Operators.{answering, given_up, learned, looked, operated, operating, restarting, telling, wiping, unnumbered}
+use Rattle.agent_model.specs.FailsafeKeys.{failsafe_read_by, failsafe_read_in, failsafe_read_of_entry, set_carried}
+use Rattle.agent_model.specs.StayingPrimary.{answering_failsafe, asking_to_stay, counting, failsafe_answered, failsafe_asked, leader_unacknowledged, others_known, span_after, stays, stays_alone, holding_for}
+use Rattle.event_book.specs.Watchdogs.{prolonged_to}
 use Rattle.agent_model.specs.Table.{step, granted_any, refused_any}
 use Rattle.event_book.specs.declared.message.Body.TheVariants as bodies
 use Rattle.agent_model.specs.Wake.{reading, turn_noted, leader_out_of_reach, unleased_out_of_reach, overdue, turned, woken}
 use Rattle.agent_roles.proofs.Granting.{Told}
 use Rattle.agent_roles.proofs.Living.{no-way}
-use Rattle.agent_model.proofs.Rows.{HandoverRows, ReplyRows, ActRows, dropping, looked-by, given-up-by, granted-any-by, refused-any-by, operated-by, led_on, if-cases, renewed-by, begins-or-claims-by, before-by, overdue-by, turn-by, wake-by, got-by, refused-by, follow-by, repaired-by, free-by, granted-by, judged-by, answered-by, DutyRows, duties-of, leading_in_pause, takes-in-pause-by}
+use Rattle.agent_model.proofs.Rows.{HandoverRows, ReplyRows, ActRows, dropping, looked-by, given-up-by, granted-any-by, refused-any-by, operated-by, led_on, if-cases, renewed-by, begins-or-claims-by, before-by, overdue-by, turn-by, wake-by, got-by, refused-by, follow-by, repaired-by, free-by, granted-by, judged-by, answered-by, failsafe-asked-by, failsafe-answered-by, DutyRows, duties-of, leading_in_pause, takes-in-pause-by}
 use Rattle.agent_model.specs.Pausing.{is_paused, may_start_behind, disabling_watchdog, running_without_key}
 use Rattle.store_keys.specs.Defaults.{default_config}
 use Rattle.store_keys.specs.declared.value.Value.{Value}
@@ -91,10 +96,10 @@ pub record Onward (told : Option SnapshotFacts) (o after : Outcome) : Type 0 whe
   pub waits : (n : ℕ) → lease_asked after.knows.waited ≡ Some n → (lease_asked o.knows.waited ≡ Some n) ⊎ (o.knows.sequence < n)
   pub known : (p : ℕ) → set_members o.knows.known p ≡ true → set_members after.knows.known p ≡ true
   pub informed : after.knows.informed ≡ true → (o.knows.informed ≡ true) ⊎ ((key : FailsafeKey) × (failsafe_seen_if told ≡ Some key))
-  pub failsafe : (key : FailsafeKey) → failsafe_seen_if after.knows.seen ≡ Some key → (failsafe_seen_if o.knows.seen ≡ Some key) ⊎ (failsafe_seen_if told ≡ Some key)
+  pub failsafe : (key : FailsafeKey) → failsafe_read_seen after.knows.turn_failsafe ≡ Some key → (failsafe_read_seen o.knows.turn_failsafe ≡ Some key) ⊎ (failsafe_seen_if told ≡ Some key)
   pub leader : (seen : LeaderSeen) → leader_seen_if after.knows.seen ≡ Some seen → (leader_seen_if o.knows.seen ≡ Some seen) ⊎ (leader_seen_if told ≡ Some seen)
   pub pauses : is_paused after.knows ≡ true → (is_paused o.knows ≡ true) ⊎ (tells_pause told ≡ true)
-  pub hold : after.machine.hold ≡ o.machine.hold
+  pub hold : hold_seen o.machine.hold ≤ hold_seen after.machine.hold
   pub ends : IsAlone o → IsAlone after
   pub counts : HasCounted o.knows → HasCounted after.knows
 
@@ -115,14 +120,22 @@ onward-then told a b c first second = record {
   failsafe = λ key e. elim (second.failsafe key e) [ inl before-it ↦ first.failsafe key before-it | inr new ↦ inr new ];
   leader = λ seen e. elim (second.leader seen e) [ inl before-it ↦ first.leader seen before-it | inr new ↦ inr new ];
   pauses = λ e. elim (second.pauses e) [ inl before-it ↦ first.pauses before-it | inr new ↦ inr new ];
-  hold = second.hold ∙ first.hold;
+  hold = omega (arith, first.hold, second.hold);
   ends = λ alone. second.ends (first.ends alone);
   counts = λ counted. second.counts (first.counts counted);
 }
 
+-- what an agent has read of keys: the newest snapshot, and the failsafe key of its turn
+pub record WasRead : Type 0 where
+  pub seen : Option SnapshotFacts
+  pub failsafe : Option FailsafeRead
+
+abbrev pub read_by : Knowledge → WasRead
+read_by knows = record { seen = knows.seen; failsafe = knows.turn_failsafe }
+
 -- what it knows of keys stays
 abbrev Keeps : (told : Option SnapshotFacts) (o after : Outcome) → Type 0
-Keeps told o after = after.knows.who ≡ o.knows.who → after.knows.incarnation ≡ o.knows.incarnation → after.knows.seen ≡ o.knows.seen → after.knows.known ≡ o.knows.known → after.knows.informed ≡ o.knows.informed → after.knows.settings ≡ o.knows.settings → o.knows.sequence ≤ after.knows.sequence
+Keeps told o after = after.knows.who ≡ o.knows.who → after.knows.incarnation ≡ o.knows.incarnation → read_by after.knows ≡ read_by o.knows → after.knows.known ≡ o.knows.known → after.knows.informed ≡ o.knows.informed → after.knows.settings ≡ o.knows.settings → o.knows.sequence ≤ after.knows.sequence
     → ((n : ℕ) → lease_asked after.knows.waited ≡ Some n → (lease_asked o.knows.waited ≡ Some n) ⊎ (o.knows.sequence < n)) → after.machine.hold ≡ o.machine.hold → (IsAlone o → IsAlone after) → (HasCounted o.knows → HasCounted after.knows) → Onward told o after
 
 keeps : (told : Option SnapshotFacts) (o after : Outcome) → Keeps told o after
@@ -133,10 +146,10 @@ keeps told o after who incarnation seen known informed settings last waits hold 
   waits = waits;
   known = λ p e. subst (λ (x : MemberSet). set_members x p ≡ true) (sym known) e;
   informed = λ e. inl (sym informed ∙ e);
-  failsafe = λ key e. inl (subst (λ (x : Option SnapshotFacts). failsafe_seen_if x ≡ Some key) seen e);
-  leader = λ seen-now e. inl (subst (λ (x : Option SnapshotFacts). leader_seen_if x ≡ Some seen-now) seen e);
+  failsafe = λ key e. inl (subst (λ (x : WasRead). failsafe_read_seen x.failsafe ≡ Some key) seen e);
+  leader = λ seen-now e. inl (subst (λ (x : WasRead). leader_seen_if x.seen ≡ Some seen-now) seen e);
   pauses = λ e. inl (subst (λ (x : Config). x.pause ≡ true) settings e);
-  hold = hold;
+  hold = omega (arith, ap hold_seen hold);
   ends = ends;
   counts = counts;
 }
@@ -146,13 +159,13 @@ same : (told : Option SnapshotFacts) (o : Outcome) → Onward told o o
 same told o = keeps told o o refl refl refl refl refl refl (omega arith) (λ n e. inl e) refl (λ alone. alone) (λ counted. counted)
 
 -- a step of a row that neither asks nor waits on: nothing is waited for after it
-rests : (told : Option SnapshotFacts) (o after : Outcome) → after.knows.who ≡ o.knows.who → after.knows.incarnation ≡ o.knows.incarnation → after.knows.seen ≡ o.knows.seen → after.knows.known ≡ o.knows.known → after.knows.informed ≡ o.knows.informed → after.knows.settings ≡ o.knows.settings
+rests : (told : Option SnapshotFacts) (o after : Outcome) → after.knows.who ≡ o.knows.who → after.knows.incarnation ≡ o.knows.incarnation → read_by after.knows ≡ read_by o.knows → after.knows.known ≡ o.knows.known → after.knows.informed ≡ o.knows.informed → after.knows.settings ≡ o.knows.settings
     → o.knows.sequence ≤ after.knows.sequence → after.knows.waited ≡ None → after.machine.hold ≡ o.machine.hold → Onward told o after
 rests told o after who incarnation seen known informed settings last waited hold =
     keeps told o after who incarnation seen known informed settings last (λ n e. absurd (none-some _ (sym (ap (λ (w : Option PendingQuestion). lease_asked w) waited) ∙ e))) hold (λ _ _. waited) (λ _ one is. absurd (none-some one (sym waited ∙ is)))
 
 -- a step that leaves alone what is waited for, in a role that doesn't end its server
-waits-on : (told : Option SnapshotFacts) (o after : Outcome) → after.knows.who ≡ o.knows.who → after.knows.incarnation ≡ o.knows.incarnation → after.knows.seen ≡ o.knows.seen → after.knows.known ≡ o.knows.known → after.knows.informed ≡ o.knows.informed → after.knows.settings ≡ o.knows.settings
+waits-on : (told : Option SnapshotFacts) (o after : Outcome) → after.knows.who ≡ o.knows.who → after.knows.incarnation ≡ o.knows.incarnation → read_by after.knows ≡ read_by o.knows → after.knows.known ≡ o.knows.known → after.knows.informed ≡ o.knows.informed → after.knows.settings ≡ o.knows.settings
     → o.knows.sequence ≤ after.knows.sequence → after.knows.waited ≡ o.knows.waited → after.machine.hold ≡ o.machine.hold → is_active after.role ≡ true → Onward told o after
 waits-on told o after who incarnation seen known informed settings last waited hold active =
     keeps told o after who incarnation seen known informed settings last (λ n e. inl (subst (λ (w : Option PendingQuestion). lease_asked w ≡ Some n) waited e)) hold (λ _ ending. absurd (no-way (sym ending ∙ active))) (λ counted one is. at-most (counted one (sym waited ∙ is)) last)
@@ -207,10 +220,10 @@ tells snapshot o = record {
   waits = λ n e. absurd (none-some _ e);
   known = λ p e. known-more o.knows.known (failsafe_in snapshot) p e;
   informed = λ e. told-entry o.knows.informed (entry_in keys.Failsafe snapshot) e;
-  failsafe = λ key e. inr e;
+  failsafe = λ key e. inl e;
   leader = λ seen e. inr e;
   pauses = λ e. told-pause o.knows.settings (entry_in keys.Config snapshot) e;
-  hold = refl;
+  hold = omega arith;
   ends = λ _ _. refl;
   counts = λ _ one is. absurd (none-some one is);
 }
@@ -227,7 +240,7 @@ learns snapshot o = let told : Onward (Some snapshot) o (record o { knows = info
   failsafe = told.failsafe;
   leader = told.leader;
   pauses = told.pauses;
-  hold = refl;
+  hold = omega arith;
   ends = λ alone. alone;
   counts = λ counted. counted;
 }
@@ -240,7 +253,7 @@ counts-asked : (asked one : PendingQuestion) (sequence : ℕ) → asked ≡ one 
 counts-asked asked one sequence same number = let e : asked.sequence ≡ one.sequence = ap (λ (w : PendingQuestion). w.sequence) same in omega (arith, e, number)
 
 -- a step that asks for a lease, or reads
-pub asks-on : (told : Option SnapshotFacts) (o after : Outcome) → after.knows.who ≡ o.knows.who → after.knows.incarnation ≡ o.knows.incarnation → after.knows.seen ≡ o.knows.seen → after.knows.known ≡ o.knows.known → after.knows.informed ≡ o.knows.informed → after.knows.settings ≡ o.knows.settings
+pub asks-on : (told : Option SnapshotFacts) (o after : Outcome) → after.knows.who ≡ o.knows.who → after.knows.incarnation ≡ o.knows.incarnation → read_by after.knows ≡ read_by o.knows → after.knows.known ≡ o.knows.known → after.knows.informed ≡ o.knows.informed → after.knows.settings ≡ o.knows.settings
     → o.knows.sequence ≤ after.knows.sequence → ((n : ℕ) → lease_asked after.knows.waited ≡ Some n → o.knows.sequence < n) → after.machine.hold ≡ o.machine.hold → is_active after.role ≡ true → (asked : PendingQuestion) → after.knows.waited ≡ Some asked → asked.sequence ≡ after.knows.sequence → Onward told o after
 asks-on told o after who incarnation seen known informed settings last new hold active asked is number =
     keeps told o after who incarnation seen known informed settings last (λ n e. inr (new n e)) hold (λ _ ending. absurd (no-way (sym ending ∙ active))) (λ _ one one-is. counts-asked asked one after.knows.sequence (some-is asked one (sym is ∙ one-is)) number)
@@ -280,6 +293,9 @@ creates-active (Leader held) may = refl
 creates-active (Ending held why) may = absurd (no-way may)
 creates-active Unleased may = refl
 
+leads-active : (role : RoleFacts) (held : ℕ) → role ≡ Leader held → is_active role ≡ true
+leads-active role held is = rw is refl
+
 judged-onward : (told : Option SnapshotFacts) (now : Ticks) (o : Outcome) → may_create o.role ≡ true → Onward told o (judged now o)
 judged-onward told now o may = judged-by (Onward told o) now o
     (asks-on told o (creating now (waiting_no_more o)) refl refl refl refl refl refl (omega arith) (λ n e. asked-new o.knows.sequence n e) refl (creates-active o.role may) _ refl refl)
@@ -300,12 +316,36 @@ told-onward told o b first = record {
   answers = λ request said. onward-then told o b (answering request said b) first (keeps told b (answering request said b) refl refl refl refl refl refl (omega arith) (λ n e. inl e) refl (λ alone. alone) (λ counted. counted));
 }
 
+-- a hold isn't shortened
+prolonged : (until : Ticks) (hold : Option Ticks) → hold_seen hold ≤ hold_seen (prolonged_to until hold)
+prolonged until None = omega arith
+prolonged until (Some before) = omega arith
+
+holds-onward : (told : Option SnapshotFacts) (now : Ticks) (from : MemberId) (sequence : ℕ) (ttl : Ticks) (o : Outcome) → Onward told o (holding_for now from sequence ttl o)
+holds-onward told now from sequence ttl o = record {
+  who = refl;
+  incarnation = refl;
+  last = omega arith;
+  waits = λ n e. inl e;
+  known = λ p e. e;
+  informed = λ e. inl e;
+  failsafe = λ key e. inl e;
+  leader = λ seen e. inl e;
+  pauses = λ e. inl e;
+  hold = prolonged (span_after now ttl) o.machine.hold;
+  ends = λ alone. alone;
+  counts = λ counted. counted;
+}
+
 -- what one asks is done
 acts-onward : (told : Option SnapshotFacts) (now : Ticks) (request : ℕ) (o : Outcome) → ActRows (Onward told o) now request o
 acts-onward told now request o = record {
   asks = λ operation txn _. keeps told o (operating now request operation (bodies.Request txn) o) refl refl refl refl refl refl (omega arith) (λ n e. inl e) refl (λ alone. alone) (λ counted one is. at-most (counted one is) (omega arith));
   restarts = λ said. keeps told o (telling request said (restarting now o)) refl refl refl refl refl refl (omega arith) (λ n e. inl e) refl (λ alone. alone) (λ counted. counted);
   wipes = λ said. keeps told o (telling request said (wiping o)) refl refl refl refl refl refl (omega arith) (λ n e. inl e) refl (λ alone. alone) (λ counted. counted);
+  holds = λ ttl said _. let held : Outcome = holding_for now o.knows.who.me unnumbered ttl o in
+      onward-then told o held (telling request said held) (holds-onward told now o.knows.who.me unnumbered ttl o) (keeps told held (telling request said held) refl refl refl refl refl refl (omega arith) (λ n e. inl e) refl (λ alone. alone) (λ counted. counted));
+  refuses = λ said. keeps told o (telling request said o) refl refl refl refl refl refl (omega arith) (λ n e. inl e) refl (λ alone. alone) (λ counted. counted);
 }
 
 pub overdue-onward : (told : Option SnapshotFacts) (now : Ticks) (o : Outcome) → Onward told o (overdue now o)
@@ -313,6 +353,9 @@ overdue-onward told now o = overdue-by (Onward told o) now o (record {
   kept = same told o;
   quiet = rests told o (waiting_no_more o) refl refl refl refl refl refl (omega arith) refl refl;
   leader = λ held _. rests told o (leader_out_of_reach now held (waiting_no_more o)) refl refl refl refl refl refl (omega arith) refl refl;
+  seeks = λ held is. asks-on told o (asking_to_stay now (others_known o.knows) (waiting_no_more o)) refl refl refl refl refl refl (omega arith) (λ n e. absurd (none-some _ e)) refl (leads-active o.role held is) _ refl refl;
+  alone = λ held _. rests told o (stays_alone now (others_known o.knows) (waiting_no_more o)) refl refl refl refl refl refl (omega arith) refl refl;
+  silent = λ held _. rests told o (leader_unacknowledged now held (waiting_no_more o)) refl refl refl refl refl refl (omega arith) refl refl;
   unleased = λ _. rests told o (unleased_out_of_reach now (waiting_no_more o)) refl refl refl refl refl refl (omega arith) refl refl;
   judges = λ may. judged-onward told now o may;
   ready = λ held _. rests told o (postpones held (waiting_no_more o)) refl refl refl refl refl refl (omega arith) refl refl;
@@ -334,17 +377,81 @@ wake-onward told now o = let b : Outcome = given_up now (reconciled now o) in
     wake-by (Onward told o) now o (before-onward told now o)
     (onward-then told o (overdue now b) (turned now (overdue now b)) (onward-then told o b (overdue now b) (given-up-onward told now o) (overdue-onward told now b)) (turn-onward told now (overdue now b)))
 
+-- a failsafe key that a snapshot tells is the turn's
+read-told : (snapshot : SnapshotFacts) → failsafe_read_seen (failsafe_read_in snapshot) ≡ failsafe_seen snapshot
+read-told snapshot = by-entry (entry_in keys.Failsafe snapshot)
+  where
+    by-members : (revision : ℕ) (members : Option MemberSet) → failsafe_read_seen (failsafe_read_by revision members) ≡ failsafe_listed revision members
+    by-members revision None = refl
+    by-members revision (Some members) = refl
+
+    by-entry : (found : Option KeyEntry) → failsafe_read_seen (failsafe_read_of_entry found) ≡ failsafe_entry_seen found
+    by-entry None = refl
+    by-entry (Some found) = by-members found.revision (failsafe_by found.value)
+
+abbrev Read : Ticks → SnapshotFacts → Outcome → Outcome
+Read now snapshot o = record o { knows = read_noted now snapshot o.knows }
+
+-- a read is noted
+reads : (now : Ticks) (snapshot : SnapshotFacts) (o : Outcome) → Onward (Some snapshot) o (Read now snapshot o)
+reads now snapshot o = let told : Onward (Some snapshot) o (Told snapshot o) = tells snapshot o in record {
+  who = refl;
+  incarnation = refl;
+  last = omega arith;
+  waits = λ n e. absurd (none-some _ e);
+  known = told.known;
+  informed = told.informed;
+  failsafe = λ key e. inr (sym (read-told snapshot) ∙ e);
+  leader = λ seen e. inr e;
+  pauses = told.pauses;
+  hold = omega arith;
+  ends = λ _ _. refl;
+  counts = λ _ one is. absurd (none-some one is);
+}
+
+-- a row behind a read, which waits for nothing after it
+quiet-read : (now : Ticks) (snapshot : SnapshotFacts) (o after : Outcome) → after.knows.who ≡ o.knows.who → after.knows.incarnation ≡ o.knows.incarnation → read_by after.knows ≡ read_by (Read now snapshot o).knows → after.knows.known ≡ (Told snapshot o).knows.known → after.knows.informed ≡ (Told snapshot o).knows.informed → after.knows.settings ≡ (Told snapshot o).knows.settings
+    → o.knows.sequence ≤ after.knows.sequence → after.knows.waited ≡ None → after.machine.hold ≡ o.machine.hold → Onward (Some snapshot) o after
+quiet-read now snapshot o after who incarnation seen known inform settings last waited hold =
+    onward-then (Some snapshot) o (Read now snapshot o) after (reads now snapshot o) (rests (Some snapshot) (Read now snapshot o) after who incarnation seen known inform settings last waited hold)
+
+-- a row behind one that asks for a lease
+asks-read : (now : Ticks) (snapshot : SnapshotFacts) (o after : Outcome) → after.knows.who ≡ o.knows.who → after.knows.incarnation ≡ o.knows.incarnation → read_by after.knows ≡ read_by (Read now snapshot o).knows → after.knows.known ≡ (Told snapshot o).knows.known → after.knows.informed ≡ (Told snapshot o).knows.informed → after.knows.settings ≡ (Told snapshot o).knows.settings
+    → o.knows.sequence ≤ after.knows.sequence → lease_asked after.knows.waited ≡ Some (o.knows.sequence + 1) → after.machine.hold ≡ o.machine.hold → is_active after.role ≡ true → (asked : PendingQuestion) → after.knows.waited ≡ Some asked → asked.sequence ≡ after.knows.sequence → Onward (Some snapshot) o after
+asks-read now snapshot o after who incarnation seen known inform settings last waited hold active asked is number =
+    onward-then (Some snapshot) o (Read now snapshot o) after (reads now snapshot o) (asks-on (Some snapshot) (Read now snapshot o) after who incarnation seen known inform settings last (λ n e. asked-new o.knows.sequence n (sym waited ∙ e)) hold active asked is number)
+
 -- a row behind a snapshot that is the newest, which waits for nothing after it
-quiet-told : (snapshot : SnapshotFacts) (o after : Outcome) → after.knows.who ≡ o.knows.who → after.knows.incarnation ≡ o.knows.incarnation → after.knows.seen ≡ Some snapshot → after.knows.known ≡ (Told snapshot o).knows.known → after.knows.informed ≡ (Told snapshot o).knows.informed → after.knows.settings ≡ (Told snapshot o).knows.settings
+quiet-told : (snapshot : SnapshotFacts) (o after : Outcome) → after.knows.who ≡ o.knows.who → after.knows.incarnation ≡ o.knows.incarnation → read_by after.knows ≡ read_by (Told snapshot o).knows → after.knows.known ≡ (Told snapshot o).knows.known → after.knows.informed ≡ (Told snapshot o).knows.informed → after.knows.settings ≡ (Told snapshot o).knows.settings
     → o.knows.sequence ≤ after.knows.sequence → after.knows.waited ≡ None → after.machine.hold ≡ o.machine.hold → Onward (Some snapshot) o after
 quiet-told snapshot o after who incarnation seen known inform settings last waited hold =
     onward-then (Some snapshot) o (Told snapshot o) after (tells snapshot o) (rests (Some snapshot) (Told snapshot o) after who incarnation seen known inform settings last waited hold)
 
 -- a row behind it that asks for a lease
-asks-told : (snapshot : SnapshotFacts) (o after : Outcome) → after.knows.who ≡ o.knows.who → after.knows.incarnation ≡ o.knows.incarnation → after.knows.seen ≡ Some snapshot → after.knows.known ≡ (Told snapshot o).knows.known → after.knows.informed ≡ (Told snapshot o).knows.informed → after.knows.settings ≡ (Told snapshot o).knows.settings
+asks-told : (snapshot : SnapshotFacts) (o after : Outcome) → after.knows.who ≡ o.knows.who → after.knows.incarnation ≡ o.knows.incarnation → read_by after.knows ≡ read_by (Told snapshot o).knows → after.knows.known ≡ (Told snapshot o).knows.known → after.knows.informed ≡ (Told snapshot o).knows.informed → after.knows.settings ≡ (Told snapshot o).knows.settings
     → o.knows.sequence ≤ after.knows.sequence → lease_asked after.knows.waited ≡ Some (o.knows.sequence + 1) → after.machine.hold ≡ o.machine.hold → is_active after.role ≡ true → (asked : PendingQuestion) → after.knows.waited ≡ Some asked → asked.sequence ≡ after.knows.sequence → Onward (Some snapshot) o after
 asks-told snapshot o after who incarnation seen known inform settings last waited hold active asked is number =
     onward-then (Some snapshot) o (Told snapshot o) after (tells snapshot o) (asks-on (Some snapshot) (Told snapshot o) after who incarnation seen known inform settings last (λ n e. asked-new o.knows.sequence n (sym waited ∙ e)) hold active asked is number)
+
+-- a leader that writes the failsafe key knows whom it lists there
+renews-onward : (now : Ticks) (points : List HistoryPoint) (revision : ℕ) (snapshot : SnapshotFacts) (o : Outcome) (carried : Option MemberSet) → is_active o.role ≡ true → Onward (Some snapshot) o (renewing_with now points revision carried (Read now snapshot o))
+renews-onward now points revision snapshot o carried active = let read : Outcome = Read now snapshot o in let lists : Outcome = carrying carried read in
+    onward-then (Some snapshot) o lists (renewing_with now points revision carried read)
+    (onward-then (Some snapshot) o read lists (reads now snapshot o) (record {
+      who = refl;
+      incarnation = refl;
+      last = omega arith;
+      waits = λ n e. inl e;
+      known = λ p e. known-more read.knows.known carried p e;
+      informed = λ e. inl e;
+      failsafe = λ key e. inl e;
+      leader = λ seen e. inl e;
+      pauses = λ e. inl e;
+      hold = omega arith;
+      ends = λ alone. alone;
+      counts = λ counted. counted;
+    }))
+    (asks-on (Some snapshot) lists (renewing_with now points revision carried read) refl refl refl refl refl refl (omega arith) (λ n e. asked-new o.knows.sequence n e) refl active _ refl refl)
 
 follow-onward : (now : Ticks) (snapshot : SnapshotFacts) (leader : MemberId) (o : Outcome) → Onward (Some snapshot) o (follows now leader (record o { knows = read_noted now snapshot o.knows }))
 follow-onward now snapshot leader o = let read : Outcome = record o { knows = read_noted now snapshot o.knows } in
@@ -353,25 +460,25 @@ follow-onward now snapshot leader o = let read : Outcome = record o { knows = re
     let row : Outcome = touching (follow_row may now leader o.machine.server.state x) in
     repaired-by (Onward (Some snapshot) o) leader (repair_of x.knows.settings leader o.machine.server) row
     (follow-by (λ (y : Outcome). Onward (Some snapshot) o (touching y)) may now leader o.machine.server.state x
-    (quiet-told snapshot o (touching x) refl refl refl refl refl refl (omega arith) refl refl)
-    (quiet-told snapshot o (touching (starting_replica now (Some leader) x)) refl refl refl refl refl refl (omega arith) refl refl)
-    (quiet-told snapshot o (touching (following_server leader x)) refl refl refl refl refl refl (omega arith) refl refl)
-    (quiet-told snapshot o (touching (shutting_down now x)) refl refl refl refl refl refl (omega arith) refl refl))
+    (quiet-read now snapshot o (touching x) refl refl refl refl refl refl (omega arith) refl refl)
+    (quiet-read now snapshot o (touching (starting_replica now (Some leader) x)) refl refl refl refl refl refl (omega arith) refl refl)
+    (quiet-read now snapshot o (touching (following_server leader x)) refl refl refl refl refl refl (omega arith) refl refl)
+    (quiet-read now snapshot o (touching (shutting_down now x)) refl refl refl refl refl refl (omega arith) refl refl))
     (λ r. follow-by (λ (y : Outcome). Onward (Some snapshot) o (repairing leader r (touching y))) may now leader o.machine.server.state x
-    (quiet-told snapshot o (repairing leader r (touching x)) refl refl refl refl refl refl (omega arith) refl refl)
-    (quiet-told snapshot o (repairing leader r (touching (starting_replica now (Some leader) x))) refl refl refl refl refl refl (omega arith) refl refl)
-    (quiet-told snapshot o (repairing leader r (touching (following_server leader x))) refl refl refl refl refl refl (omega arith) refl refl)
-    (quiet-told snapshot o (repairing leader r (touching (shutting_down now x))) refl refl refl refl refl refl (omega arith) refl refl))
+    (quiet-read now snapshot o (repairing leader r (touching x)) refl refl refl refl refl refl (omega arith) refl refl)
+    (quiet-read now snapshot o (repairing leader r (touching (starting_replica now (Some leader) x))) refl refl refl refl refl refl (omega arith) refl refl)
+    (quiet-read now snapshot o (repairing leader r (touching (following_server leader x))) refl refl refl refl refl refl (omega arith) refl refl)
+    (quiet-read now snapshot o (repairing leader r (touching (shutting_down now x))) refl refl refl refl refl refl (omega arith) refl refl))
 
 free-onward : (now : Ticks) (snapshot : SnapshotFacts) (o : Outcome) → Onward (Some snapshot) o (finds_free now (record o { knows = read_noted now snapshot o.knows }))
 free-onward now snapshot o = let x : Outcome = record o { role = Follower; knows = read_noted now snapshot o.knows } in
     free-by (Onward (Some snapshot) o) now x (record {
-      starts = quiet-told snapshot o (touching (starting_replica now None x)) refl refl refl refl refl refl (omega arith) refl refl;
-      touches = quiet-told snapshot o (touching x) refl refl refl refl refl refl (omega arith) refl refl;
-      bars = λ bar. quiet-told snapshot o (barred bar x) refl refl refl refl refl refl (omega arith) refl refl;
-      judges = onward-then (Some snapshot) o (unheard x) (judged now (unheard x)) (quiet-told snapshot o (unheard x) refl refl refl refl refl refl (omega arith) refl refl) (judged-onward (Some snapshot) now (unheard x) refl);
-      asks = onward-then (Some snapshot) o (Told snapshot o) (asking_others now (unheard x)) (tells snapshot o)
-          (asks-on (Some snapshot) (Told snapshot o) (asking_others now (unheard x)) refl refl refl refl refl refl (omega arith) (λ n e. absurd (none-some _ e)) refl refl _ refl refl);
+      starts = quiet-read now snapshot o (touching (starting_replica now None x)) refl refl refl refl refl refl (omega arith) refl refl;
+      touches = quiet-read now snapshot o (touching x) refl refl refl refl refl refl (omega arith) refl refl;
+      bars = λ bar. quiet-read now snapshot o (barred bar x) refl refl refl refl refl refl (omega arith) refl refl;
+      judges = onward-then (Some snapshot) o (unheard x) (judged now (unheard x)) (quiet-read now snapshot o (unheard x) refl refl refl refl refl refl (omega arith) refl refl) (judged-onward (Some snapshot) now (unheard x) refl);
+      asks = onward-then (Some snapshot) o (Read now snapshot o) (asking_others now (unheard x)) (reads now snapshot o)
+          (asks-on (Some snapshot) (Read now snapshot o) (asking_others now (unheard x)) refl refl refl refl refl refl (omega arith) (λ n e. absurd (none-some _ e)) refl refl _ refl refl);
     })
 
 pub got-onward : (now : Ticks) (points : List HistoryPoint) (sequence : ℕ) (snapshot : SnapshotFacts) (o : Outcome) → Onward (Some snapshot) o (read_answered now points sequence snapshot o)
@@ -379,15 +486,15 @@ got-onward now points sequence snapshot o = let read : Outcome = record o { know
     got-by (Onward (Some snapshot) o) now points sequence snapshot o (record {
       kept = same (Some snapshot) o;
       quiet = rests (Some snapshot) o (waiting_no_more o) refl refl refl refl refl refl (omega arith) refl refl;
-      other = quiet-told snapshot o read refl refl refl refl refl refl (omega arith) refl refl;
-      leader = λ held _. quiet-told snapshot o (leader_loses_key now held read) refl refl refl refl refl refl (omega arith) refl refl;
-      unleased = λ _. quiet-told snapshot o (unleased_loses_key now read) refl refl refl refl refl refl (omega arith) refl refl;
-      renews = λ active leader _ _. asks-told snapshot o (renewing now points leader.revision read) refl refl refl refl refl refl (omega arith) refl refl active _ refl refl;
-      touches = quiet-told snapshot o (touching read) refl refl refl refl refl refl (omega arith) refl refl;
+      other = quiet-read now snapshot o read refl refl refl refl refl refl (omega arith) refl refl;
+      leader = λ held _. quiet-read now snapshot o (leader_loses_key now held read) refl refl refl refl refl refl (omega arith) refl refl;
+      unleased = λ _. quiet-read now snapshot o (unleased_loses_key now read) refl refl refl refl refl refl (omega arith) refl refl;
+      renews = λ active leader _ _. renews-onward now points leader.revision snapshot o (set_carried read) active;
+      touches = quiet-read now snapshot o (touching read) refl refl refl refl refl refl (omega arith) refl refl;
       follows = λ leader _ _. follow-onward now snapshot leader.holder o;
       free = λ _ _. free-onward now snapshot o;
-      runs_on = λ _. quiet-told snapshot o (running_without_key read) refl refl refl refl refl refl (omega arith) refl refl;
-      asks_on = λ _. asks-told snapshot o (asks_as_unleased now read) refl refl refl refl refl refl (omega arith) refl refl refl _ refl refl;
+      runs_on = λ _. quiet-read now snapshot o (running_without_key read) refl refl refl refl refl refl (omega arith) refl refl;
+      asks_on = λ _. asks-read now snapshot o (asks_as_unleased now read) refl refl refl refl refl refl (omega arith) refl refl refl _ refl refl;
     })
 
 pub refused-onward : (told : Option SnapshotFacts) (now : Ticks) (sequence : ℕ) (o : Outcome) → Onward told o (refused now sequence o)
@@ -402,7 +509,7 @@ refused-onward told now sequence o = refused-by (Onward told o) now sequence o (
 })
 
 -- a row behind it that asks for another write
-writes-told : (snapshot : SnapshotFacts) (o after : Outcome) → after.knows.who ≡ o.knows.who → after.knows.incarnation ≡ o.knows.incarnation → after.knows.seen ≡ Some snapshot → after.knows.known ≡ (Told snapshot o).knows.known → after.knows.informed ≡ (Told snapshot o).knows.informed → after.knows.settings ≡ (Told snapshot o).knows.settings
+writes-told : (snapshot : SnapshotFacts) (o after : Outcome) → after.knows.who ≡ o.knows.who → after.knows.incarnation ≡ o.knows.incarnation → read_by after.knows ≡ read_by (Told snapshot o).knows → after.knows.known ≡ (Told snapshot o).knows.known → after.knows.informed ≡ (Told snapshot o).knows.informed → after.knows.settings ≡ (Told snapshot o).knows.settings
     → o.knows.sequence ≤ after.knows.sequence → lease_asked after.knows.waited ≡ None → after.machine.hold ≡ o.machine.hold → is_active after.role ≡ true → (asked : PendingQuestion) → after.knows.waited ≡ Some asked → asked.sequence ≡ after.knows.sequence → Onward (Some snapshot) o after
 writes-told snapshot o after who incarnation seen known inform settings last none hold active asked is number =
     onward-then (Some snapshot) o (Told snapshot o) after (tells snapshot o) (asks-on (Some snapshot) (Told snapshot o) after who incarnation seen known inform settings last (λ n e. absurd (none-some _ (sym none ∙ e))) hold active asked is number)
@@ -463,6 +570,7 @@ granted-onward now sequence grant snapshot o = granted-by (Onward (Some snapshot
       unleased_in_pause = λ renews _ _. quiet-told snapshot o (takes_over now grant.revision (disabling_watchdog renews (Told snapshot o))) refl refl refl refl refl refl (omega arith) refl refl;
       takes_in_pause = λ renews _ _. leading-in-pause-onward now renews grant.revision snapshot o;
     })
+    (λ after first. onward-then (Some snapshot) o after (confirming snapshot after) first (keeps (Some snapshot) after (confirming snapshot after) refl refl refl refl refl refl (omega arith) (λ n e. inl e) refl (λ alone. alone) (λ counted. counted)))
     (record {
       other = tells snapshot o;
       begins = λ revision _. quiet-told snapshot o (begins now revision (Told snapshot o)) refl refl refl refl refl refl (omega arith) refl refl;
@@ -484,6 +592,24 @@ answered-onward told now sequence answer o =
 pub asked-onward : (told : Option SnapshotFacts) (from : MemberId) (incarnation sequence : ℕ) (o : Outcome) → Onward told o (asked from incarnation sequence o)
 asked-onward told from incarnation sequence o = keeps told o (asked from incarnation sequence o) refl refl refl refl refl refl (omega arith) (λ n e. inl e) refl (λ alone. alone) (λ counted. counted)
 
+-- another member answers a failsafe request
+pub staying-onward : (told : Option SnapshotFacts) (now : Ticks) (from : MemberId) (sequence : ℕ) (accepted : Bool) (sent : Ticks) (o : Outcome) → Onward told o (failsafe_answered now from sequence accepted sent o)
+staying-onward told now from sequence accepted sent o = failsafe-answered-by (Onward told o) now from sequence accepted sent o (record {
+  kept = same told o;
+  quiet = rests told o (waiting_no_more o) refl refl refl refl refl refl (omega arith) refl refl;
+  counts = λ held _. keeps told o (counting from sent o) refl refl refl refl refl refl (omega arith) (λ n e. inl e) refl (λ alone. alone) (λ counted. counted);
+  stays = λ held _ waited _ _ since _. rests told o (stays now waited.ttl waited.sequence since (counting from sent o)) refl refl refl refl refl refl (omega arith) refl refl;
+  fails = λ held _ _. rests told o (leader_unacknowledged now held (waiting_no_more o)) refl refl refl refl refl refl (omega arith) refl refl;
+})
+
+-- another member asks to stay primary
+pub holding-onward : (told : Option SnapshotFacts) (now : Ticks) (from : MemberId) (incarnation sequence : ℕ) (ttl : Ticks) (o : Outcome) → Onward told o (failsafe_asked now from incarnation sequence ttl o)
+holding-onward told now from incarnation sequence ttl o = failsafe-asked-by (Onward told o) now from incarnation sequence ttl o
+    (λ _. let held : Outcome = holding_for now from sequence ttl o in
+    onward-then told o held (answering_failsafe from incarnation sequence true held) (holds-onward told now from sequence ttl o)
+    (keeps told held (answering_failsafe from incarnation sequence true held) refl refl refl refl refl refl (omega arith) (λ n e. inl e) refl (λ alone. alone) (λ counted. counted)))
+    (keeps told o (answering_failsafe from incarnation sequence false o) refl refl refl refl refl refl (omega arith) (λ n e. inl e) refl (λ alone. alone) (λ counted. counted))
+
 -- the snapshot that comes with what is heard
 abbrev pub told_by : Heard → Option SnapshotFacts
 told_by Wake = None
@@ -492,6 +618,8 @@ told_by (HeardGranted sequence grant snapshot) = Some snapshot
 told_by (Mismatch sequence key found) = None
 told_by (Asked from incarnation sequence) = None
 told_by (Answered sequence answer) = None
+told_by (FailsafeAsked from incarnation sequence ttl) = None
+told_by (FailsafeAnswered from sequence accepted sent) = None
 told_by (HearsOperator action) = None
 
 -- an operator is answered behind what precedes an input, by what is read
@@ -518,4 +646,7 @@ step-onward now points (HeardGranted sequence grant snapshot) o = let b : Outcom
 step-onward now points (Mismatch sequence key found) o = let b : Outcome = reconciled now o in onward-then None o b (refused_any now sequence b) (before-onward None now o) (any-refused-onward now sequence b)
 step-onward now points (Asked from incarnation sequence) o = onward-then None o (reconciled now o) (asked from incarnation sequence (reconciled now o)) (before-onward None now o) (asked-onward None from incarnation sequence (reconciled now o))
 step-onward now points (Answered sequence answer) o = onward-then None o (reconciled now o) (answered now sequence answer (reconciled now o)) (before-onward None now o) (answered-onward None now sequence answer (reconciled now o))
+step-onward now points (FailsafeAsked from incarnation sequence ttl) o = onward-then None o (reconciled now o) (failsafe_asked now from incarnation sequence ttl (reconciled now o)) (before-onward None now o) (holding-onward None now from incarnation sequence ttl (reconciled now o))
+step-onward now points (FailsafeAnswered from sequence accepted sent) o =
+    onward-then None o (reconciled now o) (failsafe_answered now from sequence accepted sent (reconciled now o)) (before-onward None now o) (staying-onward None now from sequence accepted sent (reconciled now o))
 step-onward now points (HearsOperator action) o = let b : Outcome = reconciled now o in onward-then None o b (operated now action.request action.asked b) (before-onward None now o) (operated-onward now action b)

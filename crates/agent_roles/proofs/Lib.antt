@@ -3,6 +3,7 @@ pub mod Fitting
 pub mod Bringing
 pub mod Leaving
 pub mod Granting
+pub mod Acknowledging
 pub mod Knowing
 pub mod Staying
 pub mod Unfed

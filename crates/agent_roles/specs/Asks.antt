@@ -9,7 +9,8 @@ IsQuestion bodies.Read = Unit {0}
 IsQuestion (bodies.Request txn) = IsSpannedTxn txn
 IsQuestion _ = ⊥
 
--- a question that members ask one another so far
+-- a question that members ask one another
 abbrev pub IsAsk : Body → Type 0
 IsAsk bodies.Ask = Unit {0}
+IsAsk (bodies.FailsafeRequest ttl) = Unit {0}
 IsAsk _ = ⊥

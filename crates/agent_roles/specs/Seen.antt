@@ -1,5 +1,5 @@
 -- What the law of the lease sees of an agent and of its machine.
-use Rattle.std.specs.Prelude.{ℕ, Bool, if◌then◌else◌, Option, Some, None}
+use Rattle.std.specs.Prelude.{ℕ, if◌then◌else◌, Option, Some, None}
 use Rattle.pat_base.specs.declared.member_set.MemberSet.{MemberSet}
 use Rattle.pat_base.specs.declared.ticks.Ticks.{Ticks}
 use Rattle.pat_base.specs.ServerState.{live}
@@ -9,7 +9,10 @@ use Rattle.cluster_view.specs.declared.snapshot.LeaderEntry.{LeaderEntry}
 use Rattle.cluster_view.specs.Snapshots.{SnapshotFacts, entry_in, leader_in, failsafe_by}
 use Rattle.lease_law.specs.Leases.{LeaderSeen, FailsafeKey}
 use Rattle.event_book.specs.Functions.{set_members}
-use Rattle.lease_law.specs.States.{Agent as AgentSeen, Machine as MachineSeen}
+use Rattle.failsafe.specs.declared.asks.Ask.{Ask}
+use Rattle.lease_law.specs.States.{FailsafeCheck, Agent as AgentSeen, Machine as MachineSeen}
+use Rattle.agent_model.specs.declared.knowledge.FailsafeRead.{FailsafeRead}
+use Rattle.agent_model.specs.StayingPrimary.{is_staying}
 use Rattle.agent_model.specs.declared.knowledge.Knowledge.{Knowledge}
 use Rattle.agent_model.specs.declared.knowledge.PendingQuestion.{PendingQuestion}
 use Rattle.agent_model.specs.declared.machine.Machine.{Machine}
@@ -55,8 +58,17 @@ abbrev pub failsafe_seen_if : Option SnapshotFacts → Option FailsafeKey
 failsafe_seen_if None = None
 failsafe_seen_if (Some snapshot) = failsafe_seen snapshot
 
--- what the law sees of an agent in this role: each snapshot that it accepts is its newest, so its turn's failsafe key is the newest
--- one's; it doesn't wait for acknowledgements
+-- what the law sees of a failsafe key that a turn read
+abbrev pub failsafe_read_seen : Option FailsafeRead → Option FailsafeKey
+failsafe_read_seen None = None
+failsafe_read_seen (Some read) = Some (record { revision = read.revision; members = set_members read.members })
+
+-- what the law sees of the acknowledgements that an agent waits for, if it does
+abbrev pub check_seen : Ask → Option PendingQuestion → Option FailsafeCheck
+check_seen ask None = None
+check_seen ask (Some waited) = if is_staying waited.question then Some (record { sequence = waited.sequence; ttl = waited.ttl.0; sent = waited.sent.0; members = set_members ask.members; yes = set_members ask.acknowledged }) else None
+
+-- what the law sees of an agent in this role
 abbrev pub agent_seen : RoleFacts → Knowledge → AgentSeen
 agent_seen role knows = record {
   incarnation = knows.incarnation;
@@ -66,10 +78,10 @@ agent_seen role knows = record {
   ready = is_ready role;
   leads = leads role;
   leader = leader_seen_if knows.seen;
-  failsafe = failsafe_seen_if knows.seen;
+  failsafe = failsafe_read_seen knows.turn_failsafe;
   known = set_members knows.known;
   informed = knows.informed;
-  failsafe_check = None;
+  failsafe_check = check_seen knows.failsafe knows.waited;
 }
 
 -- a moment as the law counts it, if there is one
@@ -82,18 +94,17 @@ abbrev pub hold_seen : Option Ticks → ℕ
 hold_seen None = 0
 hold_seen (Some hold) = hold.0
 
--- what the law sees of a machine, by its agent if that runs, by whether acknowledgements set its deadline last, and by how many incarnations
--- have begun
-abbrev pub machine_with : Option AgentSeen → Machine → Bool → ℕ → MachineSeen
-machine_with agent machine by_failsafe runs = record {
+-- what the law sees of a machine, by its agent if that runs, and by how many incarnations have begun
+abbrev pub machine_with : Option AgentSeen → Machine → ℕ → MachineSeen
+machine_with agent machine runs = record {
   live = live machine.server.state;
   deadline = moment_seen machine.watchdog.deadline;
-  by_failsafe = by_failsafe;
+  by_failsafe = machine.by_failsafe;
   hold = hold_seen machine.hold;
   agent = agent;
   runs = runs;
 }
 
 -- the same with an agent in this role
-abbrev pub machine_seen : RoleFacts → Knowledge → Machine → Bool → ℕ → MachineSeen
-machine_seen role knows machine by_failsafe runs = machine_with (Some (agent_seen role knows)) machine by_failsafe runs
+abbrev pub machine_seen : RoleFacts → Knowledge → Machine → ℕ → MachineSeen
+machine_seen role knows machine runs = machine_with (Some (agent_seen role knows)) machine runs

@@ -3,7 +3,7 @@ ghost use Rattle.std.specs.Prelude.{true, ◌≡◌};
 ghost use Rattle.agent_turn.specs.Turns.{HasLeft, Spent, reached};
 ghost use Rattle.leader_key.specs.Watchdog.{IsLeaseSpan};
 ghost use Rattle.agent_model.specs.Agents.{IsWithin};
-ghost use Rattle.agent_model.specs.Decisions.{accepted_grant, accepted_sync, asks_in_pause, asks_lease, asks_renewal, asks_sync, follower_for, granted, granted_in_pause, is_decision, is_sync_decision, lease_granted, refused, refused_as, renewal_refused, uses_lease};
+ghost use Rattle.agent_model.specs.Decisions.{accepted_grant, accepted_sync, asks_in_pause, asks_lease, asks_renewal, asks_sync, follower_for, granted, granted_in_pause, is_decision, is_sync_decision, lease_granted, lease_used, refused, refused_as, renewal_refused, uses_lease};
 ghost use Rattle.agent_model.specs.Answers.{most_grant_outputs};
 ghost use Rattle.agent_turn.specs.Roles.{role_of};
 ghost use Rattle.agent_model.specs.Acting.{waiting_no_more};
@@ -65,7 +65,22 @@ fn accept_grant(
         turn.knows.waited = None;
         return role;
     }
+    let listed = snapshot.failsafe().is_some();
     inform(turn.knows, snapshot);
+    let role = use_lease(waited, role, turn, grant);
+    turn.knows.confirmed = turn.knows.confirmed || (matches!(&role, Role::Leader(_)) && listed);
+    role
+}
+
+/// A lease is granted that was asked for so.
+fn use_lease(waited: PendingQuestion, role: Role, turn: &mut Turn, grant: Granted) -> Role
+    requires turn { HasLeft most_grant_outputs 1 turn.old }
+    requires span { IsLeaseSpan waited.ttl.0 }
+    requires leased { grant.leased ≡ true }
+    requires server { IsWithin turn.old.machine.now.server }
+    ensures outcome { reached (role_of result) turn.new ≡ lease_used turn.old.moment waited grant.revision (reached (role_of role) turn.old) }
+    ensures left { Spent most_grant_outputs 1 turn.old turn.new }
+{
     if is_paused(turn.knows) {
         granted_in_pause(role, turn, waited.question, grant)
     } else {
@@ -214,7 +229,8 @@ fn refused_as(question: Question, role: Role, turn: &mut Turn) -> Role
         Question::Reading
         | Question::ComparingPositions
         | Question::Syncing(_)
-        | Question::FindingCandidate => role,
+        | Question::FindingCandidate
+        | Question::StayingPrimary => role,
     }
 }
 

@@ -5,11 +5,14 @@ ghost use Rattle.agent_model.specs.Agents.{IsWithin};
 ghost use Rattle.agent_model.specs.Outputs.{most_outputs};
 ghost use Rattle.agent_turn.specs.Roles.{role_of};
 ghost use Rattle.agent_model.specs.Table.{step};
+ghost use Rattle.agent_rows.specs.Inputs.{IsSpannedInput};
 
+use crate::acknowledging::failsafe_asked;
 use crate::decisions::{granted, refused};
 use crate::peers::{answered, asked};
 use crate::snapshots::read_answered;
 use crate::wake::wake;
+use agent_leadership::failsafe_answered;
 use agent_model::Heard;
 use agent_turn::{Role, Turn};
 use agent_upkeep::{
@@ -22,6 +25,7 @@ use wal_model::History;
 pub fn take_input(role: Role, turn: &mut Turn, heard: Heard, history: &History) -> Role
     requires turn { HasLeft most_outputs most_outputs turn.old }
     requires server { IsWithin turn.old.machine.now.server }
+    requires span { IsSpannedInput heard }
     ensures outcome { reached (role_of result) turn.new ≡ step turn.old.moment history.now.points heard (reached (role_of role) turn.old) }
     ensures left { Spent most_outputs most_outputs turn.old turn.new }
 {
@@ -65,9 +69,28 @@ pub fn take_input(role: Role, turn: &mut Turn, heard: Heard, history: &History) 
             let role = reconcile(role, turn);
             answered(role, turn, sequence, answer)
         }
+        Heard::FailsafeAsked {
+            from,
+            incarnation,
+            sequence,
+            ttl,
+        } => {
+            let role = reconcile(role, turn);
+            failsafe_asked(&role, turn, from, incarnation, sequence, ttl);
+            role
+        }
+        Heard::FailsafeAnswered {
+            from,
+            sequence,
+            accepted,
+            sent,
+        } => {
+            let role = reconcile(role, turn);
+            failsafe_answered(role, turn, from, sequence, accepted, sent)
+        }
         Heard::Operated { action } => {
             let role = reconcile(role, turn);
-            operate(action.request, action.asked, turn);
+            operate(&role, turn, action.request, action.asked);
             role
         }
     }

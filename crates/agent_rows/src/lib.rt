@@ -1,6 +1,7 @@
 //! The rows of the decision table: what an agent does on each input.
 #![tactic(auto)]
 
+mod acknowledging;
 mod decisions;
 mod hearing;
 mod peers;

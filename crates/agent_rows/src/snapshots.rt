@@ -11,7 +11,8 @@ use agent_following::{
     unleased_finds_free, unleased_without_key,
 };
 use agent_turn::{
-    Role, Turn, inform, is_active, is_hold_active, is_paused, may_start_behind, sync_read_in,
+    Role, Turn, failsafe_read_in, inform, is_active, is_hold_active, is_paused, may_start_behind,
+    sync_read_in,
 };
 use agent_upkeep::{awaits_read, renew};
 use cluster_view::{LeaderEntry, Snapshot};
@@ -41,6 +42,7 @@ pub(crate) fn read_answered(
     let leader = snapshot.leader();
     turn.knows.turn_sync = sync_read_in(&snapshot);
     turn.knows.turn_failover = snapshot.failover();
+    turn.knows.turn_failsafe = failsafe_read_in(&snapshot);
     inform(turn.knows, snapshot);
     turn.knows.last_read = Some(turn.moment);
     turn.knows.turn_settings = turn.knows.settings;
@@ -71,23 +73,23 @@ fn own_key(role: &Role, turn: &mut Turn, history: &History, revision: u64)
     ensures left { Spent 1 1 turn.old turn.new }
 {
     match role {
-        Role::Leader(_) | Role::Unleased => renew(turn, history, revision),
-        Role::Follower | Role::Holder(_) => { finds_own_key(turn, history, revision) }
+        Role::Leader(_) | Role::Unleased => renew(role, turn, history, revision),
+        Role::Follower | Role::Holder(_) => { finds_own_key(role, turn, history, revision) }
         Role::Ready(_) | Role::Ending(_, _) => {}
     }
 }
 
 /// An agent that isn't leading finds the leader key its own: it asks for the renewal, unless its hold is active; in a pause it asks
 /// in any case.
-fn finds_own_key(turn: &mut Turn, history: &History, revision: u64)
+fn finds_own_key(role: &Role, turn: &mut Turn, history: &History, revision: u64)
     requires { HasLeft 1 1 turn.old }
-    ensures outcome { reached Follower turn.new ≡ finds_own_key turn.old.moment history.now.points revision (reached Follower turn.old) }
+    ensures outcome { reached (role_of role.now) turn.new ≡ finds_own_key turn.old.moment history.now.points revision (reached (role_of role.now) turn.old) }
     ensures left { Spent 1 1 turn.old turn.new }
 {
     if is_hold_active(turn.moment, turn.machine.hold) && !is_paused(turn.knows) {
         turn.touch();
     } else {
-        renew(turn, history, revision);
+        renew(role, turn, history, revision);
     }
 }
 

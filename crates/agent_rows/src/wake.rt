@@ -3,11 +3,12 @@
 ghost use Rattle.std.specs.Prelude.{◌≡◌};
 ghost use Rattle.agent_turn.specs.Turns.{ComesTo, HasLeft, Spent, reached};
 ghost use Rattle.agent_model.specs.Agents.{IsWithin};
+ghost use Rattle.pat_base.specs.declared.member_id.TheConstants.{MOST_MEMBERS};
 ghost use Rattle.agent_model.specs.Wake.{due_from, finds_ended, has_turn, is_due, is_overdue, is_stopping, out_of_reach, overdue, reading, turn_begins, turned, unanswered, waits_until, woken};
 ghost use Rattle.agent_turn.specs.Roles.{role_of};
 
 use agent_following::judge_if_racing;
-use agent_leadership::{claim_fails, judge_if_leading};
+use agent_leadership::{claim_fails, judge_if_leading, leader_unanswered, unacknowledged};
 use agent_model::{Knowledge, Machine, PendingQuestion, Question};
 use agent_turn::{Role, Turn, is_paused};
 use agent_upkeep::{give_up, reconcile};
@@ -16,10 +17,10 @@ use pat_base::{State, Ticks};
 
 /// A wake.
 pub(crate) fn wake(role: Role, turn: &mut Turn) -> Role
-    requires turn { HasLeft 6 3 turn.old }
+    requires turn { HasLeft 20 3 turn.old }
     requires server { IsWithin turn.old.machine.now.server }
     ensures outcome { reached (role_of result) turn.new ≡ woken turn.old.moment (reached (role_of role) turn.old) }
-    ensures left { Spent 6 3 turn.old turn.new }
+    ensures left { Spent 20 3 turn.old turn.new }
 {
     let due = is_due(&role, turn.knows, turn.machine, turn.moment);
     let role = reconcile(role, turn);
@@ -85,10 +86,10 @@ fn waits_until(waited: Option<PendingQuestion>, next_turn: Ticks) -> Ticks
 
 /// A deadline that has passed.
 fn overdue(role: Role, turn: &mut Turn) -> Role
-    requires turn { HasLeft 2 1 turn.old }
+    requires turn { HasLeft MOST_MEMBERS 1 turn.old }
     requires server { IsWithin turn.old.machine.now.server }
     ensures outcome { reached (role_of result) turn.new ≡ overdue turn.old.moment (reached (role_of role) turn.old) }
-    ensures left { Spent 2 1 turn.old turn.new }
+    ensures left { Spent MOST_MEMBERS 1 turn.old turn.new }
 {
     let Some(waited) = turn.knows.waited else {
         return role;
@@ -101,10 +102,10 @@ fn overdue(role: Role, turn: &mut Turn) -> Role
 
 /// A question isn't answered in time.
 fn unanswered(question: Question, role: Role, turn: &mut Turn) -> Role
-    requires turn { HasLeft 2 1 turn.old }
+    requires turn { HasLeft MOST_MEMBERS 1 turn.old }
     requires server { IsWithin turn.old.machine.now.server }
     ensures outcome { reached (role_of result) turn.new ≡ unanswered turn.old.moment question (reached (role_of role) turn.old) }
-    ensures left { Spent 2 1 turn.old turn.new }
+    ensures left { Spent MOST_MEMBERS 1 turn.old turn.new }
 {
     match question {
         Question::Reading | Question::Renewing => out_of_reach(role, turn),
@@ -113,6 +114,7 @@ fn unanswered(question: Question, role: Role, turn: &mut Turn) -> Role
             role
         }
         Question::FindingCandidate => judge_if_leading(role, turn),
+        Question::StayingPrimary => unacknowledged(role, turn),
         Question::Claiming => {
             turn.knows.waited = None;
             claim_fails(role, turn)
@@ -124,20 +126,20 @@ fn unanswered(question: Question, role: Role, turn: &mut Turn) -> Role
     }
 }
 
-/// A leader whose read or renewal isn't answered in time ends its server, since another may have its key soon. So does one that
-/// has no lease while its server is live. In a pause their servers run on.
+/// A leader whose read or renewal isn't answered in time ends its server, since another may have its key soon, unless all other
+/// members may let it stay. So does one that has no lease while its server is live. In a pause their servers run on.
 fn out_of_reach(role: Role, turn: &mut Turn) -> Role
-    requires turn { HasLeft 1 0 turn.old }
+    requires turn { HasLeft MOST_MEMBERS 1 turn.old }
     requires server { IsWithin turn.old.machine.now.server }
     ensures outcome { reached (role_of result) turn.new ≡ out_of_reach turn.old.moment (reached (role_of role) turn.old) }
-    ensures left { Spent 1 0 turn.old turn.new }
+    ensures left { Spent MOST_MEMBERS 1 turn.old turn.new }
 {
     turn.knows.waited = None;
     if is_paused(turn.knows) {
         return role;
     }
     match role {
-        Role::Leader(writer) => turn.lose(writer, Reason::StoreOutOfReach),
+        Role::Leader(writer) => leader_unanswered(writer, turn),
         Role::Unleased => {
             turn.end_server(Reason::StoreOutOfReach);
             Role::Unleased

@@ -4,6 +4,7 @@ use Rattle.std.proofs.lemmas.List.Elements.{All-push, All-nil, All-contains}
 use Rattle.lease_law.proofs.Tools.{none-some}
 use Rattle.pat_base.specs.MemberId.{member_of}
 use Rattle.pat_base.specs.declared.member_id.MemberId.{MemberId}
+use Rattle.pat_base.specs.declared.member_set.MemberSet.{MemberSet}
 use Rattle.pat_base.specs.declared.member_id.TheConstants.{MOST_MEMBERS}
 use Rattle.pat_base.specs.declared.peer_answer.PeerAnswer.{PeerAnswer}
 use Rattle.pat_base.specs.declared.ticks.Ticks.{Ticks}
@@ -22,8 +23,9 @@ use Rattle.cluster_view.specs.Snapshots.{SnapshotFacts, leader_in, settings_in}
 use Rattle.event_book.specs.declared.agent_note.AgentNote.TheVariants as agent_notes
 use Rattle.event_book.specs.declared.message.Body.TheVariants as bodies
 use Rattle.event_book.specs.declared.reason.Reason.{Reason}
+use Rattle.failsafe.specs.Asks.{asked as asked_nobody, has}
 use Rattle.event_book.specs.declared.reason.Reason.TheVariants.{StartTooLong, WatchdogNotArmed}
-use Rattle.leader_key.specs.Watchdog.{is_armable, timeout_of}
+use Rattle.leader_key.specs.Watchdog.{WatchdogFacts, is_armable, timeout_of}
 use Rattle.agent_model.specs.declared.heard.Heard.{Heard}
 use Rattle.agent_model.specs.declared.heard.Heard.TheVariants as heards
 use Rattle.agent_model.specs.declared.knowledge.Knowledge.{Knowledge}
@@ -35,14 +37,14 @@ use Rattle.agent_model.specs.declared.output.Target.TheVariants as targets
 use Rattle.agent_model.specs.declared.who.Who.{Who}
 use Rattle.agent_model.specs.declared.why.Why.{Why}
 use Rattle.agent_model.specs.declared.why.Why.TheVariants.{HandOver, Lost}
-use Rattle.agent_model.specs.Acting.{arming, armed, fed_until, deadline_after, disarmed, ending_server, starting_replica, is_refusing, touching, waiting_no_more}
+use Rattle.agent_model.specs.Acting.{lease_span, arming, armed, fed_until, deadline_after, disarmed, ending_server, starting_replica, is_refusing, touching, waiting_no_more}
 use Rattle.agent_model.specs.Agents.{RoleFacts, Follower, Holder, Ready, Leader, Ending, Unleased, Outcome, EndsAlone, IsSoundAgent, outcome_from}
 use Rattle.agent_model.specs.Answers.{is_other, asking_one, asking_first}
 use Rattle.agent_model.specs.Reconciling.{has_ended, reconciled}
 use Rattle.agent_model.specs.Claiming.{begins, begins_or_claims, claims, passing, postpones}
 use Rattle.agent_model.specs.Decisions.{arms, gives_back, granted, has_primary, may_create, may_take, refused, unleased_renewed, takes_key, takes_key_in_pause, takes_over, leader_renewed}
 use Rattle.agent_model.specs.HandingOver.{asking_whom}
-use Rattle.agent_model.specs.Operators.{given_up, learned, looked, operated}
+use Rattle.agent_model.specs.Operators.{given_up, learned, looked, operated, unnumbered}
 use Rattle.agent_model.specs.Outputs.{with_output}
 use Rattle.agent_model.specs.Pausing.{is_paused, is_wanted, may_start_behind, disabling_told, disabling_watchdog, running_without_key}
 use Rattle.agent_model.specs.Peers.{answered, asked, awaits_others, keeping}
@@ -51,7 +53,8 @@ use Rattle.agent_model.specs.Snapshots.{follow_row, follows, read_answered, info
 use Rattle.agent_model.specs.Synchronous.{expected_of, unnamed}
 use Rattle.agent_model.specs.Table.{step, granted_any}
 use Rattle.agent_model.specs.Wake.{overdue, turned, woken}
-use Rattle.agent_model.proofs.Rows.{HandoverRows, ReplyRows, DutyRows, WritesSync, led_on, leading_in_pause, if-cases, before-by, looked-by, given-up-by, granted-any-by, refused-any-by, renewed-by, duties-of, passing-by, overdue-when, turn-by, wake-by, got-when, refused-when, answered-when, granted-when, follow-by, free-by, judged-by}
+use Rattle.agent_model.proofs.Rows.{HandoverRows, ReplyRows, DutyRows, WritesSync, led_on, leading_in_pause, if-cases, before-by, looked-by, given-up-by, granted-any-by, refused-any-by, renewed-by, duties-of, passing-by, overdue-when, turn-by, wake-by, got-when, refused-when, answered-when, granted-when, follow-by, free-by, judged-by, failsafe-answered-by, failsafe-asked-by, asked-to-hold-by}
+use Rattle.agent_model.specs.StayingPrimary.{counting, failsafe_answered, failsafe_asked, fed_by_failsafe, others_known, requesting_first, requesting_one, span_after, stays}
 use Rattle.agent_roles.specs.Powers.{lease_of}
 use Rattle.agent_roles.proofs.Living.{no-way}
 use Rattle.agent_rules.specs.Grounds.{HasGround, HasGrounds, HearsNoLeader, IsReinit, CreateGround, RequestGround, TakeGround}
@@ -149,6 +152,32 @@ module _ (now : Ticks) (heard : Heard) (b : Outcome) where
   whom-so who None sequence outs role waited s = asks-so who sequence MOST_MEMBERS outs role waited s
   whom-so who (Some candidate) sequence outs role waited s = ask-so who sequence (Some candidate) outs role waited s
 
+  -- the requests to all other members to stay primary
+  request-so : (members : MemberSet) (sequence : ℕ) (ttl : Ticks) (member : Option MemberId) (outs : List Output) (role : RoleFacts) (waited : Option PendingQuestion) → Sofar outs role waited → Sofar (requesting_one members sequence ttl member outs) role waited
+  request-so members sequence ttl None outs role waited s = s
+  request-so members sequence ttl (Some member) outs role waited s =
+      if-cases (λ (l : List Output). Sofar l role waited) (has members member.number) (with_output (outputs.Send (targets.Member member) sequence (bodies.FailsafeRequest ttl)) outs) outs
+      (λ _. more outs role waited (outputs.Send (targets.Member member) sequence (bodies.FailsafeRequest ttl)) tt tt s) (λ _. s)
+
+  requests-so : (members : MemberSet) (sequence : ℕ) (ttl : Ticks) (count : ℕ) (outs : List Output) (role : RoleFacts) (waited : Option PendingQuestion) → Sofar outs role waited → Sofar (requesting_first members sequence ttl count outs) role waited
+  requests-so members sequence ttl zero outs role waited s = s
+  requests-so members sequence ttl (suc count) outs role waited s =
+      request-so members sequence ttl (member_of count) (requesting_first members sequence ttl count outs) role waited (requests-so members sequence ttl count outs role waited s)
+
+  by-failsafe-so : (outs : List Output) (role : RoleFacts) (waited : Option PendingQuestion) (until : Ticks) (members : MemberSet) (sequence : ℕ) (since : Ticks) (armable : Bool)
+      → (armable ≡ true → is_armable b.machine.watchdog.mode b.machine.watchdog.works ≡ true) → Sofar outs role waited → Sofar (fed_by_failsafe (if armable then Some until else None) members sequence since outs) role waited
+  by-failsafe-so outs role waited until members sequence since true is s = more outs role waited (outputs.FedByFailsafe until members sequence since) (is refl) tt s
+  by-failsafe-so outs role waited until members sequence since false is s = s
+
+  -- a leader stays primary by the word of the others
+  stays-so : (ttl : Ticks) (sequence : ℕ) (since : Ticks) (x : Outcome) → x.machine ≡ b.machine → So x → So (stays now ttl sequence since x)
+  stays-so ttl sequence since x same s =
+      let watchdog : WatchdogFacts = x.machine.watchdog in
+      let fed : Sofar (fed_by_failsafe (deadline_after now ttl watchdog) x.knows.failsafe.members sequence since x.outputs) x.role None =
+      by-failsafe-so x.outputs x.role None (record { 0 = now.0 + timeout_of watchdog.margin ttl.0 }) x.knows.failsafe.members sequence since (is_armable watchdog.mode watchdog.works)
+      (λ e. ap (λ (m : Machine). is_armable m.watchdog.mode m.watchdog.works) (sym same) ∙ e) (quiet x s) in
+      more _ x.role None outputs.StaysByFailsafe tt tt fed
+
   -- a race is judged by who may create
   judged-so : (x : Outcome) → CreateGround heard b → So x → So (judged now x)
   judged-so x may s = judged-by So now x
@@ -245,6 +274,9 @@ module _ (now : Ticks) (heard : Heard) (b : Outcome) where
     kept = s;
     quiet = quiet x s;
     leader = λ held is _. from-lease _ x.role (Ending held Lost) None held (rw is refl) (end-so _ (waiting_no_more x) (quiet x s));
+    seeks = λ _ _ _ _. waits _ x.role None _ refl (requests-so (others_known x.knows) (x.knows.sequence + 1) (lease_span x.knows.settings) MOST_MEMBERS x.outputs x.role None (quiet x s));
+    alone = λ _ _ _ _ _. stays-so (lease_span x.knows.settings) x.knows.sequence now (record x { knows = record x.knows { waited = None; failsafe = asked_nobody (others_known x.knows) now } }) like.machine (quiet x s);
+    silent = λ held is _. from-lease _ x.role (Ending held Lost) None held (rw is refl) (end-so _ (waiting_no_more x) (quiet x s));
     unleased = λ _ _. end-so _ (waiting_no_more x) (quiet x s);
     judges = λ asked may. judged-so x (creates x like asked may) s;
     ready = λ held is. postpone-so held (waiting_no_more x) (rw is refl) (quiet x s);
@@ -262,6 +294,20 @@ module _ (now : Ticks) (heard : Heard) (b : Outcome) where
     judges = λ asked may. judged-so (keeping answer x) (creates x like asked may) s;
     checks = λ held is. handover-so held (keeping answer x) (kept-by x.outputs x.role x.knows.waited held (rw is refl) s) s;
   })
+
+  stay-answered-so : (from : MemberId) (sequence : ℕ) (accepted : Bool) (sent : Ticks) (x : Outcome) → x.machine ≡ b.machine → So x → So (failsafe_answered now from sequence accepted sent x)
+  stay-answered-so from sequence accepted sent x same s = failsafe-answered-by So now from sequence accepted sent x (record {
+    kept = s;
+    quiet = quiet x s;
+    counts = λ _ _. s;
+    stays = λ _ _ waited _ _ since _. stays-so waited.ttl waited.sequence since (counting from sent x) same s;
+    fails = λ held is _. from-lease _ x.role (Ending held Lost) None held (rw is refl) (end-so _ (waiting_no_more x) (quiet x s));
+  })
+
+  stay-asked-so : (from : MemberId) (incarnation sequence : ℕ) (ttl : Ticks) (x : Outcome) → So x → So (failsafe_asked now from incarnation sequence ttl x)
+  stay-asked-so from incarnation sequence ttl x s = failsafe-asked-by So now from incarnation sequence ttl x
+      (λ _. more _ x.role x.knows.waited (outputs.FailsafeAnswer from incarnation sequence true) tt tt (more x.outputs x.role x.knows.waited (outputs.HoldTaken (span_after now ttl) from sequence) tt tt s))
+      (more x.outputs x.role x.knows.waited (outputs.FailsafeAnswer from incarnation sequence false) tt tt s)
 
   refused-so : (sequence : ℕ) (x : Outcome) → So x → So (refused now sequence x)
   refused-so sequence x s = refused-when So now sequence x (record {
@@ -385,6 +431,7 @@ module _ (now : Ticks) (heard : Heard) (b : Outcome) where
           unleased_in_pause = λ renews _ _. with-role _ b.role (Leader grant.revision) None (disabled-keeps b.outputs renews b.machine.watchdog.deadline all) (disabled-so b.outputs b.role None renews b.machine.watchdog.deadline r);
           takes_in_pause = λ renews paused may. takes-in-pause-so renews (record { asked = asked; is = waited; decision = decision; role = may }) paused all s;
         })
+        (λ _ so. so)
         (record {
           other = r;
           begins = λ revision role _. begin-so revision Heard_so (WasReady sequence grant snapshot is (rw role refl)) (kept-by b.outputs b.role None revision (rw role refl) r) r;
@@ -398,6 +445,9 @@ module _ (now : Ticks) (heard : Heard) (b : Outcome) where
   operated-so request (requests.Configuration config) reinit s = more b.outputs b.role b.knows.waited _ tt tt s
   operated-so request requests.Restart reinit s = more _ b.role b.knows.waited (outputs.Told request _) tt tt (more b.outputs b.role b.knows.waited (outputs.Restart (is_primary b.machine.server.state)) tt tt s)
   operated-so request requests.Reinit reinit s = more _ b.role b.knows.waited (outputs.Told request _) tt tt (more b.outputs b.role b.knows.waited outputs.Wipe (reinit refl) tt s)
+  operated-so request (requests.Hold from ttl) reinit s = asked-to-hold-by So now request (record { 0 = ttl }) b
+      (λ text _. more _ b.role b.knows.waited (outputs.Told request _) tt tt (more b.outputs b.role b.knows.waited (outputs.HoldTaken (span_after now (record { 0 = ttl })) b.knows.who.me unnumbered) tt tt s))
+      (λ text. more b.outputs b.role b.knows.waited (outputs.Told request _) tt tt s)
 
   -- ---- what precedes the input's own rows
   like-self : Like b
@@ -519,6 +569,10 @@ module _ (now : Ticks) (points : List HistoryPoint) (role : RoleFacts) (knows : 
       let heard : Heard = heards.Asked from incarnation sequence in unwiped now heard First _ (λ e. e) (more now heard First First.outputs First.role First.knows.waited _ tt tt (first-so heard))
   input-has-grounds-of (heards.Answered sequence answer) =
       let heard : Heard = heards.Answered sequence answer in unwiped now heard First _ (λ e. e) (answered-so now heard First sequence answer First (like-self now heard First) (first-so heard))
+  input-has-grounds-of (heards.FailsafeAsked from incarnation sequence ttl) =
+      let heard : Heard = heards.FailsafeAsked from incarnation sequence ttl in unwiped now heard First _ (λ e. e) (stay-asked-so now heard First from incarnation sequence ttl First (first-so heard))
+  input-has-grounds-of (heards.FailsafeAnswered from sequence accepted sent) =
+      let heard : Heard = heards.FailsafeAnswered from sequence accepted sent in unwiped now heard First _ (λ e. e) (stay-answered-so now heard First from sequence accepted sent First refl (first-so heard))
   input-has-grounds-of (heards.Operated action) =
       let heard : Heard = heards.Operated action in
       let s = operated-so now heard First action.request action.asked (λ e. e) (first-so heard) in

@@ -3,6 +3,7 @@ use Rattle.std.proofs.Common.{ℕ, ◌≡◌, ◌⊎◌, ◌+◌, ◌&&◌, ◌|
 use Rattle.std.proofs.lemmas.List.Elements.{All-push, All-nil, All-weaker}
 use Rattle.pat_base.specs.MemberId.{member_of}
 use Rattle.pat_base.specs.declared.member_id.MemberId.{MemberId}
+use Rattle.pat_base.specs.declared.member_set.MemberSet.{MemberSet}
 use Rattle.pat_base.specs.declared.member_id.TheConstants.{MOST_MEMBERS}
 use Rattle.pat_base.specs.declared.peer_answer.PeerAnswer.{PeerAnswer}
 use Rattle.pat_base.specs.declared.server_state.State.{State}
@@ -40,7 +41,7 @@ use Rattle.agent_model.specs.Reconciling.{has_ended, reconciled}
 use Rattle.agent_model.specs.Claiming.{begins, begins_or_claims, can_begin_on_claim, may_begin_on_claim, passing}
 use Rattle.agent_model.specs.Decisions.{arms, gives_back, granted, may_take, refused, takes_key, takes_key_in_pause, takes_over}
 use Rattle.agent_model.specs.HandingOver.{asking_whom}
-use Rattle.agent_model.specs.Operators.{given_up, learned, looked, operated}
+use Rattle.agent_model.specs.Operators.{given_up, learned, looked, operated, unnumbered}
 use Rattle.agent_model.specs.Outputs.{with_output}
 use Rattle.agent_model.specs.Pausing.{ends_forks, is_paused, is_replica, is_wanted, lets_rewind, may_start_behind, disabling_told, disabling_watchdog}
 use Rattle.agent_model.specs.Peers.{answered, keeping}
@@ -48,9 +49,10 @@ use Rattle.agent_model.specs.Racing.{asking_others, bar_of, can_start, finds_fre
 use Rattle.agent_model.specs.Repairs.{is_upstream, repair_in, repair_of, repaired_if, repairing, rewind_if}
 use Rattle.agent_model.specs.Snapshots.{ends_fork, follow_row, follows, follows_anew, read_answered, informed, led_by_another, read_noted, starts_if}
 use Rattle.agent_model.specs.Synchronous.{unnamed}
+use Rattle.agent_model.specs.StayingPrimary.{counting, failsafe_answered, failsafe_asked, fed_by_failsafe, span_after}
 use Rattle.agent_model.specs.Table.{step}
 use Rattle.agent_model.specs.Wake.{overdue, turned}
-use Rattle.agent_model.proofs.Rows.{HandoverRows, ReplyRows, DutyRows, led_on, leading_in_pause, if-cases, before-by, looked-by, given-up-by, granted-any-by, refused-any-by, renewed-by, duties-of, passing-by, begins-or-claims-by, overdue-when, turn-by, wake-by, follow-by, got-when, refused-when, answered-when, granted-when, judged-by}
+use Rattle.agent_model.proofs.Rows.{HandoverRows, ReplyRows, DutyRows, led_on, leading_in_pause, if-cases, before-by, looked-by, given-up-by, granted-any-by, refused-any-by, renewed-by, duties-of, passing-by, begins-or-claims-by, overdue-when, turn-by, wake-by, follow-by, got-when, refused-when, answered-when, granted-when, judged-by, failsafe-answered-by, failsafe-asked-by, asked-to-hold-by}
 use Rattle.agent_roles.proofs.Living.{no-way}
 use Rattle.agent_rules.specs.Grounds.{IsReinit}
 use Rattle.agent_rules.specs.Pauses.{IsRestart, IsRestrained, RestrainsInPause}
@@ -94,6 +96,10 @@ calm-armed (Some until) outs all = calmly outs (outputs.Armed until) tt all
 calm-fed : (deadline : Option Ticks) (outs : List Output) → Calm outs → Calm (fed_until deadline outs)
 calm-fed None outs all = all
 calm-fed (Some until) outs all = calmly outs (outputs.Fed until) tt all
+
+calm-by-failsafe : (deadline : Option Ticks) (members : MemberSet) (sequence : ℕ) (since : Ticks) (outs : List Output) → Calm outs → Calm (fed_by_failsafe deadline members sequence since outs)
+calm-by-failsafe None members sequence since outs all = all
+calm-by-failsafe (Some until) members sequence since outs all = calmly outs (outputs.FedByFailsafe until members sequence since) tt all
 
 calm-disabled : (renews : Bool) (deadline : Option Ticks) (outs : List Output) → Calm outs → Calm (disabling_told renews deadline outs)
 calm-disabled renews None outs all = all
@@ -182,11 +188,29 @@ module _ (now : Ticks) (heard : Heard) (b : Outcome) where
     kept = calm x.outputs x.role x.knows.settings all;
     quiet = calm x.outputs x.role x.knows.settings all;
     leader = λ held _ unpaused. free-of _ _ _ unpaused;
+    seeks = λ held _ unpaused _. free-of _ _ _ unpaused;
+    alone = λ held _ unpaused _ _. free-of _ _ _ unpaused;
+    silent = λ held _ unpaused. free-of _ _ _ unpaused;
     unleased = λ _ unpaused. free-of _ _ _ unpaused;
     judges = λ _ _. judged-calm x all;
     ready = λ held _. calm _ _ _ (calmly _ (outputs.Note agent_notes.PostponesPromotion) tt (calm-disarmed x.machine.watchdog.deadline x.outputs all));
     checks = λ held _. handover-calm held x all;
   })
+
+  stay-calm : (from : MemberId) (sequence : ℕ) (accepted : Bool) (sent : Ticks) (x : Outcome) → Calm x.outputs → R (failsafe_answered now from sequence accepted sent x)
+  stay-calm from sequence accepted sent x all = failsafe-answered-by R now from sequence accepted sent x (record {
+    kept = calm x.outputs x.role x.knows.settings all;
+    quiet = calm x.outputs x.role x.knows.settings all;
+    counts = λ _ _. calm x.outputs x.role x.knows.settings all;
+    stays = λ _ _ waited _ _ since _. let c : Outcome = counting from sent x in
+        calm _ _ _ (calmly _ outputs.StaysByFailsafe tt (calm-by-failsafe (deadline_after now waited.ttl x.machine.watchdog) c.knows.failsafe.members waited.sequence since x.outputs all));
+    fails = λ _ _ unpaused. free-of _ _ _ unpaused;
+  })
+
+  stay-asked-calm : (from : MemberId) (incarnation sequence : ℕ) (ttl : Ticks) (x : Outcome) → Calm x.outputs → R (failsafe_asked now from incarnation sequence ttl x)
+  stay-asked-calm from incarnation sequence ttl x all = failsafe-asked-by R now from incarnation sequence ttl x
+      (λ _. calm _ _ _ (calmly _ (outputs.FailsafeAnswer from incarnation sequence true) tt (calmly x.outputs (outputs.HoldTaken (span_after now ttl) from sequence) tt all)))
+      (calm _ _ _ (calmly x.outputs (outputs.FailsafeAnswer from incarnation sequence false) tt all))
 
   turn-calm : (x : Outcome) → R x → R (turned now x)
   turn-calm x r = turn-by R now x (record { kept = r; quiet = r; reads = λ _. behind x.outputs x.role x.knows.settings _ tt r })
@@ -353,6 +377,7 @@ module _ (now : Ticks) (heard : Heard) (b : Outcome) where
           unleased_in_pause = λ renews _ _. calm _ _ _ (calm-disabled renews b.machine.watchdog.deadline b.outputs all);
           takes_in_pause = λ renews _ _. disabling-calm renews grant.revision Told (by-turn grant.revision) all;
         })
+        (λ _ so. so)
         (record {
           other = calm Told.outputs Told.role Told.knows.settings all;
           begins = λ revision _ may. begin-calm revision Told (by-snapshot revision may) all;
@@ -367,6 +392,9 @@ module _ (now : Ticks) (heard : Heard) (b : Outcome) where
   operated-calm request requests.Restart restart reinit all =
       behind _ b.role b.knows.settings _ tt (behind b.outputs b.role b.knows.settings (outputs.Restart (is_primary b.machine.server.state)) (restart refl) (calm b.outputs b.role b.knows.settings all))
   operated-calm request requests.Reinit restart reinit all = behind _ b.role b.knows.settings _ tt (behind b.outputs b.role b.knows.settings outputs.Wipe (reinit refl) (calm b.outputs b.role b.knows.settings all))
+  operated-calm request (requests.Hold from ttl) restart reinit all = asked-to-hold-by R now request (record { 0 = ttl }) b
+      (λ text _. calm _ _ _ (calmly _ (outputs.Told request _) tt (calmly b.outputs (outputs.HoldTaken (span_after now (record { 0 = ttl })) b.knows.who.me unnumbered) tt all)))
+      (λ text. calm _ _ _ (calmly b.outputs (outputs.Told request _) tt all))
 
 -- ---- what precedes the input's own rows orders nothing
 abbrev Before : Outcome → Outcome → Type 0
@@ -414,6 +442,8 @@ step-calm now points (heards.Mismatch sequence key found) o all =
     refused-any-by (R now heard b) now sequence b (reply-calm now heard b b first) (refused-calm now heard b sequence b first)
 step-calm now points (heards.Asked from incarnation sequence) o all = calm now (heards.Asked from incarnation sequence) (reconciled now o) _ _ _ (calmly _ _ tt (before-calm now o all))
 step-calm now points (heards.Answered sequence answer) o all = answered-calm now (heards.Answered sequence answer) (reconciled now o) sequence answer (reconciled now o) (before-calm now o all)
+step-calm now points (heards.FailsafeAsked from incarnation sequence ttl) o all = stay-asked-calm now (heards.FailsafeAsked from incarnation sequence ttl) (reconciled now o) from incarnation sequence ttl (reconciled now o) (before-calm now o all)
+step-calm now points (heards.FailsafeAnswered from sequence accepted sent) o all = stay-calm now (heards.FailsafeAnswered from sequence accepted sent) (reconciled now o) from sequence accepted sent (reconciled now o) (before-calm now o all)
 step-calm now points (heards.Operated action) o all = operated-calm now (heards.Operated action) (reconciled now o) action.request action.asked (λ e. e) (λ e. e) (before-calm now o all)
 
 pub input-restrained : (now : Ticks) (points : List HistoryPoint) (heard : Heard) (role : RoleFacts) (knows : Knowledge) (machine : Machine) → RestrainsInPause heard (reconciled now (outcome_from role knows machine [])) (step now points heard (outcome_from role knows machine []))

@@ -106,6 +106,7 @@ HasGround now heard o (outputs.Send targets.Store sequence (bodies.Request txn))
 HasGround now heard o outputs.Begin = BeginGround now heard o
 HasGround now heard o (outputs.Armed until) = is_armable o.machine.watchdog.mode o.machine.watchdog.works ≡ true
 HasGround now heard o (outputs.Fed until) = is_armable o.machine.watchdog.mode o.machine.watchdog.works ≡ true
+HasGround now heard o (outputs.FedByFailsafe until members sequence since) = is_armable o.machine.watchdog.mode o.machine.watchdog.works ≡ true
 HasGround now heard o (outputs.Repair leader repair) = (live o.machine.server.state ≡ false) × NeedsRepair repair o.machine.server
 HasGround now heard o outputs.Wipe = IsReinit heard
 HasGround now heard o _ = Unit {0}

@@ -1,7 +1,9 @@
 //! Laws of what inputs need.
-ghost use Rattle.std.specs.Prelude.{ℕ, List, []};
+ghost use Rattle.std.specs.Prelude.{ℕ, List, [], false};
+ghost use Rattle.pat_base.specs.declared.member_id.MemberId.{MemberId};
 ghost use Rattle.pat_base.specs.declared.ticks.Ticks.{Ticks};
 ghost use Rattle.wal_model.specs.declared.entry.HistoryPoint.{HistoryPoint};
+ghost use Rattle.event_book.specs.declared.reason.Reason.TheVariants.{FailsafeNotAcknowledged, StoreOutOfReach};
 ghost use Rattle.agent_model.specs.declared.heard.Heard.{Heard};
 ghost use Rattle.agent_model.specs.declared.knowledge.Knowledge.{Knowledge};
 ghost use Rattle.agent_model.specs.declared.machine.Machine.{Machine};
@@ -10,7 +12,7 @@ ghost use Rattle.agent_model.specs.Agents.{RoleFacts, IsSoundAgent, Outcome, out
 ghost use Rattle.agent_model.specs.Reconciling.{reconciled};
 ghost use Rattle.agent_model.specs.Table.{step};
 ghost use Rattle.agent_rules.specs.Grounds.{HasGrounds};
-ghost use Rattle.agent_rules.specs.OutOfReach.{EndsOutOfReach, IsOutOfReach, WaitsForTurn};
+ghost use Rattle.agent_rules.specs.OutOfReach.{AsksToStay, EndsServer, IsOutOfReach, IsUnacknowledged, WaitsForTurn};
 ghost use Rattle.agent_rules.specs.Pauses.{RestrainsInPause};
 
 /// Each input has its grounds. The leader key is asked for by who read that nobody leads; taken, and the sync key claimed, only under the whole
@@ -21,9 +23,12 @@ pub fn inputs_have_grounds()
 {}
 
 /// A leader that can't reach the key store ends its server: outside a pause, once its read or its renewal is unanswered when the time for that is over.
-/// That is `retry_timeout` seconds after the turn began that asks it. Behind that its lease is given up with the server's end.
+/// That is `retry_timeout` seconds after the turn began that asks it. Behind that its lease is given up with the server's end. With failsafe mode it first
+/// asks the other members, and ends its server once one of them refuses, or its time is over before all have acknowledged.
 pub fn a_leader_out_of_reach_ends_its_server()
-    ensures ends { (now : Ticks) (points : List HistoryPoint) (revision : ℕ) (o : Outcome) → IsOutOfReach now revision o → EndsOutOfReach now revision o (step now points heards.Wake o) }
+    ensures ends { (now : Ticks) (points : List HistoryPoint) (revision : ℕ) (o : Outcome) → IsOutOfReach now revision o → EndsServer StoreOutOfReach now revision o (step now points heards.Wake o) }
+    ensures unacknowledged { (now : Ticks) (points : List HistoryPoint) (revision : ℕ) (o : Outcome) → IsUnacknowledged now revision o → EndsServer FailsafeNotAcknowledged now revision o (step now points heards.Wake o) }
+    ensures refused { (now : Ticks) (points : List HistoryPoint) (revision sequence : ℕ) (from : MemberId) (sent : Ticks) (o : Outcome) → AsksToStay sequence revision o → EndsServer FailsafeNotAcknowledged now revision o (step now points (heards.FailsafeAnswered from sequence false sent) o) }
     ensures waits { (now : Ticks) (points : List HistoryPoint) (heard : Heard) (o : Outcome) → WaitsForTurn now o (step now points heard o) }
 {}
 

@@ -7,9 +7,9 @@ use Rattle.wal_model.specs.declared.entry.HistoryPoint.{HistoryPoint}
 use Rattle.cluster_view.specs.Snapshots.{SnapshotFacts}
 use Rattle.event_book.specs.declared.agent_note.AgentNote.TheVariants as agent_notes
 use Rattle.agent_model.specs.declared.heard.Heard.{Heard}
-use Rattle.agent_model.specs.declared.heard.Heard.TheVariants.{Wake, ReadAnswered, Granted as HeardGranted, Mismatch, Asked, Answered, Operated as HearsOperator}
+use Rattle.agent_model.specs.declared.heard.Heard.TheVariants.{Wake, ReadAnswered, Granted as HeardGranted, Mismatch, Asked, Answered, FailsafeAsked, FailsafeAnswered, Operated as HearsOperator}
 use Rattle.agent_model.specs.declared.knowledge.Question.{Question}
-use Rattle.agent_model.specs.declared.knowledge.Question.TheVariants.{Reading, ComparingPositions, Creating, Renewing, Claiming, Syncing, FindingCandidate}
+use Rattle.agent_model.specs.declared.knowledge.Question.TheVariants.{Reading, ComparingPositions, Creating, Renewing, Claiming, Syncing, FindingCandidate, StayingPrimary}
 use Rattle.agent_model.specs.declared.knowledge.PendingQuestion.{PendingQuestion}
 use Rattle.agent_model.specs.declared.knowledge.Knowledge.{Knowledge}
 use Rattle.agent_model.specs.declared.output.Output.TheVariants as outputs
@@ -17,7 +17,7 @@ use Rattle.agent_model.specs.Acting.{arming, is_refusing, waiting_no_more}
 use Rattle.agent_model.specs.Agents.{RoleFacts, Follower, Holder, Ready, Leader, Ending, Unleased, Outcome, is_ready}
 use Rattle.agent_model.specs.Reconciling.{reconciled}
 use Rattle.agent_model.specs.Claiming.{begins, begins_or_claims, can_begin_on_claim, claims, passing, postpones}
-use Rattle.agent_model.specs.Decisions.{accepted_grant, accepted_sync, arms, asks_lease, asks_sync, belongs, gives_back, granted, granted_for, granted_write, is_decision, is_lease_of, is_sync_decision, is_write_of, lease_granted, may_create, may_take, sync_granted, takes_key, asks_in_pause, asks_renewal, granted_in_pause, lease_used}
+use Rattle.agent_model.specs.Decisions.{confirming, accepted_grant, accepted_sync, arms, asks_lease, asks_sync, belongs, gives_back, granted, granted_for, granted_write, is_decision, is_lease_of, is_sync_decision, is_write_of, lease_granted, may_create, may_take, sync_granted, takes_key, asks_in_pause, asks_renewal, granted_in_pause, lease_used}
 use Rattle.agent_succession.specs.FreeKey.{AsksWhereFree, AsksWhereWon, BeginsOn, ClaimsOn, IsAwaitedClaim, BeginsWhereGranted}
 use Rattle.agent_model.specs.Outputs.{with_output}
 use Rattle.agent_roles.specs.Powers.{IsAwaitedLease}
@@ -48,6 +48,7 @@ may-use Creating role asks may = may
 may-use Claiming role asks may = absurd (no-way asks)
 may-use (Syncing settling) role asks may = absurd (no-way asks)
 may-use FindingCandidate role asks may = absurd (no-way asks)
+may-use StayingPrimary role asks may = absurd (no-way asks)
 may-use Renewing Follower asks may = refl
 may-use Renewing (Holder held) asks may = refl
 may-use Renewing (Ready held) asks may = refl
@@ -71,22 +72,22 @@ abbrev Told : SnapshotFacts → Outcome → Outcome
 Told snapshot o = record o { knows = informed snapshot o.knows }
 
 takes-then : (now : Ticks) (sequence : ℕ) (grant : Granted) (snapshot : SnapshotFacts) (o : Outcome) → is_paused (informed snapshot o.knows) ≡ false → (awaited : IsAwaitedLease sequence grant o.knows) → may_create o.role ≡ true → may_take now (informed snapshot o.knows) o.machine ≡ true
-    → is_refusing o.machine.watchdog.mode o.machine.watchdog.works ≡ false → granted now sequence grant snapshot o ≡ begins_or_claims now grant.revision (arming now awaited.waited.ttl (Told snapshot o))
+    → is_refusing o.machine.watchdog.mode o.machine.watchdog.works ≡ false → granted now sequence grant snapshot o ≡ confirming snapshot (begins_or_claims now grant.revision (arming now awaited.waited.ttl (Told snapshot o)))
 takes-then now sequence grant snapshot o unpaused awaited may take armed =
     let waited = awaited.waited in
     let told : Outcome = Told snapshot o in
     ap (λ (w : Option PendingQuestion). granted_for now sequence grant snapshot w o) awaited.is
     ∙ ap (λ (b : Bool). cond b (accepted_grant now waited grant.revision snapshot o) (granted_write now sequence grant snapshot waited o)) (both-true (is_decision waited sequence) (is_lease_of o.knows.who.me grant) awaited.decision awaited.mine)
-    ∙ ap (λ (b : Bool). cond b (lease_used now waited grant.revision told) (waiting_no_more o)) (either-true (belongs waited.question o.role) (is_paused told.knows && asks_in_pause waited.question o.role) (may-use waited.question o.role (first-true (asks_lease waited.question) _ awaited.decision) may))
-    ∙ ap (λ (b : Bool). cond b (granted_in_pause now (asks_renewal waited.question) grant.revision o.role told) (lease_granted now waited.ttl grant.revision o.role told)) unpaused
+    ∙ ap (λ (b : Bool). cond b (confirming snapshot (lease_used now waited grant.revision told)) (waiting_no_more o)) (either-true (belongs waited.question o.role) (is_paused told.knows && asks_in_pause waited.question o.role) (may-use waited.question o.role (first-true (asks_lease waited.question) _ awaited.decision) may))
+    ∙ ap (confirming snapshot) (ap (λ (b : Bool). cond b (granted_in_pause now (asks_renewal waited.question) grant.revision o.role told) (lease_granted now waited.ttl grant.revision o.role told)) unpaused
     ∙ takes-it now waited.ttl grant.revision o.role told may
     ∙ ap (λ (b : Bool). cond b (arms now waited.ttl grant.revision told) (gives_back grant.revision told)) take
-    ∙ ap (λ (b : Bool). cond b (gives_back grant.revision (let barred : Outcome = record told { outputs = with_output (outputs.Note agent_notes.CannotArm) told.outputs } in barred)) (begins_or_claims now grant.revision (arming now waited.ttl told))) armed
+    ∙ ap (λ (b : Bool). cond b (gives_back grant.revision (let barred : Outcome = record told { outputs = with_output (outputs.Note agent_notes.CannotArm) told.outputs } in barred)) (begins_or_claims now grant.revision (arming now waited.ttl told))) armed)
 
-lease-begins : (now : Ticks) (sequence : ℕ) (grant : Granted) (snapshot : SnapshotFacts) (o : Outcome) → (awaited : IsAwaitedLease sequence grant o.knows) → granted now sequence grant snapshot o ≡ begins_or_claims now grant.revision (arming now awaited.waited.ttl (Told snapshot o))
+lease-begins : (now : Ticks) (sequence : ℕ) (grant : Granted) (snapshot : SnapshotFacts) (o : Outcome) → (awaited : IsAwaitedLease sequence grant o.knows) → granted now sequence grant snapshot o ≡ confirming snapshot (begins_or_claims now grant.revision (arming now awaited.waited.ttl (Told snapshot o)))
     → (o.knows.turn_settings.synchronous_mode ≡ false → BeginsOn now grant.revision o (granted now sequence grant snapshot o)) × (o.knows.turn_settings.synchronous_mode ≡ true → ClaimsOn grant.revision o (granted now sequence grant snapshot o))
 lease-begins now sequence grant snapshot o awaited is = let arm : Outcome = arming now awaited.waited.ttl (Told snapshot o) in
-    let by : (mode : Bool) → o.knows.turn_settings.synchronous_mode ≡ mode → granted now sequence grant snapshot o ≡ cond mode (claims now grant.revision (passing arm)) (begins now grant.revision arm) = λ mode e. is ∙ ap (λ (b : Bool). cond b (claims now grant.revision (passing arm)) (begins now grant.revision arm)) e in (
+    let by : (mode : Bool) → o.knows.turn_settings.synchronous_mode ≡ mode → granted now sequence grant snapshot o ≡ confirming snapshot (cond mode (claims now grant.revision (passing arm)) (begins now grant.revision arm)) = λ mode e. is ∙ ap (λ (b : Bool). confirming snapshot (cond b (claims now grant.revision (passing arm)) (begins now grant.revision arm))) e in (
       (λ off. subst (BeginsOn now grant.revision o) (sym (by false off)) (record { role = refl; server = refl; begins = Contains-push _ outputs.Begin })),
       (λ on. subst (ClaimsOn grant.revision o) (sym (by true on)) (record { role = refl; server = refl; waited = _; waits = refl; asks = refl; claims = Contains-push (passing arm).outputs _ })),
     )
@@ -157,6 +158,8 @@ step-asks now points (HeardGranted sequence grant snapshot) o = tt
 step-asks now points (Mismatch sequence key found) o = tt
 step-asks now points (Asked from incarnation sequence) o = tt
 step-asks now points (Answered sequence answer) o = tt
+step-asks now points (FailsafeAsked from incarnation sequence ttl) o = tt
+step-asks now points (FailsafeAnswered from sequence accepted sent) o = tt
 step-asks now points (HearsOperator action) o = tt
 
 pub step-wins : (now : Ticks) (points : List HistoryPoint) (heard : Heard) (o : Outcome) → AsksWhereWon now heard (prepared now heard o) (step now points heard o)
@@ -166,6 +169,8 @@ step-wins now points (ReadAnswered sequence snapshot) o = tt
 step-wins now points (HeardGranted sequence grant snapshot) o = tt
 step-wins now points (Mismatch sequence key found) o = tt
 step-wins now points (Asked from incarnation sequence) o = tt
+step-wins now points (FailsafeAsked from incarnation sequence ttl) o = tt
+step-wins now points (FailsafeAnswered from sequence accepted sent) o = tt
 step-wins now points (HearsOperator action) o = tt
 
 pub step-begins : (now : Ticks) (points : List HistoryPoint) (heard : Heard) (o : Outcome) → BeginsWhereGranted now heard (prepared now heard o) (step now points heard o)
@@ -175,4 +180,6 @@ step-begins now points (ReadAnswered sequence snapshot) o = tt
 step-begins now points (Mismatch sequence key found) o = tt
 step-begins now points (Asked from incarnation sequence) o = tt
 step-begins now points (Answered sequence answer) o = tt
+step-begins now points (FailsafeAsked from incarnation sequence ttl) o = tt
+step-begins now points (FailsafeAnswered from sequence accepted sent) o = tt
 step-begins now points (HearsOperator action) o = tt

@@ -22,7 +22,7 @@ use Rattle.leader_race.specs.Eligibility.{eligibility_of}
 use Rattle.leader_race.specs.Outcome.{unless, outcome_of}
 use Rattle.leader_race.proofs.Winning.{race-replica}
 use Rattle.agent_model.specs.declared.knowledge.Question.{Question}
-use Rattle.agent_model.specs.declared.knowledge.Question.TheVariants.{Reading, ComparingPositions, Creating, Renewing, Claiming, Syncing, FindingCandidate}
+use Rattle.agent_model.specs.declared.knowledge.Question.TheVariants.{Reading, ComparingPositions, Creating, Renewing, Claiming, Syncing, FindingCandidate, StayingPrimary}
 use Rattle.agent_model.specs.declared.knowledge.PendingQuestion.{PendingQuestion}
 use Rattle.agent_model.specs.declared.output.Output.{Output}
 use Rattle.agent_model.specs.declared.output.Output.TheVariants as outputs
@@ -175,6 +175,7 @@ asking-late now Renewing o asking may = absurd (no-way asking)
 asking-late now Claiming o asking may = absurd (no-way asking)
 asking-late now (Syncing settling) o asking may = absurd (no-way asking)
 asking-late now FindingCandidate o asking may = absurd (no-way asking)
+asking-late now StayingPrimary o asking may = absurd (no-way asking)
 
 either-late : (a b c : Bool) → b ≡ true → a || (b || c) ≡ true
 either-late true b c e = refl

@@ -28,6 +28,7 @@ use Rattle.agent_model.specs.Outputs.{with_output}
 use Rattle.agent_model.specs.Pausing.{is_paused}
 use Rattle.agent_model.specs.Peers.{is_asking, awaits_answer}
 use Rattle.agent_roles.specs.Powers.{IsAwaitedLease}
+use Rattle.agent_model.specs.FailsafeKeys.{failsafe_compared}
 use Rattle.agent_model.specs.Racing.{answers_until}
 use Rattle.agent_model.specs.Snapshots.{awaits_read, informed}
 use Rattle.agent_model.specs.Synchronous.{expected_of}
@@ -47,12 +48,12 @@ pub record StaysOut (snapshot : SnapshotFacts) (bar : Ineligibility) (o after : 
   pub waits : after.knows.waited ≡ None
   pub outputs_are : after.outputs ≡ with_output (outputs.Send targets.Store (o.knows.sequence + 1) (bodies.Request (txns.Touch (info_of o.knows.who o.machine.server) (lease_span (settings_in o.knows.settings snapshot))))) (with_output (outputs.Note (agent_notes.DoesNotRace bar)) o.outputs)
 
--- the agent asks for the leader key, and waits for the answer
+-- the agent asks for the leader key, with failsafe mode under the failsafe key that its turn read, and waits for the answer
 pub record AsksForKey (o after : Outcome) : Type 0 where
   pub waited : PendingQuestion
   pub waits : after.knows.waited ≡ Some waited
   pub asks : waited.question ≡ Creating
-  pub outputs_are : after.outputs ≡ with_output (outputs.Send targets.Store waited.sequence (bodies.Request (txns.Create (info_of o.knows.who o.machine.server) waited.ttl None None))) o.outputs
+  pub outputs_are : after.outputs ≡ with_output (outputs.Send targets.Store waited.sequence (bodies.Request (txns.Create (info_of o.knows.who o.machine.server) waited.ttl (failsafe_compared after.knows) None))) o.outputs
 
 -- the agent asks each other member how far its server is, and nobody else, all under one new number. It waits for the answers, of
 -- which it has none yet

@@ -1,10 +1,13 @@
 //! Inputs of agents, worked by hand.
-use agent_model::{Heard, Machine, Output, Replication, Who};
+ghost use Rattle.agent_rows.specs.Inputs.{IsSpannedInput};
+
+use agent_model::{Heard, Machine, Output, Replication, Told, Who};
 use cluster_view::{RoleWord, Snapshot};
 use event_book::{Body, Reason};
 use ha_loop::{Agent, Outputs};
 use leader_key::{Mode, Watchdog};
-use lease_store::Store;
+use lease_store::{Granted, Store};
+use operator_answers::Text;
 use pat_base::{Host, MemberId, Name, Required, Tags, Ticks, Word};
 use pg_model::Server;
 use std::alloc::Global;
@@ -46,7 +49,37 @@ fn word(output: &Output) -> &'static str {
         Output::Armed { until: Ticks(251) } => "armed until 251",
         Output::Disarmed => "disarmed",
         Output::Restart { as_primary: false } => "restart as a replica",
+        Output::HoldTaken {
+            until: Ticks(301),
+            from: MemberId { number: 0 },
+            sequence: 0,
+        } => "hold until 301",
+        Output::Told {
+            request: 7,
+            told: Told::Text {
+                status: 200,
+                text: Text::Accepted,
+            },
+        } => "accepted",
+        Output::Told {
+            request: 7,
+            told: Told::Text {
+                status: 500,
+                text: Text::Refused,
+            },
+        } => "refused",
         Output::Told { request: 7, .. } => "answer to 7",
+        Output::HoldTaken {
+            until: Ticks(305),
+            from: MemberId { number: 1 },
+            sequence: 9,
+        } => "hold until 305",
+        Output::FailsafeAnswer {
+            to: MemberId { number: 1 },
+            incarnation: 4,
+            sequence: 9,
+            accepted,
+        } => { if *accepted { "yes" } else { "no" } }
         _ => "another",
     }
 }
@@ -72,6 +105,7 @@ impl Workplace {
                     confirmed_positions: [None; 16],
                 },
                 watchdog: Watchdog::new(Mode::Automatic, true, Some(Ticks(50))),
+                by_failsafe: false,
                 hold: None,
             },
             out,
@@ -86,7 +120,9 @@ impl Workplace {
         at: Ticks,
         heard: Heard,
         wanted: &[&str],
-    ) {
+    )
+        requires { IsSpannedInput heard }
+    {
         assert!(rt; at <= Ticks(10_000));
         assert!(rt; agent.room() >= 40);
         assert!(rt; self.out.spare() >= 40);
@@ -112,14 +148,10 @@ fn snapshot(alloc: Global, who: &Who, store: &Store, at: Ticks) -> Result<Snapsh
     Ok(Snapshot::read(alloc, who.scope, &[(who.name, who.host)], entries)?)
 }
 
-fn got(sequence: u64, snapshot: Snapshot) -> Heard {
-    Heard::ReadAnswered { sequence, snapshot }
-}
-
-/// What the store answers the first read, the create on that, and the next read.
-fn answers(alloc: Global, who: &Who) -> Result<(Heard, Heard, Heard), Fail> {
+/// What the store answers the first read, the create on that with what it grants, and the next read.
+fn answers(alloc: Global, who: &Who) -> Result<(Snapshot, Granted, Snapshot, Snapshot), Fail> {
     let mut store = Store::new(alloc, ConfigValue::defaults(alloc)?)?;
-    let free = got(1, snapshot(alloc, who, &store, Ticks(1))?);
+    let free = snapshot(alloc, who, &store, Ticks(1))?;
     let create = Txn::Create {
         info: MemberInfo {
             host: who.host,
@@ -133,19 +165,29 @@ fn answers(alloc: Global, who: &Who) -> Result<(Heard, Heard, Heard), Fail> {
         failsafe: None,
         sync: None,
     };
-    let granted = Heard::Granted {
-        sequence: 2,
-        granted: store.apply(Ticks(1), who.me, &create)?,
-        snapshot: snapshot(alloc, who, &store, Ticks(1))?,
-    };
-    let read = got(3, snapshot(alloc, who, &store, Ticks(101))?);
-    Ok((free, granted, read))
+    let granted = store.apply(Ticks(1), who.me, &create)?;
+    let leading = snapshot(alloc, who, &store, Ticks(1))?;
+    let read = snapshot(alloc, who, &store, Ticks(101))?;
+    Ok((free, granted, leading, read))
 }
 
 #[test]
 fn one_member(rt: HostRuntime) -> Result<(), Fail> {
     let who = who(&rt);
-    let (free, granted, read) = answers(rt.alloc(), &who)?;
+    let (free, granted, leading, read) = answers(rt.alloc(), &who)?;
+    let free = Heard::ReadAnswered {
+        sequence: 1,
+        snapshot: free,
+    };
+    let granted = Heard::Granted {
+        sequence: 2,
+        granted,
+        snapshot: leading,
+    };
+    let read = Heard::ReadAnswered {
+        sequence: 3,
+        snapshot: read,
+    };
     let mut place = Workplace::new(rt.alloc())?;
     let mut agent = Agent::start(who, Ticks(0), 1, &mut place.machine);
     place.hears(&rt, &mut agent, Ticks(1), Heard::Wake, &["read"]);
@@ -175,5 +217,100 @@ fn a_restart(rt: HostRuntime) -> Result<(), Fail> {
     let restart = ["restart as a replica", "answer to 7"];
     place.hears(&rt, &mut agent, Ticks(1), action, &restart);
     agent.wreck();
+    Ok(())
+}
+
+/// Another member, which leads without the key store, asks to go on so.
+fn request() -> Heard
+    ensures { IsSpannedInput result }
+{
+    Heard::FailsafeAsked {
+        from: MemberId { number: 1 },
+        incarnation: 4,
+        sequence: 9,
+        ttl: Ticks(300),
+    }
+}
+
+/// A member that waits for nothing acknowledges, and holds.
+#[test]
+fn an_acknowledgement(rt: HostRuntime) -> Result<(), Fail> {
+    let mut place = Workplace::new(rt.alloc())?;
+    let mut agent = Agent::begin(who(&rt), Ticks(0), 1);
+    let yes = ["hold until 305", "yes"];
+    place.hears(&rt, &mut agent, Ticks(5), request(), &yes);
+    agent.wreck();
+    assert!(rt; place.machine.hold == Some(Ticks(305)));
+    Ok(())
+}
+
+/// One whose create is on its way doesn't.
+#[test]
+fn a_refusal(rt: HostRuntime) -> Result<(), Fail> {
+    let who = who(&rt);
+    let (free, _, _, _) = answers(rt.alloc(), &who)?;
+    let free = Heard::ReadAnswered {
+        sequence: 1,
+        snapshot: free,
+    };
+    let mut place = Workplace::new(rt.alloc())?;
+    let mut agent = Agent::start(who, Ticks(0), 1, &mut place.machine);
+    place.hears(&rt, &mut agent, Ticks(1), Heard::Wake, &["read"]);
+    place.hears(&rt, &mut agent, Ticks(1), free, &["create"]);
+    place.hears(&rt, &mut agent, Ticks(5), request(), &["no"]);
+    agent.wreck();
+    assert!(rt; place.machine.hold == None);
+    Ok(())
+}
+
+/// Another member asks by the REST interface for a hold of 30 seconds.
+fn hold_asked() -> Heard
+    ensures { IsSpannedInput result }
+{
+    let asked = OperatorRequest::Hold {
+        from: MemberId { number: 1 },
+        ttl: 300,
+    };
+    Heard::Operated {
+        action: OperatorAction { request: 7, asked },
+    }
+}
+
+/// A member that follows holds.
+#[test]
+fn a_hold(rt: HostRuntime) -> Result<(), Fail> {
+    let mut place = Workplace::new(rt.alloc())?;
+    let mut agent = Agent::begin(who(&rt), Ticks(0), 1);
+    let held = ["hold until 301", "accepted"];
+    place.hears(&rt, &mut agent, Ticks(1), hold_asked(), &held);
+    agent.wreck();
+    assert!(rt; place.machine.hold == Some(Ticks(301)));
+    Ok(())
+}
+
+/// One that waits for the leader key, or leads, doesn't.
+#[test]
+fn a_hold_refused(rt: HostRuntime) -> Result<(), Fail> {
+    let who = who(&rt);
+    let (free, granted, leading, _) = answers(rt.alloc(), &who)?;
+    let free = Heard::ReadAnswered {
+        sequence: 1,
+        snapshot: free,
+    };
+    let granted = Heard::Granted {
+        sequence: 2,
+        granted,
+        snapshot: leading,
+    };
+    let mut place = Workplace::new(rt.alloc())?;
+    let mut agent = Agent::begin(who, Ticks(0), 1);
+    place.hears(&rt, &mut agent, Ticks(1), Heard::Wake, &["read"]);
+    place.hears(&rt, &mut agent, Ticks(1), free, &["create"]);
+    place.hears(&rt, &mut agent, Ticks(1), hold_asked(), &["refused"]);
+    let begun = ["armed until 251", "require", "begin"];
+    place.hears(&rt, &mut agent, Ticks(1), granted, &begun);
+    place.hears(&rt, &mut agent, Ticks(2), hold_asked(), &["refused"]);
+    agent.wreck();
+    assert!(rt; place.machine.hold == None);
     Ok(())
 }

@@ -1,5 +1,5 @@
 //! What an agent does, of which the rows are made: messages, orders to its server, and its watchdog.
-ghost use Rattle.std.specs.Prelude.{IfErr, IfOk, None, false, if◌then◌else◌, is_err, true, ◌+◌, ◌≡◌, ◌≤◌};
+ghost use Rattle.std.specs.Prelude.{IfErr, IfOk, None, false, if◌then◌else◌, is_err, not, true, ◌&&◌, ◌+◌, ◌≡◌, ◌≤◌};
 ghost use Rattle.pat_base.specs.ServerState.{live};
 ghost use Rattle.leader_key.specs.Lease.{armed_revision, lease_revision, writer_revision};
 ghost use Rattle.leader_key.specs.Watchdog.{IsLeaseSpan, is_armable};
@@ -163,9 +163,12 @@ impl Turn<'_> {
         ensures kept { IfErr result (λ back. (back ≡ lease) × ComesTo (λ o. o) self.old self.new × Spent 0 0 self.old self.new) }
         ensures left { Spent 1 0 self.old self.new }
     {
+        let before = self.machine.by_failsafe;
+        let by_failsafe = is_by_failsafe(&self.machine.watchdog, before);
         match lease.arm(&mut self.machine.watchdog, self.moment, ttl) {
             Err(NotArmed(lease)) => Err(lease),
             Ok(armed) => {
+                self.machine.by_failsafe = by_failsafe;
                 let deadline = deadline_of(&self.machine.watchdog);
                 note_armed(self.out, deadline);
                 Ok(armed)
@@ -182,6 +185,8 @@ impl Turn<'_> {
         ensures outcome { ComesTo (feeding self.old.moment ttl) self.old self.new }
         ensures left { Spent 1 0 self.old self.new }
     {
+        let before = self.machine.by_failsafe;
+        self.machine.by_failsafe = is_by_failsafe(&self.machine.watchdog, before);
         let writer = writer.renewed(grant, &mut self.machine.watchdog, self.moment, ttl);
         let deadline = deadline_of(&self.machine.watchdog);
         note_fed(self.out, deadline);
@@ -257,14 +262,32 @@ fn note_armed(out: &mut Outputs, deadline: Option<Ticks>)
     }
 }
 
-/// The deadline of a watchdog that is used and whose device works.
-fn deadline_of(watchdog: &Watchdog) -> Option<Ticks>
-    ensures { result ≡ if is_armable watchdog.now.mode watchdog.now.works then watchdog.now.deadline else None }
+/// Whether acknowledgements set the deadline last of a watchdog that a grant feeds: of one that isn't used, or whose device doesn't
+/// work, where they did before.
+fn is_by_failsafe(watchdog: &Watchdog, before: bool) -> bool
+    ensures { result ≡ (not (is_armable watchdog.now.mode watchdog.now.works) && before) }
+{
+    !is_armable(watchdog) && before
+}
+
+/// Whether a watchdog is used and its device works.
+pub fn is_armable(watchdog: &Watchdog) -> bool
+    ensures { result ≡ is_armable watchdog.now.mode watchdog.now.works }
 {
     match watchdog.mode() {
-        Mode::Off => None,
-        Mode::Automatic | Mode::Required if watchdog.works() => watchdog.deadline(),
-        _ => None,
+        Mode::Off => false,
+        Mode::Automatic | Mode::Required => watchdog.works(),
+    }
+}
+
+/// The deadline of a watchdog that is used and whose device works.
+pub fn deadline_of(watchdog: &Watchdog) -> Option<Ticks>
+    ensures { result ≡ if is_armable watchdog.now.mode watchdog.now.works then watchdog.now.deadline else None }
+{
+    if is_armable(watchdog) {
+        watchdog.deadline()
+    } else {
+        None
     }
 }
 

@@ -37,7 +37,9 @@ pub fn belongs(question: Question, role: &Role) -> bool
     match question {
         Question::ComparingPositions | Question::Creating => may_create(role),
         Question::Claiming => matches!(role, Role::Ready(_)),
-        Question::Syncing(_) | Question::FindingCandidate => matches!(role, Role::Leader(_)),
+        Question::Syncing(_) | Question::FindingCandidate | Question::StayingPrimary => {
+            matches!(role, Role::Leader(_))
+        }
         Question::Reading | Question::Renewing => is_active(role),
     }
 }

@@ -22,7 +22,8 @@ pub fn inform(knows: &mut Knowledge, snapshot: Snapshot)
     knows.seen = Some(snapshot);
 }
 
-fn known_with(known: MemberSet, failsafe: Option<MemberSet>) -> MemberSet
+/// The members that are known, with those that a failsafe key lists.
+pub fn known_with(known: MemberSet, failsafe: Option<MemberSet>) -> MemberSet
     ensures { result ≡ known_with known failsafe }
 {
     match failsafe {

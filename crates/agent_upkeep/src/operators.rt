@@ -1,8 +1,8 @@
 //! What an agent does for operators, and what it answers them (Patroni's documentation of the REST API).
-ghost use Rattle.std.specs.Prelude.{option_copied, ◌≡◌, ◌≤◌};
+ghost use Rattle.std.specs.Prelude.{ℕ, option_copied, ◌^◌, ◌≡◌, ◌≤◌};
 ghost use Rattle.agent_turn.specs.Turns.{ComesTo, HasLeft, Spent, reached};
 ghost use Rattle.agent_model.specs.Agents.{IsWithin, RoleFacts};
-ghost use Rattle.agent_model.specs.Operators.{answering, config_revision, done_by, done_text, failed_by, failed_text, failover_result, given_up, grants_operator, holder_if, holder_in, is_asked_for, is_same_member, late_answer, looked, name_in, operated, operates, operating, operator_granted, operator_refused, operator_until, refusal_of, restarting, result_as, revision_of_entry, telling, wiping};
+ghost use Rattle.agent_model.specs.Operators.{answering, asked_to_hold, config_revision, done_by, done_text, failed_by, failed_text, failover_result, given_up, grants_operator, holder_if, holder_in, is_asked_for, is_same_member, late_answer, looked, name_in, operated, operates, operating, operator_granted, operator_refused, operator_until, refusal_of, restarting, result_as, revision_of_entry, telling, wiping};
 ghost use Rattle.agent_model.specs.Peers.{asked};
 ghost use Rattle.event_book.specs.declared.message.Body.TheVariants as bodies;
 ghost use Rattle.pat_base.specs.Moments.{latest};
@@ -10,24 +10,28 @@ ghost use Rattle.agent_turn.specs.Roles.{role_of};
 ghost use Rattle.agent_model.specs.declared.operating.Told.TheVariants as tolds;
 ghost use Rattle.agent_model.specs.Acting.{waiting};
 
+use crate::holding::{hold, may_acknowledge};
 use crate::waiting::{awaits_number, awaits_read};
 use agent_model::{Knowledge, Operating, Operation, Output, Told};
 use agent_turn::{Role, Turn, inform, is_active, is_write_of};
 use cluster_view::Snapshot;
 use event_book::Body;
 use lease_store::Granted;
-use operator_answers::{CONFLICT, OK, SERVICE_UNAVAILABLE, Text};
+use operator_answers::{CONFLICT, INTERNAL_SERVER_ERROR, OK, SERVICE_UNAVAILABLE, Text};
 use pat_base::{Host, MemberId, Name, State, Ticks};
 use store_keys::{Config, FailoverKey, FailoverKind, Key, KeyEntry, OperatorRequest, Txn};
 
 /// For so many ticks an operator waits for what comes of a switchover or a failover.
 const MOST_OPERATOR_TICKS: u64 = 600;
 
+/// The number of a failsafe request that no message brings: those of messages are counted from 1.
+const UNNUMBERED: u64 = 0;
+
 /// A request of this number, which passed its checks.
-pub fn operate(request: u64, asked: OperatorRequest, turn: &mut Turn)
+pub fn operate(role: &Role, turn: &mut Turn, request: u64, asked: OperatorRequest)
     requires turn { HasLeft 2 1 turn.old }
     requires server { IsWithin turn.old.machine.now.server }
-    ensures outcome { (role : RoleFacts) → reached role turn.new ≡ operated turn.old.moment request asked (reached role turn.old) }
+    ensures outcome { reached (role_of role.now) turn.new ≡ operated turn.old.moment request asked (reached (role_of role.now) turn.old) }
     ensures left { Spent 2 1 turn.old turn.new }
 {
     match asked {
@@ -53,6 +57,27 @@ pub fn operate(request: u64, asked: OperatorRequest, turn: &mut Turn)
             wipe(turn);
             tell(request, text(OK, Text::ReinitializeStarted), turn);
         }
+        OperatorRequest::Hold { from: _, ttl } => {
+            let told = acknowledge(role, turn, Ticks(u64::from(ttl)));
+            tell(request, told, turn);
+        }
+    }
+}
+
+/// Another member asks by the REST interface to stay primary for this span: this one holds, where it may, of its own accord, as no message
+/// has it do so; and what it answers is the result.
+fn acknowledge(role: &Role, turn: &mut Turn, ttl: Ticks) -> Told
+    requires turn { HasLeft 1 0 turn.old }
+    requires span { ttl.0 ≤ 2 ^ 40 }
+    ensures outcome { (request : ℕ) → telling request result (reached (role_of role.now) turn.new) ≡ asked_to_hold turn.old.moment request ttl (reached (role_of role.now) turn.old) }
+    ensures left { Spent 1 0 turn.old turn.new }
+{
+    if may_acknowledge(role, turn) {
+        let me = turn.knows.who.me;
+        hold(turn, me, UNNUMBERED, ttl);
+        text(OK, Text::Accepted)
+    } else {
+        text(INTERNAL_SERVER_ERROR, Text::Refused)
     }
 }
 

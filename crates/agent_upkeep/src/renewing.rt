@@ -1,31 +1,36 @@
 //! What an agent asks as it renews its lease, and what it tells with that.
 ghost use Rattle.std.specs.Prelude.{◌≡◌, ◌≤◌};
-ghost use Rattle.agent_turn.specs.Turns.{ComesTo, HasLeft, Spent};
+ghost use Rattle.agent_turn.specs.Turns.{HasLeft, Spent, reached};
+ghost use Rattle.agent_turn.specs.Roles.{role_of};
 ghost use Rattle.agent_model.specs.Agents.{IsSound};
 ghost use Rattle.pat_base.specs.Moments.{latest};
 ghost use Rattle.agent_model.specs.Snapshots.{missing_point, missing_row, renewal, renewing, row_at, row_told, status_told, turn_start};
 
 use agent_model::{Knowledge, Question};
-use agent_turn::{Turn, info_of};
+use agent_turn::{Role, Turn, info_of, known_with, set_carried};
 use cluster_view::Snapshot;
 use event_book::Body;
-use pat_base::{Lsn, MemberId, State, Ticks};
+use pat_base::{Lsn, MemberId, MemberSet, State, Ticks};
 use pg_model::ServerStatus;
 use store_keys::{HistoryRow, Txn};
 use wal_model::{History, HistoryPoint};
 
-/// Asks for the renewal of the leader key that was read.
-pub fn renew(turn: &mut Turn, history: &History, revision: u64)
+/// Asks for the renewal of the leader key that was read. A leader may write the failsafe key with it; whom it lists there is known to
+/// it from then on.
+pub fn renew(role: &Role, turn: &mut Turn, history: &History, revision: u64)
     requires { HasLeft 1 1 turn.old }
-    ensures outcome { ComesTo (renewing turn.old.moment history.now.points revision) turn.old turn.new }
+    ensures outcome { reached (role_of role.now) turn.new ≡ renewing turn.old.moment history.now.points revision (reached (role_of role.now) turn.old) }
     ensures left { Spent 1 1 turn.old turn.new }
 {
+    let carried = set_carried(role, turn);
+    turn.knows.known = known_with(turn.knows.known, carried);
     let renewal = renewal(
         turn.moment,
         history,
         revision,
         turn.knows,
         &turn.machine.server,
+        carried,
     );
     let until = turn_start(turn.moment, turn.knows) + turn.knows.settings.retry_timeout_ticks();
     turn.ask(Question::Renewing, until, Body::Request(renewal));
@@ -50,8 +55,9 @@ fn renewal(
     revision: u64,
     knows: &Knowledge,
     server: &ServerStatus,
+    carried: Option<MemberSet>,
 ) -> Txn
-    ensures { result ≡ renewal now history.now.points revision knows.now server.now }
+    ensures { result ≡ renewal now history.now.points revision knows.now server.now carried }
 {
     Txn::Renew {
         revision,
@@ -59,7 +65,7 @@ fn renewal(
         ttl: knows.settings.ttl_ticks(),
         status: status_told(server),
         row: row_told(now, history, knows, server),
-        failsafe: None,
+        failsafe: carried,
     }
 }
 

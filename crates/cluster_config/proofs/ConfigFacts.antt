@@ -7,7 +7,7 @@ use Rattle.serde_json.specs.Data.{Data}
 use Rattle.serde_json.specs.Written.{has_float}
 use Rattle.cluster_config.specs.declared.config_fault.ConfigFault.{ConfigFault}
 use Rattle.cluster_config.specs.declared.config_fault.ConfigFault.TheVariants as faults
-use Rattle.cluster_config.specs.ConfigFaults.{is_bad, is_low, keeps_times, is_unbuilt, or_next, fault_if, fault_of}
+use Rattle.cluster_config.specs.ConfigFaults.{is_bad, is_low, keeps_times, or_next, fault_if, fault_of}
 use Rattle.cluster_config.specs.ConfigReading.{on_ok, unless_fault, object_of, judged, config_read}
 use Rattle.cluster_config.specs.SettingTable.{settings_in_order}
 use Rattle.cluster_config.specs.SettingValues.{config_in}
@@ -33,8 +33,7 @@ not-false false e = sym e
 
 kept-times : (d : Data) (config : Config) → fault_of d config ≡ None → keeps_times config ≡ true
 kept-times d config none =
-    let unbuilt = option_map faults.NotBuilt (find (is_unbuilt config) settings_in_order) in
-    let fraction = or_next (fault_if (has_float d) faults.Fraction) unbuilt in
+    let fraction = fault_if (has_float d) faults.Fraction in
     let times = or_next (fault_if (not (keeps_times config)) faults.TimesRule) fraction in
     let low = or_next (option_map faults.BelowMinimum (find (is_low d) settings_in_order)) times in
     not-false (keeps_times config) (unless_broken (not (keeps_times config)) faults.TimesRule fraction

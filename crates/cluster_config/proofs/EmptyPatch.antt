@@ -13,7 +13,7 @@ use Rattle.cluster_config.specs.declared.config_fault.ConfigFault.{ConfigFault}
 use Rattle.cluster_config.specs.declared.config_fault.ConfigFault.TheVariants as faults
 use Rattle.cluster_config.specs.declared.setting.Setting.{Setting}
 use Rattle.cluster_config.specs.declared.setting.Setting.TheVariants as settings
-use Rattle.cluster_config.specs.ConfigFaults.{is_changed}
+use Rattle.cluster_config.specs.ConfigFaults.{is_changed, is_switched}
 use Rattle.cluster_config.specs.ConfigReading.{on_ok, unless_fault, json_of, object_if_json, object_of, judged, config_patched, in_place_of, with_patch, IsConfiguration}
 use Rattle.cluster_config.specs.SettingTable.{settings_in_order}
 use Rattle.cluster_config.proofs.ConfigFacts.{err-not-ok}
@@ -31,8 +31,12 @@ was-object (Some (object ms)) s e = (ms, refl, e)
 equal : (n : ℕ) → not (n == n) ≡ false
 equal n = grind (arith, nat_tests)
 
+not-switched : (on : Bool) → is_switched on on ≡ false
+not-switched true = refl
+not-switched false = refl
+
 unchanged : (c : Config) (setting : Setting) → is_changed c c setting ≡ false
-unchanged c settings.FailsafeMode = refl
+unchanged c settings.FailsafeMode = not-switched c.failsafe_mode
 unchanged c settings.LoopWait = equal c.loop_wait
 unchanged c settings.MaximumLagOnFailover = refl
 unchanged c settings.Pause = refl

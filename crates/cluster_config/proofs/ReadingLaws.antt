@@ -7,7 +7,7 @@ use Rattle.serde_json.specs.Read.{read}
 use Rattle.serde_json.specs.Written.{compact_text, has_float}
 use Rattle.cluster_config.specs.declared.config_fault.ConfigFault.{ConfigFault}
 use Rattle.cluster_config.specs.declared.config_fault.ConfigFault.TheVariants as faults
-use Rattle.cluster_config.specs.ConfigFaults.{is_bad, is_low, keeps_times, is_unbuilt, or_next, fault_if, fault_of}
+use Rattle.cluster_config.specs.ConfigFaults.{is_bad, is_low, keeps_times, or_next, fault_if, fault_of}
 use Rattle.cluster_config.specs.ConfigReading.{on_ok, unless_fault, object_in, object_if_json, judged, config_read, with_patch}
 use Rattle.cluster_config.specs.SettingTable.{settings_in_order}
 use Rattle.cluster_config.specs.SettingValues.{config_in}
@@ -33,14 +33,20 @@ unless_broken true fault next none = absurd (no_fault fault none)
     no_fault fault e = cc
 unless_broken false fault next none = refl
 
+none-broken : (broken : Bool) (fault : ConfigFault) → fault_if broken fault ≡ None → broken ≡ false
+none-broken true fault none = absurd (no_fault fault none)
+  where
+    no_fault : (fault : ConfigFault) → Some fault ≡ None → ⊥
+    no_fault fault e = cc
+none-broken false fault none = refl
+
 -- a value without fault has no float
 pub has_float-faultless : (d : Data) (config : Config) → fault_of d config ≡ None → has_float d ≡ false
 has_float-faultless d config none =
-    let unbuilt = option_map faults.NotBuilt (find (is_unbuilt config) settings_in_order) in
-    let fraction = or_next (fault_if (has_float d) faults.Fraction) unbuilt in
+    let fraction = fault_if (has_float d) faults.Fraction in
     let times = or_next (fault_if (not (keeps_times config)) faults.TimesRule) fraction in
     let low = or_next (option_map faults.BelowMinimum (find (is_low d) settings_in_order)) times in
-    unless_broken (has_float d) faults.Fraction unbuilt (none_after (fault_if (not (keeps_times config)) faults.TimesRule) fraction
+    none-broken (has_float d) faults.Fraction (none_after (fault_if (not (keeps_times config)) faults.TimesRule) fraction
     (none_after (option_map faults.BelowMinimum (find (is_low d) settings_in_order)) times
     (none_after (option_map faults.BadValue (find (is_bad d) settings_in_order)) low none)))
 

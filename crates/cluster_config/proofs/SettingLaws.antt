@@ -13,7 +13,7 @@ use Rattle.cluster_config.specs.declared.setting.Setting.TheVariants as settings
 use Rattle.cluster_config.specs.declared.setting.SettingRange.{SettingRange}
 use Rattle.cluster_config.specs.declared.setting_value.WholeNumber.{WholeNumber}
 use Rattle.cluster_config.specs.declared.setting_value.WholeNumber.TheVariants.{BelowZero, FromZero}
-use Rattle.cluster_config.specs.ConfigFaults.{is_bad_number, is_low_number, is_bad_if_some, is_low_if_some, is_bad, is_low, keeps_times, is_unbuilt, or_next, fault_if, fault_of}
+use Rattle.cluster_config.specs.ConfigFaults.{is_bad_number, is_low_number, is_bad_if_some, is_low_if_some, is_bad, is_low, keeps_times, or_next, fault_if, fault_of}
 use Rattle.cluster_config.specs.ConfigLaws.{number_set, truth_set}
 use Rattle.cluster_config.specs.ConfigReading.{on_ok, json_of, object_in, object_if_json, judged, config_read}
 use Rattle.cluster_config.specs.SettingTable.{settings_in_order, loop_wait_range, retry_timeout_range, ttl_range, maximum_lag_range, primary_start_timeout_range, node_count_range}
@@ -142,8 +142,7 @@ was-read : (bytes : List ℕ) (d : Data) (s : Settings) → json_of bytes ≡ So
 was-read bytes d s is e =
     let whole = object-judged d s (sym (ap (λ (o : Option Data). on_ok (object_if_json o) judged) is) ∙ e) in
     let parts = had-no-fault (fault_of d (config_in d)) _ s whole in
-    let unbuilt = option_map faults.NotBuilt (find (is_unbuilt (config_in d)) settings_in_order) in
-    let times = or_next (fault_if (not (keeps_times (config_in d))) faults.TimesRule) (or_next (fault_if (has_float d) faults.Fraction) unbuilt) in
+    let times = or_next (fault_if (not (keeps_times (config_in d))) faults.TimesRule) (fault_if (has_float d) faults.Fraction) in
     let low = option_map faults.BelowMinimum (find (is_low d) settings_in_order) in
     let bad = option_map faults.BadValue (find (is_bad d) settings_in_order) in
     record {

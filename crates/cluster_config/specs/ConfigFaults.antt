@@ -57,13 +57,14 @@ is_low d setting = is_low_if_some (range_of setting) (value_at setting d)
 abbrev pub keeps_times : Config → Bool
 keeps_times config = nat_le (config.loop_wait + 2 * config.retry_timeout) config.ttl
 
--- whether a configuration asks of a setting what isn't built yet
-abbrev pub is_unbuilt : Config → Setting → Bool
-is_unbuilt config settings.FailsafeMode = config.failsafe_mode
-is_unbuilt config _ = false
+-- whether what was on is off, or the other way round
+abbrev pub is_switched : Bool → Bool → Bool
+is_switched true next = not next
+is_switched false next = next
 
--- whether a configuration changes a setting of another whose change isn't built yet
+-- whether a configuration changes a setting of another whose change isn't built
 abbrev pub is_changed : Config → Config → Setting → Bool
+is_changed present next settings.FailsafeMode = is_switched present.failsafe_mode next.failsafe_mode
 is_changed present next settings.LoopWait = not (present.loop_wait == next.loop_wait)
 is_changed present next settings.RetryTimeout = not (present.retry_timeout == next.retry_timeout)
 is_changed present next settings.Ttl = not (present.ttl == next.ttl)
@@ -80,11 +81,10 @@ fault_if false fault = None
 fault_if true fault = Some fault
 
 -- the first fault of a value that sets this: of the first setting in byte order that is of the wrong kind, of the first below its least, of the
--- rule on times, of a number that isn't whole, of the first setting that isn't built
+-- rule on times, of a number that isn't whole
 abbrev pub fault_of : Data → Config → Option ConfigFault
 fault_of d config =
     or_next (option_map faults.BadValue (find (is_bad d) settings_in_order)) (
     or_next (option_map faults.BelowMinimum (find (is_low d) settings_in_order)) (
     or_next (fault_if (not (keeps_times config)) faults.TimesRule) (
-    or_next (fault_if (has_float d) faults.Fraction) (
-    option_map faults.NotBuilt (find (is_unbuilt config) settings_in_order)))))
+    fault_if (has_float d) faults.Fraction)))

@@ -1,7 +1,7 @@
 //! The first fault of a configuration.
 ghost use Rattle.std.specs.Prelude.{◌≡◌, Some, option_map, find};
 ghost use Rattle.serde_json.specs.View.{view};
-ghost use Rattle.cluster_config.specs.ConfigFaults.{is_bad_number, is_bad_value, is_bad_if_some, is_bad, is_low_number, is_low_value, is_low_if_some, is_low, keeps_times, is_unbuilt, is_changed, fault_of};
+ghost use Rattle.cluster_config.specs.ConfigFaults.{is_bad_number, is_bad_value, is_bad_if_some, is_bad, is_low_number, is_low_value, is_low_if_some, is_low, keeps_times, is_changed, fault_of};
 ghost use Rattle.cluster_config.specs.SettingTable.{settings_in_order};
 
 use crate::ConfigFault;
@@ -96,30 +96,12 @@ fn keeps_times(config: Config) -> bool
     config.loop_wait + 2 * config.retry_timeout <= config.ttl
 }
 
-/// Whether a configuration asks of a setting what isn't built yet.
-fn is_unbuilt(config: Config, setting: Setting) -> bool
-    ensures { result ≡ is_unbuilt config setting }
-{
-    match setting {
-        Setting::FailsafeMode => config.failsafe_mode,
-        _ => false,
-    }
-}
-
-fn first_unbuilt(config: Config) -> Option<Setting>
-    ensures { result ≡ find (is_unbuilt config) settings_in_order }
-{
-    SETTINGS
-        .iter()
-        .copied()
-        .find(|setting| is_unbuilt(config, *setting))
-}
-
-/// Whether a configuration changes a setting of another whose change isn't built yet.
+/// Whether a configuration changes a setting of another whose change isn't built.
 fn is_changed(present: Config, next: Config, setting: Setting) -> bool
     ensures { result ≡ is_changed present next setting }
 {
     match setting {
+        Setting::FailsafeMode => present.failsafe_mode != next.failsafe_mode,
         Setting::LoopWait => present.loop_wait != next.loop_wait,
         Setting::RetryTimeout => present.retry_timeout != next.retry_timeout,
         Setting::Ttl => present.ttl != next.ttl,
@@ -127,7 +109,7 @@ fn is_changed(present: Config, next: Config, setting: Setting) -> bool
     }
 }
 
-/// The first setting whose change isn't built yet.
+/// The first setting that is changed and whose change isn't built.
 pub(crate) fn first_changed(present: Config, next: Config) -> Option<Setting>
     ensures { result ≡ find (is_changed present next) settings_in_order }
 {
@@ -151,7 +133,8 @@ pub(crate) fn fault_of(object: &Value, config: Config) -> Option<ConfigFault>
         return Some(ConfigFault::TimesRule);
     }
     if has_float(object) {
-        return Some(ConfigFault::Fraction);
+        Some(ConfigFault::Fraction)
+    } else {
+        None
     }
-    first_unbuilt(config).map(ConfigFault::NotBuilt)
 }

@@ -16,6 +16,7 @@ use Rattle.event_book.specs.Links.{CutLinks, cuts_after}
 use Rattle.event_book.specs.Servers.{servers_after}
 use Rattle.event_book.specs.Watchdogs.{deadlines_after, holds_after}
 use Rattle.cluster_model.specs.Cluster.{agent_facts_after}
+use Rattle.cluster_model.specs.FailsafeDeadlines.{failsafe_deadlines_after}
 use Rattle.cluster_model.specs.State.{Cluster}
 use Rattle.cluster_model.specs.Concerns.{concern_of, Time, Messages, Store, Watchdogs, Servers, Logs, Replication, Agents, Links}
 
@@ -42,6 +43,10 @@ agents-stay cluster _ messages agents watchdogs = refl
 pub deadlines-stay : (deadlines : List (Option Ticks)) (kind : EventKind) → concern_of kind ≢ Watchdogs → deadlines_after deadlines kind ≡ deadlines
 deadlines-stay deadlines (kinds.Watchdog happening) other = absurd (other refl)
 deadlines-stay deadlines _ other = refl
+
+pub failsafe-deadlines-stay : (before : List Bool) (kind : EventKind) → concern_of kind ≢ Watchdogs → failsafe_deadlines_after before kind ≡ before
+failsafe-deadlines-stay before (kinds.Watchdog happening) other = absurd (other refl)
+failsafe-deadlines-stay before _ other = refl
 
 pub holds-stay : (holds : List (Option Ticks)) (kind : EventKind) → concern_of kind ≢ Watchdogs → holds_after holds kind ≡ holds
 holds-stay holds (kinds.Watchdog happening) other = absurd (other refl)

@@ -19,6 +19,7 @@ use Rattle.event_book.specs.Facts.{facts_after}
 use Rattle.event_book.specs.Flight.{InFlightFacts, in_flight}
 use Rattle.agent_model.specs.declared.heard.Heard.TheVariants.{Wake, Operated}
 use Rattle.agent_model.specs.Agents.{AgentFacts, Outcome}
+use Rattle.cluster_model.specs.FailsafeDeadlines.{failsafe_deadlines_after}
 use Rattle.cluster_model.specs.State.{Cluster}
 use Rattle.cluster_model.specs.Hearing.{heard_from}
 use Rattle.cluster_model.specs.Inputs.{outcome_of, outcome_of_heard, starting_agent}
@@ -78,7 +79,13 @@ agent_facts_after cluster _ = cluster.agents
 
 -- what one more event leaves
 abbrev pub cluster_after : Cluster → EventKind → Cluster
-cluster_after cluster kind = record { scope = cluster.scope; options = cluster.options; facts = facts_after cluster.facts kind; agents = agent_facts_after cluster kind }
+cluster_after cluster kind = record {
+  scope = cluster.scope;
+  options = cluster.options;
+  facts = facts_after cluster.facts kind;
+  failsafe_deadlines = failsafe_deadlines_after cluster.failsafe_deadlines kind;
+  agents = agent_facts_after cluster kind;
+}
 
 -- what these events leave
 abbrev pub cluster_over : Cluster → List Event → Cluster

@@ -39,6 +39,8 @@ heard_in cluster message (bodies.Granted request leased) = option_map (λ grant.
 heard_in cluster message (bodies.Refused request key found) = Some (heard.Mismatch message.message.sequence key found)
 heard_in cluster message bodies.Ask = option_map (λ from. heard.Asked from message.message.incarnation message.message.sequence) (member_at_end message.message.from)
 heard_in cluster message (bodies.Answer answer) = Some (heard.Answered message.message.sequence answer)
+heard_in cluster message (bodies.FailsafeRequest ttl) = option_map (λ from. heard.FailsafeAsked from message.message.incarnation message.message.sequence ttl) (member_at_end message.message.from)
+heard_in cluster message (bodies.FailsafeAnswer accepted) = option_map (λ from. heard.FailsafeAnswered from message.message.sequence accepted message.sent) (member_at_end message.message.from)
 heard_in cluster message _ = None
 
 -- what a message says to an agent

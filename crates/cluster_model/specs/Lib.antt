@@ -3,6 +3,7 @@ pub mod Cluster
 pub mod Commands
 pub mod Concerns
 pub mod Deliveries
+pub mod FailsafeDeadlines
 pub mod Hearing
 pub mod Inputs
 pub mod Limits

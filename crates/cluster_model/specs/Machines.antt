@@ -17,6 +17,7 @@ use Rattle.event_book.specs.declared.member.Member.{Member}
 use Rattle.leader_key.specs.Watchdog.{WatchdogFacts}
 use Rattle.agent_model.specs.declared.machine.Machine.{Machine}
 use Rattle.agent_model.specs.declared.who.Who.{Who}
+use Rattle.cluster_model.specs.FailsafeDeadlines.{is_set_by_failsafe}
 use Rattle.cluster_model.specs.State.{Cluster}
 use Rattle.cluster_model.specs.Streaming.{source_of}
 use Rattle.pat_base.specs.declared.member_id.TheConstants.{MOST_MEMBERS}
@@ -54,17 +55,18 @@ nothing_confirmed = replicate MOST_MEMBERS None
 abbrev pub replication_of : List Member → List ServerFacts → CutLinks → Member → ServerFacts → Replication
 replication_of members servers cuts member s = record { required = s.required; confirmed_positions = if writes s.state then connected_ends members servers cuts member s.confirmed else nothing_confirmed }
 
--- a machine of these parts; its server receives, or not
-abbrev pub machine_from : Bool → Option Replication → Option MemberOptions → Option (Option Ticks) → Option (Option Ticks) → Option ServerFacts → Option Machine
-machine_from receives (Some replication) (Some options) (Some deadline) (Some hold) (Some s) =
-    Some (record { server = record (status_of s) { receives = receives }; replication = replication; watchdog = watchdog_of options deadline; hold = hold })
-machine_from receives _ _ _ _ _ = None
+-- a machine of these parts; its server receives, or not, and acknowledgements set the deadline last, or not
+abbrev pub machine_from : Bool → Bool → Option Replication → Option MemberOptions → Option (Option Ticks) → Option (Option Ticks) → Option ServerFacts → Option Machine
+machine_from receives by_failsafe (Some replication) (Some options) (Some deadline) (Some hold) (Some s) =
+    Some (record { server = record (status_of s) { receives = receives }; replication = replication; watchdog = watchdog_of options deadline; by_failsafe = by_failsafe; hold = hold })
+machine_from receives by_failsafe _ _ _ _ _ = None
 
 -- the machine of a member. A replica receives where its upstream accepts writes, the link to that is joined, and its log didn't
 -- diverge
 abbrev pub machine_of : Cluster → Member → Option Machine
 machine_of cluster member =
-    machine_from (is_some (source_of cluster.facts.members cluster.facts.servers cluster.facts.cuts member)) (option_map (replication_of cluster.facts.members cluster.facts.servers cluster.facts.cuts member) (slice_get cluster.facts.servers member.id.number))
+    machine_from (is_some (source_of cluster.facts.members cluster.facts.servers cluster.facts.cuts member)) (is_set_by_failsafe (slice_get cluster.failsafe_deadlines member.id.number))
+    (option_map (replication_of cluster.facts.members cluster.facts.servers cluster.facts.cuts member) (slice_get cluster.facts.servers member.id.number))
     (slice_get cluster.options member.id.number) (slice_get cluster.facts.deadlines member.id.number) (slice_get cluster.facts.holds member.id.number) (slice_get cluster.facts.servers member.id.number)
 
 -- the history of a server, none where there is no server

@@ -16,7 +16,7 @@ use Rattle.event_book.specs.declared.event.Event.{Event}
 use Rattle.event_book.specs.declared.event.EventKind.{EventKind}
 use Rattle.event_book.specs.declared.event.EventKind.TheVariants as kinds
 use Rattle.event_book.specs.declared.event.MessageEvent.TheVariants.{Sent, Delivered, Lost}
-use Rattle.event_book.specs.declared.event.Note.TheVariants.{ConnectionFailed, NoMessage, Undeliverable}
+use Rattle.event_book.specs.declared.event.Note.TheVariants.{ConnectionFailed, NoMessage, StaysByFailsafe, Undeliverable}
 use Rattle.event_book.specs.declared.event.StoreEvent.TheVariants as stores
 use Rattle.event_book.specs.declared.event.WatchdogEvent.TheVariants.{Disarmed}
 use Rattle.event_book.specs.declared.link.LinkEnd.{LinkEnd}
@@ -51,7 +51,7 @@ use Rattle.cluster_model.specs.Beginnings.{begin_kinds, server_restart_kinds}
 use Rattle.cluster_model.specs.Commands.{kinds_of}
 use Rattle.cluster_model.specs.Inputs.{agent_at, moment_of, outcome_of, outcome_of_heard, may_act, outputs_of, standing_of, is_to_wake}
 use Rattle.cluster_model.specs.Limits.{most_in_flight}
-use Rattle.cluster_model.specs.Orders.{agent_noting, arming, declared_member, feed_kinds, feeding, hold_taken, repair_over, replica_start_kinds, require_of, server_at, stop_kinds, stop_of, upstream_of, wipe_of}
+use Rattle.cluster_model.specs.Orders.{agent_noting, arming, declared_member, failsafe_feeding, feed_kinds, feeding, hold_taken, repair_over, replica_start_kinds, require_of, server_at, stop_kinds, stop_of, upstream_of, wipe_of}
 use Rattle.cluster_model.specs.Parts.{event_of, events_of, events_then, for_some, each}
 use Rattle.cluster_model.specs.Requests.{action_of, answer_at, replying, silence, told_kind}
 use Rattle.cluster_model.specs.State.{Cluster}
@@ -113,6 +113,8 @@ server_order_events cluster member order = events_of cluster (kinds_of (option_a
 abbrev pub output_events : Member → HeardMessage → Cluster → Output → List Event
 output_events member heard cluster (outputs.Send to sequence body) = sending_events cluster member (slice_get cluster.facts.processes member.id.number) (receiver_of cluster.facts.members to) sequence body
 output_events member heard cluster (outputs.Answer to incarnation sequence answer) = replying_events cluster member (receiver_of cluster.facts.members (targets.Member to)) incarnation sequence (bodies.Answer answer)
+output_events member heard cluster (outputs.FailsafeAnswer to incarnation sequence accepted) =
+    replying_events cluster member (receiver_of cluster.facts.members (targets.Member to)) incarnation sequence (bodies.FailsafeAnswer accepted)
 output_events member heard cluster outputs.Begin = begin_events cluster member
 output_events member heard cluster (outputs.StartReplica leader) = replica_start_events cluster member (declared_member cluster.facts.members leader)
 output_events member heard cluster (outputs.Stop reason) = stop_events cluster member reason
@@ -122,8 +124,10 @@ output_events member heard cluster outputs.Wipe = server_order_events cluster me
 output_events member heard cluster (outputs.Follow leader) = server_order_events cluster member (upstream_of member (slice_get cluster.facts.members leader.number))
 output_events member heard cluster (outputs.Repair leader repair) = repair_events cluster member repair (slice_get cluster.facts.members leader.number)
 output_events member heard cluster (outputs.Require required) = server_order_events cluster member (require_of cluster.facts.members member required)
-output_events member heard cluster (outputs.Armed until) = events_of cluster (feed_kinds member heard (arming member until heard))
-output_events member heard cluster (outputs.Fed until) = events_of cluster (feed_kinds member heard (feeding member until heard))
+output_events member heard cluster (outputs.Armed until) = events_of cluster (feed_kinds member heard.sent (arming member until heard))
+output_events member heard cluster (outputs.Fed until) = events_of cluster (feed_kinds member heard.sent (feeding member until heard))
+output_events member heard cluster (outputs.FedByFailsafe until members sequence since) = events_of cluster (feed_kinds member since (failsafe_feeding member until members sequence))
+output_events member heard cluster outputs.StaysByFailsafe = event_of cluster (kinds.Note (StaysByFailsafe member))
 output_events member heard cluster outputs.Disarmed = event_of cluster (kinds.Watchdog (Disarmed member))
 output_events member heard cluster (outputs.Note note) = event_of cluster (agent_noting cluster.facts.members member note)
 output_events member heard cluster outputs.ClaimsOutsideSync = event_of cluster (kinds.Agent (Passed member))

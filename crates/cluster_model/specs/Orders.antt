@@ -1,6 +1,7 @@
 -- What orders of agents come to.
 use Rattle.std.specs.Prelude.{ℕ, ◌==◌, ◌&&◌, ◌||◌, if◌then◌else◌, Bool, true, false, List, [], ◌∷◌, Option, Some, None, option_map, slice_get}
 use Rattle.pat_base.specs.declared.member_id.MemberId.{MemberId}
+use Rattle.pat_base.specs.declared.member_set.MemberSet.{MemberSet}
 use Rattle.pat_base.specs.declared.name.Name.{Name}
 use Rattle.pat_base.specs.declared.server_state.Required.{Required}
 use Rattle.pat_base.specs.declared.server_state.Required.TheVariants as requireds
@@ -52,9 +53,13 @@ arming member until heard = kinds.Watchdog (watchdogs.Armed member until heard.n
 abbrev pub feeding : Member → Ticks → HeardMessage → EventKind
 feeding member until heard = kinds.Watchdog (watchdogs.Fed member until (bases.Grant heard.number))
 
--- a watchdog is fed: the deadline is measured from the moment at which the message was sent that was heard
-abbrev pub feed_kinds : Member → HeardMessage → EventKind → List EventKind
-feed_kinds member heard feed = kinds.Watchdog (watchdogs.Measured member heard.sent) ∷ feed ∷ []
+-- the watchdog of a member gets a new deadline, since these members acknowledged its failsafe request of this number
+abbrev pub failsafe_feeding : Member → Ticks → MemberSet → ℕ → EventKind
+failsafe_feeding member until members sequence = kinds.Watchdog (watchdogs.Fed member until (bases.Acknowledgements members sequence))
+
+-- a watchdog is fed: the deadline is measured from this moment
+abbrev pub feed_kinds : Member → Ticks → EventKind → List EventKind
+feed_kinds member since feed = kinds.Watchdog (watchdogs.Measured member since) ∷ feed ∷ []
 
 -- a server follows this leader's, if there is such a member
 abbrev pub following_of : Member → Option Member → Option EventKind

@@ -1,5 +1,5 @@
 -- What there is before the first event.
-use Rattle.std.specs.Prelude.{List, [], Option, Some, map}
+use Rattle.std.specs.Prelude.{false, List, [], Option, Some, map, length, replicate}
 use Rattle.pat_base.specs.declared.name.Name.{Name}
 use Rattle.member_options.specs.declared.member_option.MemberOptions.{MemberOptions}
 use Rattle.script_model.specs.Script.{HeadText, MemberText, names_of}
@@ -16,7 +16,13 @@ options_of head = map (λ (member : MemberText). member.options) head.members
 
 -- the cluster of a head, but for its agents
 abbrev pub cluster_without_agents : HeadText → Cluster
-cluster_without_agents head = record { scope = head.cluster; options = options_of head; facts = start_of head.config (names_of head) head.base; agents = [] }
+cluster_without_agents head = record {
+  scope = head.cluster;
+  options = options_of head;
+  facts = start_of head.config (names_of head) head.base;
+  failsafe_deadlines = replicate (length (names_of head)) false;
+  agents = [];
+}
 
 -- the agent of a member at the beginning, in its first incarnation: that of member number i has its first turn at tick i + 1
 abbrev pub first_agent : Name → List MemberOptions → List Member → Member → Option AgentFacts

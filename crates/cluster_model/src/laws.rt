@@ -15,6 +15,7 @@ ghost use Rattle.event_book.specs.Links.{CutLinks, cuts_after};
 ghost use Rattle.event_book.specs.Servers.{servers_after};
 ghost use Rattle.event_book.specs.Watchdogs.{deadlines_after, holds_after};
 ghost use Rattle.cluster_model.specs.Cluster.{agent_facts_after};
+ghost use Rattle.cluster_model.specs.FailsafeDeadlines.{failsafe_deadlines_after};
 ghost use Rattle.cluster_model.specs.State.{Cluster};
 ghost use Rattle.cluster_model.specs.Concerns.{concern_of, Time, Messages, Store, Watchdogs, Servers, Logs, Replication, Agents, Links};
 
@@ -25,6 +26,7 @@ pub fn other_concerns_change_nothing()
     ensures processes { (states : List AgentProcess) (kind : EventKind) → concern_of kind ≢ Agents → concern_of kind ≢ Watchdogs → processes_after states kind ≡ states }
     ensures agents { (cluster : Cluster) (kind : EventKind) → concern_of kind ≢ Messages → concern_of kind ≢ Agents → concern_of kind ≢ Watchdogs → agent_facts_after cluster kind ≡ cluster.agents }
     ensures deadlines { (deadlines : List (Option Ticks)) (kind : EventKind) → concern_of kind ≢ Watchdogs → deadlines_after deadlines kind ≡ deadlines }
+    ensures failsafe_deadlines { (before : List Bool) (kind : EventKind) → concern_of kind ≢ Watchdogs → failsafe_deadlines_after before kind ≡ before }
     ensures holds { (holds : List (Option Ticks)) (kind : EventKind) → concern_of kind ≢ Watchdogs → holds_after holds kind ≡ holds }
     ensures links { (cuts : CutLinks) (kind : EventKind) → concern_of kind ≢ Links → cuts_after cuts kind ≡ cuts }
     ensures messages { (now : ℕ) (known : Keys) (flight : Flight) (kind : EventKind) → concern_of kind ≢ Messages → flight_after now known flight kind ≡ flight }

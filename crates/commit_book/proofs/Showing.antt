@@ -460,7 +460,7 @@ idle-by setup past volatile_states (kinds.Watchdog (watchdogs.Armed member until
 idle-by setup past volatile_states (kinds.Watchdog (watchdogs.Fed member until basis)) idle = refl
 idle-by setup past volatile_states (kinds.Watchdog (watchdogs.Disarmed member)) idle = refl
 idle-by setup past volatile_states (kinds.Watchdog (watchdogs.Measured member since)) idle = refl
-idle-by setup past volatile_states (kinds.Watchdog (watchdogs.HoldTaken member until by incarnation sequence)) idle = absurd idle
+idle-by setup past volatile_states (kinds.Watchdog (watchdogs.HoldTaken member until by incarnation sequence)) idle = refl
 idle-by setup past volatile_states (kinds.Server (servers.Began server timeline)) idle = absurd idle
 idle-by setup past volatile_states (kinds.Server (servers.Ended server)) idle = absurd idle
 idle-by setup past volatile_states (kinds.Server (servers.Crashed server)) idle = absurd idle

@@ -76,6 +76,7 @@ IsIdle (kinds.Watchdog (watchdogs.Armed member until answer)) = Unit {0}
 IsIdle (kinds.Watchdog (watchdogs.Fed member until basis)) = Unit {0}
 IsIdle (kinds.Watchdog (watchdogs.Disarmed member)) = Unit {0}
 IsIdle (kinds.Watchdog (watchdogs.Measured member since)) = Unit {0}
+IsIdle (kinds.Watchdog (watchdogs.HoldTaken member until from incarnation sequence)) = Unit {0}
 IsIdle (kinds.Server (servers.Began server timeline)) = ⊥
 IsIdle (kinds.Server (servers.Ended server)) = ⊥
 IsIdle (kinds.Server (servers.Crashed server)) = ⊥

@@ -67,6 +67,8 @@ module _ (head : HeadText) (book : List Event) (cluster : Cluster) (good : Commi
   revision-by works (heards.Mismatch sequence key found) revision fed hears arms = absurd arms
   revision-by works (heards.Asked from incarnation sequence) revision fed hears arms = absurd arms
   revision-by works (heards.Answered sequence answer) revision fed hears arms = absurd arms
+  revision-by works (heards.FailsafeAsked from incarnation sequence ttl) revision fed hears arms = absurd arms
+  revision-by works (heards.FailsafeAnswered from sequence accepted sent) revision fed hears arms = absurd arms
   revision-by works (heards.Operated action) revision fed hears arms = absurd arms
 
   unready-by : (heard : Heard) (revision : ℕ) → ArmsOn (moment_of cluster) heard (Before head book cluster good a) revision → is_ready_role a.agent.role ≡ false
@@ -76,6 +78,8 @@ module _ (head : HeadText) (book : List Event) (cluster : Cluster) (good : Commi
   unready-by (heards.Mismatch sequence key found) revision arms = absurd arms
   unready-by (heards.Asked from incarnation sequence) revision arms = absurd arms
   unready-by (heards.Answered sequence answer) revision arms = absurd arms
+  unready-by (heards.FailsafeAsked from incarnation sequence ttl) revision arms = absurd arms
+  unready-by (heards.FailsafeAnswered from sequence accepted sent) revision arms = absurd arms
   unready-by (heards.Operated action) revision arms = absurd arms
 
   pub arms-alone : MeetsPremises head (book ++ Events head book cluster good a) → (revision : ℕ) → ArmsOn (moment_of cluster) a.heard (Before head book cluster good a) revision → (S.members M).live ≡ false → is_ready_role (After head book cluster good a).role ≡ true

@@ -10,7 +10,7 @@ use Rattle.agent_model.specs.declared.output.Output.{Output}
 use Rattle.agent_model.specs.declared.output.Output.TheVariants as outputs
 use Rattle.agent_commit_law.specs.Committing.{GrowsByConnected, IsCovered, IsLawfulAs, IsSent, StandsAlone, requests_of}
 use Rattle.agent_outputs.specs.Orders.{IsOfTable, machine_after_outputs}
-use Rattle.agent_commit_law.proofs.CommitQuiet.{IsUnasking, asks-none, covered as covered-quiet, unasking}
+use Rattle.agent_commit_law.proofs.CommitQuiet.{IsUnasking, alone-unasking, asks-none, carries-none, covered as covered-quiet, unasking}
 use Rattle.cluster_model.specs.Cluster.{cluster_over}
 use Rattle.cluster_model.specs.Commands.{kinds_of}
 use Rattle.cluster_model.specs.Inputs.{moment_of}
@@ -36,7 +36,7 @@ use Rattle.commit_outputs.proofs.Alone.{alone-moves}
 use Rattle.commit_outputs.specs.Answering.{AnswersNone}
 use Rattle.commit_inputs.proofs.Connected.{grown-waits}
 use Rattle.commit_outputs.proofs.Covering.{IsCarried, carried, leave-both, own-both}
-use Rattle.commit_inputs.proofs.Inputs.{front-aside, Acting, After, Before, Events, First, Open, Page, PageOf, Part, SendsInside, Theirs, carried-out, front-acted, front-fits, front-flight, front-leaves, front-live, front-lives, front-needs, front-own, front-servers, given-unless, grows-by, lawful-as, page-moves, table}
+use Rattle.commit_inputs.proofs.Inputs.{front-aside, Acting, After, Before, Events, First, Open, Page, PageOf, Part, SendsInside, Theirs, carried-out, front-acted, front-fits, front-flight, front-leaves, front-live, front-lives, front-needs, front-own, front-servers, given-unless, grows-by, lawful-as, page-moves, still-live, table}
 use Rattle.commit_parts.proofs.Moving.{moves-then}
 use Rattle.commit_parts.specs.Moving.{Moves}
 use Rattle.commit_outputs.proofs.Page.{BeginsNone, PassesNone, RequiresNone, Sets, alone-begins, alone-passes, alone-requires, carried-begins, carried-requires, covered-passes, none-begins, none-passes, required-set, sets}
@@ -68,18 +68,13 @@ all-back P xs ys outs is all = by xs (subst (λ (l : List Output). All P l) (sym
     by (x ∷ xs) all = by xs (All-tail P x (xs ++ ys) all)
 
 -- ---- no request that the law knows
-pub alone-unasking : (output : Output) → StandsAlone output → IsUnasking output
-alone-unasking (outputs.Send to sequence body) alone = alone
-alone-unasking outputs.Begin alone = alone
-alone-unasking _ alone = tt
-
-pub carried-unasking : (output : Output) → IsCarried output → IsUnasking output
-carried-unasking (outputs.Send to sequence body) is = is
+pub carried-unasking : (output : Output) → IsCarried output → IsUnasking false output
+carried-unasking (outputs.Send to sequence body) is = alone-unasking (outputs.Send to sequence body) is
 carried-unasking outputs.Begin is = absurd is
 carried-unasking _ is = tt
 
-pub sent-none : (m incarnation : ℕ) (outs : List Output) → All IsUnasking outs → IsSent (requests_of m incarnation outs) None
-sent-none m incarnation outs all = subst (λ (l : List SyncRequest). IsSent l None) (sym (asks-none m incarnation outs all)) refl
+pub sent-none : (m incarnation : ℕ) (outs : List Output) → All (IsUnasking false) outs → IsSent (requests_of m incarnation outs) None
+sent-none m incarnation outs all = subst (λ (l : List SyncRequest). IsSent l None) (sym (asks-none false m incarnation outs all)) refl
 
 module _ (head : HeadText) (book : List Event) (cluster : Cluster) (good : CommitsBridged head book cluster) (few : member_count head ≤ MOST_MEMBERS) (a : Acting head book cluster) where
   abbrev M : ℕ
@@ -113,13 +108,13 @@ module _ (head : HeadText) (book : List Event) (cluster : Cluster) (good : Commi
     Front = Page head book cluster good a front (carried front covered) of_table
 
     -- where neither a request nor a required list comes behind
-    pub front-page : All IsUnasking Outs → All RequiresNone Outs → All PassesNone Outs → Of Front None
+    pub front-page : All (IsUnasking false) Outs → All RequiresNone Outs → All PassesNone Outs → Of Front None
     front-page unasking none inside = record {
       own = front-own head book cluster good a front (carried front covered) of_table;
       leaves = front-leaves head book cluster good a front (carried front covered) of_table;
       once = once-none Front (front-aside head book cluster good a front (carried front covered) of_table);
       flight = front-flight head book cluster good a front (carried front covered) of_table;
-      live = front-live head book cluster good a front (carried front covered) of_table;
+      live = front-live head book cluster good a front (carried front covered) of_table ∙ still-live head book cluster good a (carries-none Outs unasking);
       needs = front-needs head book cluster good a front (carried front covered) of_table none;
       acted = front-acted head book cluster good a front (carried front covered) of_table;
       lives = front-lives head book cluster good a front (carried front covered) of_table;
@@ -145,7 +140,7 @@ module _ (head : HeadText) (book : List Event) (cluster : Cluster) (good : Commi
       let on : (X : Output → Type 0) → All X front → ((output : Output) → StandsAlone output → X output) → All X Outs =
       λ X first rest. subst (λ (l : List Output). All X l) whole (All-append X front behind first (All-weaker StandsAlone X rest behind alone)) in
       page-then up behind
-      (front-page front covered of_table (on IsUnasking (unasking front (covered-quiet front covered)) alone-unasking) (on RequiresNone (All-weaker IsCarried RequiresNone carried-requires front kept) alone-requires)
+      (front-page front covered of_table (on (IsUnasking false) (unasking false front (covered-quiet false front covered)) alone-unasking) (on RequiresNone (All-weaker IsCarried RequiresNone carried-requires front kept) alone-requires)
       (on PassesNone (All-weaker IsCovered PassesNone covered-passes front covered) alone-passes))
       (on BeginsNone (All-weaker IsCarried BeginsNone carried-begins front kept) alone-begins) (all-back IsOfTable front behind Outs whole (table head book cluster good a)) alone (all-back AnswersNone front behind Outs whole none)
       (sym (ap (λ (l : List Output). Open head book cluster good a ∷ each (Part head book cluster good a) (First head book cluster good a) l) (sym whole)
@@ -166,7 +161,7 @@ module _ (head : HeadText) (book : List Event) (cluster : Cluster) (good : Commi
     required-is = ap (λ (m : Machine). m.replication.required) (carried-out head book cluster good a).machine_is
         ∙ ap (λ (l : List Output). (machine_after_outputs (moment_of cluster) a.machine l).replication.required) (sym whole) ∙ required-set (moment_of cluster) a.machine front required behind none
 
-    module _ (sent : SendsInside head book cluster good a None) (s : ServerFacts) (found : slice_get cluster.facts.servers M ≡ Some s) where
+    module _ (sent : SendsInside head book cluster good a None) (uncarried : has_one is_carrying Outs ≡ false) (s : ServerFacts) (found : slice_get cluster.facts.servers M ≡ Some s) where
       grows : GrowsByConnected (Before head book cluster good a) ((state_of_run head book cluster).members M).required (confirmers_in required)
       grows = subst (λ (r : Required). GrowsByConnected (Before head book cluster good a) ((state_of_run head book cluster).members M).required (confirmers_in r)) required-is
           (grows-by (moment_of cluster) a.heard (Before head book cluster good a) (state_of_run head book cluster) M (Theirs head book cluster good a None) (Lawful None sent).lawful.was (Lawful None sent).lawful.does (Lawful None sent).does)
@@ -205,7 +200,7 @@ module _ (head : HeadText) (book : List Event) (cluster : Cluster) (good : Commi
         leaves = leave-both Up Set_ (front-leaves head book cluster good a front (carried front covered) of_table) now-set.leaves;
         once = once-behind Up Set_ (front-aside head book cluster good a front (carried front covered) of_table) now-set.once;
         flight = λ i. ap (λ (p : Past). p.flight i) past-both ∙ ap (λ (f : ℕ → Option Flying). f i) now-set.flight ∙ front-flight head book cluster good a front (carried front covered) of_table i;
-        live = ap (λ (p : Past). p.holder_was_live) past-both ∙ now-set.live ∙ front-live head book cluster good a front (carried front covered) of_table;
+        live = ap (λ (p : Past). p.holder_was_live) past-both ∙ now-set.live ∙ front-live head book cluster good a front (carried front covered) of_table ∙ still-live head book cluster good a uncarried;
         needs = ap (λ (p : Past). confirmers_of (slice_get p.required M)) past-both ∙ now-set.needs ∙ ap confirmers_in (sym required-is);
         acted = ap (λ (c : Cluster). c.agents) reached-both ∙ now-set.agents_same ∙ front-acted head book cluster good a front (carried front covered) of_table;
         lives = λ n. ap (λ (c : Cluster). live_in c.facts.servers n) reached-both ∙ now-set.lives n ∙ front-lives head book cluster good a front (carried front covered) of_table n;
@@ -239,13 +234,14 @@ module _ (head : HeadText) (book : List Event) (cluster : Cluster) (good : Commi
       let kept : All IsCarried front = carried front covered in
       let on : (X : Output → Type 0) → All X front → X (outputs.Require required) → ((output : Output) → StandsAlone output → X output) → All X Outs =
       λ X first here rest. subst (λ (l : List Output). All X l) whole (All-append X front last first (All-cons X (outputs.Require required) behind here (All-weaker StandsAlone X rest behind alone))) in
+      let still : All (IsUnasking false) Outs = on (IsUnasking false) (unasking false front (covered-quiet false front covered)) tt alone-unasking in
       let sent : SendsInside head book cluster good a None = record {
-        sent = sent-none M a.agent.knows.incarnation Outs (on IsUnasking (unasking front (covered-quiet front covered)) tt alone-unasking);
+        sent = sent-none M a.agent.knows.incarnation Outs still;
         inside = none-passes Outs (on PassesNone (All-weaker IsCovered PassesNone covered-passes front covered) tt alone-passes);
       } in
       let up : List Event = Page head book cluster good a front kept of_table in
       let set : List Event = Part head book cluster good a (cluster_over cluster up) (outputs.Require required) in
-      page-then (up ++ set) behind (required-page front required behind covered whole (All-weaker StandsAlone RequiresNone alone-requires behind alone) sent server-found.0 server-found.1)
+      page-then (up ++ set) behind (required-page front required behind covered whole (All-weaker StandsAlone RequiresNone alone-requires behind alone) sent (carries-none Outs still) server-found.0 server-found.1)
       (on BeginsNone (All-weaker IsCarried BeginsNone carried-begins front kept) tt alone-begins)
       (All-tail IsOfTable (outputs.Require required) behind (all-back IsOfTable front last Outs whole (table head book cluster good a))) alone
       (All-tail AnswersNone (outputs.Require required) behind (all-back AnswersNone front last Outs whole none))

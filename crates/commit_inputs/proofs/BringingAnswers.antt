@@ -94,8 +94,8 @@ module _ (head : HeadText) (book : List Event) (cluster : Cluster) (good : Commi
   abbrev of_table : All IsOfTable Stood.outputs
   of_table = all-front IsOfTable Stood.outputs (Answer ∷ []) Outs whole (table head book cluster good a)
 
-  pub unasking-all : All IsUnasking Outs
-  unasking-all = subst (λ (l : List Output). All IsUnasking l) whole (All-push IsUnasking Stood.outputs Answer (unasking Stood.outputs (covered-quiet Stood.outputs covered)) tt)
+  pub unasking-all : All (IsUnasking false) Outs
+  unasking-all = subst (λ (l : List Output). All (IsUnasking false) l) whole (All-push (IsUnasking false) Stood.outputs Answer (unasking false Stood.outputs (covered-quiet false Stood.outputs covered)) tt)
 
   requires-none : All RequiresNone Outs
   requires-none = subst (λ (l : List Output). All RequiresNone l) whole (All-push RequiresNone Stood.outputs Answer (All-weaker IsCarried RequiresNone carried-requires Stood.outputs (carried Stood.outputs covered)) tt)

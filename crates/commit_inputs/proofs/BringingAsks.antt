@@ -29,7 +29,7 @@ use Rattle.agent_model.specs.declared.output.Target.TheVariants as targets
 use Rattle.agent_commit_law.specs.Committing.{IsSent, IsSynchronousBody, IsSynchronousOutput, IsSynchronousTxn, KnowsBelow, is_claim_outside_sync, request_in, request_of_body, requests_of}
 use Rattle.agent_model.specs.Agents.{AgentFacts}
 use Rattle.agent_outputs.specs.Orders.{IsOfTable}
-use Rattle.agent_commit_law.proofs.CommitQuiet.{asks-last, IsUnasking}
+use Rattle.agent_commit_law.proofs.CommitQuiet.{asks-last, IsUnasking, uncarried}
 use Rattle.agent_model.specs.Outputs.{has_one}
 use Rattle.cluster_model.specs.Cluster.{agent_after, cluster_after, cluster_over}
 use Rattle.cluster_model.proofs.Places.{get-here}
@@ -70,7 +70,7 @@ use Rattle.commit_parts.specs.Reading.{past_of, setup_of, state_of_run, volatile
 use Rattle.commit_inputs.proofs.Bringing.{Lawful, all-front, carried-unasking, each-last}
 use Rattle.commit_inputs.proofs.Connected.{connected-member}
 use Rattle.commit_outputs.proofs.Covering.{IsCarried, NoneAbove, Told, leave-both, none-later, own-both, put-none}
-use Rattle.commit_inputs.proofs.Inputs.{Acting, After, Events, First, Open, Page, PageOf, Part, Theirs, first-none, front-acted, front-aside, front-fits, front-flight, front-leaves, front-live, front-lives, front-needs, front-ordered, front-own, front-processes, front-told, fronts, page-moves, stays-on, table}
+use Rattle.commit_inputs.proofs.Inputs.{Acting, After, Events, First, Open, Page, PageOf, Part, Theirs, first-none, front-acted, front-aside, front-fits, front-flight, front-leads, front-leaves, front-live, front-lives, front-needs, front-ordered, front-own, front-processes, front-told, fronts, page-moves, stays-on, table}
 use Rattle.commit_parts.proofs.Moving.{moves-then}
 use Rattle.commit_parts.specs.Moving.{Moves}
 use Rattle.commit_outputs.proofs.Page.{BeginsNone, RequiresNone, carried-begins, carried-requires, none-begins}
@@ -88,19 +88,34 @@ body-flying : (member incarnation sequence : ℕ) (body : Body) → request_in_f
 body-flying member incarnation sequence (bodies.Request txn) = query-flying (query_of member incarnation sequence txn)
 body-flying member incarnation sequence _ = refl
 
--- no renewal in synchronous mode carries a set for the failsafe key
-live-renew : (was : Bool) (leader : Option LeaderKey) (m count quorum revision : ℕ) (info : MemberInfo) (ttl : Ticks) (status : Option Lsn) (row : Option HistoryRow) (failsafe : Option MemberSet)
-    → IsSynchronousTxn count quorum (txns.Renew revision info ttl status row failsafe) → was_live_by_txn was leader m (txns.Renew revision info ttl status row failsafe) ≡ was
-live-renew was leader m count quorum revision info ttl status row None on = refl
-live-renew was leader m count quorum revision info ttl status row (Some members) on = absurd on
+-- whether it asks that the renewal carry a set for the failsafe key
+abbrev carries_in : Body → Bool
+carries_in body = is_carrying (outputs.Send targets.Store 0 body)
 
-live-txn : (was : Bool) (leader : Option LeaderKey) (m count quorum : ℕ) (txn : Txn) → IsSynchronousTxn count quorum txn → was_live_by_txn was leader m txn ≡ was
-live-txn was leader m count quorum (txns.Renew revision info ttl status row failsafe) on = live-renew was leader m count quorum revision info ttl status row failsafe on
-live-txn was leader m count quorum _ on = refl
+live-renew : (was : Bool) (leader : Option LeaderKey) (m revision : ℕ) (info : MemberInfo) (ttl : Ticks) (status : Option Lsn) (row : Option HistoryRow) (failsafe : Option MemberSet)
+    → was_live_by_txn was leader m (txns.Renew revision info ttl status row failsafe) ≡ (was || (carries_in (bodies.Request (txns.Renew revision info ttl status row failsafe)) && is_holder leader m))
+live-renew was leader m revision info ttl status row None = or-none was
+live-renew was leader m revision info ttl status row (Some members) = refl
 
-live-body : (was : Bool) (leader : Option LeaderKey) (by : Member) (count quorum : ℕ) (body : Body) → IsSynchronousBody count quorum body → was_live_by_message was leader (ends.Member by) body ≡ was
-live-body was leader by count quorum (bodies.Request txn) on = live-txn was leader by.id.number count quorum txn on
-live-body was leader by count quorum _ on = refl
+or-none : (b : Bool) → b ≡ b || false
+or-none true = refl
+or-none false = refl
+
+live-txn : (was : Bool) (leader : Option LeaderKey) (m : ℕ) (txn : Txn) → was_live_by_txn was leader m txn ≡ (was || (carries_in (bodies.Request txn) && is_holder leader m))
+live-txn was leader m (txns.Renew revision info ttl status row failsafe) = live-renew was leader m revision info ttl status row failsafe
+live-txn was leader m _ = or-none was
+
+live-body : (was : Bool) (leader : Option LeaderKey) (by : Member) (body : Body) → was_live_by_message was leader (ends.Member by) body ≡ (was || (carries_in body && is_holder leader by.id.number))
+live-body was leader by (bodies.Request txn) = live-txn was leader by.id.number txn
+live-body was leader by _ = or-none was
+
+-- under whatever number, behind outputs that ask for none
+carries-last : (front : List Output) (sequence : ℕ) (body : Body) → All (IsUnasking false) front → has_one is_carrying (front ++ outputs.Send targets.Store sequence body ∷ []) ≡ carries_in body
+carries-last [] sequence (bodies.Request (txns.Renew revision info ttl status row None)) all = refl
+carries-last [] sequence (bodies.Request (txns.Renew revision info ttl status row (Some members))) all = refl
+carries-last [] sequence _ all = refl
+carries-last (output ∷ front) sequence body all =
+    ap (λ (b : Bool). b || has_one is_carrying (front ++ outputs.Send targets.Store sequence body ∷ [])) (uncarried output (All-head (IsUnasking false) output front all)) ∙ carries-last front sequence body (All-tail (IsUnasking false) output front all)
 
 -- what is sent under a number, if it is a request that the law knows
 abbrev sending_under : ℕ → Option SyncRequest → Option Sending
@@ -205,9 +220,12 @@ module _ (head : HeadText) (book : List Event) (cluster : Cluster) (good : Commi
   abbrev pub Sends : Option Sending
   Sends = sending_under Number Request
 
+  still : All (IsUnasking false) front
+  still = All-weaker IsCarried (IsUnasking false) carried-unasking front all
+
   sent : IsSent (requests_of M a.agent.knows.incarnation Outs) Sends
   sent = subst (λ (l : List Output). IsSent (requests_of M a.agent.knows.incarnation l) Sends) whole
-      (subst (λ (l : List SyncRequest). IsSent l Sends) (sym (asks-last M a.agent.knows.incarnation front Question (All-weaker IsCarried IsUnasking carried-unasking front all))) (sent-under Number Request))
+      (subst (λ (l : List SyncRequest). IsSent l Sends) (sym (asks-last false M a.agent.knows.incarnation front Question still)) (sent-under Number Request))
 
   none-reached : NoneAbove (past_over P Upto) Reached
   none-reached = none-later M _ (First head book cluster good a) _ (fronts head book cluster good a front all of_table) (first-none head book cluster good a front all of_table)
@@ -245,7 +263,10 @@ module _ (head : HeadText) (book : List Event) (cluster : Cluster) (good : Commi
     leaves = asked-leaves;
     once = once-none Covered asked-aside;
     flight = λ i. ap (λ (p : Past). p.flight i) past-both ∙ flight-now i;
-    live = ap (λ (p : Past). p.holder_was_live) past-both ∙ live-body (past_over P Upto).holder_was_live (past_over P Upto).leader a.member (member_count head) strict_quorum body synchronous ∙ front-live head book cluster good a front all of_table;
+    live = ap (λ (p : Past). p.holder_was_live) past-both ∙ live-body (past_over P Upto).holder_was_live (past_over P Upto).leader a.member body
+        ∙ ap (λ (was : Bool). was || (carries_in body && is_holder (past_over P Upto).leader M)) (front-live head book cluster good a front all of_table)
+        ∙ ap (λ (leader : Option LeaderKey). P.holder_was_live || (carries_in body && is_holder leader M)) (front-leads head book cluster good a front all of_table)
+        ∙ ap (λ (carries : Bool). P.holder_was_live || (carries && is_holder P.leader M)) (sym (carries-last front sequence body still) ∙ ap (has_one is_carrying) whole);
     needs = ap (λ (p : Past). confirmers_of (slice_get p.required M)) past-both ∙ front-needs head book cluster good a front all of_table requires-none;
     acted = ap (λ (c : Cluster). c.agents) reached-both ∙ front-acted head book cluster good a front all of_table;
     lives = λ n. ap (λ (c : Cluster). live_in c.facts.servers n) reached-both ∙ front-lives head book cluster good a front all of_table n;

@@ -20,7 +20,7 @@ use Rattle.agent_commit_law.specs.Committing.{IsCovered, IsSent, is_begin, live_
 use Rattle.agent_outputs.specs.Orders.{IsOfTable, machine_after_output, machine_after_outputs}
 use Rattle.agent_model.specs.Outputs.{has_one}
 use Rattle.agent_commit_law.proofs.CommitRows.{begins-data}
-use Rattle.agent_commit_law.proofs.CommitQuiet.{IsUnasking, asks-last, covered as covered-quiet, unasking}
+use Rattle.agent_commit_law.proofs.CommitQuiet.{IsUnasking, asks-last, carried-last, covered as covered-quiet, unasking}
 use Rattle.cluster_model.specs.Cluster.{cluster_over}
 use Rattle.cluster_model.specs.Inputs.{moment_of}
 use Rattle.cluster_model.specs.Messages.{begin_events}
@@ -113,8 +113,8 @@ module _ (head : HeadText) (book : List Event) (cluster : Cluster) (good : Commi
   abbrev Outs : List Output
   Outs = (After head book cluster good a).outputs
 
-  unasking-front : All IsUnasking (front ++ outputs.Require required ∷ [])
-  unasking-front = All-push IsUnasking front (outputs.Require required) (unasking front (covered-quiet front covered)) tt
+  unasking-front : All (IsUnasking false) (front ++ outputs.Require required ∷ [])
+  unasking-front = All-push (IsUnasking false) front (outputs.Require required) (unasking false front (covered-quiet false front covered)) tt
 
   passes-none : All PassesNone (front ++ outputs.Require required ∷ outputs.Begin ∷ [])
   passes-none = All-append PassesNone front (outputs.Require required ∷ outputs.Begin ∷ []) (All-weaker IsCovered PassesNone covered-passes front covered)
@@ -122,7 +122,10 @@ module _ (head : HeadText) (book : List Event) (cluster : Cluster) (good : Commi
 
   sends-none : IsSent (requests_of M a.agent.knows.incarnation Outs) None
   sends-none = subst (λ (l : List Output). IsSent (requests_of M a.agent.knows.incarnation l) None) (append_assoc front (outputs.Require required ∷ []) (outputs.Begin ∷ []) ∙ whole)
-      (subst (λ (l : List _). IsSent l None) (sym (asks-last M a.agent.knows.incarnation (front ++ outputs.Require required ∷ []) outputs.Begin unasking-front)) refl)
+      (subst (λ (l : List _). IsSent l None) (sym (asks-last false M a.agent.knows.incarnation (front ++ outputs.Require required ∷ []) outputs.Begin unasking-front)) refl)
+
+  uncarried : has_one is_carrying Outs ≡ false
+  uncarried = subst (λ (l : List Output). has_one is_carrying l ≡ false) (append_assoc front (outputs.Require required ∷ []) (outputs.Begin ∷ []) ∙ whole) (carried-last (front ++ outputs.Require required ∷ []) outputs.Begin unasking-front refl)
 
   sent : SendsInside head book cluster good a None
   sent = record { sent = sends-none; inside = none-passes Outs (subst (λ (l : List Output). All PassesNone l) whole passes-none) }
@@ -146,7 +149,7 @@ module _ (head : HeadText) (book : List Event) (cluster : Cluster) (good : Commi
   Ready = cluster_over cluster Covered
 
   page : PageOf head book cluster good a Covered None
-  page = required-page head book cluster good few a front required (outputs.Begin ∷ []) covered whole begin-quiet sent (server-found head book cluster good few a).0 (server-found head book cluster good few a).1
+  page = required-page head book cluster good few a front required (outputs.Begin ∷ []) covered whole begin-quiet sent uncarried (server-found head book cluster good few a).0 (server-found head book cluster good few a).1
 
   abbrev Begun : List Event
   Begun = begin_events Ready a.member
@@ -195,7 +198,7 @@ module _ (head : HeadText) (book : List Event) (cluster : Cluster) (good : Commi
   -- the server is there, and has data
   server-ready : (s : ServerFacts) × (slice_get Ready.facts.servers M ≡ Some s) × (has_data s.state ≡ true)
   server-ready =
-      let set = now-set head book cluster good few a front required (outputs.Begin ∷ []) covered whole begin-quiet sent (server-found head book cluster good few a).0 (server-found head book cluster good few a).1 in (
+      let set = now-set head book cluster good few a front required (outputs.Begin ∷ []) covered whole begin-quiet sent uncarried (server-found head book cluster good few a).0 (server-found head book cluster good few a).1 in (
         set.server,
         ap (λ (c : Cluster). slice_get c.facts.servers M) (over-append cluster Upto Set) ∙ set.server_is,
         ap has_data (set.state_same ∙ (server-found head book cluster good few a).2) ∙ begins-data a.machine.server.was_primary a.machine.server.state can,

@@ -45,17 +45,17 @@ module _ (head : HeadText) (book : List Event) (cluster : Cluster) (good : Commi
   count-is : length cluster.facts.members ≡ member_count head
   count-is = ap (λ (l : List Member). length l) good.lease.matched.members ∙ counted head few
 
-  connected-by : (receives : Bool) (found : Option ServerFacts)
-      → machine_from receives (option_map (replication_of cluster.facts.members cluster.facts.servers cluster.facts.cuts member) found) (slice_get cluster.options member.id.number)
+  connected-by : (receives by_failsafe : Bool) (found : Option ServerFacts)
+      → machine_from receives by_failsafe (option_map (replication_of cluster.facts.members cluster.facts.servers cluster.facts.cuts member) found) (slice_get cluster.options member.id.number)
       (slice_get cluster.facts.deadlines member.id.number) (slice_get cluster.facts.holds member.id.number) found ≡ Some machine
       → (n : ℕ) (end : Lsn) → slice_get machine.replication.confirmed_positions n ≡ Some (Some end) → n < length cluster.facts.members
-  connected-by receives None is n end e = absurd (none-some machine is)
-  connected-by receives (Some s) is n end e =
-      let made_is = made-of receives (replication_of cluster.facts.members cluster.facts.servers cluster.facts.cuts member s) (slice_get cluster.options member.id.number) (slice_get cluster.facts.deadlines member.id.number) (slice_get cluster.facts.holds member.id.number) s machine is in
+  connected-by receives by_failsafe None is n end e = absurd (none-some machine is)
+  connected-by receives by_failsafe (Some s) is n end e =
+      let made_is = made-of receives by_failsafe (replication_of cluster.facts.members cluster.facts.servers cluster.facts.cuts member s) (slice_get cluster.options member.id.number) (slice_get cluster.facts.deadlines member.id.number) (slice_get cluster.facts.holds member.id.number) s machine is in
       within-if cluster.facts.members cluster.facts.servers cluster.facts.cuts member s (writes s.state) n end (ap (λ (r : Replication). slice_get r.confirmed_positions n) (sym made_is.replication_is) ∙ e)
 
   pub connected-member : (n : ℕ) (end : Lsn) → slice_get machine.replication.confirmed_positions n ≡ Some (Some end) → n < member_count head
-  connected-member n end e = subst (λ (k : ℕ). n < k) count-is (connected-by _ (slice_get cluster.facts.servers member.id.number) machine_is n end e)
+  connected-member n end e = subst (λ (k : ℕ). n < k) count-is (connected-by _ _ (slice_get cluster.facts.servers member.id.number) machine_is n end e)
 
   below-few : (n : ℕ) → n < member_count head → n < MOST_MEMBERS
   below-few n small = omega (arith, small, few)

@@ -49,7 +49,7 @@ use Rattle.lease_parts.specs.Waiting.{IsAnswer}
 use Rattle.lease_inputs.proofs.EveryInput.{acted, agent-here, kept-hearing, kept-operated, kept-wake, sender, same-run, the-outcome, unchanged}
 use Rattle.lease_inputs.proofs.InputHears.{hears-by, peers-hear}
 use Rattle.lease_inputs.proofs.InputKinds.{IsOpening}
-use Rattle.lease_inputs.proofs.InputSeen.{IsFound, found-of}
+use Rattle.lease_inputs.proofs.InputSeen.{IsFound, can-feed, found-of}
 use Rattle.run_promise.proofs.Members.{numbered}
 use Rattle.commit_servers.specs.Matching.{live_in}
 use Rattle.commit_parts.specs.Agents.{AreAgentsSynchronous, IsAskNumbered}
@@ -59,6 +59,8 @@ use Rattle.commit_inputs.proofs.Hearing.{hears-below, hears-commits, hears-on}
 use Rattle.commit_parts.proofs.Moving.{moves-one, upheld-moves}
 use Rattle.commit_parts.proofs.Still.{volatile-same}
 use Rattle.commit_inputs.proofs.Upheld.{MayAnswer, input-upheld}
+use Rattle.pat_base.specs.declared.ticks.Ticks.{Ticks}
+use Rattle.pat_base.specs.declared.member_id.MemberId.{MemberId}
 use Rattle.pat_base.specs.declared.member_id.TheConstants.{MOST_MEMBERS}
 
 -- ---- nobody acts
@@ -105,7 +107,7 @@ record IsByItself (head : HeadText) (book : List Event) (cluster : Cluster) (mem
   hears : (agent : AgentFacts) (machine : Machine) (input : AgentInput) → HearsToCommit (state_of_run head book cluster) member.id.number input heard (outcome_from agent.role agent.knows machine [])
   on : HearsSynchronousMode heard
   below : HearsBelow (member_count head) heard
-  hears_lease : (agent : AgentFacts) (machine : Machine)
+  hears_lease : ((m : ℕ) → works_of head m ≡ true) → (agent : AgentFacts) (machine : Machine) → IsFound cluster member machine
       → Hears (lease_past.state_of (declared_of head) (lease_past.past_of book) (run_volatile.volatile_of cluster)) member.id.number None (moment_of cluster) heard (outcome_from agent.role agent.knows machine [])
   may : MayAnswer head book cluster heard
 
@@ -138,7 +140,7 @@ module _ (head : HeadText) (few : member_count head ≤ MOST_MEMBERS) (book : Li
       hears = λ input is. itself.hears agent machine input;
       on = itself.on;
       below = itself.below;
-      hears_lease = λ works. itself.hears_lease agent machine;
+      hears_lease = λ works. itself.hears_lease works agent machine (found-of cluster member machine m);
       numbered = λ n e. absurd (none-some n e);
       low = from-none cluster.facts.sent;
     }) itself.may kept
@@ -149,12 +151,12 @@ module _ (head : HeadText) (few : member_count head ≤ MOST_MEMBERS) (book : Li
 
   pub upheld-wake : Upholds (kept_commits head) book cluster (wake_events_of cluster member)
   upheld-wake =
-      upheld-itself heards.Wake (agents.Woken member) (record { opens = refl; idle = tt; acts = refl; hears = λ agent machine input. tt; on = tt; below = tt; hears_lease = λ agent machine. tt; may = tt })
+      upheld-itself heards.Wake (agents.Woken member) (record { opens = refl; idle = tt; acts = refl; hears = λ agent machine input. tt; on = tt; below = tt; hears_lease = λ works agent machine found. can-feed head (lease_past.past_of book) cluster member machine good.lease.matched found (works member.id.number); may = tt })
       (kept-wake head book cluster member good.lease)
 
   pub upheld-operated : (action : OperatorAction) → Upholds (kept_commits head) book cluster (operate_events cluster member action)
   upheld-operated action =
-      upheld-itself (heards.Operated action) (agents.Operated member action) (record { opens = refl; idle = tt; acts = refl; hears = λ agent machine input. tt; on = tt; below = tt; hears_lease = λ agent machine. tt; may = tt })
+      upheld-itself (heards.Operated action) (agents.Operated member action) (record { opens = refl; idle = tt; acts = refl; hears = λ agent machine input. tt; on = tt; below = tt; hears_lease = λ works agent machine found. tt; may = tt })
       (kept-operated head book cluster member action good.lease)
 
 -- ---- a message comes to an agent
@@ -205,12 +207,22 @@ module _ (head : HeadText) (few : member_count head ≤ MOST_MEMBERS) (book : Li
   granted-may None heard e = absurd (none-some heard e)
   granted-may (Some grant) heard e = subst May (some-is (heards.Granted message.message.sequence grant (snapshot_in cluster message)) heard e) tt
 
+  stay-asked-may : (ttl : Ticks) (from : Option MemberId) (heard : Heard) → option_map (λ by. heards.FailsafeAsked by message.message.incarnation message.message.sequence ttl) from ≡ Some heard → May heard
+  stay-asked-may ttl None heard e = absurd (none-some heard e)
+  stay-asked-may ttl (Some by) heard e = subst May (some-is (heards.FailsafeAsked by message.message.incarnation message.message.sequence ttl) heard e) tt
+
+  stay-answered-may : (accepted : Bool) (from : Option MemberId) (heard : Heard) → option_map (λ by. heards.FailsafeAnswered by message.message.sequence accepted message.sent) from ≡ Some heard → May heard
+  stay-answered-may accepted None heard e = absurd (none-some heard e)
+  stay-answered-may accepted (Some by) heard e = subst May (some-is (heards.FailsafeAnswered by message.message.sequence accepted message.sent) heard e) tt
+
   may-by : (body : Body) (heard : Heard) → IsAskNumbered (state_of_run head book cluster) message.message.from message.message.incarnation message.message.sequence body → heard_in cluster message body ≡ Some heard → May heard
   may-by bodies.Ask heard is e = asked-may message.message.from heard is e
   may-by bodies.Snapshot heard is e = subst May (some-is (heards.ReadAnswered message.message.sequence (snapshot_in cluster message)) heard e) tt
   may-by (bodies.Granted request leased) heard is e = granted-may message.grant heard e
   may-by (bodies.Refused request key held) heard is e = subst May (some-is (heards.Mismatch message.message.sequence key held) heard e) tt
   may-by (bodies.Answer answer) heard is e = subst May (some-is (heards.Answered message.message.sequence answer) heard e) tt
+  may-by (bodies.FailsafeRequest ttl) heard is e = stay-asked-may ttl (member_at_end message.message.from) heard e
+  may-by (bodies.FailsafeAnswer accepted) heard is e = stay-answered-may accepted (member_at_end message.message.from) heard e
   may-by _ heard is e = absurd (none-some heard e)
 
   may-answer : (heard : Heard) → heard_from cluster message ≡ Some heard → May heard

@@ -1,6 +1,7 @@
 -- What comes to an agent is what commits have in flight of it; with it come synchronous mode, and a sync key that names members.
 use Rattle.std.proofs.Common.{ℕ, ◌≡◌, ◌<◌, ◌==◌, Bool, true, List, [], Option, Some, None, slice_get, option_map, refl, ◌∙◌, ap, sym, subst}
 use Rattle.std.specs.FinMap.{find}
+use Rattle.pat_base.specs.declared.ticks.Ticks.{Ticks}
 use Rattle.pat_base.specs.declared.member_id.MemberId.{MemberId}
 use Rattle.pat_base.specs.declared.peer_answer.PeerAnswer.{PeerAnswer}
 use Rattle.lease_store.specs.declared.granted.Granted.{Granted}
@@ -95,7 +96,9 @@ module _ (cluster : Cluster) (carried : InFlightFacts) (P : Heard → Type 0)
     (granted : (request : ℕ) (leased : Bool) (grant : Granted) → carried.message.body ≡ bodies.Granted request leased → carried.grant ≡ Some grant → P (heards.Granted carried.message.sequence grant (snapshot_in cluster carried)))
     (mismatch : (key : Key) (expected : Expected) → P (heards.Mismatch carried.message.sequence key expected))
     (asked : (by : MemberId) → P (heards.Asked by carried.message.incarnation carried.message.sequence))
-    (answered : (answer : PeerAnswer) → P (heards.Answered carried.message.sequence answer)) where
+    (answered : (answer : PeerAnswer) → P (heards.Answered carried.message.sequence answer))
+    (stay-asked : (by : MemberId) (ttl : Ticks) → P (heards.FailsafeAsked by carried.message.incarnation carried.message.sequence ttl))
+    (stay-answered : (by : MemberId) (accepted : Bool) → P (heards.FailsafeAnswered by carried.message.sequence accepted carried.sent)) where
   granted-all : (request : ℕ) (leased : Bool) → carried.message.body ≡ bodies.Granted request leased → (given : Option Granted) → carried.grant ≡ given → (heard : Heard)
       → option_map (λ grant. heards.Granted carried.message.sequence grant (snapshot_in cluster carried)) given ≡ Some heard → P heard
   granted-all request leased body None is heard e = absurd (none-some heard e)
@@ -105,18 +108,30 @@ module _ (cluster : Cluster) (carried : InFlightFacts) (P : Heard → Type 0)
   asked-all None heard e = absurd (none-some heard e)
   asked-all (Some by) heard e = subst P (some-is _ heard e) (asked by)
 
+  stay-asked-all : (ttl : Ticks) (from : Option MemberId) (heard : Heard) → option_map (λ by. heards.FailsafeAsked by carried.message.incarnation carried.message.sequence ttl) from ≡ Some heard → P heard
+  stay-asked-all ttl None heard e = absurd (none-some heard e)
+  stay-asked-all ttl (Some by) heard e = subst P (some-is _ heard e) (stay-asked by ttl)
+
+  stay-answered-all : (accepted : Bool) (from : Option MemberId) (heard : Heard) → option_map (λ by. heards.FailsafeAnswered by carried.message.sequence accepted carried.sent) from ≡ Some heard → P heard
+  stay-answered-all accepted None heard e = absurd (none-some heard e)
+  stay-answered-all accepted (Some by) heard e = subst P (some-is _ heard e) (stay-answered by accepted)
+
   heard-all : (body : Body) → carried.message.body ≡ body → (heard : Heard) → heard_in cluster carried body ≡ Some heard → P heard
   heard-all bodies.Snapshot body heard e = subst P (some-is _ heard e) (got body)
   heard-all (bodies.Granted request leased) body heard e = granted-all request leased body carried.grant refl heard e
   heard-all (bodies.Refused request key expected) body heard e = subst P (some-is _ heard e) (mismatch key expected)
   heard-all bodies.Ask body heard e = asked-all (member_at_end carried.message.from) heard e
   heard-all (bodies.Answer answer) body heard e = subst P (some-is _ heard e) (answered answer)
+  heard-all (bodies.FailsafeRequest ttl) body heard e = stay-asked-all ttl (member_at_end carried.message.from) heard e
+  heard-all (bodies.FailsafeAnswer accepted) body heard e = stay-answered-all accepted (member_at_end carried.message.from) heard e
   heard-all _ body heard e = absurd (none-some heard e)
 
 -- an answer of the key store comes from there
 no-answer : (body : Body) → IsPeerBody body → IsAnswer body → ⊥
 no-answer bodies.Ask peer answer = answer
 no-answer (bodies.Answer told) peer answer = answer
+no-answer (bodies.FailsafeRequest ttl) peer answer = answer
+no-answer (bodies.FailsafeAnswer accepted) peer answer = answer
 no-answer _ peer answer = peer
 
 from-store : (from : LinkEnd) (member : Member) (body : Body) → IsAddressed from (ends.Member member) body → IsAnswer body → from ≡ ends.Store
@@ -222,7 +237,7 @@ module _ (head : HeadText) (book : List Event) (cluster : Cluster) (good : Commi
       → HearsToCommit (state_of_run head book cluster) member.id.number input heard (outcome_from agent.role agent.knows machine [])
   hears-commits machine heard is input by =
       heard-all cluster carried (λ (h : Heard). HearsToCommit (state_of_run head book cluster) member.id.number input h (outcome_from agent.role agent.knows machine []))
-      (λ body. snapshot-heard input by body) (λ request leased grant body given. granted-heard input by request leased grant body given) (λ key expected. tt) (λ from. tt) (λ answer. tt)
+      (λ body. snapshot-heard input by body) (λ request leased grant body given. granted-heard input by request leased grant body given) (λ key expected. tt) (λ from. tt) (λ answer. tt) (λ from ttl. tt) (λ from accepted. tt)
       carried.message.body refl heard is
 
   -- synchronous mode is on in the snapshot that comes with it, and no pause
@@ -234,10 +249,10 @@ module _ (head : HeadText) (book : List Event) (cluster : Cluster) (good : Commi
       heard-all cluster carried HearsSynchronousMode
       (λ body. record { synchronous = on-is found (subst (λ (b : Body). IsSynchronousTold b carried.snapshot) body told); unpaused = calm })
       (λ request leased grant body given. record { synchronous = on-is found (subst (λ (b : Body). IsSynchronousTold b carried.snapshot) body told); unpaused = calm })
-      (λ key expected. tt) (λ from. tt) (λ answer. tt) carried.message.body refl heard is
+      (λ key expected. tt) (λ from. tt) (λ answer. tt) (λ from ttl. tt) (λ from accepted. tt) carried.message.body refl heard is
 
   -- and its sync key names members
   pub hears-below : (heard : Heard) → heard_from cluster carried ≡ Some heard → HearsBelow (member_count head) heard
   hears-below heard is =
       let below = below-is (member_count head) strict_quorum (find key_cmp keys.Sync carried.snapshot) (good.fits.told number carried there) in
-      heard-all cluster carried (HearsBelow (member_count head)) (λ body. below) (λ request leased grant body given. below) (λ key expected. tt) (λ from. tt) (λ answer. tt) carried.message.body refl heard is
+      heard-all cluster carried (HearsBelow (member_count head)) (λ body. below) (λ request leased grant body given. below) (λ key expected. tt) (λ from. tt) (λ answer. tt) (λ from ttl. tt) (λ from accepted. tt) carried.message.body refl heard is

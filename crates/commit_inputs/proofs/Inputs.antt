@@ -16,7 +16,7 @@ use Rattle.agent_model.specs.declared.machine.Machine.{Machine}
 use Rattle.agent_model.specs.declared.machine.Replication.{Replication}
 use Rattle.agent_model.specs.declared.output.Output.{Output}
 use Rattle.agent_model.specs.Agents.{AgentFacts, Outcome, outcome_from}
-use Rattle.agent_commit_law.specs.Committing.{AsksInSynchronousMode, CommitsFrom, DoesAs, GrowsByConnected, HearsBelow, HearsSynchronousMode, HearsToCommit, IsLawfulAs, IsSent, ListsMember, StandsToCommit, StaysInSynchronousMode, committer_seen, is_begin, is_claim_outside_sync, live_shown, requests_of}
+use Rattle.agent_commit_law.specs.Committing.{AsksInSynchronousMode, CommitsFrom, DoesAs, GrowsByConnected, HolderAsks, HearsBelow, is_carrying, HearsSynchronousMode, HearsToCommit, IsLawfulAs, IsSent, ListsMember, StandsToCommit, StaysInSynchronousMode, committer_seen, is_begin, is_claim_outside_sync, live_shown, requests_of}
 use Rattle.agent_lease_law.specs.Lawful.{Hears}
 use Rattle.agent_model.specs.Pausing.{is_paused}
 use Rattle.agent_roles.proofs.Knowing.{tells_pause, told_by}
@@ -39,7 +39,7 @@ use Rattle.commit_book.specs.Books.{AllLeaveCommits, ChangeOnce, IsShown}
 use Rattle.commit_actions.specs.Functions.{forget}
 use Rattle.commit_actions.specs.Inputs.{AgentInput, Arming, ChangingRequired, CreatingLeader, Does, HearingAnswer, Idling, IsGivenByLease, Promoting, Publishing, Racing, Sending, SettlingRequired, TakingOver, WinningRace}
 use Rattle.commit_actions.specs.Keys.{Confirmers, Nobody, strict_quorum}
-use Rattle.commit_actions.specs.Past.{Past, VolatileState, confirmers_in, confirmers_of, past_after, past_over}
+use Rattle.commit_actions.specs.Past.{Past, VolatileState, is_holder, key_holder, leader_revision, confirmers_in, confirmers_of, past_after, past_over}
 use Rattle.commit_book.specs.Showing.{AreOwn}
 use Rattle.commit_actions.specs.States.{Agent, State}
 use Rattle.commit_book.proofs.Showing.{input-shown}
@@ -145,6 +145,8 @@ calm-on heards.Wake on = refl
 calm-on (heards.Mismatch sequence key found) on = refl
 calm-on (heards.Asked from incarnation sequence) on = refl
 calm-on (heards.Answered sequence answer) on = refl
+calm-on (heards.FailsafeAsked from incarnation sequence ttl) on = refl
+calm-on (heards.FailsafeAnswered from sequence accepted sent) on = refl
 calm-on (heards.Operated action) on = refl
 
 module _ (head : HeadText) (book : List Event) (cluster : Cluster) (good : CommitsBridged head book cluster) (a : Acting head book cluster) where
@@ -213,9 +215,32 @@ module _ (head : HeadText) (book : List Event) (cluster : Cluster) (good : Commi
   pub table : All IsOfTable After.outputs
   table = carried-out.kinds
 
+  -- the holder of the leader key was live, behind what the input asks: that its renewal carry a set for the failsafe key
+  abbrev pub WasLive : Bool
+  WasLive = P.holder_was_live || (has_one is_carrying After.outputs && is_holder P.leader M)
+
+  or-none : (b : Bool) → b || false ≡ b
+  or-none true = refl
+  or-none false = refl
+
+  pub still-live : has_one is_carrying After.outputs ≡ false → P.holder_was_live ≡ WasLive
+  still-live none = sym (ap (λ (carries : Bool). P.holder_was_live || (carries && is_holder P.leader M)) none ∙ or-none P.holder_was_live)
+
+  holder-asks : (carries : Bool) (leader : Option LeaderKey) → has_one is_carrying After.outputs ≡ carries → P.leader ≡ leader → ((P.holder_was_live || (carries && is_holder leader M)) ≡ S.holder_was_live) ⊎ HolderAsks S M After
+  holder-asks false leader carries is = inl (or-none P.holder_was_live)
+  holder-asks true None carries is = inl (or-none P.holder_was_live)
+  holder-asks true (Some key) carries is = by (key.holder == M) refl
+    where
+      by : (holds : Bool) → key.holder == M ≡ holds → ((P.holder_was_live || holds) ≡ S.holder_was_live) ⊎ HolderAsks S M After
+      by false holds = inl (or-none P.holder_was_live)
+      by true holds = inr (record { revision = key.revision; leader = ap leader_revision is; holder = ap key_holder is ∙ eqb-true key.holder M holds; carries = carries })
+
+  asks-or-not : (WasLive ≡ S.holder_was_live) ⊎ HolderAsks S M After
+  asks-or-not = holder-asks (has_one is_carrying After.outputs) P.leader refl refl
+
   -- the law's input that stands for it
   abbrev pub Theirs : Option Sending → AgentInput
-  Theirs sends = record { heard = a.number; agent = Seen; live = live_shown Before After; required = confirmers_in After.machine.replication.required; sends = sends; holder_was_live = S.holder_was_live }
+  Theirs sends = record { heard = a.number; agent = Seen; live = live_shown Before After; required = confirmers_in After.machine.replication.required; sends = sends; holder_was_live = WasLive }
 
   -- the input sends that, and its member takes no leader key past the sync key
   pub record SendsInside (sends : Option Sending) : Type 0 where
@@ -223,7 +248,7 @@ module _ (head : HeadText) (book : List Event) (cluster : Cluster) (good : Commi
     pub inside : has_one is_claim_outside_sync After.outputs ≡ false
 
   pub lawful-as : (sends : Option Sending) → SendsInside sends → IsLawfulAs Now a.heard strict_quorum Before S M (Theirs sends)
-  lawful-as sends is = commits.lawful unpaused asks-on a.on S M (Theirs sends) good.sound stands (a.hears (Theirs sends) refl) (record { agent = refl; live = refl; required = refl; sends = is.sent; holder_was_live = refl; inside = is.inside })
+  lawful-as sends is = commits.lawful unpaused asks-on a.on S M (Theirs sends) good.sound stands (a.hears (Theirs sends) refl) (record { agent = refl; live = refl; required = refl; sends = is.sent; holder_was_live = asks-or-not; inside = is.inside })
 
   -- the events that it covers
   pub record PageOf (events : List Event) (sends : Option Sending) : Type 0 where
@@ -231,7 +256,7 @@ module _ (head : HeadText) (book : List Event) (cluster : Cluster) (good : Commi
     pub leaves : AllLeaveCommits events
     pub once : ChangeOrderOnce events
     pub flight : (i : ℕ) → (past_over P events).flight i ≡ send sends (forget a.number P.flight) i
-    pub live : (past_over P events).holder_was_live ≡ P.holder_was_live
+    pub live : (past_over P events).holder_was_live ≡ WasLive
     pub needs : confirmers_of (slice_get (past_over P events).required M) ≡ confirmers_in After.machine.replication.required
     -- behind them
     pub acted : (cluster_over cluster events).agents ≡ with_changed cluster.agents M (agent_after (Some After))
@@ -248,7 +273,7 @@ module _ (head : HeadText) (book : List Event) (cluster : Cluster) (good : Commi
 
     pub page-shown : IsShown (setup_of head) P States (record { action = Input M (Theirs sends); events = events; volatile_states = Ahead })
     page-shown = subst (λ (input : AgentInput). IsShown (setup_of head) P States (record { action = Input M input; events = events; volatile_states = Ahead }))
-        (input-is a.number Seen (live_shown Before After) (confirmers_of (slice_get (past_over P events).required M)) (confirmers_in After.machine.replication.required) sends (past_over P events).holder_was_live P.holder_was_live page.needs page.live)
+        (input-is a.number Seen (live_shown Before After) (confirmers_of (slice_get (past_over P events).required M)) (confirmers_in After.machine.replication.required) sends (past_over P events).holder_was_live WasLive page.needs page.live)
         (input-shown (setup_of head) P States M a.number Seen (live_shown Before After) sends events page.own page.flight)
 
     -- who acts behind them
@@ -312,6 +337,9 @@ module _ (head : HeadText) (book : List Event) (cluster : Cluster) (good : Commi
 
     pub front-live : (past_over P Page).holder_was_live ≡ P.holder_was_live
     front-live = fronts.live ∙ opened.live
+
+    pub front-leads : (past_over P Page).leader ≡ P.leader
+    front-leads = fronts.leader ∙ opened.leader
 
     pub front-told : told_of (past_over P Page) ≡ told_of P
     front-told = fronts.told ∙ opened.told

@@ -21,6 +21,7 @@ use Rattle.commit_outputs.proofs.Covering.{NoneAbove, told_of}
 pub record Opens (m : ℕ) (heard : Option ℕ) (past : Past) (cluster : Cluster) (kind : EventKind) : Type 0 where
   pub flight : (i : ℕ) → (past_after past kind).flight i ≡ forget heard past.flight i
   pub live : (past_after past kind).holder_was_live ≡ past.holder_was_live
+  pub leader : (past_after past kind).leader ≡ past.leader
   pub told : told_of (past_after past kind) ≡ told_of past
   pub servers : (cluster_after cluster kind).facts.servers ≡ cluster.facts.servers
   pub commits : (cluster_after cluster kind).facts.commits ≡ cluster.facts.commits
@@ -30,11 +31,11 @@ pub record Opens (m : ℕ) (heard : Option ℕ) (past : Past) (cluster : Cluster
 
 pub opens : (m : ℕ) (heard : Option ℕ) (past : Past) (cluster : Cluster) (kind : EventKind) → IsOpening heard kind → Opens m heard past cluster kind
 opens m heard past cluster (kinds.Agent (agents.Woken by)) is =
-    record { flight = λ i. ap (λ (h : Option ℕ). forget h past.flight i) (sym is); live = refl; told = refl; servers = refl; commits = refl; acknowledged = refl; processes = refl; sent = refl }
+    record { flight = λ i. ap (λ (h : Option ℕ). forget h past.flight i) (sym is); live = refl; leader = refl; told = refl; servers = refl; commits = refl; acknowledged = refl; processes = refl; sent = refl }
 opens m heard past cluster (kinds.Agent (agents.Operated by action)) is =
-    record { flight = λ i. ap (λ (h : Option ℕ). forget h past.flight i) (sym is); live = refl; told = refl; servers = refl; commits = refl; acknowledged = refl; processes = refl; sent = refl }
+    record { flight = λ i. ap (λ (h : Option ℕ). forget h past.flight i) (sym is); live = refl; leader = refl; told = refl; servers = refl; commits = refl; acknowledged = refl; processes = refl; sent = refl }
 opens m heard past cluster (kinds.Message (Delivered number)) is =
-    record { flight = λ i. ap (λ (h : Option ℕ). forget h past.flight i) (sym is); live = refl; told = refl; servers = refl; commits = refl; acknowledged = refl; processes = refl; sent = refl }
+    record { flight = λ i. ap (λ (h : Option ℕ). forget h past.flight i) (sym is); live = refl; leader = refl; told = refl; servers = refl; commits = refl; acknowledged = refl; processes = refl; sent = refl }
 opens m heard past cluster _ is = absurd is
 
 forgot-none : (heard : Option ℕ) (flight : ℕ → Option Flying) (i : ℕ) → flight i ≡ None → forget heard flight i ≡ None

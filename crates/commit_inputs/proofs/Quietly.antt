@@ -9,7 +9,7 @@ use Rattle.event_book.specs.declared.message.Message.{Message}
 use Rattle.agent_model.specs.declared.output.Output.{Output}
 use Rattle.agent_model.specs.declared.output.Output.TheVariants as outputs
 use Rattle.agent_commit_law.specs.Committing.{IsCovered, IsQuietBody}
-use Rattle.agent_commit_law.proofs.CommitQuiet.{IsUnasking}
+use Rattle.agent_commit_law.proofs.CommitQuiet.{IsUnasking, plain-body}
 use Rattle.cluster_model.specs.Cluster.{cluster_after}
 use Rattle.cluster_model.specs.State.{Cluster}
 use Rattle.event_book.specs.Kinds.{AllAre}
@@ -23,8 +23,8 @@ abbrev pub AsksQuietly : Output → Type 0
 AsksQuietly (outputs.Send to sequence body) = IsQuietBody body
 AsksQuietly _ = Unit {0}
 
-pub unasking-quietly : (output : Output) → IsUnasking output → AsksQuietly output
-unasking-quietly (outputs.Send to sequence body) quiet = quiet
+pub unasking-quietly : (output : Output) → IsUnasking false output → AsksQuietly output
+unasking-quietly (outputs.Send to sequence body) quiet = plain-body body quiet
 unasking-quietly _ quiet = tt
 
 pub covered-quietly : (output : Output) → IsCovered output → AsksQuietly output

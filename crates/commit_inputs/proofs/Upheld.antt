@@ -11,6 +11,7 @@ use Rattle.event_book.specs.declared.member.Member.{Member}
 use Rattle.event_book.specs.declared.message.Body.{Body}
 use Rattle.event_book.specs.declared.message.Body.TheVariants as bodies
 use Rattle.event_book.specs.declared.message.Message.{Message}
+use Rattle.pat_base.specs.declared.ticks.Ticks.{Ticks}
 use Rattle.pat_base.specs.declared.server_state.Required.{Required}
 use Rattle.pat_base.specs.Changes.{with_changed}
 use Rattle.pat_base.specs.declared.member_id.MemberId.{MemberId}
@@ -31,7 +32,7 @@ use Rattle.agent_model.specs.Agents.{AgentFacts}
 use Rattle.agent_commit_law.specs.Committing.{Asks as AsksLast, HasForm, IsCovered, NoMore, Ordered, ClaimsOutsideSync, StandsAlone, IsSynchronousBody, IsSynchronousOutput, KnowsBelow, Requires, committer_seen, is_claim_outside_sync}
 use Rattle.agent_answers.specs.Replies.{RepliesTo}
 use Rattle.agent_commit_law.proofs.CommitInputs.{given-by-lease}
-use Rattle.agent_commit_law.proofs.CommitQuiet.{IsUnasking}
+use Rattle.agent_commit_law.proofs.CommitQuiet.{IsUnasking, alone-unasking}
 use Rattle.agent_answers.proofs.Replying.{step-replies}
 use Rattle.agent_model.specs.Outputs.{has_one}
 use Rattle.cluster_model.specs.Cluster.{agent_after, cluster_over}
@@ -72,7 +73,7 @@ use Rattle.commit_parts.specs.Reading.{agent_now, past_of, setup_of, state_of_ru
 use Rattle.commit_outputs.specs.Answering.{AnswersNone}
 use Rattle.commit_inputs.proofs.Arming.{arms-alone}
 use Rattle.commit_inputs.proofs.Asking.{agents-behind}
-use Rattle.commit_inputs.proofs.Bringing.{Lawful, alone-unasking, covered-moves, requires-moves}
+use Rattle.commit_inputs.proofs.Bringing.{Lawful, covered-moves, requires-moves}
 use Rattle.commit_inputs.proofs.BringingAnswers.{answers-moves, unasking-all}
 use Rattle.commit_inputs.proofs.BringingAsks.{Sends, asks-aside, asks-leave, asks-moves, asks-ordered, page, inside-ordered}
 use Rattle.commit_inputs.proofs.BringingBegins.{begins-moves}
@@ -124,6 +125,8 @@ answer-none (heards.ReadAnswered number snapshot) other (outputs.Answer to incar
 answer-none (heards.Granted number grant snapshot) other (outputs.Answer to incarnation sequence answer) replies = replies
 answer-none (heards.Mismatch number key found) other (outputs.Answer to incarnation sequence answer) replies = replies
 answer-none (heards.Answered number given) other (outputs.Answer to incarnation sequence answer) replies = replies
+answer-none (heards.FailsafeAsked from asked number ttl) other (outputs.Answer to incarnation sequence answer) replies = replies
+answer-none (heards.FailsafeAnswered from number accepted sent) other (outputs.Answer to incarnation sequence answer) replies = replies
 answer-none (heards.Operated action) other (outputs.Answer to incarnation sequence answer) replies = replies
 answer-none heard other _ replies = tt
 
@@ -141,6 +144,12 @@ refused-asks number key found from incarnation sequence e = cc
 
 answered-asks : (number : ℕ) (answer : PeerAnswer) (from : MemberId) (incarnation sequence : ℕ) → ◌≡◌ {A = Heard} (heards.Answered number answer) (heards.Asked from incarnation sequence) → ⊥
 answered-asks number answer from incarnation sequence e = cc
+
+stay-asked-asks : (by : MemberId) (run number : ℕ) (ttl : Ticks) (from : MemberId) (incarnation sequence : ℕ) → ◌≡◌ {A = Heard} (heards.FailsafeAsked by run number ttl) (heards.Asked from incarnation sequence) → ⊥
+stay-asked-asks by run number ttl from incarnation sequence e = cc
+
+stay-answered-asks : (by : MemberId) (number : ℕ) (accepted : Bool) (sent : Ticks) (from : MemberId) (incarnation sequence : ℕ) → ◌≡◌ {A = Heard} (heards.FailsafeAnswered by number accepted sent) (heards.Asked from incarnation sequence) → ⊥
+stay-answered-asks by number accepted sent from incarnation sequence e = cc
 
 operated-asks : (action : OperatorAction) (from : MemberId) (incarnation sequence : ℕ) → ◌≡◌ {A = Heard} (heards.Operated action) (heards.Asked from incarnation sequence) → ⊥
 operated-asks action from incarnation sequence e = cc
@@ -281,7 +290,7 @@ module _ (head : HeadText) (book : List Event) (cluster : Cluster) (good : Commi
       (agents-behind head book cluster good a.member a.agent a.machine (found-of cluster a.member a.machine a.machine_is) a.here a.heard a.number a.message a.opening a.opening_is a.numbered a.low a.acts (stays-on head book cluster good a).asks)
 
   alone-quietly : (outs : List Output) → All StandsAlone outs → All AsksQuietly outs
-  alone-quietly outs alone = All-weaker IsUnasking AsksQuietly unasking-quietly outs (All-weaker StandsAlone IsUnasking alone-unasking outs alone)
+  alone-quietly outs alone = All-weaker (IsUnasking false) AsksQuietly unasking-quietly outs (All-weaker StandsAlone (IsUnasking false) alone-unasking outs alone)
 
   requires-upheld : IsKept head book cluster All_ → All AnswersNone Outs → (front : List Output) (required : Required) (behind : List Output) → All IsCovered front → All StandsAlone behind → front ++ outputs.Require required ∷ behind ≡ Outs
       → Upholds (kept_commits head) book cluster All_
@@ -335,12 +344,14 @@ module _ (head : HeadText) (book : List Event) (cluster : Cluster) (good : Commi
 
   heard-upheld : (heard : Heard) → a.heard ≡ heard → MayAnswer head book cluster heard → IsKept head book cluster All_ → Upholds (kept_commits head) book cluster All_
   heard-upheld (heards.Asked from incarnation sequence) is may kept =
-      upheld-by-moves kept (ordered-by (All-weaker IsUnasking AsksQuietly unasking-quietly Outs (unasking-all head book cluster good few a from incarnation sequence is))) (answers-moves head book cluster good few a from incarnation sequence is may)
+      upheld-by-moves kept (ordered-by (All-weaker (IsUnasking false) AsksQuietly unasking-quietly Outs (unasking-all head book cluster good few a from incarnation sequence is))) (answers-moves head book cluster good few a from incarnation sequence is may)
   heard-upheld heards.Wake is may kept = other-upheld (λ from incarnation sequence e. wake-asks from incarnation sequence (sym is ∙ e)) kept
   heard-upheld (heards.ReadAnswered number snapshot) is may kept = other-upheld (λ from incarnation sequence e. got-asks number snapshot from incarnation sequence (sym is ∙ e)) kept
   heard-upheld (heards.Granted number grant snapshot) is may kept = other-upheld (λ from incarnation sequence e. granted-asks number grant snapshot from incarnation sequence (sym is ∙ e)) kept
   heard-upheld (heards.Mismatch number key found) is may kept = other-upheld (λ from incarnation sequence e. refused-asks number key found from incarnation sequence (sym is ∙ e)) kept
   heard-upheld (heards.Answered number answer) is may kept = other-upheld (λ from incarnation sequence e. answered-asks number answer from incarnation sequence (sym is ∙ e)) kept
+  heard-upheld (heards.FailsafeAsked by run number ttl) is may kept = other-upheld (λ from incarnation sequence e. stay-asked-asks by run number ttl from incarnation sequence (sym is ∙ e)) kept
+  heard-upheld (heards.FailsafeAnswered by number accepted sent) is may kept = other-upheld (λ from incarnation sequence e. stay-answered-asks by number accepted sent from incarnation sequence (sym is ∙ e)) kept
   heard-upheld (heards.Operated action) is may kept = other-upheld (λ from incarnation sequence e. operated-asks action from incarnation sequence (sym is ∙ e)) kept
 
   pub input-upheld : MayAnswer head book cluster a.heard → IsKept head book cluster All_ → Upholds (kept_commits head) book cluster All_

@@ -1,6 +1,7 @@
 -- Outputs of an agent that are actions of their own.
-use Rattle.std.proofs.Common.{◌≡◌, ◌||◌, Bool, true, false, cond, List, [], ◌∷◌, All, slice_get, Option, Some, None, option_and_then, option_map, refl}
+use Rattle.std.proofs.Common.{ℕ, ◌≡◌, ◌||◌, Bool, true, false, cond, List, [], ◌∷◌, All, slice_get, Option, Some, None, option_and_then, option_map, refl}
 use Rattle.std.proofs.lemmas.List.Elements.{All-head, All-tail}
+use Rattle.pat_base.specs.declared.ticks.Ticks.{Ticks}
 use Rattle.pat_base.specs.ServerState.{live}
 use Rattle.pg_model.specs.Facts.{ServerFacts, is_creating, is_down, is_replica}
 use Rattle.event_book.specs.declared.event.EventKind.{EventKind}
@@ -30,7 +31,7 @@ use Rattle.cluster_model.specs.Cluster.{cluster_after, cluster_over}
 use Rattle.cluster_model.specs.Commands.{kinds_of}
 use Rattle.cluster_model.specs.Inputs.{agent_at}
 use Rattle.cluster_model.specs.Messages.{output_events, repair_events}
-use Rattle.cluster_model.specs.Orders.{agent_noting, arming, declared_member, feed_kinds, feeding, following_of, repair_over, replica_start_kinds, server_at, stop_kinds, stop_of, upstream_of, wipe_of}
+use Rattle.cluster_model.specs.Orders.{failsafe_feeding, hold_taken, agent_noting, arming, declared_member, feed_kinds, feeding, following_of, repair_over, replica_start_kinds, server_at, stop_kinds, stop_of, upstream_of, wipe_of}
 use Rattle.cluster_model.specs.Parts.{each, event_of, events_of, for_some}
 use Rattle.cluster_model.specs.Requests.{config_text_of, told_kind}
 use Rattle.cluster_model.specs.State.{Cluster}
@@ -43,7 +44,7 @@ use Rattle.cluster_model.proofs.Lists.{AllKinds, HoldsIf, all-kinds, all-more, o
 use Rattle.commit_parts.specs.Reading.{volatile_of}
 use Rattle.commit_parts.proofs.Moving.{moves-none, moves-then}
 use Rattle.commit_parts.specs.Moving.{Moves}
-use Rattle.commit_outputs.proofs.Sending.{member-moves, question-moves}
+use Rattle.commit_outputs.proofs.Sending.{failsafe-moves, member-moves, question-moves}
 use Rattle.commit_parts.proofs.Servers.{moves-follow}
 use Rattle.commit_parts.proofs.Still.{IsStill}
 use Rattle.commit_outputs.proofs.Restarting.{restart-moves}
@@ -58,6 +59,7 @@ IsFree (kinds.Watchdog (watchdogs.Armed member until answer)) = Unit {0}
 IsFree (kinds.Watchdog (watchdogs.Fed member until basis)) = Unit {0}
 IsFree (kinds.Watchdog (watchdogs.Disarmed member)) = Unit {0}
 IsFree (kinds.Watchdog (watchdogs.Measured member since)) = Unit {0}
+IsFree (kinds.Watchdog (watchdogs.HoldTaken member until from incarnation sequence)) = Unit {0}
 IsFree (kinds.Note note) = Unit {0}
 IsFree _ = ⊥
 
@@ -68,6 +70,7 @@ free-still (kinds.Watchdog (watchdogs.Armed member until answer)) free = tt
 free-still (kinds.Watchdog (watchdogs.Fed member until basis)) free = tt
 free-still (kinds.Watchdog (watchdogs.Disarmed member)) free = tt
 free-still (kinds.Watchdog (watchdogs.Measured member since)) free = tt
+free-still (kinds.Watchdog (watchdogs.HoldTaken member until from incarnation sequence)) free = tt
 free-still (kinds.Note note) free = tt
 free-still _ free = absurd free
 
@@ -78,6 +81,7 @@ free-may facts (kinds.Watchdog (watchdogs.Armed member until answer)) free = tt
 free-may facts (kinds.Watchdog (watchdogs.Fed member until basis)) free = tt
 free-may facts (kinds.Watchdog (watchdogs.Disarmed member)) free = tt
 free-may facts (kinds.Watchdog (watchdogs.Measured member since)) free = tt
+free-may facts (kinds.Watchdog (watchdogs.HoldTaken member until from incarnation sequence)) free = tt
 free-may facts (kinds.Note note) free = tt
 free-may facts _ free = absurd free
 
@@ -100,6 +104,10 @@ noted-free note (Some x) = tt
 told-free : (member : Member) (agent : Option AgentFacts) (told : Told) → HoldsIf IsFree (told_kind member agent told)
 told-free member agent (tolds.Text status text) = tt
 told-free member agent tolds.Written = noted-free (λ body. notes.Answered member ok true body) (config_text_of agent)
+
+held-free : (member : Member) (until : Ticks) (incarnation sequence : ℕ) (from : Option Member) → HoldsIf IsFree (option_map (hold_taken member until incarnation sequence) from)
+held-free member until incarnation sequence None = tt
+held-free member until incarnation sequence (Some other) = tt
 
 starts-free : (member : Member) (leader : Option Member) (test : Bool) → AllKinds IsFree (cond test (kinds.Server (servers.StartsAsReplica (server_of member)) ∷ kinds_of (following_of member leader)) [])
 starts-free member leader true = (tt, one-kind IsFree (following_of member leader) (following-free member leader))
@@ -171,14 +179,20 @@ module _ (setup : Setup) (member : Member) where
         free-moves past cluster (kinds_of kind) fits (one-kind IsFree kind (holds-then IsFree (upstream_of member (slice_get cluster.facts.members leader.number)) (server_at cluster member)
         (λ s. upstream-free member (slice_get cluster.facts.members leader.number) (is_replica s.state))))
     output-moves past cluster (outputs.Require required) fits table alone answers = absurd alone
-    output-moves past cluster (outputs.Armed until) fits table alone answers = free-moves past cluster (feed_kinds member message (arming member until message)) fits (tt, (tt, tt))
-    output-moves past cluster (outputs.Fed until) fits table alone answers = free-moves past cluster (feed_kinds member message (feeding member until message)) fits (tt, (tt, tt))
+    output-moves past cluster (outputs.Armed until) fits table alone answers = free-moves past cluster (feed_kinds member message.sent (arming member until message)) fits (tt, (tt, tt))
+    output-moves past cluster (outputs.Fed until) fits table alone answers = free-moves past cluster (feed_kinds member message.sent (feeding member until message)) fits (tt, (tt, tt))
     output-moves past cluster outputs.Disarmed fits table alone answers = free-moves past cluster (kinds.Watchdog (watchdogs.Disarmed member) ∷ []) fits (tt, tt)
     output-moves past cluster (outputs.Note note) fits table alone answers = free-moves past cluster (agent_noting cluster.facts.members member note ∷ []) fits (tt, tt)
     output-moves past cluster outputs.ClaimsOutsideSync fits table alone answers = absurd alone
     output-moves past cluster outputs.ShutDown fits table alone answers = shuts-moves past cluster (server_at cluster member) refl fits
     output-moves past cluster (outputs.Repair leader repair) fits table alone answers = repair-moves past cluster repair (slice_get cluster.facts.members leader.number) fits
-    output-moves past cluster (outputs.HoldTaken until from sequence) fits table alone answers = absurd table
+    output-moves past cluster (outputs.HoldTaken until from sequence) fits table alone answers =
+        let kind : Option EventKind = option_map (hold_taken member until message.incarnation sequence) (slice_get cluster.facts.members from.number) in
+        free-moves past cluster (kinds_of kind) fits (one-kind IsFree kind (held-free member until message.incarnation sequence (slice_get cluster.facts.members from.number)))
+    output-moves past cluster (outputs.FailsafeAnswer to incarnation sequence accepted) fits table alone answers =
+        failsafe-moves setup member past cluster (slice_get cluster.facts.members to.number) incarnation sequence accepted fits
+    output-moves past cluster (outputs.FedByFailsafe until members sequence since) fits table alone answers = free-moves past cluster (feed_kinds member since (failsafe_feeding member until members sequence)) fits (tt, (tt, tt))
+    output-moves past cluster outputs.StaysByFailsafe fits table alone answers = free-moves past cluster (kinds.Note (notes.StaysByFailsafe member) ∷ []) fits (tt, tt)
     output-moves past cluster (outputs.Restart as_primary) fits table alone answers = restarts-moves past cluster (server_at cluster member) refl fits
     output-moves past cluster outputs.Wipe fits table alone answers = wipes-moves past cluster (server_at cluster member) refl fits
     output-moves past cluster (outputs.Told request told) fits table alone answers =

@@ -89,6 +89,7 @@ pub record Covers (m : ℕ) (past : Past) (cluster : Cluster) (events : List Eve
   pub ordered : AllInOrder past cluster events
   pub flight : (i : ℕ) → (past_over past events).flight i ≡ past.flight i
   pub live : (past_over past events).holder_was_live ≡ past.holder_was_live
+  pub leader : (past_over past events).leader ≡ past.leader
   pub told : told_of (past_over past events) ≡ told_of past
   pub held : held_by (cluster_over cluster events) ≡ held_by cluster
   pub later : cluster.facts.sent ≤ (cluster_over cluster events).facts.sent
@@ -102,7 +103,7 @@ leave-both [] ys first second = second
 leave-both (x ∷ xs) ys first second = (first.0, leave-both xs ys first.1 second)
 
 pub covers-none : (m : ℕ) (past : Past) (cluster : Cluster) → Covers m past cluster []
-covers-none m past cluster = record { own = tt; leaves = tt; aside = tt; ordered = tt; flight = λ i. refl; live = refl; told = refl; held = refl; later = omega arith }
+covers-none m past cluster = record { own = tt; leaves = tt; aside = tt; ordered = tt; flight = λ i. refl; live = refl; leader = refl; told = refl; held = refl; later = omega arith }
 
 at-most-then : (a b c : ℕ) → a ≤ b → b ≤ c → a ≤ c
 at-most-then a b c first second = omega (arith, first, second)
@@ -118,6 +119,7 @@ covers-then m past cluster xs ys first second =
       ordered = order-then past cluster xs ys first.ordered second.ordered;
       flight = λ i. ap (λ (q : Past). q.flight i) p ∙ second.flight i ∙ first.flight i;
       live = ap (λ (q : Past). q.holder_was_live) p ∙ second.live ∙ first.live;
+      leader = ap (λ (q : Past). q.leader) p ∙ second.leader ∙ first.leader;
       told = ap told_of p ∙ second.told ∙ first.told;
       held = ap held_by c ∙ second.held ∙ first.held;
       later = at-most-then cluster.facts.sent (cluster_over cluster xs).facts.sent (cluster_over cluster (xs ++ ys)).facts.sent first.later
@@ -182,8 +184,14 @@ quiet-ordered past cluster by incarnation sequence _ quiet = tt
 pub quiet-says : (past : Past) (member : Member) (incarnation sequence : ℕ) (body : Body) → IsQuietBody body → SaysNothing past (agent_message member ends.Store incarnation sequence body)
 quiet-says past member incarnation sequence body quiet = record { flying = quiet-body member.id.number incarnation sequence body quiet; live = live-body past.holder_was_live past.leader member body quiet; ordered = λ cluster. quiet-ordered past cluster member incarnation sequence body quiet }
 
-pub ask-says : (past : Past) (member peer : Member) (incarnation sequence : ℕ) → SaysNothing past (agent_message member (ends.Member peer) incarnation sequence bodies.Ask)
-ask-says past member peer incarnation sequence = record { flying = refl; live = refl; ordered = λ cluster. tt }
+pub ask-says : (past : Past) (member peer : Member) (incarnation sequence : ℕ) (body : Body) → IsAsk body → SaysNothing past (agent_message member (ends.Member peer) incarnation sequence body)
+ask-says past member peer incarnation sequence bodies.Ask ask = record { flying = refl; live = refl; ordered = λ cluster. tt }
+ask-says past member peer incarnation sequence (bodies.FailsafeRequest ttl) ask = record { flying = refl; live = refl; ordered = λ cluster. tt }
+ask-says past member peer incarnation sequence _ ask = absurd ask
+
+-- what a member says to a failsafe request
+pub failsafe-says : (past : Past) (member peer : Member) (incarnation sequence : ℕ) (accepted : Bool) → SaysNothing past (agent_message member (ends.Member peer) incarnation sequence (bodies.FailsafeAnswer accepted))
+failsafe-says past member peer incarnation sequence accepted = record { flying = refl; live = refl; ordered = λ cluster. tt }
 
 module _ (m : ℕ) (past : Past) (cluster : Cluster) (none : NoneAbove past cluster) (message : Message) (says : SaysNothing past message) where
   abbrev Number : ℕ
@@ -203,6 +211,7 @@ module _ (m : ℕ) (past : Past) (cluster : Cluster) (none : NoneAbove past clus
     ordered = (says.ordered cluster, tt);
     flight = sent-flight;
     live = says.live;
+    leader = refl;
     told = refl;
     held = refl;
     later = omega arith;
@@ -217,6 +226,7 @@ module _ (m : ℕ) (past : Past) (cluster : Cluster) (none : NoneAbove past clus
     ordered = (tt, tt);
     flight = λ i. put-none later.flight number i is;
     live = refl;
+    leader = refl;
     told = refl;
     held = refl;
     later = omega arith;
@@ -248,35 +258,30 @@ module _ (member : Member) (message : HeardMessage) where
   question-covers past cluster none (Some process) sequence body quiet =
       send-covers M past cluster none (agent_message member ends.Store process.incarnation sequence body) (quiet-says past member process.incarnation sequence body quiet)
 
-  ask-covers : (past : Past) (cluster : Cluster) → NoneAbove past cluster → (found : Option AgentProcess) (peer : Option Member) (sequence : ℕ)
-      → Covers M past cluster (sending_events cluster member found (option_map (λ (p : Member). ends.Member p) peer) sequence bodies.Ask)
-  ask-covers past cluster none None peer sequence = covers-none M past cluster
-  ask-covers past cluster none (Some process) None sequence = covers-none M past cluster
-  ask-covers past cluster none (Some process) (Some peer) sequence =
-      send-covers M past cluster none (agent_message member (ends.Member peer) process.incarnation sequence bodies.Ask) (ask-says past member peer process.incarnation sequence)
-
   member-covers : (past : Past) (cluster : Cluster) → NoneAbove past cluster → (found : Option AgentProcess) (peer : Option Member) (sequence : ℕ) (body : Body) → IsAsk body
       → Covers M past cluster (sending_events cluster member found (option_map (λ (p : Member). ends.Member p) peer) sequence body)
-  member-covers past cluster none found peer sequence bodies.Ask ask = ask-covers past cluster none found peer sequence
-  member-covers past cluster none found peer sequence _ ask = absurd ask
+  member-covers past cluster none None peer sequence body ask = covers-none M past cluster
+  member-covers past cluster none (Some process) None sequence body ask = covers-none M past cluster
+  member-covers past cluster none (Some process) (Some peer) sequence body ask =
+      send-covers M past cluster none (agent_message member (ends.Member peer) process.incarnation sequence body) (ask-says past member peer process.incarnation sequence body ask)
 
   -- a note, if there is one
   said-covers : {X : Type 0} (past : Past) (cluster : Cluster) (note : X → Note) (found : Option X) → Covers M past cluster (events_of cluster (kinds_of (option_map (λ x. kinds.Note (note x)) found)))
   said-covers past cluster note None = covers-none M past cluster
-  said-covers past cluster note (Some x) = record { own = (tt, tt); leaves = (tt, tt); aside = (tt, tt); ordered = (tt, tt); flight = λ i. refl; live = refl; told = refl; held = refl; later = omega arith }
+  said-covers past cluster note (Some x) = record { own = (tt, tt); leaves = (tt, tt); aside = (tt, tt); ordered = (tt, tt); flight = λ i. refl; live = refl; leader = refl; told = refl; held = refl; later = omega arith }
 
   told-covers : (past : Past) (cluster : Cluster) (agent : Option AgentFacts) (told : OperatorTold) → Covers M past cluster (events_of cluster (kinds_of (told_kind member agent told)))
-  told-covers past cluster agent (tolds.Text status text) = record { own = (tt, tt); leaves = (tt, tt); aside = (tt, tt); ordered = (tt, tt); flight = λ i. refl; live = refl; told = refl; held = refl; later = omega arith }
+  told-covers past cluster agent (tolds.Text status text) = record { own = (tt, tt); leaves = (tt, tt); aside = (tt, tt); ordered = (tt, tt); flight = λ i. refl; live = refl; leader = refl; told = refl; held = refl; later = omega arith }
   told-covers past cluster agent tolds.Written = said-covers past cluster (λ body. notes.Answered member ok true body) (config_text_of agent)
 
   pub output-covers : (past : Past) (cluster : Cluster) → NoneAbove past cluster → (output : Output) → IsCarried output → IsOfTable output → Covers M past cluster (output_events member message cluster output)
   output-covers past cluster none (outputs.Send targets.Store sequence body) is table = question-covers past cluster none (slice_get cluster.facts.processes M) sequence body is
   output-covers past cluster none (outputs.Send (targets.Member id) sequence body) is table = member-covers past cluster none (slice_get cluster.facts.processes M) (slice_get cluster.facts.members id.number) sequence body table
-  output-covers past cluster none (outputs.Armed until) is table = record { own = (tt, (tt, tt)); leaves = (tt, (tt, tt)); aside = (tt, (tt, tt)); ordered = (tt, (tt, tt)); flight = λ i. refl; live = refl; told = refl; held = refl; later = omega arith }
-  output-covers past cluster none (outputs.Fed until) is table = record { own = (tt, (tt, tt)); leaves = (tt, (tt, tt)); aside = (tt, (tt, tt)); ordered = (tt, (tt, tt)); flight = λ i. refl; live = refl; told = refl; held = refl; later = omega arith }
-  output-covers past cluster none outputs.Disarmed is table = record { own = (tt, tt); leaves = (tt, tt); aside = (tt, tt); ordered = (tt, tt); flight = λ i. refl; live = refl; told = refl; held = refl; later = omega arith }
-  output-covers past cluster none (outputs.Note note) is table = record { own = (tt, tt); leaves = (tt, tt); aside = (tt, tt); ordered = (tt, tt); flight = λ i. refl; live = refl; told = refl; held = refl; later = omega arith }
-  output-covers past cluster none outputs.ClaimsOutsideSync is table = record { own = (tt, tt); leaves = (tt, tt); aside = (tt, tt); ordered = (tt, tt); flight = λ i. refl; live = refl; told = refl; held = refl; later = omega arith }
+  output-covers past cluster none (outputs.Armed until) is table = record { own = (tt, (tt, tt)); leaves = (tt, (tt, tt)); aside = (tt, (tt, tt)); ordered = (tt, (tt, tt)); flight = λ i. refl; live = refl; leader = refl; told = refl; held = refl; later = omega arith }
+  output-covers past cluster none (outputs.Fed until) is table = record { own = (tt, (tt, tt)); leaves = (tt, (tt, tt)); aside = (tt, (tt, tt)); ordered = (tt, (tt, tt)); flight = λ i. refl; live = refl; leader = refl; told = refl; held = refl; later = omega arith }
+  output-covers past cluster none outputs.Disarmed is table = record { own = (tt, tt); leaves = (tt, tt); aside = (tt, tt); ordered = (tt, tt); flight = λ i. refl; live = refl; leader = refl; told = refl; held = refl; later = omega arith }
+  output-covers past cluster none (outputs.Note note) is table = record { own = (tt, tt); leaves = (tt, tt); aside = (tt, tt); ordered = (tt, tt); flight = λ i. refl; live = refl; leader = refl; told = refl; held = refl; later = omega arith }
+  output-covers past cluster none outputs.ClaimsOutsideSync is table = record { own = (tt, tt); leaves = (tt, tt); aside = (tt, tt); ordered = (tt, tt); flight = λ i. refl; live = refl; leader = refl; told = refl; held = refl; later = omega arith }
   output-covers past cluster none (outputs.Told request told) is table = told-covers past cluster (agent_at cluster.agents M) told
   output-covers past cluster none _ is table = absurd is
 

@@ -32,7 +32,7 @@ use Rattle.commit_actions.specs.States.{State}
 use Rattle.commit_book.proofs.Showing.{lost-shown, race-answer-shown}
 use Rattle.commit_servers.specs.Acting.{Fits}
 use Rattle.commit_parts.specs.Reading.{volatile_of}
-use Rattle.commit_outputs.proofs.Covering.{SaysNothing, ask-says, quiet-says}
+use Rattle.commit_outputs.proofs.Covering.{failsafe-says, SaysNothing, ask-says, quiet-says}
 use Rattle.commit_outputs.specs.Answering.{LogEndsAt}
 use Rattle.commit_parts.proofs.Moving.{moves-none, moves-one, moves-then}
 use Rattle.commit_parts.specs.Moving.{Moves}
@@ -71,18 +71,20 @@ module _ (setup : Setup) where
     question-moves past cluster (Some process) sequence body fits quiet =
         silent-moves past cluster (agent_message member ends.Store process.incarnation sequence body) fits (quiet-says past member process.incarnation sequence body quiet)
 
-    asks-moves : (past : Past) (cluster : Cluster) (found : Option AgentProcess) (peer : Option Member) (sequence : ℕ) → Fits past cluster.facts (volatile_of cluster)
-        → Moves setup past cluster (sending_events cluster member found (option_map (λ (p : Member). ends.Member p) peer) sequence bodies.Ask)
-    asks-moves past cluster None peer sequence fits = moves-none setup past cluster fits
-    asks-moves past cluster (Some process) None sequence fits = moves-none setup past cluster fits
-    asks-moves past cluster (Some process) (Some peer) sequence fits =
-        silent-moves past cluster (agent_message member (ends.Member peer) process.incarnation sequence bodies.Ask) fits (ask-says past member peer process.incarnation sequence)
-
     -- members send others nothing but asks
     pub member-moves : (past : Past) (cluster : Cluster) (found : Option AgentProcess) (peer : Option Member) (sequence : ℕ) (body : Body) → Fits past cluster.facts (volatile_of cluster) → IsAsk body
         → Moves setup past cluster (sending_events cluster member found (option_map (λ (p : Member). ends.Member p) peer) sequence body)
-    member-moves past cluster found peer sequence bodies.Ask fits ask = asks-moves past cluster found peer sequence fits
-    member-moves past cluster found peer sequence _ fits ask = absurd ask
+    member-moves past cluster None peer sequence body fits ask = moves-none setup past cluster fits
+    member-moves past cluster (Some process) None sequence body fits ask = moves-none setup past cluster fits
+    member-moves past cluster (Some process) (Some peer) sequence body fits ask =
+        silent-moves past cluster (agent_message member (ends.Member peer) process.incarnation sequence body) fits (ask-says past member peer process.incarnation sequence body ask)
+
+    -- what a member answers one that asks to stay primary
+    pub failsafe-moves : (past : Past) (cluster : Cluster) (peer : Option Member) (incarnation sequence : ℕ) (accepted : Bool) → Fits past cluster.facts (volatile_of cluster)
+        → Moves setup past cluster (replying_events cluster member (option_map (λ (p : Member). ends.Member p) peer) incarnation sequence (bodies.FailsafeAnswer accepted))
+    failsafe-moves past cluster None incarnation sequence accepted fits = moves-none setup past cluster fits
+    failsafe-moves past cluster (Some peer) incarnation sequence accepted fits =
+        silent-moves past cluster (agent_message member (ends.Member peer) incarnation sequence (bodies.FailsafeAnswer accepted)) fits (failsafe-says past member peer incarnation sequence accepted)
 
     -- ---- an answer to a member that asks
     replied-moves : (past : Past) (cluster : Cluster) (peer : Member) (incarnation sequence : ℕ) (answer : PeerAnswer) (end : Option Lsn) → answer.end ≡ end → Fits past cluster.facts (volatile_of cluster)

@@ -40,12 +40,12 @@ pub record IsMadeOf (s : ServerFacts) (replication : Replication) (machine : Mac
   pub end : machine.server.end ≡ end_in s.log
   pub replication_is : machine.replication ≡ replication
 
-pub made-of : (receives : Bool) (replication : Replication) (options : Option MemberOptions) (deadline hold : Option (Option Ticks)) (s : ServerFacts) (machine : Machine)
-    → machine_from receives (Some replication) options deadline hold (Some s) ≡ Some machine → IsMadeOf s replication machine
-made-of receives replication None deadline hold s machine is = absurd (none-some machine is)
-made-of receives replication (Some options) None hold s machine is = absurd (none-some machine is)
-made-of receives replication (Some options) (Some deadline) None s machine is = absurd (none-some machine is)
-made-of receives replication (Some options) (Some deadline) (Some hold) s machine is =
+pub made-of : (receives by_failsafe : Bool) (replication : Replication) (options : Option MemberOptions) (deadline hold : Option (Option Ticks)) (s : ServerFacts) (machine : Machine)
+    → machine_from receives by_failsafe (Some replication) options deadline hold (Some s) ≡ Some machine → IsMadeOf s replication machine
+made-of receives by_failsafe replication None deadline hold s machine is = absurd (none-some machine is)
+made-of receives by_failsafe replication (Some options) None hold s machine is = absurd (none-some machine is)
+made-of receives by_failsafe replication (Some options) (Some deadline) None s machine is = absurd (none-some machine is)
+made-of receives by_failsafe replication (Some options) (Some deadline) (Some hold) s machine is =
     let same = some-is _ machine is in
     record {
       state = ap (λ (m : Machine). m.server.state) (sym same);
@@ -122,15 +122,15 @@ module _ (head : HeadText) (book : List Event) (cluster : Cluster) (good : Commi
 -- a member's agent stands to commit with the machine that it finds
 module _ (head : HeadText) (book : List Event) (cluster : Cluster) (good : CommitsBridged head book cluster) (member : Member) (agent : AgentFacts)
     (there : slice_get cluster.agents member.id.number ≡ Some (Some agent)) (small : member.id.number < member_count head) where
-  stands-by : (machine : Machine) (receives : Bool) (found : Option ServerFacts) → slice_get cluster.facts.servers member.id.number ≡ found
-      → machine_from receives (option_map (replication_of cluster.facts.members cluster.facts.servers cluster.facts.cuts member) found) (slice_get cluster.options member.id.number)
+  stands-by : (machine : Machine) (receives by_failsafe : Bool) (found : Option ServerFacts) → slice_get cluster.facts.servers member.id.number ≡ found
+      → machine_from receives by_failsafe (option_map (replication_of cluster.facts.members cluster.facts.servers cluster.facts.cuts member) found) (slice_get cluster.options member.id.number)
       (slice_get cluster.facts.deadlines member.id.number) (slice_get cluster.facts.holds member.id.number) found ≡ Some machine
       → StandsToCommit (state_of_run head book cluster) member.id.number strict_quorum (outcome_from agent.role agent.knows machine [])
-  stands-by machine receives None found is = absurd (none-some machine is)
-  stands-by machine receives (Some s) found is =
+  stands-by machine receives by_failsafe None found is = absurd (none-some machine is)
+  stands-by machine receives by_failsafe (Some s) found is =
       stands head book cluster good member agent s there found machine
-      (made-of receives (replication_of cluster.facts.members cluster.facts.servers cluster.facts.cuts member s) (slice_get cluster.options member.id.number) (slice_get cluster.facts.deadlines member.id.number) (slice_get cluster.facts.holds member.id.number) s machine is)
+      (made-of receives by_failsafe (replication_of cluster.facts.members cluster.facts.servers cluster.facts.cuts member s) (slice_get cluster.options member.id.number) (slice_get cluster.facts.deadlines member.id.number) (slice_get cluster.facts.holds member.id.number) s machine is)
       small
 
   pub agent-stands : (machine : Machine) → machine_of cluster member ≡ Some machine → StandsToCommit (state_of_run head book cluster) member.id.number strict_quorum (outcome_from agent.role agent.knows machine [])
-  agent-stands machine is = stands-by machine _ (slice_get cluster.facts.servers member.id.number) refl is
+  agent-stands machine is = stands-by machine _ _ (slice_get cluster.facts.servers member.id.number) refl is

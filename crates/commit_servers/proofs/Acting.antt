@@ -277,7 +277,7 @@ watchdog-action setup past facts volatile_states fits (watchdogs.Armed member un
 watchdog-action setup past facts volatile_states fits (watchdogs.Fed member until basis) may = idle-action setup past facts volatile_states fits (kinds.Watchdog (watchdogs.Fed member until basis)) may
 watchdog-action setup past facts volatile_states fits (watchdogs.Disarmed member) may = idle-action setup past facts volatile_states fits (kinds.Watchdog (watchdogs.Disarmed member)) may
 watchdog-action setup past facts volatile_states fits (watchdogs.Measured member since) may = idle-action setup past facts volatile_states fits (kinds.Watchdog (watchdogs.Measured member since)) may
-watchdog-action setup past facts volatile_states fits (watchdogs.HoldTaken member until from incarnation sequence) may = absurd may
+watchdog-action setup past facts volatile_states fits (watchdogs.HoldTaken member until from incarnation sequence) may = idle-action setup past facts volatile_states fits (kinds.Watchdog (watchdogs.HoldTaken member until from incarnation sequence)) may
 
 pub action-of : (setup : Setup) (past : Past) (facts : Facts) (volatile_states : ℕ → VolatileState) (kind : EventKind) → Fits past facts volatile_states → MayHappen facts kind → IsAction setup past volatile_states kind (volatile_after volatile_states kind)
 action-of setup past facts volatile_states (kinds.Log happening) fits may = log-action setup past facts volatile_states fits happening may

@@ -1,5 +1,5 @@
 -- What the claim of one writer asks of a book: feeds keep the margin, and nobody pauses or promotes by hand.
-use Rattle.std.specs.Prelude.{ℕ, ◌≡◌, ◌≤◌, ◌+◌, ◌⊎◌, Bool, true, false, List, [], ◌∷◌, Option, Some, None}
+use Rattle.std.specs.Prelude.{ℕ, zero, suc, ◌≡◌, ◌≤◌, ◌+◌, ◌⊎◌, Bool, true, false, List, [], ◌∷◌, Option, Some, None}
 use Rattle.event_book.specs.Functions.{put_at, set_members}
 use Rattle.store_keys.specs.Settings.{Settings}
 use Rattle.store_keys.specs.declared.txn.Txn.{Txn}
@@ -35,9 +35,15 @@ abbrev pub moments_sent_after : ℕ → (ℕ → Option ℕ) → EventKind → �
 moments_sent_after clock sent (kinds.Message (messages.Sent number message)) = put_at sent number (Some clock)
 moments_sent_after clock sent _ = sent
 
+-- each hold that was taken, with this member's for a failsafe request. Requests count from 1, and a hold under number 0 is one that an operator
+-- had the member take, on which nobody is fed
+abbrev pub taken_with : ℕ → List Taking → ℕ → ℕ → ℕ → ℕ → List Taking
+taken_with clock taken by from incarnation zero = taken
+taken_with clock taken by from incarnation (suc before) = record { by = by; from = from; incarnation = incarnation; sequence = suc before; moment = clock } ∷ taken
+
 -- each hold that was taken, after an event
 abbrev pub taken_after : ℕ → List Taking → EventKind → List Taking
-taken_after clock taken (kinds.Watchdog (watchdogs.HoldTaken member until from incarnation sequence)) = record { by = member.id.number; from = from.id.number; incarnation = incarnation; sequence = sequence; moment = clock } ∷ taken
+taken_after clock taken (kinds.Watchdog (watchdogs.HoldTaken member until from incarnation sequence)) = taken_with clock taken member.id.number from.id.number incarnation sequence
 taken_after clock taken _ = taken
 
 -- the incarnation of each agent, after an event

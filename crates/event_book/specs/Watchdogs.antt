@@ -1,11 +1,18 @@
 -- Watchdogs, and the holds that members take.
-use Rattle.std.specs.Prelude.{max, List, Option, Some, None}
+use Rattle.std.specs.Prelude.{max, Bool, true, false, List, Option, Some, None}
 use Rattle.pat_base.specs.declared.ticks.Ticks.{Ticks}
 use Rattle.pat_base.specs.Changes.{with_changed}
 use Rattle.event_book.specs.declared.event.EventKind.{EventKind}
 use Rattle.event_book.specs.declared.event.EventKind.TheVariants as kinds
 use Rattle.event_book.specs.declared.event.WatchdogEvent.{WatchdogEvent}
 use Rattle.event_book.specs.declared.event.WatchdogEvent.TheVariants as watchdogs
+use Rattle.event_book.specs.declared.reason.Basis.{Basis}
+use Rattle.event_book.specs.declared.reason.Basis.TheVariants as bases
+
+-- acknowledgements of a failsafe request let a leader feed its watchdog, and no grant
+abbrev pub is_acknowledged : Basis → Bool
+is_acknowledged (bases.Grant answer) = false
+is_acknowledged (bases.Acknowledgements members sequence) = true
 
 -- the deadlines after what happens to a watchdog: one that has reset its machine is no longer armed
 abbrev pub deadlines_by : List (Option Ticks) → WatchdogEvent → List (Option Ticks)

@@ -1,5 +1,5 @@
 //! Agents.
-ghost use Rattle.std.specs.Prelude.{ℕ, Bool, ◌≡◌, ◌≤◌, ◌<◌, ◌+◌, ◌-◌, ◌^◌, [], Some, None, false, nat_le, option_copied};
+ghost use Rattle.std.specs.Prelude.{ℕ, ◌≡◌, ◌≤◌, ◌<◌, ◌+◌, ◌-◌, ◌^◌, [], Some, None, false, nat_le, option_copied};
 ghost use Rattle.pat_base.specs.declared.ticks.Ticks.{Ticks};
 ghost use Rattle.lease_law.specs.States.{start_machine};
 ghost use Rattle.agent_model.specs.declared.machine.Machine.{Machine};
@@ -7,6 +7,7 @@ ghost use Rattle.agent_model.specs.declared.heard.Heard.TheVariants as heards;
 ghost use Rattle.agent_model.specs.Agents.{AgentFacts, RoleFacts, IsSound, IsWithin, Follower, word_of, fresh_knowledge, outcome_from, most_messages};
 ghost use Rattle.pat_base.specs.Moments.{latest};
 ghost use Rattle.agent_turn.specs.Roles.{role_of};
+ghost use Rattle.agent_rows.specs.Inputs.{IsSpannedInput};
 ghost use Rattle.agent_commit_law.specs.Committing.{CommitsFrom};
 ghost use Rattle.agent_model.specs.Bounds.{IsSmall};
 ghost use Rattle.agent_succession.specs.FreeKey.{AsksWhereFree, AsksWhereWon, BeginsWhereGranted};
@@ -25,6 +26,7 @@ use agent_model::{Answers, Heard, Knowledge, Machine, Who};
 use agent_rows::{due_from, is_due, take_input};
 use agent_turn::{Outputs, Role, Turn, view_of, word_of};
 use cluster_view::{AgentView, Snapshot};
+use failsafe::Ask;
 use pat_base::{MemberSet, State, Ticks};
 use std::marker::Model;
 use std::mem;
@@ -58,7 +60,7 @@ impl Agent {
         requires { now.0 ≤ latest }
         ensures agent { result ≡ record { role = Follower; knows = fresh_knowledge who (record { 0 = now.0 + 1 }) incarnation } }
         ensures machine { machine.new ≡ started_machine machine.old }
-        ensures law { (runs : ℕ) (by_failsafe : Bool) → incarnation ≡ runs + 1 → machine_seen result.role result.knows machine.new by_failsafe incarnation ≡ start_machine (machine_with None machine.old by_failsafe runs) }
+        ensures law { (runs : ℕ) → incarnation ≡ runs + 1 → machine_seen result.role result.knows machine.new incarnation ≡ start_machine (machine_with None machine.old runs) }
     {
         if !machine.server.state.live() {
             machine.watchdog.disarm();
@@ -105,6 +107,7 @@ impl Agent {
     )
         requires moment { now.0 ≤ latest }
         requires server { IsWithin machine.old.server }
+        requires span { IsSpannedInput heard }
         requires numbers { self.old.knows.sequence + most_outputs ≤ most_messages }
         requires room { most_outputs ≤ out.old.spare }
         ensures outcome { outcome_from self.new.role self.new.knows machine.new out.new.outputs ≡ step now history.now.points heard (outcome_from self.old.role self.old.knows machine.old out.old.outputs) }
@@ -220,11 +223,14 @@ fn fresh_knowledge(who: Who, first: Ticks, incarnation: u64) -> Knowledge
         turn_settings: Config::defaults(),
         turn_sync: None,
         turn_failover: None,
+        turn_failsafe: None,
         noted: None,
         begun: None,
         crashed: None,
         known: MemberSet::empty(),
         informed: false,
+        confirmed: false,
+        failsafe: Ask::new(MemberSet::empty(), Ticks(0)),
         handed_over: false,
         operating: None,
     }
@@ -254,6 +260,7 @@ fn hear(
     requires moment { now.0 ≤ latest }
     requires sound { IsSound knows.old }
     requires server { IsWithin machine.old.server }
+    requires span { IsSpannedInput heard }
     requires numbers { knows.old.sequence + most_outputs ≤ most_messages }
     requires room { most_outputs ≤ out.old.spare }
     ensures outcome { outcome_from (role_of result) knows.new machine.new out.new.outputs ≡ step now history.now.points heard (outcome_from (role_of role) knows.old machine.old out.old.outputs) }

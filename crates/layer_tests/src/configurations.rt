@@ -49,6 +49,9 @@ fn changes_not_built(rt: HostRuntime) {
     is_told(&rt, alloc, patched, r#"{"ttl":30}"#);
     let replaced = present.replace(alloc, br#"{"loop_wait":5}"#);
     is_told(&rt, alloc, replaced, "NotBuilt(loop_wait)");
-    let failsafe = br#"{"failsafe_mode":"on"}"#;
-    is_read(&rt, alloc, failsafe, "NotBuilt(failsafe_mode)");
+    let failsafe = configuration(&rt, alloc, br#"{"failsafe_mode":"on"}"#);
+    let patched = failsafe.patch(alloc, br#"{"failsafe_mode":null,"ttl":40}"#);
+    is_told(&rt, alloc, patched, "NotBuilt(failsafe_mode)");
+    let replaced = failsafe.replace(alloc, br#"{"failsafe_mode":true}"#);
+    is_told(&rt, alloc, replaced, r#"{"failsafe_mode":true}"#);
 }

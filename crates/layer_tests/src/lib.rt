@@ -27,6 +27,8 @@ mod doors;
 #[cfg(test)]
 mod facts;
 #[cfg(test)]
+mod failsafe_calls;
+#[cfg(test)]
 mod generated;
 #[cfg(test)]
 mod health;

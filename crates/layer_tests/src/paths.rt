@@ -34,25 +34,34 @@ fn is_health(rt: &impl Abort, routes: &Routes, target: &str, endpoint: Endpoint)
     asks(rt, routes, &others, target, Ask::NotAllowed);
 }
 
-/// Holds a target against a page, where `PATCH` and `PUT` ask for this.
-fn is_page(rt: &impl Abort, routes: &Routes, target: &str, page: Page, patch: Ask, put: Ask) {
+/// Holds a target against a page that no method besides `PATCH`, `PUT` and `POST` changes.
+fn is_page(rt: &impl Abort, routes: &Routes, target: &str, page: Page) {
     asks(rt, routes, &[Verb::Get], target, Ask::Page(page));
-    asks(rt, routes, &[Verb::Patch], target, patch);
-    asks(rt, routes, &[Verb::Put], target, put);
-    let others = [Verb::Head, Verb::Options, Verb::Post];
-    asks(rt, routes, &others, target, Ask::NotAllowed);
-    let others = [Verb::Delete, Verb::Other];
+    let others = [Verb::Head, Verb::Options, Verb::Delete, Verb::Other];
     asks(rt, routes, &others, target, Ask::NotAllowed);
 }
 
 fn only_page(rt: &impl Abort, routes: &Routes, target: &str, page: Page) {
-    is_page(rt, routes, target, page, Ask::NotAllowed, Ask::NotAllowed);
+    is_page(rt, routes, target, page);
+    let changing = [Verb::Patch, Verb::Put, Verb::Post];
+    asks(rt, routes, &changing, target, Ask::NotAllowed);
 }
 
 fn is_configuration(rt: &impl Abort, routes: &Routes, target: &str) {
+    is_page(rt, routes, target, Page::Config);
     let patch = Ask::Change(Change::PatchConfiguration);
+    asks(rt, routes, &[Verb::Patch], target, patch);
     let put = Ask::Change(Change::ReplaceConfiguration);
-    is_page(rt, routes, target, Page::Config, patch, put);
+    asks(rt, routes, &[Verb::Put], target, put);
+    asks(rt, routes, &[Verb::Post], target, Ask::NotAllowed);
+}
+
+fn is_failsafe(rt: &impl Abort, routes: &Routes, target: &str) {
+    is_page(rt, routes, target, Page::Failsafe);
+    let post = Ask::Change(Change::Failsafe);
+    asks(rt, routes, &[Verb::Post], target, post);
+    let others = [Verb::Patch, Verb::Put];
+    asks(rt, routes, &others, target, Ask::NotAllowed);
 }
 
 /// Holds a target against an operation, where `POST` asks for this change and `DELETE` for that.
@@ -98,7 +107,7 @@ fn paths_of_pages_and_operations(rt: HostRuntime) {
     only_page(&rt, &routes, "/patroni", Page::Patroni);
     only_page(&rt, &routes, "/cluster", Page::Cluster);
     only_page(&rt, &routes, "/history", Page::History);
-    only_page(&rt, &routes, "/failsafe", Page::Failsafe);
+    is_failsafe(&rt, &routes, "/failsafe");
     is_configuration(&rt, &routes, "/config");
     let (none, drop) = (Ask::NotAllowed, Ask::Change(Change::DropSwitchover));
     is_operation(&rt, &routes, "/switchover", Change::Switchover, drop);

@@ -151,6 +151,16 @@ impl Writer {
         self.replaced_by(granted)
     }
 
+    /// The lease isn't renewed, but all other members promised not to take the leader key for the span `ttl`: the watchdog is fed, as in
+    /// `Lease::arm`, and the lease stays as it is (Patroni documentation, "DCS Failsafe Mode").
+    pub fn feed_by_failsafe(&self, watchdog: &mut Watchdog, now: Ticks, ttl: Ticks)
+        requires moment { now.0 ≤ latest }
+        requires span { IsLeaseSpan ttl.0 }
+        ensures { watchdog.new ≡ fed now.0 ttl.0 watchdog.old }
+    {
+        watchdog.feed(now, ttl);
+    }
+
     /// The same writer, on the lease of a renewal.
     fn replaced_by(self, granted: Granted) -> Writer
         ensures { writer_revision result ≡ granted.revision }

@@ -3,6 +3,7 @@ use Rattle.std.proofs.Common.{[], inr, inl, ◌⊎◌, ℕ, ◌≡◌, ◌≤◌
 use Rattle.std.proofs.lemmas.List.{set-get_or}
 use Rattle.std.proofs.lemmas.Option.{get_or_from_slice_get}
 use Rattle.pat_base.specs.Changes.{changed_at, with_changed}
+use Rattle.pat_base.specs.declared.member_id.MemberId.{MemberId}
 use Rattle.pat_base.specs.declared.ticks.Ticks.{Ticks}
 use Rattle.store_keys.specs.declared.action.OperatorAction.{OperatorAction}
 use Rattle.pg_model.specs.Facts.{ServerFacts}
@@ -22,10 +23,10 @@ use Rattle.event_book.specs.declared.message.Message.{Message}
 use Rattle.event_book.specs.Flight.{InFlightFacts, in_flight}
 use Rattle.event_book.specs.Links.{is_cut}
 use Rattle.agent_model.specs.declared.heard.Heard.{Heard}
-use Rattle.agent_model.specs.declared.heard.Heard.TheVariants.{Operated, Wake}
+use Rattle.agent_model.specs.declared.heard.Heard.TheVariants.{FailsafeAsked, Operated, Wake}
 use Rattle.agent_model.specs.declared.machine.Machine.{Machine}
 use Rattle.agent_model.specs.Agents.{AgentFacts, Outcome, outcome_from}
-use Rattle.agent_lease_law.specs.Lawful.{Hears}
+use Rattle.agent_lease_law.specs.Lawful.{CanFeed, Hears}
 use Rattle.script_model.specs.Script.{HeadText}
 use Rattle.cluster_model.specs.declared.delivery.Delivery.TheVariants as deliveries
 use Rattle.cluster_model.specs.Cluster.{agent_after, agent_facts_reached, agent_facts_reached_at, agent_facts_with, cluster_after}
@@ -44,7 +45,7 @@ use Rattle.lease_law.proofs.Showing.{past-append}
 use Rattle.lease_law.proofs.Tools.{both, eq-from, none-some, some-is}
 use Rattle.lease_parts.specs.Bridged.{Bridged, IsMatched}
 use Rattle.lease_parts.specs.Declaring.{declared_of}
-use Rattle.run_promise.specs.Members.{member_count, IsDeclared}
+use Rattle.run_promise.specs.Members.{declared_members, member_count, IsDeclared}
 use Rattle.lease_parts.specs.Machines.{deadline_in, hold_in, live_in, run_in}
 use Rattle.run_promise.specs.Parts.{InputsUphold}
 use Rattle.lease_parts.specs.Kept.{IsKept, one_writer}
@@ -53,9 +54,11 @@ use Rattle.lease_parts.specs.Waiting.{IsAddressed, IsAnswer, IsPeerBody}
 use Rattle.lease_parts.proofs.Actions.{action-kept, machines-kept}
 use Rattle.agent_roles.proofs.Knowing.{tells_pause, told_by}
 use Rattle.lease_inputs.proofs.InputHears.{calm-from, unpaused-told, hears-by, peers-hear}
-use Rattle.lease_inputs.proofs.InputKept.{IsBegun, begun-by, input-kept, opening-addressed}
+use Rattle.agent_lease_law.specs.Asking.{HearsFailsafe}
+use Rattle.agent_lease_law.specs.Modes.{HearsMode, IsModeRequested}
+use Rattle.lease_inputs.proofs.InputKept.{IsBegun, begun-by, input-kept, input-kept-unasked, opening-addressed, opening-mode}
 use Rattle.lease_inputs.proofs.InputKinds.{IsOpening, opening-hands_off, opening-members}
-use Rattle.lease_inputs.proofs.InputSeen.{found-of}
+use Rattle.lease_inputs.proofs.InputSeen.{can-feed, found-of}
 use Rattle.lease_parts.proofs.SameMachine.{machine-same}
 use Rattle.lease_parts.proofs.StoreArrivals.{matched-after, same-volatile}
 
@@ -79,7 +82,7 @@ idle-called head book cluster member heard happening opens acts good none =
     let same : later.agents ≡ cluster.agents = acts ∙ ap (λ (o : Option Outcome). agent_facts_with cluster.agents member o) none ∙ unchanged cluster.agents member.id.number in
     machines-kept head book cluster events Note good tt (tt, tt) (tt, tt)
     (subst (λ (past : Past). IsMatched head past later) (sym (past-append first_past book events))
-    (matched-after head (past_of book) cluster events (tt, (tt, tt)) ((opening-hands_off None kind opens, opening-members (member_count head) None kind opens, opening-addressed None kind opens), tt)
+    (matched-after head (past_of book) cluster events (tt, (tt, tt)) ((opening-hands_off None kind opens, (opening-members (member_count head) None kind opens, (opening-addressed (declared_members head) (declared_of head).failsafe None kind opens, opening-mode (declared_of head).failsafe None kind opens))), tt)
     (record { agents = same; servers = begun.servers; processes = begun.processes; asked = refl }) good.matched))
     (λ m. machine-same _ _ _ _ _ _ _ _ _ _ _ _ (ap (λ (xs : List ServerFacts). live_in xs m) begun.servers) (ap (λ (xs : List (Option Ticks)). deadline_in xs m) begun.deadlines) refl
     (ap (λ (xs : List (Option Ticks)). hold_in xs m) begun.holds) (ap (λ (xs : List (Option AgentFacts)). agent_now (slice_get xs m)) same) (ap (λ (xs : List AgentProcess). run_in xs m) begun.processes))
@@ -96,7 +99,7 @@ idle-arrival head book cluster number good same =
       shown = subst (λ (v : ℕ → VolatileState). IsShown (declared_of head) book (volatile_of cluster) (record { action = Lose number; events = events; volatile_states = v }))
           (sym (same-volatile cluster (cluster_after cluster kind) same refl)) (ap (λ (past : Past). state_of (declared_of head) past (volatile_of cluster)) (past-append first_past book events));
       matched = subst (λ (past : Past). IsMatched head past (cluster_after cluster kind)) (sym (past-append first_past book events))
-          (matched-after head (past_of book) cluster events (tt, (tt, tt)) ((tt, tt, tt), tt) (record { agents = same; servers = refl; processes = refl; asked = refl }) good.matched);
+          (matched-after head (past_of book) cluster events (tt, (tt, tt)) ((tt, (tt, (tt, tt))), tt) (record { agents = same; servers = refl; processes = refl; asked = refl }) good.matched);
     })
 
 -- ---- an agent acts
@@ -120,27 +123,45 @@ from-none n = omega arith
 -- what comes to it is no message, and the law needs nothing of that
 module _ (head : HeadText) (book : List Event) (cluster : Cluster) (member : Member) (good : Bridged head book cluster) (heard : Heard) (happening : AgentEvent) (opens : IsOpening None (kinds.Agent happening))
     (acts : (cluster_after cluster (kinds.Agent happening)).agents ≡ agent_facts_with cluster.agents member (outcome_of cluster member heard))
-    (hears : (s : State) (m : ℕ) (now : Ticks) (o : Outcome) → Hears s m None now heard o) (calm : tells_pause (told_by heard) ≡ false) where
+    (hears : (s : State) (m : ℕ) (now : Ticks) (o : Outcome) → CanFeed o.machine → Hears s m None now heard o) (calm : tells_pause (told_by heard) ≡ false)
+    (mine-there : slice_get cluster.facts.members member.id.number ≡ Some member) (told : HearsMode (declared_of head).failsafe heard) (none : (from : MemberId) (run sequence : ℕ) → HearsFailsafe heard from run sequence → ⊥) where
   unheard : outcome_of cluster member heard ≡ None → IsKept head book cluster (event_of cluster (kinds.Agent happening))
-  unheard none = idle-called head book cluster member heard happening opens acts good none
+  unheard silent = idle-called head book cluster member heard happening opens acts good silent
 
   called-by : (agent : Option AgentFacts) (machine : Option Machine) → agent_at cluster.agents member.id.number ≡ agent → machine_of cluster member ≡ machine
       → IsKept head book cluster (event_of cluster (kinds.Agent happening) ++ input_events (cluster_after cluster (kinds.Agent happening)) member no_message (outcome_at (moment_of cluster) (points_of cluster member) heard agent machine))
   called-by None machine a m = unheard (the-outcome cluster member heard None machine a m)
   called-by (Some agent) None a m = unheard (the-outcome cluster member heard (Some agent) None a m)
   called-by (Some agent) (Some machine) a m =
-      input-kept head book cluster good member agent machine (found-of cluster member machine m) (agent-here cluster member agent a) heard None no_message (kinds.Agent happening) opens
-      (λ n e. absurd (none-some n e)) (from-none cluster.facts.sent)
-      (acts ∙ ap (λ (o : Option Outcome). agent_facts_with cluster.agents member o) (the-outcome cluster member heard (Some agent) (Some machine) a m)) calm (λ works. hears _ _ _ _)
+      let found = found-of cluster member machine m in
+      input-kept-unasked head book cluster good member agent machine found (agent-here cluster member agent a) heard None no_message (kinds.Agent happening) opens
+      (λ n e. absurd (none-some n e)) (from-none cluster.facts.sent) mine-there told (λ from run sequence is. absurd (none from run sequence is))
+      (acts ∙ ap (λ (o : Option Outcome). agent_facts_with cluster.agents member o) (the-outcome cluster member heard (Some agent) (Some machine) a m)) calm none (λ works. hears _ _ _ _ (can-feed head (past_of book) cluster member machine good.matched found (works member.id.number)))
 
   kept-called : IsKept head book cluster (event_of cluster (kinds.Agent happening) ++ input_events (cluster_after cluster (kinds.Agent happening)) member no_message (outcome_of cluster member heard))
   kept-called = called-by (agent_at cluster.agents member.id.number) (machine_of cluster member) refl refl
 
-pub kept-wake : (head : HeadText) (book : List Event) (cluster : Cluster) (member : Member) → Bridged head book cluster → IsKept head book cluster (wake_events_of cluster member)
-kept-wake head book cluster member good = kept-called head book cluster member good Wake (agents.Woken member) refl refl (λ s m now o. tt) refl
+-- a member that the head declares stands at its number
+stands-declared : (head : HeadText) (past : Past) (cluster : Cluster) (member : Member) → IsMatched head past cluster → IsDeclared head member → slice_get cluster.facts.members member.id.number ≡ Some member
+stands-declared head past cluster member matched declared = ap (λ (l : List Member). slice_get l member.id.number) matched.members ∙ declared
 
-pub kept-operated : (head : HeadText) (book : List Event) (cluster : Cluster) (member : Member) (action : OperatorAction) → Bridged head book cluster → IsKept head book cluster (operate_events cluster member action)
-kept-operated head book cluster member action good = kept-called head book cluster member good (Operated action) (agents.Operated member action) refl refl (λ s m now o. tt) refl
+wake-asks : (from : MemberId) (run sequence : ℕ) → HearsFailsafe Wake from run sequence → ⊥
+wake-asks from run sequence is = by is.0 is.1
+  where
+    by : (ttl : Ticks) → Wake ≡ FailsafeAsked from run sequence ttl → ⊥
+    by ttl e = cc
+
+operated-asks : (action : OperatorAction) (from : MemberId) (run sequence : ℕ) → HearsFailsafe (Operated action) from run sequence → ⊥
+operated-asks action from run sequence is = by is.0 is.1
+  where
+    by : (ttl : Ticks) → Operated action ≡ FailsafeAsked from run sequence ttl → ⊥
+    by ttl e = cc
+
+pub kept-wake : (head : HeadText) (book : List Event) (cluster : Cluster) (member : Member) → IsDeclared head member → Bridged head book cluster → IsKept head book cluster (wake_events_of cluster member)
+kept-wake head book cluster member declared good = kept-called head book cluster member good Wake (agents.Woken member) refl refl (λ s m now o feeds. feeds) refl (stands-declared head (past_of book) cluster member good.matched declared) tt wake-asks
+
+pub kept-operated : (head : HeadText) (book : List Event) (cluster : Cluster) (member : Member) (action : OperatorAction) → IsDeclared head member → IsModeRequested (declared_of head).failsafe action.asked → Bridged head book cluster → IsKept head book cluster (operate_events cluster member action)
+kept-operated head book cluster member action declared mode good = kept-called head book cluster member good (Operated action) (agents.Operated member action) refl refl (λ s m now o feeds. tt) refl (stands-declared head (past_of book) cluster member good.matched declared) mode (operated-asks action)
 
 -- ---- what stands in the way of a message
 or-second : (a b : Bool) → (a || b) ≡ false → b ≡ false
@@ -214,12 +235,15 @@ module _ (head : HeadText) (book : List Event) (cluster : Cluster) (number : ℕ
   opened = open-of message.message (slice_get cluster.facts.processes member.id.number) (is_cut cluster.facts.cuts (link_of_message message.message))
       (ap (λ (end : LinkEnd). cond (is_cut cluster.facts.cuts (link_of_message message.message)) deliveries.Cut (delivery_to cluster.facts.processes message.message end)) (sym to) ∙ open_is)
 
-  pub same-run : IsAnswer message.message.body → (agent : AgentFacts) → slice_get cluster.agents member.id.number ≡ Some (Some agent) → message.message.incarnation ≡ agent.knows.incarnation
-  same-run answered agent here =
+  pub answered-run : is_answer message.message.body ≡ true → (agent : AgentFacts) → slice_get cluster.agents member.id.number ≡ Some (Some agent) → message.message.incarnation ≡ agent.knows.incarnation
+  answered-run answered agent here =
       let knows = good.matched.agents member.id.number agent here in
       let one : knows.found ≡ opened.process = some-is knows.found opened.process (sym knows.is ∙ opened.is) in
-      eq-from message.message.incarnation opened.process.incarnation (not-not (is_answer message.message.body) (message.message.incarnation == opened.process.incarnation) (answers message.message.body answered) opened.fresh)
+      eq-from message.message.incarnation opened.process.incarnation (not-not (is_answer message.message.body) (message.message.incarnation == opened.process.incarnation) answered opened.fresh)
       ∙ sym (knows.incarnation ∙ ap (λ (p : AgentProcess). p.incarnation) one)
+
+  pub same-run : IsAnswer message.message.body → (agent : AgentFacts) → slice_get cluster.agents member.id.number ≡ Some (Some agent) → message.message.incarnation ≡ agent.knows.incarnation
+  same-run answered agent here = answered-run (answers message.message.body answered) agent here
 
   hear-by : (heard : Heard) (agent : Option AgentFacts) (machine : Option Machine) → heard_from cluster message ≡ Some heard → agent_at cluster.agents member.id.number ≡ agent → machine_of cluster member ≡ machine
       → IsKept head book cluster (event_of cluster Arrived ++ input_events (cluster_after cluster Arrived) member (heard_message number message) (outcome_at (moment_of cluster) (points_of cluster member) heard agent machine))
@@ -234,9 +258,10 @@ module _ (head : HeadText) (book : List Event) (cluster : Cluster) (number : ℕ
       (acted ∙ ap (λ (o : Option Outcome). agent_facts_with cluster.agents member o) (ap (outcome_of_heard cluster member) h ∙ the-outcome cluster member heard (Some agent) (Some machine) a m))
       (calm-from cluster message (unpaused-told cluster number message good.matched.unpaused found) heard h)
       (λ works. elim sender [
-        | inl store ↦ hears-by head (past_of book) cluster good.matched (declared_of head) (volatile_of cluster) member agent machine machine_found here (works member.id.number)
+        | inl store ↦ hears-by head (past_of book) cluster good.matched (volatile_of cluster) member agent machine machine_found here (works member.id.number)
             number message found store.0 to (same-run store.1 agent here) (moment_of cluster) message.message.body refl store.1 heard h
-        | inr peer ↦ peers-hear _ member.id.number (Some number) (moment_of cluster) (outcome_from agent.role agent.knows machine []) cluster message message.message.body peer heard h
+        | inr peer ↦ peers-hear head (past_of book) cluster good.matched (volatile_of cluster) member agent machine machine_found (works member.id.number)
+            number message found to (λ answers. answered-run answers agent here) (moment_of cluster) message.message.body refl peer heard h
       ])
 
   heard-by : (heard : Option Heard) → heard_from cluster message ≡ heard
@@ -250,7 +275,7 @@ module _ (head : HeadText) (book : List Event) (cluster : Cluster) (number : ℕ
 -- all of them do
 pub inputs-keep : (head : HeadText) → InputsUphold (IsDeclared head) (one_writer head)
 inputs-keep head = record {
-  wakes = λ book cluster member process good declared found acts. kept-wake head book cluster member good;
+  wakes = λ book cluster member process good declared found acts. kept-wake head book cluster member declared good;
   hears = λ book cluster number message member good found to opened. kept-hearing head book cluster number message member good found to opened;
   operates = λ book cluster member process action good declared found acts. kept-operated head book cluster member action good;
 }

@@ -18,6 +18,7 @@ use Rattle.event_book.specs.declared.message.Body.{Body}
 use Rattle.event_book.specs.declared.message.Body.TheVariants as bodies
 use Rattle.pat_base.specs.declared.member_id.MemberId.{MemberId}
 use Rattle.pat_base.specs.declared.peer_answer.PeerAnswer.{PeerAnswer}
+use Rattle.pat_base.specs.declared.ticks.Ticks.{Ticks}
 use Rattle.event_book.specs.declared.reason.Basis.TheVariants as bases
 use Rattle.event_book.specs.declared.reason.Reason.{Reason}
 use Rattle.event_book.specs.Members.{server_of}
@@ -37,14 +38,14 @@ use Rattle.wal_model.specs.Lacking.{lacks_in}
 use Rattle.cluster_model.specs.Losing.{loss_if}
 use Rattle.wal_model.specs.declared.entry.Entry.{Entry}
 use Rattle.cluster_model.specs.Messages.{agent_message, lost_at_once, sending_events, output_events, replying_events, server_order_events}
-use Rattle.cluster_model.specs.Orders.{declared_member, following_of, is_same_required, arming, feeding, feed_kinds, replica_start_kinds, require_of, required_names, server_at, stop_kind, stop_kinds, stop_of, upstream_of, repair_over, wipe_of}
+use Rattle.cluster_model.specs.Orders.{declared_member, following_of, is_same_required, arming, failsafe_feeding, feeding, feed_kinds, hold_taken, replica_start_kinds, require_of, required_names, server_at, stop_kind, stop_kinds, stop_of, upstream_of, repair_over, wipe_of}
 use Rattle.cluster_model.specs.Parts.{events_of, for_some}
 use Rattle.cluster_model.specs.Requests.{told_kind}
 use Rattle.cluster_model.specs.State.{Cluster}
 use Rattle.event_book.specs.Kinds.{AllAre}
 use Rattle.cluster_model.proofs.Founds.{holds-if, holds-then, repaired-holds, told-holds}
 use Rattle.cluster_model.proofs.Lists.{AllKinds, HoldsIf, all-kinds, one-kind}
-use Rattle.lease_inputs.specs.InputEvents.{Asks, AsksPeer, AnswersPeer, IsOfInput, IsToBegin}
+use Rattle.lease_inputs.specs.InputEvents.{RunsAmong, Asks, AsksPeer, AnswersPeer, AnswersRequest, ByGrant, ByFailsafe, IsOfInput, IsToBegin}
 
 -- ---- the events of one output
 module _ (member : Member) (incarnation heard : ℕ) (Q : Output → Type 0) where
@@ -114,13 +115,13 @@ module _ (member : Member) (incarnation heard : ℕ) (Q : Output → Type 0) whe
       all-kinds Mine cluster (kinds.Message (Sent (cluster.facts.sent + 1) (agent_message member ends.Store process.incarnation sequence body)) ∷ lost_at_once (nat_le most_in_flight (length cluster.facts.flight)) (cluster.facts.sent + 1))
       (Asks (record { sequence = sequence; body = body; is = ap (λ (r : ℕ). agent_message member ends.Store r sequence body) (runs process refl); from = is }), lost-mine (nat_le most_in_flight (length cluster.facts.flight)) (cluster.facts.sent + 1))
 
-  asks-mine : (cluster : Cluster) (id : MemberId) (sequence : ℕ) (found : Option AgentProcess) (peer : Option Member) → ((process : AgentProcess) → found ≡ Some process → process.incarnation ≡ incarnation) → Q (outputs.Send (targets.Member id) sequence bodies.Ask)
-      → AllAre Mine (sending_events cluster member found (option_map (λ (m : Member). ends.Member m) peer) sequence bodies.Ask)
-  asks-mine cluster id sequence None peer runs is = tt
-  asks-mine cluster id sequence (Some process) None runs is = tt
-  asks-mine cluster id sequence (Some process) (Some peer) runs is =
-      all-kinds Mine cluster (kinds.Message (Sent (cluster.facts.sent + 1) (agent_message member (ends.Member peer) process.incarnation sequence bodies.Ask)) ∷ lost_at_once (nat_le most_in_flight (length cluster.facts.flight)) (cluster.facts.sent + 1))
-      (AsksPeer peer id sequence (ap (λ (r : ℕ). agent_message member (ends.Member peer) r sequence bodies.Ask) (runs process refl)) is, lost-mine (nat_le most_in_flight (length cluster.facts.flight)) (cluster.facts.sent + 1))
+  asks-mine : (cluster : Cluster) (id : MemberId) (sequence : ℕ) (body : Body) (found : Option AgentProcess) (peer : Option Member) → IsAsk body → ((process : AgentProcess) → found ≡ Some process → process.incarnation ≡ incarnation) → Q (outputs.Send (targets.Member id) sequence body)
+      → AllAre Mine (sending_events cluster member found (option_map (λ (m : Member). ends.Member m) peer) sequence body)
+  asks-mine cluster id sequence body None peer ask runs is = tt
+  asks-mine cluster id sequence body (Some process) None ask runs is = tt
+  asks-mine cluster id sequence body (Some process) (Some peer) ask runs is =
+      all-kinds Mine cluster (kinds.Message (Sent (cluster.facts.sent + 1) (agent_message member (ends.Member peer) process.incarnation sequence body)) ∷ lost_at_once (nat_le most_in_flight (length cluster.facts.flight)) (cluster.facts.sent + 1))
+      (AsksPeer peer id sequence body ask (ap (λ (r : ℕ). agent_message member (ends.Member peer) r sequence body) (runs process refl)) is, lost-mine (nat_le most_in_flight (length cluster.facts.flight)) (cluster.facts.sent + 1))
 
   replies-mine : (cluster : Cluster) (id : MemberId) (asked sequence : ℕ) (answer : PeerAnswer) (peer : Option Member) → Q (outputs.Answer id asked sequence answer)
       → AllAre Mine (replying_events cluster member (option_map (λ (m : Member). ends.Member m) peer) asked sequence (bodies.Answer answer))
@@ -129,10 +130,16 @@ module _ (member : Member) (incarnation heard : ℕ) (Q : Output → Type 0) whe
       all-kinds Mine cluster (kinds.Message (Sent (cluster.facts.sent + 1) (agent_message member (ends.Member peer) asked sequence (bodies.Answer answer))) ∷ lost_at_once (nat_le most_in_flight (length cluster.facts.flight)) (cluster.facts.sent + 1))
       (AnswersPeer peer id asked sequence answer refl is, lost-mine (nat_le most_in_flight (length cluster.facts.flight)) (cluster.facts.sent + 1))
 
-  member-mine : (cluster : Cluster) (id : MemberId) (sequence : ℕ) (body : Body) (found : Option AgentProcess) (peer : Option Member) → IsAsk body → ((process : AgentProcess) → found ≡ Some process → process.incarnation ≡ incarnation)
-      → Q (outputs.Send (targets.Member id) sequence body) → AllAre Mine (sending_events cluster member found (option_map (λ (m : Member). ends.Member m) peer) sequence body)
-  member-mine cluster id sequence bodies.Ask found peer ask runs is = asks-mine cluster id sequence found peer runs is
-  member-mine cluster id sequence _ found peer ask runs is = absurd ask
+  says-mine : (cluster : Cluster) (id : MemberId) (asked sequence : ℕ) (accepted : Bool) (peer : Option Member) → ((found : Member) → peer ≡ Some found → found.id.number ≡ id.number) → Q (outputs.FailsafeAnswer id asked sequence accepted)
+      → AllAre Mine (replying_events cluster member (option_map (λ (m : Member). ends.Member m) peer) asked sequence (bodies.FailsafeAnswer accepted))
+  says-mine cluster id asked sequence accepted None at is = tt
+  says-mine cluster id asked sequence accepted (Some peer) at is =
+      all-kinds Mine cluster (kinds.Message (Sent (cluster.facts.sent + 1) (agent_message member (ends.Member peer) asked sequence (bodies.FailsafeAnswer accepted))) ∷ lost_at_once (nat_le most_in_flight (length cluster.facts.flight)) (cluster.facts.sent + 1))
+      (AnswersRequest peer id asked sequence accepted (at peer refl) refl is, lost-mine (nat_le most_in_flight (length cluster.facts.flight)) (cluster.facts.sent + 1))
+
+  holds-mine : (until : Ticks) (run sequence : ℕ) (id : MemberId) (peer : Option Member) → ((found : Member) → peer ≡ Some found → found.id.number ≡ id.number) → Q (outputs.HoldTaken until id sequence) → HoldsIf Mine (option_map (hold_taken member until run sequence) peer)
+  holds-mine until run sequence id None at is = tt
+  holds-mine until run sequence id (Some peer) at is = (refl, record { id = id; at = at peer refl; by = is })
 
   kinds-mine : (cluster : Cluster) (kind : Option EventKind) → HoldsIf Mine kind → AllAre Mine (events_of cluster (kinds_of kind))
   kinds-mine cluster kind is = all-kinds Mine cluster (kinds_of kind) (one-kind Mine kind is)
@@ -140,10 +147,10 @@ module _ (member : Member) (incarnation heard : ℕ) (Q : Output → Type 0) whe
   server-order-mine : (cluster : Cluster) (order : ServerFacts → Option EventKind) → ((s : ServerFacts) → HoldsIf Mine (order s)) → AllAre Mine (server_order_events cluster member order)
   server-order-mine cluster order all = kinds-mine cluster (option_and_then order (server_at cluster member)) (holds-then Mine order (server_at cluster member) all)
 
-  pub output-mine : (cluster : Cluster) (message : HeardMessage) → message.number ≡ heard → ((process : AgentProcess) → slice_get cluster.facts.processes member.id.number ≡ Some process → process.incarnation ≡ incarnation)
+  pub output-mine : (cluster : Cluster) (message : HeardMessage) → message.number ≡ heard → RunsAmong member incarnation cluster.facts
       → (output : Output) → IsOfTable output → Q output → AllAre Mine (output_events member message cluster output)
-  output-mine cluster message at runs (outputs.Send targets.Store sequence body) table is = sends-mine cluster sequence body (slice_get cluster.facts.processes member.id.number) runs is
-  output-mine cluster message at runs (outputs.Send (targets.Member id) sequence body) table is = member-mine cluster id sequence body (slice_get cluster.facts.processes member.id.number) (slice_get cluster.facts.members id.number) table runs is
+  output-mine cluster message at runs (outputs.Send targets.Store sequence body) table is = sends-mine cluster sequence body (slice_get cluster.facts.processes member.id.number) runs.process is
+  output-mine cluster message at runs (outputs.Send (targets.Member id) sequence body) table is = asks-mine cluster id sequence body (slice_get cluster.facts.processes member.id.number) (slice_get cluster.facts.members id.number) table runs.process is
   output-mine cluster message at runs (outputs.Answer to asked sequence answer) table is = replies-mine cluster to asked sequence answer (slice_get cluster.facts.members to.number) is
   output-mine cluster message at runs outputs.Begin table is = begins-mine cluster (server_at cluster member) (inl is)
   output-mine cluster message at runs (outputs.StartReplica leader) table is = starts-mine cluster (declared_member cluster.facts.members leader) (server_at cluster member)
@@ -163,12 +170,17 @@ module _ (member : Member) (incarnation heard : ℕ) (Q : Output → Type 0) whe
   output-mine cluster message at runs (outputs.Require required) table is =
       server-order-mine cluster (require_of cluster.facts.members member required)
       (λ s. unless-mine (kinds.Replication (replications.RequiredSet (server_of member) required (required_names cluster.facts.members required))) (is_same_required s.required required) refl)
-  output-mine cluster message at runs (outputs.Armed until) table is = all-kinds Mine cluster (feed_kinds member message (arming member until message)) (refl, ((refl, at, is), tt))
-  output-mine cluster message at runs (outputs.Fed until) table is = all-kinds Mine cluster (feed_kinds member message (feeding member until message)) (refl, ((refl, ap (λ (n : ℕ). bases.Grant n) at, is), tt))
+  output-mine cluster message at runs (outputs.Armed until) table is = all-kinds Mine cluster (feed_kinds member message.sent (arming member until message)) (refl, ((refl, at, is), tt))
+  output-mine cluster message at runs (outputs.Fed until) table is = all-kinds Mine cluster (feed_kinds member message.sent (feeding member until message)) (refl, ((refl, ByGrant (ap (λ (n : ℕ). bases.Grant n) at) is), tt))
+  output-mine cluster message at runs (outputs.FedByFailsafe until members sequence since) table is =
+      all-kinds Mine cluster (feed_kinds member since (failsafe_feeding member until members sequence)) (refl, ((refl, ByFailsafe members sequence since refl is), tt))
+  output-mine cluster message at runs outputs.StaysByFailsafe table is = (tt, tt)
   output-mine cluster message at runs outputs.Disarmed table is = (refl, tt)
   output-mine cluster message at runs (outputs.Note note) table is = (tt, tt)
   output-mine cluster message at runs outputs.ClaimsOutsideSync table is = (refl, tt)
   output-mine cluster message at runs (outputs.Told request told) table is =
       let agent = agent_at cluster.agents member.id.number in
       kinds-mine cluster (told_kind member agent told) (told-holds Mine member agent told (λ reply. tt))
-  output-mine cluster message at runs (outputs.HoldTaken until from sequence) table is = absurd table
+  output-mine cluster message at runs (outputs.FailsafeAnswer to asked sequence accepted) table is = says-mine cluster to asked sequence accepted (slice_get cluster.facts.members to.number) (runs.numbered to.number) is
+  output-mine cluster message at runs (outputs.HoldTaken until from sequence) table is =
+      kinds-mine cluster (option_map (hold_taken member until message.incarnation sequence) (slice_get cluster.facts.members from.number)) (holds-mine until message.incarnation sequence from (slice_get cluster.facts.members from.number) (runs.numbered from.number) is)

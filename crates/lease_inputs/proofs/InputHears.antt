@@ -6,6 +6,7 @@ use Rattle.std.specs.Ordering.{nat_cmp}
 use Rattle.std.proofs.lemmas.Bool.Decides.{nat_tests}
 use Rattle.pat_base.specs.declared.ticks.Ticks.{Ticks}
 use Rattle.lease_store.specs.declared.granted.Granted.{Granted}
+use Rattle.store_keys.specs.declared.config.Config.{Config}
 use Rattle.store_keys.specs.declared.key.Key.TheVariants as keys
 use Rattle.store_keys.specs.declared.value.KeyEntry.{KeyEntry}
 use Rattle.store_keys.specs.declared.value.Value.{Value}
@@ -28,24 +29,28 @@ use Rattle.agent_model.specs.declared.knowledge.PendingQuestion.{PendingQuestion
 use Rattle.agent_model.specs.declared.machine.Machine.{Machine}
 use Rattle.agent_model.specs.Agents.{AgentFacts, Outcome, outcome_from}
 use Rattle.agent_model.specs.Decisions.{asks_lease, is_decision, is_lease_of}
-use Rattle.agent_lease_law.specs.Lawful.{HearsAnswer, HearsGrant, Hears}
+use Rattle.agent_lease_law.specs.Lawful.{HearsAnswer, HearsGrant, HearsRequest, HearsYes, Hears}
+use Rattle.agent_lease_law.specs.Modes.{TellsMode}
+use Rattle.lease_law.specs.Modes.{IsModeHeld, IsModeIn, IsModeTold, IsModeValue, TellMode}
 use Rattle.agent_roles.specs.Seen.{leader_entry_seen, failsafe_entry_seen}
 use Rattle.agent_roles.proofs.Knowing.{tells_pause, told_by}
 use Rattle.pat_base.specs.declared.member_id.MemberId.{MemberId}
+use Rattle.cluster_model.specs.Deliveries.{is_answer}
 use Rattle.cluster_model.specs.Hearing.{member_at_end, heard_from, heard_in, snapshot_in}
 use Rattle.cluster_model.specs.State.{Cluster}
+use Rattle.lease_law.specs.Leases.{Acknowledged}
 use Rattle.lease_law.specs.Outcomes.{seen_of}
 use Rattle.lease_law.specs.Past.{Past, VolatileState, state_of, lease_span}
 use Rattle.lease_law.specs.Pauses.{AreUnpaused, IsUnpausedHeld, IsUnpausedIn, IsUnpausedValue, NobodyPauses}
-use Rattle.lease_law.specs.States.{Declared, State}
+use Rattle.lease_law.specs.States.{State}
 use Rattle.lease_law.specs.Stores.{IsLeased, leader_key_of, failsafe_key_of}
 use Rattle.lease_law.proofs.Tools.{and-first, both, none-some, some-is}
 use Rattle.lease_book.specs.Groups.{grant_if}
-use Rattle.lease_book.proofs.Hearing.{heard-snapshot, heard-granted}
+use Rattle.lease_book.proofs.Hearing.{heard-acknowledgement, heard-failsafe_request, heard-snapshot, heard-granted}
 use Rattle.lease_parts.specs.Bridged.{IsMatched}
-use Rattle.lease_parts.specs.Declaring.{works_of}
+use Rattle.lease_parts.specs.Declaring.{declared_of, works_of}
 use Rattle.lease_parts.specs.Waiting.{IsAnswer, IsPeerBody}
-use Rattle.lease_inputs.proofs.InputSeen.{IsFound, armable-of, has-margin, is-young}
+use Rattle.lease_inputs.proofs.InputSeen.{IsFound, can-feed, is-young}
 
 -- ---- the keys of a snapshot, as agents and as the law see them
 leader-by : (revision : ℕ) (value : Value) (expiry : Option Ticks) → IsLeased (Some (record { value = value; revision = revision; expiry = expiry }))
@@ -118,24 +123,55 @@ calm-asked : (incarnation sequence : ℕ) (from : Option MemberId) (heard : Hear
 calm-asked incarnation sequence None heard e = absurd (none-some heard e)
 calm-asked incarnation sequence (Some by) heard e = subst (λ (h : Heard). tells_pause (told_by h) ≡ false) (some-is _ heard e) refl
 
+calm-peer : (make : MemberId → Heard) → ((by : MemberId) → tells_pause (told_by (make by)) ≡ false) → (from : Option MemberId) (heard : Heard) → option_map make from ≡ Some heard → tells_pause (told_by heard) ≡ false
+calm-peer make calm None heard e = absurd (none-some heard e)
+calm-peer make calm (Some by) heard e = subst (λ (h : Heard). tells_pause (told_by h) ≡ false) (some-is _ heard e) (calm by)
+
 calm-in : (cluster : Cluster) (carried : InFlightFacts) (body : Body) → (config_in (snapshot_in cluster carried)).pause ≡ false → (heard : Heard) → heard_in cluster carried body ≡ Some heard → tells_pause (told_by heard) ≡ false
 calm-in cluster carried bodies.Snapshot calm heard e = subst (λ (h : Heard). tells_pause (told_by h) ≡ false) (some-is _ heard e) calm
 calm-in cluster carried (bodies.Granted request leased) calm heard e = calm-granted cluster carried carried.grant calm heard e
 calm-in cluster carried (bodies.Refused request key at) calm heard e = subst (λ (h : Heard). tells_pause (told_by h) ≡ false) (some-is _ heard e) refl
 calm-in cluster carried bodies.Ask calm heard e = calm-asked carried.message.incarnation carried.message.sequence (member_at_end carried.message.from) heard e
 calm-in cluster carried (bodies.Answer answer) calm heard e = subst (λ (h : Heard). tells_pause (told_by h) ≡ false) (some-is _ heard e) refl
+calm-in cluster carried (bodies.FailsafeRequest ttl) calm heard e = calm-peer (λ by. heards.FailsafeAsked by carried.message.incarnation carried.message.sequence ttl) (λ by. refl) (member_at_end carried.message.from) heard e
+calm-in cluster carried (bodies.FailsafeAnswer accepted) calm heard e = calm-peer (λ by. heards.FailsafeAnswered by carried.message.sequence accepted carried.sent) (λ by. refl) (member_at_end carried.message.from) heard e
 calm-in cluster carried _ calm heard e = absurd (none-some heard e)
 
 pub calm-from : (cluster : Cluster) (carried : InFlightFacts) → (config_in (snapshot_in cluster carried)).pause ≡ false → (heard : Heard) → heard_from cluster carried ≡ Some heard → tells_pause (told_by heard) ≡ false
 calm-from cluster carried calm heard e = calm-in cluster carried carried.message.body calm heard e
 
+-- ---- each snapshot in flight has failsafe mode as it is declared
+mode-value : (mode : Bool) (settings : Config) (value : Value) → IsModeValue mode value → (settings_by settings value).failsafe_mode ≡ mode
+mode-value mode settings (values.Config config) is = is
+mode-value mode settings _ is = absurd is
+
+mode-entry : (mode : Bool) (settings : Config) (found : Option KeyEntry) → IsModeHeld mode found → (settings_of_entry settings found).failsafe_mode ≡ mode
+mode-entry mode settings None is = absurd is
+mode-entry mode settings (Some found) is = mode-value mode settings found.value is
+
+mode-at : (mode : Bool) (here : Bool) (first : InFlightFacts) (rest : Option InFlightFacts) (carried : InFlightFacts) → cond here (Some first) rest ≡ Some carried → IsModeTold mode first.message.body first.snapshot
+    → (rest ≡ Some carried → IsModeTold mode carried.message.body carried.snapshot) → IsModeTold mode carried.message.body carried.snapshot
+mode-at mode true first rest carried is here there = subst (λ (c : InFlightFacts). IsModeTold mode c.message.body c.snapshot) (some-is first carried is) here
+mode-at mode false first rest carried is here there = there is
+
+mode-flight : (mode : Bool) (number : ℕ) (flight : Flight) (carried : InFlightFacts) → TellMode mode flight → in_flight flight number ≡ Some carried → IsModeTold mode carried.message.body carried.snapshot
+mode-flight mode number [] carried all is = absurd (none-some carried is)
+mode-flight mode number (entry ∷ flight) carried all is =
+    mode-at mode (is_at (nat_cmp number) entry.0) entry.1 (in_flight flight number) carried is all.0 (λ there. mode-flight mode number flight carried all.1 there)
+
+mode-told : (mode : Bool) (cluster : Cluster) (carried : InFlightFacts) → IsModeIn mode carried.snapshot → TellsMode mode (snapshot_in cluster carried)
+mode-told mode cluster carried is settings = mode-entry mode settings (find key_cmp keys.Config carried.snapshot) is
+
 -- ---- what is heard
-module _ (head : HeadText) (past : Past) (cluster : Cluster) (matched : IsMatched head past cluster) (declared : Declared) (volatile_states : ℕ → VolatileState)
+module _ (head : HeadText) (past : Past) (cluster : Cluster) (matched : IsMatched head past cluster) (volatile_states : ℕ → VolatileState)
     (member : Member) (agent : AgentFacts) (machine : Machine) (found : IsFound cluster member machine) (here : slice_get cluster.agents member.id.number ≡ Some (Some agent)) (works : works_of head member.id.number ≡ true)
     (number : ℕ) (carried : InFlightFacts) (there : in_flight cluster.facts.flight number ≡ Some carried) (from : carried.message.from ≡ ends.Store) (to : carried.message.to ≡ ends.Member member)
     (incarnation : carried.message.incarnation ≡ agent.knows.incarnation) (now : Ticks) where
   abbrev Law : State
-  Law = state_of declared past volatile_states
+  Law = state_of (declared_of head) past volatile_states
+
+  tells : (body : Body) → carried.message.body ≡ body → IsModeTold (declared_of head).failsafe body carried.snapshot
+  tells body is = subst (λ (b : Body). IsModeTold (declared_of head).failsafe b carried.snapshot) is (mode-flight (declared_of head).failsafe number cluster.facts.flight carried matched.failsafe.told.flight there)
 
   abbrev Found : Option KeyEntry
   Found = find key_cmp keys.Leader carried.snapshot
@@ -154,6 +190,7 @@ module _ (head : HeadText) (past : Past) (cluster : Cluster) (matched : IsMatche
     sequence_is = refl;
     leader = sym (leader-is (find key_cmp keys.Leader carried.snapshot) leased);
     failsafe = sym (failsafe-is (find key_cmp keys.Failsafe carried.snapshot));
+    mode = mode-told (declared_of head).failsafe cluster carried (tells bodies.Snapshot body);
     unpaused = unpaused-told cluster number carried matched.unpaused there;
   }
 
@@ -190,6 +227,7 @@ module _ (head : HeadText) (past : Past) (cluster : Cluster) (matched : IsMatche
           sequence_is = refl;
           leader = sym (leader-is (find key_cmp keys.Leader carried.snapshot) leased);
           failsafe = sym (failsafe-is (find key_cmp keys.Failsafe carried.snapshot));
+          mode = mode-told (declared_of head).failsafe cluster carried (tells (bodies.Granted request leased_is) body);
           unpaused = unpaused-told cluster number carried matched.unpaused there;
         };
         lease = λ awaited.
@@ -206,8 +244,7 @@ module _ (head : HeadText) (past : Past) (cluster : Cluster) (matched : IsMatche
               ttl = as_asked.1;
               sent = as_asked.0;
               failsafe = sym (failsafe-is (find key_cmp keys.Failsafe carried.snapshot));
-              armable = armable-of head past cluster member machine matched found works;
-              margin = has-margin cluster member machine found;
+              feeds = can-feed head past cluster member machine matched found works;
               young = is-young cluster member machine now awaited.waited found;
             };
       }
@@ -228,12 +265,62 @@ module _ (head : HeadText) (past : Past) (cluster : Cluster) (matched : IsMatche
       subst (λ (h : Heard). Hears Law member.id.number (Some number) now h (outcome_from agent.role agent.knows machine [])) (some-is _ heard e) tt
   hears-by _ body is heard e = absurd is
 
--- the law hears nothing of what other members ask and answer
+-- ---- what comes of another member
+-- the law hears nothing of how far servers are, which members ask and answer
 unheard : (law : State) (m : ℕ) (number : Option ℕ) (now : Ticks) (o : Outcome) (incarnation sequence : ℕ) (from : Option MemberId) (heard : Heard) → option_map (λ by. heards.Asked by incarnation sequence) from ≡ Some heard → Hears law m number now heard o
 unheard law m number now o incarnation sequence None heard e = absurd (none-some heard e)
 unheard law m number now o incarnation sequence (Some by) heard e = subst (λ (h : Heard). Hears law m number now h o) (some-is _ heard e) tt
 
-pub peers-hear : (law : State) (m : ℕ) (number : Option ℕ) (now : Ticks) (o : Outcome) (cluster : Cluster) (carried : InFlightFacts) (body : Body) → IsPeerBody body → (heard : Heard) → heard_in cluster carried body ≡ Some heard → Hears law m number now heard o
-peers-hear law m number now o cluster carried bodies.Ask is heard e = unheard law m number now o carried.message.incarnation carried.message.sequence (member_at_end carried.message.from) heard e
-peers-hear law m number now o cluster carried (bodies.Answer answer) is heard e = subst (λ (h : Heard). Hears law m number now h o) (some-is _ heard e) tt
-peers-hear law m number now o cluster carried _ is heard e = absurd is
+module _ (head : HeadText) (past : Past) (cluster : Cluster) (matched : IsMatched head past cluster) (volatile_states : ℕ → VolatileState)
+    (member : Member) (agent : AgentFacts) (machine : Machine) (found : IsFound cluster member machine) (works : works_of head member.id.number ≡ true)
+    (number : ℕ) (carried : InFlightFacts) (there : in_flight cluster.facts.flight number ≡ Some carried) (to : carried.message.to ≡ ends.Member member)
+    (in_run : is_answer carried.message.body ≡ true → carried.message.incarnation ≡ agent.knows.incarnation) (now : Ticks) where
+  abbrev Met : State
+  Met = state_of (declared_of head) past volatile_states
+
+  abbrev Stood : Outcome
+  Stood = outcome_from agent.role agent.knows machine []
+
+  abbrev HearsIt : Heard → Type 0
+  HearsIt heard = Hears Met member.id.number (Some number) now heard Stood
+
+  request-by : (ttl : Ticks) → carried.message.body ≡ bodies.FailsafeRequest ttl → (from : LinkEnd) → carried.message.from ≡ from → (heard : Heard)
+      → option_map (λ by. heards.FailsafeAsked by carried.message.incarnation carried.message.sequence ttl) (member_at_end from) ≡ Some heard → HearsIt heard
+  request-by ttl body ends.Store from heard e = absurd (none-some heard e)
+  request-by ttl body (ends.Member by) from heard e = subst HearsIt (some-is (heards.FailsafeAsked by.id carried.message.incarnation carried.message.sequence ttl) heard e) (record {
+    number = number;
+    sent = carried.sent.0;
+    heard_is = refl;
+    is = heard-failsafe_request past cluster.facts number carried by member carried.message.incarnation carried.message.sequence ttl matched.flight there
+        (message-is carried.message (ends.Member by) (ends.Member member) (bodies.FailsafeRequest ttl) from to body);
+  })
+
+  yes-by : carried.message.body ≡ bodies.FailsafeAnswer true → (by : Member) → carried.message.from ≡ ends.Member by → HearsYes Met member.id.number (Some number) now by.id carried.message.sequence Stood
+  yes-by body by from = record {
+    number = number;
+    heard_is = refl;
+    is = heard-acknowledgement past cluster.facts number carried by member carried.message.incarnation carried.message.sequence matched.flight there
+        (message-is carried.message (ends.Member by) (ends.Member member) (bodies.FailsafeAnswer true) from to body)
+        ∙ ap (λ (r : ℕ). Some (Acknowledged (record { member = member.id.number; incarnation = r; sequence = carried.message.sequence; by = by.id.number }))) (in_run (ap (λ (b : Body). is_answer b) body));
+    feeds = can-feed head past cluster member machine matched found works;
+    young = λ waited _. is-young cluster member machine now waited found;
+  }
+
+  said : (by : Member) → carried.message.from ≡ ends.Member by → (accepted : Bool) → carried.message.body ≡ bodies.FailsafeAnswer accepted → accepted ≡ true → HearsYes Met member.id.number (Some number) now by.id carried.message.sequence Stood
+  said by from true body so = yes-by body by from
+  said by from false body so = absurd (no-way so)
+    where
+      no-way : false ≡ true → ⊥
+      no-way e = cc
+
+  answer-by : (accepted : Bool) → carried.message.body ≡ bodies.FailsafeAnswer accepted → (from : LinkEnd) → carried.message.from ≡ from → (heard : Heard)
+      → option_map (λ by. heards.FailsafeAnswered by carried.message.sequence accepted carried.sent) (member_at_end from) ≡ Some heard → HearsIt heard
+  answer-by accepted body ends.Store from heard e = absurd (none-some heard e)
+  answer-by accepted body (ends.Member by) from heard e = subst HearsIt (some-is (heards.FailsafeAnswered by.id carried.message.sequence accepted carried.sent) heard e) (said by from accepted body)
+
+  pub peers-hear : (body : Body) → carried.message.body ≡ body → IsPeerBody body → (heard : Heard) → heard_in cluster carried body ≡ Some heard → HearsIt heard
+  peers-hear bodies.Ask body is heard e = unheard Met member.id.number (Some number) now Stood carried.message.incarnation carried.message.sequence (member_at_end carried.message.from) heard e
+  peers-hear (bodies.Answer answer) body is heard e = subst HearsIt (some-is _ heard e) tt
+  peers-hear (bodies.FailsafeRequest ttl) body is heard e = request-by ttl body carried.message.from refl heard e
+  peers-hear (bodies.FailsafeAnswer accepted) body is heard e = answer-by accepted body carried.message.from refl heard e
+  peers-hear _ body is heard e = absurd is

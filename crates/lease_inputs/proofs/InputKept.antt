@@ -3,7 +3,7 @@ use Rattle.event_book.specs.Flight.{sent_after}
 use Rattle.lease_book.specs.Waiting.{IsLastRun}
 use Rattle.event_book.specs.Writers.{BeginsKind}
 use Rattle.std.proofs.lemmas.Option.{slice_get_within}
-use Rattle.std.proofs.Common.{◌≡◌, ◌≢◌, ◌⊎◌, ◌++◌, ◌≤◌, ◌<◌, ℕ, Bool, true, false, List, [], ◌∷◌, Option, Some, None, All, Contains, length, slice_get, refl, sym, subst, ap, ◌∙◌, inl, inr}
+use Rattle.std.proofs.Common.{◌≡◌, ◌≢◌, ◌⊎◌, ◌++◌, ◌||◌, ◌≤◌, ◌<◌, ℕ, Bool, true, false, if◌then◌else◌, List, [], ◌∷◌, Option, Some, None, All, Contains, length, slice_get, refl, sym, subst, ap, ◌∙◌, arith, inl, inr}
 use Rattle.std.proofs.lemmas.List.Elements.{All-contains_itself}
 use Rattle.std.proofs.Math.Path.{fun_ext}
 use Rattle.std.proofs.lemmas.Bool.{false_from_ne_true, cases_eq}
@@ -18,16 +18,32 @@ use Rattle.event_book.specs.declared.event.EventKind.TheVariants as kinds
 use Rattle.event_book.specs.declared.event.MessageEvent.TheVariants.{Sent, Delivered, Lost}
 use Rattle.event_book.specs.declared.member.Member.{Member}
 use Rattle.event_book.specs.declared.message.Body.{Body}
+use Rattle.event_book.specs.declared.message.Body.TheVariants as peer_bodies
 use Rattle.event_book.specs.declared.message.Message.{Message}
-use Rattle.event_book.specs.Functions.{put_at}
+use Rattle.pat_base.specs.declared.member_id.MemberId.{MemberId}
+use Rattle.event_book.specs.Functions.{put_at, set_members}
 use Rattle.script_model.specs.Script.{HeadText}
 use Rattle.agent_model.specs.declared.heard.Heard.{Heard}
 use Rattle.agent_model.specs.declared.machine.Machine.{Machine}
 use Rattle.agent_model.specs.declared.output.Output.{Output}
 use Rattle.agent_model.specs.declared.output.Output.TheVariants as outputs
 use Rattle.agent_model.specs.declared.output.Target.TheVariants as targets
-use Rattle.agent_model.specs.Agents.{AgentFacts, Outcome, outcome_from, EndsAlone}
-use Rattle.agent_lease_law.specs.Lawful.{StandsIn, Hears, IsSentBy, IsInputOf, MayPromote, IsLawfulAnd}
+use Rattle.agent_model.specs.declared.knowledge.Knowledge.{Knowledge}
+use Rattle.agent_roles.specs.Seen.{agent_seen as role_seen, check_seen}
+use Rattle.lease_law.specs.States.{FailsafeCheck, is_ready as ready_seen}
+use Rattle.agent_model.specs.Agents.{RoleFacts, Follower, Holder, Ready, Leader, Ending, Unleased, is_ready, AgentFacts, Outcome, outcome_from, EndsAlone}
+use Rattle.agent_lease_law.specs.Lawful.{StandsIn, Hears, IsSentBy, AsksStore, AsksMember, SaysYes, IsInputOf, MayPromote, IsLawfulAnd, is_yes, request_heard, request_taken}
+use Rattle.agent_lease_law.specs.Modes.{AsksMode, HearsMode, KeepsMode}
+use Rattle.agent_lease_law.proofs.Asking.{input-asks-from, mode-asked-from}
+use Rattle.agent_lease_law.proofs.Checking.{mode-kept}
+use Rattle.agent_lease_law.specs.Asking.{HearsFailsafe, StandsOn}
+use Rattle.std.proofs.lemmas.List.Elements.{All-contains, All-head, All-tail, All-weaker}
+use Rattle.cluster_model.specs.FailsafeDeadlines.{is_set_by_failsafe}
+use Rattle.cluster_model.proofs.Places.{there}
+use Rattle.agent_roles.specs.Asks.{IsAsk}
+use Rattle.lease_law.specs.Modes.{IsModeAsked, LeavesMode}
+use Rattle.cluster_model.specs.Deliveries.{is_answer}
+use Rattle.agent_model.specs.declared.output.Target.{Target}
 use Rattle.agent_outputs.specs.Orders.{IsOfTable}
 use Rattle.agent_model.specs.Pausing.{is_paused}
 use Rattle.agent_model.specs.Outputs.{is_arming, is_feeding, has_one}
@@ -44,14 +60,19 @@ use Rattle.cluster_model.specs.Machines.{points_of}
 use Rattle.cluster_model.specs.Messages.{output_events}
 use Rattle.cluster_model.specs.Parts.{each}
 use Rattle.cluster_model.specs.State.{Cluster}
-use Rattle.lease_law.specs.Leases.{Grant, Question, Requested}
+use Rattle.lease_law.specs.Leases.{FailsafeRequest, Grant, Question, Requested}
 use Rattle.event_book.specs.Premises.{Taking, IsOnTime, taken_after, IsTimely}
 use Rattle.lease_law.specs.Actions.{Input}
 use Rattle.lease_law.specs.Books.{IsShown}
 use Rattle.lease_law.specs.Claims.{BeginsBehind, MayBeginBehind, ShowsIt, IsArmedIn}
 use Rattle.lease_law.specs.Inputs.{AgentInput, Fed, HeardGrant, Kept, Removed, SetAlone, SetByFailsafe, SetByGrant, Undone, WatchdogMay}
 use Rattle.lease_law.specs.Past.{Past, VolatileState, first_past, past_after, past_of, past_over, state_of, machine_of as machine_told}
-use Rattle.lease_law.specs.Feeds.{IsFedBy, KeepsMomentOf}
+use Rattle.lease_law.specs.Feeds.{IsFedBy, IsFedOn, KeepsClockAndRuns, KeepsMomentOf}
+use Rattle.lease_law.specs.Actions.{taken_by}
+use Rattle.failsafe.specs.declared.asks.Ask.{Ask}
+use Rattle.agent_model.specs.declared.knowledge.PendingQuestion.{PendingQuestion}
+use Rattle.agent_model.specs.StayingPrimary.{is_staying}
+use Rattle.pat_base.specs.declared.member_set.MemberSet.{MemberSet}
 use Rattle.event_book.specs.Kinds.{AllAre}
 use Rattle.lease_law.specs.Showing.{IsOwn, input_of}
 use Rattle.lease_law.specs.States.{Acts, Agent, Machine as MachineSeen, State}
@@ -65,19 +86,19 @@ use Rattle.lease_book.proofs.Sends.{old-or-sent, heard-gone}
 use Rattle.cluster_model.proofs.Lists.{all-more}
 use Rattle.lease_parts.specs.Bridged.{Bridged, IsMatched, KnowThemselves, KnowsItself}
 use Rattle.lease_parts.specs.Declaring.{declared_of, works_of}
-use Rattle.run_promise.specs.Members.{member_count}
-use Rattle.lease_inputs.specs.InputEvents.{IsMessageOf, Asks, AsksPeer, AnswersPeer, IsOfInput}
+use Rattle.run_promise.specs.Members.{declared_members, member_count}
+use Rattle.lease_inputs.specs.InputEvents.{IsMessageOf, Asks, AsksPeer, AnswersPeer, AnswersRequest, IsOfInput, RunsAmong}
 use Rattle.lease_parts.specs.Kept.{IsKept, MeetsPremises}
 use Rattle.lease_parts.specs.Machines.{live_now, run_in, run_now}
 use Rattle.agent_questions.specs.Questions.{SendsBetween, AsksAnew}
 use Rattle.agent_roles.specs.Asks.{IsQuestion}
-use Rattle.lease_parts.specs.Waiting.{IsAddressed, AreAgentsSound}
+use Rattle.lease_parts.specs.Waiting.{IsAddressed, IsPeerBody, AreAgentsSound}
 use Rattle.lease_parts.specs.Volatile.{agent_now, volatile_of}
 use Rattle.lease_parts.proofs.Actions.{action-kept, machine-is}
 use Rattle.lease_parts.proofs.Fitting.{Fits, IsFitting, SendsAddressed, fits-of, fits-over, matched-from}
 use Rattle.lease_inputs.proofs.InputKinds.{IsOpening, opening-own, opening-taken, opening-sends, opening-from, opening-above, opening-members, opening-hands_off, opening-moments, mine-own, mine-taken, mine-from, mine-hands_off, mine-members, mine-sends, asked-over}
-use Rattle.lease_inputs.proofs.InputMachines.{Mirrors, Resembles, mirrored}
-use Rattle.lease_inputs.proofs.InputOutputs.{each-begins, each-fed, each-resembles, each-numbered, armed-more, moments-all}
+use Rattle.lease_inputs.proofs.InputMachines.{IsHeldFor, Mirrors, Resembles, mirrored}
+use Rattle.lease_inputs.proofs.InputOutputs.{GoesBetween, each-basis, each-begins, each-between, each-fed, FedIn, IsFedAs, each-resembles, each-numbered, armed-more, moments-all}
 use Rattle.lease_inputs.proofs.InputSeen.{IsFound, margin-of, seen-of}
 use Rattle.lease_inputs.proofs.InputStays.{Stays, each-mine, item-here, stays-over}
 use Rattle.lease_inputs.proofs.InputWaiting.{agents-after, knows-after, runs-after}
@@ -91,19 +112,27 @@ pub record IsBegun (m : ℕ) (cluster later : Cluster) : Type 0 where
   pub servers : later.facts.servers ≡ cluster.facts.servers
   pub deadlines : later.facts.deadlines ≡ cluster.facts.deadlines
   pub holds : later.facts.holds ≡ cluster.facts.holds
+  pub members : later.facts.members ≡ cluster.facts.members
+  pub bases : later.failsafe_deadlines ≡ cluster.failsafe_deadlines
   pub sent : later.facts.sent ≡ cluster.facts.sent
 
 pub begun-by : (m : ℕ) (cluster : Cluster) (heard : Option ℕ) (kind : EventKind) → IsOpening heard kind → IsBegun m cluster (cluster_after cluster kind)
-begun-by m cluster heard (kinds.Agent (agents.Woken by)) is = record { processes = refl; clock = refl; servers = refl; deadlines = refl; holds = refl; sent = refl }
-begun-by m cluster heard (kinds.Agent (agents.Operated by action)) is = record { processes = refl; clock = refl; servers = refl; deadlines = refl; holds = refl; sent = refl }
-begun-by m cluster heard (kinds.Message (Delivered number)) is = record { processes = refl; clock = refl; servers = refl; deadlines = refl; holds = refl; sent = refl }
+begun-by m cluster heard (kinds.Agent (agents.Woken by)) is = record { processes = refl; clock = refl; servers = refl; deadlines = refl; holds = refl; members = refl; bases = refl; sent = refl }
+begun-by m cluster heard (kinds.Agent (agents.Operated by action)) is = record { processes = refl; clock = refl; servers = refl; deadlines = refl; holds = refl; members = refl; bases = refl; sent = refl }
+begun-by m cluster heard (kinds.Message (Delivered number)) is = record { processes = refl; clock = refl; servers = refl; deadlines = refl; holds = refl; members = refl; bases = refl; sent = refl }
 begun-by m cluster heard _ is = absurd is
 
-pub opening-addressed : (heard : Option ℕ) (kind : EventKind) → IsOpening heard kind → SendsAddressed kind
-opening-addressed heard (kinds.Agent (agents.Woken by)) is = tt
-opening-addressed heard (kinds.Agent (agents.Operated by action)) is = tt
-opening-addressed heard (kinds.Message (Delivered number)) is = tt
-opening-addressed heard _ is = absurd is
+pub opening-addressed : (members : List Member) (mode : Bool) (heard : Option ℕ) (kind : EventKind) → IsOpening heard kind → SendsAddressed members mode kind
+opening-addressed members mode heard (kinds.Agent (agents.Woken by)) is = tt
+opening-addressed members mode heard (kinds.Agent (agents.Operated by action)) is = tt
+opening-addressed members mode heard (kinds.Message (Delivered number)) is = tt
+opening-addressed members mode heard _ is = absurd is
+
+pub opening-mode : (mode : Bool) (heard : Option ℕ) (kind : EventKind) → IsOpening heard kind → LeavesMode mode kind
+opening-mode mode heard (kinds.Agent (agents.Woken by)) is = tt
+opening-mode mode heard (kinds.Agent (agents.Operated by action)) is = tt
+opening-mode mode heard (kinds.Message (Delivered number)) is = tt
+opening-mode mode heard _ is = absurd is
 
 opening-sent : (heard : Option ℕ) (kind : EventKind) (last : ℕ) → IsOpening heard kind → sent_after last kind ≡ last
 opening-sent heard (kinds.Agent (agents.Woken by)) last is = refl
@@ -111,16 +140,47 @@ opening-sent heard (kinds.Agent (agents.Operated by action)) last is = refl
 opening-sent heard (kinds.Message (Delivered number)) last is = refl
 opening-sent heard _ last is = absurd is
 
-sent-addressed : (member : Member) (incarnation : ℕ) (Q : Output → Type 0) → ((sequence : ℕ) (body : Body) → Q (outputs.Send targets.Store sequence body) → IsQuestion body) → (message : Message) → IsMessageOf member incarnation Q message → IsAddressed message.from message.to message.body
-sent-addressed member incarnation Q asks message (Asks is) = subst (λ (x : Message). IsAddressed x.from x.to x.body) (sym is.is) (asks is.sequence is.body is.from)
-sent-addressed member incarnation Q asks message (AsksPeer peer id sequence is from) = subst (λ (x : Message). IsAddressed x.from x.to x.body) (sym is) tt
-sent-addressed member incarnation Q asks message (AnswersPeer peer id asked sequence answer is from) = subst (λ (x : Message). IsAddressed x.from x.to x.body) (sym is) tt
+-- what outputs with this property ask: the key store is asked a question, each question has a number that counts from 1, and none asks to change
+-- failsafe mode
+pub record AskWell (mode : Bool) (Q : Output → Type 0) : Type 0 where
+  pub store : (sequence : ℕ) (body : Body) → Q (outputs.Send targets.Store sequence body) → IsQuestion body
+  pub numbered : (to : Target) (sequence : ℕ) (body : Body) → Q (outputs.Send to sequence body) → 0 < sequence
+  pub leaves : (to : Target) (sequence : ℕ) (body : Body) → Q (outputs.Send to sequence body) → IsModeAsked mode body
 
-mine-addressed : (member : Member) (incarnation heard : ℕ) (Q : Output → Type 0) → ((sequence : ℕ) (body : Body) → Q (outputs.Send targets.Store sequence body) → IsQuestion body) → (kind : EventKind) → IsOfInput member incarnation heard Q kind → SendsAddressed kind
-mine-addressed member incarnation heard Q asks (kinds.Message (Sent number message)) is = sent-addressed member incarnation Q asks message is
-mine-addressed member incarnation heard Q asks (kinds.Message (Delivered number)) is = absurd is
-mine-addressed member incarnation heard Q asks (kinds.Message (Lost number)) is = tt
-mine-addressed member incarnation heard Q asks _ is = tt
+-- so is a message
+abbrev IsSentWell : Bool → Message → Type 0
+IsSentWell mode message = IsAddressed message.from message.to message.body × ((is_answer message.body ≡ false → 0 < message.sequence) × IsModeAsked mode message.body)
+
+asks-peer : (body : Body) → IsAsk body → IsPeerBody body
+asks-peer peer_bodies.Ask is = tt
+asks-peer (peer_bodies.FailsafeRequest ttl) is = tt
+asks-peer _ is = absurd is
+
+no-answer : true ≡ false → ⊥
+no-answer e = cc
+
+sent-well : (mode : Bool) (member : Member) (incarnation : ℕ) (Q : Output → Type 0) → AskWell mode Q → (message : Message) → IsMessageOf member incarnation Q message → IsSentWell mode message
+sent-well mode member incarnation Q asks message (Asks is) =
+    subst (IsSentWell mode) (sym is.is) (asks.store is.sequence is.body is.from, ((λ _. asks.numbered targets.Store is.sequence is.body is.from), asks.leaves targets.Store is.sequence is.body is.from))
+sent-well mode member incarnation Q asks message (AsksPeer peer id sequence body ask is from) =
+    subst (IsSentWell mode) (sym is) (asks-peer body ask, ((λ _. asks.numbered (targets.Member id) sequence body from), asks.leaves (targets.Member id) sequence body from))
+sent-well mode member incarnation Q asks message (AnswersPeer peer id asked sequence answer is from) = subst (IsSentWell mode) (sym is) (tt, ((λ e. absurd (no-answer e)), tt))
+sent-well mode member incarnation Q asks message (AnswersRequest peer id asked sequence accepted at is from) = subst (IsSentWell mode) (sym is) (tt, ((λ e. absurd (no-answer e)), tt))
+
+mine-addressed : (members : List Member) (mode : Bool) (member : Member) (incarnation heard : ℕ) (Q : Output → Type 0) → AskWell mode Q → (kind : EventKind) → IsOfInput member incarnation heard Q kind → GoesBetween members kind → SendsAddressed members mode kind
+mine-addressed members mode member incarnation heard Q asks (kinds.Message (Sent number message)) is between =
+    let well = sent-well mode member incarnation Q asks message is in (well.0, (well.1.0, (well.1.1, between)))
+mine-addressed members mode member incarnation heard Q asks (kinds.Message (Delivered number)) is between = absurd is
+mine-addressed members mode member incarnation heard Q asks (kinds.Message (Lost number)) is between = tt
+mine-addressed members mode member incarnation heard Q asks _ is between = tt
+
+mine-mode : (mode : Bool) (member : Member) (incarnation heard : ℕ) (Q : Output → Type 0) (kind : EventKind) → IsOfInput member incarnation heard Q kind → LeavesMode mode kind
+mine-mode mode member incarnation heard Q (kinds.Store happening) is = absurd is
+mine-mode mode member incarnation heard Q _ is = tt
+
+both-are : (P R : EventKind → Type 0) (events : List Event) → AllAre P events → AllAre R events → AllAre (λ kind. P kind × R kind) events
+both-are P R [] p r = tt
+both-are P R (event ∷ events) p r = ((p.0, r.0), both-are P R events p.1 r.1)
 
 taken-over : (past : Past) (events : List Event) → AllAre (λ kind. (clock : ℕ) (taken : List Taking) → taken_after clock taken kind ≡ taken) events → (past_over past events).taken ≡ past.taken
 taken-over past [] all = refl
@@ -142,6 +202,59 @@ pub record ArmsInTime (s : State) (m : ℕ) (heard : Option ℕ) : Type 0 where
   pub in_time : IsOnTime (s.declared.margin m) s.clock fed.grant.moment
   pub free : (s.members m).hold ≤ s.clock
 
+ready-seen : (role : RoleFacts) (knows : Knowledge) → ready_seen (Some (role_seen role knows)) ≡ is_ready role
+ready-seen Follower knows = refl
+ready-seen (Holder revision) knows = refl
+ready-seen (Ready revision) knows = refl
+ready-seen (Leader revision) knows = refl
+ready-seen (Ending revision why) knows = refl
+ready-seen Unleased knows = refl
+
+clock-of : (number : ℕ) (kind : EventKind) → KeepsMomentOf number kind → KeepsClockAndRuns kind
+clock-of number (kinds.Message (Sent other message)) is = tt
+clock-of number (kinds.Message _) is = tt
+clock-of number kinds.Tick is = absurd is
+clock-of number (kinds.Agent (agents.Started agent incarnation)) is = absurd is
+clock-of number _ is = tt
+
+-- the acknowledgements that an agent waits for, as the law sees them
+record IsCheck (ask : Ask) (found : Option PendingQuestion) (failsafe_check : FailsafeCheck) : Type 0 where
+  waited : PendingQuestion
+  is : found ≡ Some waited
+  staying : is_staying waited.question ≡ true
+  sequence : failsafe_check.sequence ≡ waited.sequence
+  members : failsafe_check.members ≡ set_members ask.members
+
+check-is : (ask : Ask) (found : Option PendingQuestion) (failsafe_check : FailsafeCheck) → check_seen ask found ≡ Some failsafe_check → IsCheck ask found failsafe_check
+check-is ask None failsafe_check e = absurd (none-some failsafe_check e)
+check-is ask (Some one) failsafe_check e = by (is_staying one.question) refl e
+  where
+    check-now : FailsafeCheck
+    check-now = record { sequence = one.sequence; ttl = one.ttl.0; sent = one.sent.0; members = set_members ask.members; yes = set_members ask.acknowledged }
+
+    by : (test : Bool) → is_staying one.question ≡ test → (if test then Some check-now else None) ≡ Some failsafe_check → IsCheck ask (Some one) failsafe_check
+    by true stay same = let is : check-now ≡ failsafe_check = some-is check-now failsafe_check same in record {
+      waited = one;
+      is = refl;
+      staying = stay;
+      sequence = ap (λ (c : FailsafeCheck). c.sequence) (sym is);
+      members = ap (λ (c : FailsafeCheck). c.members) (sym is);
+    }
+    by false stay same = absurd (none-some failsafe_check same)
+
+-- where no failsafe request is heard, none is acknowledged
+no-yes : (heard : Heard) (knows : Knowledge) → ((from : MemberId) (run sequence : ℕ) → HearsFailsafe heard from run sequence → ⊥) → (outs : List Output) → All (StandsOn heard knows) outs → has_one is_yes outs ≡ false
+no-yes heard knows none [] stands = refl
+no-yes heard knows none (output ∷ outs) stands = neither (is_yes output) (has_one is_yes outs) (one output (All-head (StandsOn heard knows) output outs stands)) (no-yes heard knows none outs (All-tail (StandsOn heard knows) output outs stands))
+  where
+    one : (output : Output) → StandsOn heard knows output → is_yes output ≡ false
+    one (outputs.FailsafeAnswer to run sequence true) is = absurd (none to run sequence (is refl))
+    one (outputs.FailsafeAnswer to run sequence false) is = refl
+    one _ is = refl
+
+    neither : (b c : Bool) → b ≡ false → c ≡ false → (b || c) ≡ false
+    neither b c e f = ap (λ (x : Bool). x || c) e ∙ f
+
 -- what is in an input's outputs
 both-all : (P Q : Output → Type 0) (outs : List Output) → All P outs → All Q outs → All (λ out. P out × Q out) outs
 both-all P Q outs p q = λ k d h. (p k d h, q k d h)
@@ -149,7 +262,9 @@ both-all P Q outs p q = λ k d h. (p k d h, q k d h)
 -- ---- the input
 module _ (head : HeadText) (book : List Event) (cluster : Cluster) (good : Bridged head book cluster) (member : Member) (agent : AgentFacts) (machine : Machine) (found : IsFound cluster member machine)
     (here : slice_get cluster.agents member.id.number ≡ Some (Some agent)) (heard : Heard) (hn : Option ℕ) (message : HeardMessage) (opening : EventKind) (opens : IsOpening hn opening)
-    (numbered : (n : ℕ) → hn ≡ Some n → (message.number ≡ n) × (n ≤ cluster.facts.sent)) (low : message.number ≤ cluster.facts.sent) where
+    (numbered : (n : ℕ) → hn ≡ Some n → (message.number ≡ n) × (n ≤ cluster.facts.sent)) (low : message.number ≤ cluster.facts.sent)
+    (mine-there : slice_get cluster.facts.members member.id.number ≡ Some member) (told : HearsMode (declared_of head).failsafe heard)
+    (peers : (from : MemberId) (run sequence : ℕ) → HearsFailsafe heard from run sequence → (peer : Member) × (slice_get cluster.facts.members from.number ≡ Some peer)) where
   abbrev M : ℕ
   M = member.id.number
 
@@ -174,20 +289,27 @@ module _ (head : HeadText) (book : List Event) (cluster : Cluster) (good : Bridg
   abbrev Later : Cluster
   Later = cluster_over First Rest
 
+  abbrev Mode : Bool
+  Mode = (declared_of head).failsafe
+
   abbrev Told : Past
   Told = past_of book
 
   abbrev S : State
   S = state_of (declared_of head) Told (volatile_of cluster)
 
+  -- the request that it takes a hold for
+  abbrev Takes : Option FailsafeRequest
+  Takes = request_taken (has_one is_yes After.outputs) (request_heard S.flight hn)
+
   abbrev Theirs : AgentInput
-  Theirs = input_of Told M (volatile_of Later M) hn (has_one is_feeding After.outputs) None Events
+  Theirs = input_of Told M (volatile_of Later M) hn (has_one is_feeding After.outputs) Takes Events
 
   pub anew : AsksAnew Now agent.knows After.knows After.outputs
   anew = step-asks-anew Now (points_of cluster member) heard agent.role agent.knows machine
 
   abbrev Q : Output → Type 0
-  Q out = Contains After.outputs out × SendsBetween agent.knows.sequence After.knows.sequence out
+  Q out = Contains After.outputs out × (SendsBetween agent.knows.sequence After.knows.sequence out × AsksMode Mode out)
 
   pub table : All IsOfTable After.outputs
   table = (step-carried-out Now (points_of cluster member) heard agent.role agent.knows machine).kinds
@@ -195,18 +317,25 @@ module _ (head : HeadText) (book : List Event) (cluster : Cluster) (good : Bridg
   pub begun : IsBegun M cluster First
   begun = begun-by M cluster hn opening opens
 
-  pub knows-it : KnowsItself M (slice_get cluster.facts.processes M) agent
+  pub knows-it : KnowsItself Mode M (slice_get cluster.facts.processes M) agent
   knows-it = good.matched.agents M agent here
 
   same-process : (a b process : AgentProcess) (o : Option AgentProcess) → o ≡ Some a → o ≡ Some process → a ≡ process
   same-process a b process o e f = some-is a process (sym e ∙ f)
 
-  pub runs : (process : AgentProcess) → slice_get First.facts.processes M ≡ Some process → process.incarnation ≡ agent.knows.incarnation
-  runs process e = ap (λ (p : AgentProcess). p.incarnation) (some-is process knows-it.found (sym e ∙ ap (λ (l : List AgentProcess). slice_get l M) begun.processes ∙ knows-it.is)) ∙ sym knows-it.incarnation
+  pub runs : RunsAmong member agent.knows.incarnation First.facts
+  runs = record {
+    process = λ process e. ap (λ (p : AgentProcess). p.incarnation) (some-is process knows-it.found (sym e ∙ ap (λ (l : List AgentProcess). slice_get l M) begun.processes ∙ knows-it.is)) ∙ sym knows-it.incarnation;
+    numbered = λ n peer e. good.matched.failsafe.numbered n peer (ap (λ (l : List Member). slice_get l n) (sym begun.members) ∙ e);
+  }
+
+  modes : All (AsksMode Mode) After.outputs
+  modes = mode-asked-from Now (points_of cluster member) heard agent.role agent.knows machine (good.matched.waiting.agents M agent here).ends Mode told
 
   pub mine : AllAre (IsOfInput member agent.knows.incarnation message.number Q) Rest
   mine = each-mine member agent.knows.incarnation message.number Q First message refl runs After.outputs table
-      (both-all (Contains After.outputs) (SendsBetween agent.knows.sequence After.knows.sequence) After.outputs (All-contains_itself After.outputs) anew.sends)
+      (both-all (Contains After.outputs) (λ out. SendsBetween agent.knows.sequence After.knows.sequence out × AsksMode Mode out) After.outputs (All-contains_itself After.outputs)
+      (both-all (SendsBetween agent.knows.sequence After.knows.sequence) (AsksMode Mode) After.outputs anew.sends modes))
 
   pub stays : Stays M First Later
   stays = stays-over member agent.knows.incarnation message.number Q First Rest mine
@@ -224,17 +353,62 @@ module _ (head : HeadText) (book : List Event) (cluster : Cluster) (good : Bridg
   sends : AllAre (SendsOnly (IsSentBy M agent.knows.incarnation Told.clock After.outputs) Told.clock) Events
   sends = all-events (SendsOnly (IsSentBy M agent.knows.incarnation Told.clock After.outputs) Told.clock) (opening-sends (IsSentBy M agent.knows.incarnation Told.clock After.outputs) Told.clock hn opening opens)
       (mine-sends member agent.knows.incarnation message.number Q (IsSentBy M agent.knows.incarnation Told.clock After.outputs) Told.clock
-      (λ sequence body query is query-is. record { sequence = sequence; body = body; query = query; among = is.0; query_is = query-is; is = refl }))
+      (record {
+        store = λ sequence body query is query-is. AsksStore sequence body query is.0 query-is refl;
+        asks = λ to sequence ttl is. AsksMember to sequence ttl is.0 refl;
+        says = λ to run sequence is. SaysYes to run sequence is.0 refl;
+      }))
 
-  asks : (sequence : ℕ) (body : Body) → Q (outputs.Send targets.Store sequence body) → IsQuestion body
-  asks sequence body is = is.1.2
+  asks : AskWell Mode Q
+  asks = record {
+    store = λ sequence body is. is.1.0.2;
+    numbered = λ to sequence body is. let low : agent.knows.sequence < sequence = is.1.0.0 in omega (arith, low);
+    leaves = λ to sequence body is. is.1.1;
+  }
+
+  stands-all : All (StandsOn heard agent.knows) After.outputs
+  stands-all = (input-asks-from Now (points_of cluster member) heard agent.role agent.knows machine (good.matched.waiting.agents M agent here).ends).stands
+
+  known : (output : Output) → StandsOn heard agent.knows output → IsHeldFor cluster.facts.members output
+  known (outputs.HoldTaken until from sequence) stands = elim stands [
+    | inl mine ↦ (member, ap (λ (id : MemberId). slice_get cluster.facts.members id.number) mine.1 ∙ ap (slice_get cluster.facts.members) knows-it.me ∙ mine-there)
+    | inr asked ↦ peers from asked.0 sequence asked.1
+  ]
+  known _ stands = tt
+
+  -- for whom it takes holds
+  held : All (IsHeldFor First.facts.members) After.outputs
+  held = subst (λ (l : List Member). All (IsHeldFor l) After.outputs) (sym begun.members)
+      (All-weaker (StandsOn heard agent.knows) (IsHeldFor cluster.facts.members) known After.outputs stands-all)
+
+  -- where its messages go
+  between : AllAre (GoesBetween (declared_members head)) Rest
+  between =
+      subst (λ (l : List Member). AllAre (GoesBetween l) Rest) (begun.members ∙ good.matched.members)
+      (each-between member agent.knows.incarnation message First After.outputs (ap (λ (l : List Member). slice_get l M) begun.members ∙ mine-there) runs table)
 
   pub small : M < member_count head
   small = subst (λ (n : ℕ). M < n) good.matched.agents_sized (slice_get_within cluster.agents M (Some agent) here)
 
-  pub fitting : AllAre (IsFitting (member_count head)) Events
-  fitting = all-events (IsFitting (member_count head)) (opening-hands_off hn opening opens, opening-members (member_count head) hn opening opens, opening-addressed hn opening opens)
-      (λ kind is. (mine-hands_off member agent.knows.incarnation message.number Q kind is, mine-members member agent.knows.incarnation message.number Q (member_count head) small kind is, mine-addressed member agent.knows.incarnation message.number Q asks kind is))
+  -- what set its deadline
+  basis-here : slice_get cluster.failsafe_deadlines M ≡ Some machine.by_failsafe
+  basis-here =
+      let one = there cluster.failsafe_deadlines M (subst (λ (n : ℕ). M < n) (sym good.matched.failsafe.sized) small) in
+      one.1 ∙ ap (λ (b : Bool). Some b) (sym (ap is_set_by_failsafe one.1) ∙ found.basis)
+
+  pub fitting : AllAre (IsFitting head) Events
+  fitting = (
+    (opening-hands_off hn opening opens, (opening-members (member_count head) hn opening opens, (opening-addressed (declared_members head) Mode hn opening opens, opening-mode Mode hn opening opens))),
+    all-more (λ kind. IsOfInput member agent.knows.incarnation message.number Q kind × GoesBetween (declared_members head) kind) (IsFitting head) Rest
+        (λ kind is. (
+          mine-hands_off member agent.knows.incarnation message.number Q kind is.0,
+          (
+            mine-members member agent.knows.incarnation message.number Q (member_count head) small kind is.0,
+            (mine-addressed (declared_members head) Mode member agent.knows.incarnation message.number Q asks kind is.0 is.1, mine-mode Mode member agent.knows.incarnation message.number Q kind is.0),
+          ),
+        ))
+        (both-are (IsOfInput member agent.knows.incarnation message.number Q) (GoesBetween (declared_members head)) Rest mine between),
+  )
 
   fits : Fits head (past_over Told Events) Later
   fits = fits-over head Told cluster Events
@@ -276,11 +450,17 @@ module _ (head : HeadText) (book : List Event) (cluster : Cluster) (good : Bridg
       hold = ap (λ (l : List (Option Ticks)). slice_get l M) begun.holds ∙ found.mirrors.hold;
     }
 
+    pub basis-later : is_set_by_failsafe (slice_get Later.failsafe_deadlines M) ≡ After.machine.by_failsafe
+    basis-later =
+        let carried = step-carried-out Now (points_of cluster member) heard agent.role agent.knows machine in
+        ap is_set_by_failsafe (each-basis member agent.knows.incarnation message Now First machine After.outputs runs table (ap (λ (l : List Bool). slice_get l M) begun.bases ∙ basis-here))
+        ∙ ap (λ (x : Machine). x.by_failsafe) (sym carried.machine_is)
+
     pub resembles-later : Resembles Later M After.machine
     resembles-later =
         let carried = step-carried-out Now (points_of cluster member) heard agent.role agent.knows machine in
         subst (λ (x : Machine). Resembles Later M x) (sym carried.machine_is)
-        (each-resembles member agent.knows.incarnation message Now First machine After.outputs runs table carried.last begun.clock mirrors-first)
+        (each-resembles member agent.knows.incarnation message Now First machine After.outputs runs table held carried.last begun.clock mirrors-first)
 
   -- ---- where it reads of no pause
   module _ (acts : agent_facts_after cluster opening ≡ with_changed cluster.agents M (agent_after (Some After))) (calm : tells_pause (told_by heard) ≡ false) where
@@ -290,12 +470,15 @@ module _ (head : HeadText) (book : List Event) (cluster : Cluster) (good : Bridg
       | inr told ↦ not-false (tells_pause (told_by heard)) calm told
     ])
 
+    keeps : KeepsMode Mode After.knows
+    keeps = mode-kept Now (points_of cluster member) heard Before Mode told knows-it.keeps
+
     matched-over : IsMatched head (past_over Told Events) Later
     matched-over = matched-from head (past_over Told Events) Later fits
         (ap (λ (l : List (Option AgentFacts)). length l) (agents-are acts) ∙ length-changed cluster.agents M (agent_after (Some After)) ∙ good.matched.agents_sized)
-        (subst (λ (p : List AgentProcess). KnowThemselves p Later.agents) (sym (processes-are acts))
-        (subst (KnowThemselves cluster.facts.processes) (sym (agents-are acts))
-        (knows-after M agent After cluster.facts.processes cluster.agents here anew.who anew.incarnation unpaused good.matched.agents)))
+        (subst (λ (p : List AgentProcess). KnowThemselves Mode p Later.agents) (sym (processes-are acts))
+        (subst (KnowThemselves Mode cluster.facts.processes) (sym (agents-are acts))
+        (knows-after Mode M agent After cluster.facts.processes cluster.agents here anew.who anew.incarnation keeps unpaused good.matched.agents)))
         (λ n. subst (λ (p : List AgentProcess). IsLastRun (past_over Told Events).asked n (run_in p n)) (sym (processes-are acts))
         (runs-after M Told.clock agent.knows.incarnation After.outputs Told.asked (past_over Told Events).asked cluster.facts.processes run-is questions good.matched.waiting.runs n))
         (subst (AreAgentsSound (past_over Told Events).asked) (sym (agents-are acts))
@@ -307,19 +490,28 @@ module _ (head : HeadText) (book : List Event) (cluster : Cluster) (good : Bridg
     matched : IsMatched head (past_of (book ++ Events)) Later
     matched = subst (λ (p : Past). IsMatched head p Later) (sym behind) matched-over
 
-    machine-later : machine_told (past_over Told Events) (volatile_of Later M) M ≡ machine_seen After.role After.knows After.machine false (run_in cluster.facts.processes M)
+    machine-later : machine_told (past_over Told Events) (volatile_of Later M) M ≡ machine_seen After.role After.knows After.machine (run_in cluster.facts.processes M)
     machine-later =
         machine-is head (past_over Told Events) Later matched-over M
-        ∙ seen-of Later M (record { role = After.role; knows = After.knows }) After.machine (resembles-later acts) (after-here acts)
-        ∙ ap (λ (p : List AgentProcess). machine_seen After.role After.knows After.machine false (run_in p M)) (processes-are acts)
+        ∙ seen-of Later M (record { role = After.role; knows = After.knows }) After.machine (resembles-later acts) (basis-later acts) (after-here acts)
+        ∙ ap (λ (p : List AgentProcess). machine_seen After.role After.knows After.machine (run_in p M)) (processes-are acts)
+
+    member-is : S.members M ≡ machine_seen agent.role agent.knows machine (run_in cluster.facts.processes M)
+    member-is = machine-is head Told cluster good.matched M ∙ seen-of cluster M agent machine (mirrored cluster M machine found.mirrors) found.basis here
+
+    ready : is_ready agent.role ≡ true → machine.by_failsafe ≡ false
+    ready e =
+        ap (λ (x : MachineSeen). x.by_failsafe) (sym member-is)
+        ∙ good.carried.sound.ready_by_grant M (ap (λ (x : MachineSeen). ready_seen x.agent) member-is ∙ ready-seen agent.role agent.knows ∙ e)
 
     pub stands : StandsIn S M (run_in cluster.facts.processes M) Now Before
     stands = record {
-      member = machine-is head Told cluster good.matched M ∙ seen-of cluster M agent machine (mirrored cluster M machine found.mirrors) here;
+      member = member-is;
       me = knows-it.me;
       clock = good.matched.store.clock;
       margin = margin-of head Told cluster member machine good.matched found;
-      failsafe = refl;
+      mode = knows-it.keeps;
+      ready = ready;
       unpaused = knows-it.unpaused;
     }
 
@@ -380,7 +572,7 @@ module _ (head : HeadText) (book : List Event) (cluster : Cluster) (good : Bridg
     begins-all lawful = (
       opening-begins (May []) hn opening opens,
       each-begins member agent.knows.incarnation message (MayPromote S M Theirs) May grow makes First machine [] (record { tick = record { 0 = First.facts.clock }; kind = opening } ∷ []) After.outputs (mirrors-first acts)
-          (λ alive. (refl, inl (inl (ap (λ (x : MachineSeen). x.live) stands.member ∙ alive)))) runs table (step-carried-out Now (points_of cluster member) heard agent.role agent.knows machine).last
+          (λ alive. (refl, inl (inl (ap (λ (x : MachineSeen). x.live) stands.member ∙ alive)))) runs table held (step-carried-out Now (points_of cluster member) heard agent.role agent.knows machine).last
           (opening-moments message.number hn opening opens, tt) kept (λ e. absurd (no-one e)) lawful.begins,
     )
 
@@ -388,28 +580,78 @@ module _ (head : HeadText) (book : List Event) (cluster : Cluster) (good : Bridg
     all-front [] ys all = tt
     all-front (x ∷ xs) ys all = (all.0, all-front xs ys all.1)
 
+    abbrev First_ : Event
+    First_ = record { tick = record { 0 = First.facts.clock }; kind = opening }
+
+    abbrev Basis_ : Bool
+    Basis_ = Theirs.machine.by_failsafe
+
+    abbrev IsFed : Bool → EventKind → Type 0
+    IsFed b kind = IsFedAs member agent.knows.incarnation message (StandsOn heard agent.knows) b kind
+
+    -- the last feed, as the deadline's basis is
+    fed-last : has_one is_feeding After.outputs ≡ true → FedIn member agent.knows.incarnation message (StandsOn heard agent.knows) Basis_ Rest
+    fed-last is =
+        let carried = step-carried-out Now (points_of cluster member) heard agent.role agent.knows machine in
+        subst (λ (b : Bool). FedIn member agent.knows.incarnation message (StandsOn heard agent.knows) b Rest)
+        (ap (λ (x : Machine). x.by_failsafe) (sym carried.machine_is) ∙ ap (λ (x : MachineSeen). x.by_failsafe) (sym machine-later))
+        (each-fed member agent.knows.incarnation message (StandsOn heard agent.knows) Now First machine After.outputs stands-all is)
+
+    kept-front : (front rest : List Event) (event : Event) → front ++ event ∷ rest ≡ Rest → AllAre (KeepsMomentOf message.number) (First_ ∷ front)
+    kept-front front rest event is = (opening-moments message.number hn opening opens, all-front front (event ∷ rest) (subst (AllAre (KeepsMomentOf message.number)) (sym is) kept))
+
+    -- a feed on acknowledgements is on those that are waited for
+    fed-on : (kind : EventKind) → IsFed true kind → (failsafe_check : FailsafeCheck) → check_seen agent.knows.failsafe agent.knows.waited ≡ Some failsafe_check → IsFedOn M failsafe_check.members failsafe_check.sequence kind
+    fed-on kind fed failsafe_check is =
+        let check = check-is agent.knows.failsafe agent.knows.waited failsafe_check is in
+        let on = fed.from.asked check.waited check.is check.staying in
+        subst (IsFedOn M failsafe_check.members failsafe_check.sequence) (sym fed.is) (
+          refl,
+          on.1 ∙ sym check.sequence,
+          λ p e. ap (λ (l : MemberSet). set_members l p) on.0 ∙ ap (λ (l : ℕ → Bool). l p) (sym check.members) ∙ e,
+        )
+
     shows-if : (fed : Bool) → has_one is_feeding After.outputs ≡ fed → ShowsIt S (Input M Theirs) Events
     shows-if false is = inl is
     shows-if true is =
-        let fed = each-fed member agent.knows.incarnation message First After.outputs is in
-        let first : Event = record { tick = record { 0 = First.facts.clock }; kind = opening } in
+        let fed = fed-last is in
         inr (
-          first ∷ fed.front,
+          First_ ∷ fed.front,
           fed.event,
           fed.rest,
-          ap (λ (l : List Event). first ∷ l) fed.is,
+          ap (λ (l : List Event). First_ ∷ l) fed.is,
           record {
-            by_grant = λ _ _ number e.
+            by_grant = λ _ granted number e.
                 let same = (numbered number e).0 in (
-                  subst (λ (n : ℕ). AllAre (KeepsMomentOf n) (first ∷ fed.front)) same
-                      (opening-moments message.number hn opening opens, all-front fed.front (fed.event ∷ fed.rest) (subst (AllAre (KeepsMomentOf message.number)) (sym fed.is) kept)),
-                  subst (λ (n : ℕ). IsFedBy M n fed.event.kind) same fed.fed,
+                  subst (λ (n : ℕ). AllAre (KeepsMomentOf n) (First_ ∷ fed.front)) same (kept-front fed.front fed.rest fed.event fed.is),
+                  subst (λ (n : ℕ). IsFedBy M n fed.event.kind) same (subst (λ (b : Bool). IsFed b fed.event.kind) granted fed.fed),
                 );
-            by_failsafe = λ _ failsafe _ _ _ _. absurd (not-false _ (ap (λ (x : MachineSeen). x.by_failsafe) machine-later) failsafe);
+            by_failsafe = λ _ failsafe was failsafe_check there_is checks.
+                let seen : role_seen agent.role agent.knows ≡ was = some-is (role_seen agent.role agent.knows) was (ap (λ (x : MachineSeen). x.agent) (sym member-is) ∙ there_is) in (
+                  ap (λ (x : Agent). x.incarnation) (sym seen) ∙ run-is ∙ ap (λ (x : MachineSeen). x.runs) (sym member-is),
+                  all-more (KeepsMomentOf message.number) KeepsClockAndRuns (First_ ∷ fed.front) (clock-of message.number) (kept-front fed.front fed.rest fed.event fed.is),
+                  fed-on fed.event.kind (subst (λ (b : Bool). IsFed b fed.event.kind) failsafe fed.fed) failsafe_check (ap (λ (x : Agent). x.failsafe_check) seen ∙ checks),
+                );
           },
         )
 
     -- ---- the action
+    -- the holds that the book has taken behind it are as the law has them
+    abbrev pub IsTakenSo : Type 0
+    IsTakenSo = (past_over Told Events).taken ≡ taken_by M Told.clock Takes Told.taken
+
+    -- so it is where it takes no hold but under number 0, and acknowledges nothing
+    pub none-taken : Takes ≡ None → ((until : Ticks) (id : MemberId) (sequence : ℕ) → Q (outputs.HoldTaken until id sequence) → sequence ≡ 0) → IsTakenSo
+    none-taken nothing none =
+        taken-over Told Events (all-events (λ kind. (clock : ℕ) (taken : List Taking) → taken_after clock taken kind ≡ taken) (λ clock taken. opening-taken clock taken hn opening opens) (λ kind is clock taken. mine-taken member agent.knows.incarnation message.number Q none clock taken kind is))
+        ∙ ap (λ (o : Option FailsafeRequest). taken_by M Told.clock o Told.taken) (sym nothing)
+
+    -- an input that hears no failsafe request takes none
+    pub unasked : ((from : MemberId) (run sequence : ℕ) → HearsFailsafe heard from run sequence → ⊥) → IsTakenSo
+    unasked none = none-taken
+        (ap (λ (b : Bool). request_taken b (request_heard S.flight hn)) (no-yes heard agent.knows none After.outputs stands-all))
+        (λ until id sequence is. elim (All-contains (StandsOn heard agent.knows) After.outputs (outputs.HoldTaken until id sequence) stands-all is.0) [ inl mine ↦ mine.0 | inr asked ↦ absurd (none id asked.0 sequence asked.1) ])
+
     volatile-put : (n : ℕ) → volatile_of Later n ≡ put_at (volatile_of cluster) M (volatile_of Later M) n
     volatile-put = by
       where
@@ -424,23 +666,26 @@ module _ (head : HeadText) (book : List Event) (cluster : Cluster) (good : Bridg
           | inr other ↦ other-way n other ∙ sym (put-there (volatile_of cluster) M (volatile_of Later M) n other)
         ]
 
-    shown : IsShown (declared_of head) book (volatile_of cluster) (record { action = Input M Theirs; events = Events; volatile_states = volatile_of Later })
-    shown = subst (λ (v : ℕ → VolatileState). IsShown (declared_of head) book (volatile_of cluster) (record { action = Input M Theirs; events = Events; volatile_states = v })) (sym (fun_ext volatile-put))
-        (input-shown-of (declared_of head) book (volatile_of cluster) M (volatile_of Later M) hn (has_one is_feeding After.outputs) None Events
-        (all-events (IsOwn M) (opening-own M hn opening opens) (mine-own member agent.knows.incarnation message.number Q))
-        (taken-over Told Events (all-events (λ kind. (clock : ℕ) (taken : List Taking) → taken_after clock taken kind ≡ taken) (λ clock taken. opening-taken clock taken hn opening opens) (λ kind is clock taken. mine-taken member agent.knows.incarnation message.number Q clock taken kind is))))
+    shown : IsTakenSo → IsShown (declared_of head) book (volatile_of cluster) (record { action = Input M Theirs; events = Events; volatile_states = volatile_of Later })
+    shown taken = subst (λ (v : ℕ → VolatileState). IsShown (declared_of head) book (volatile_of cluster) (record { action = Input M Theirs; events = Events; volatile_states = v })) (sym (fun_ext volatile-put))
+        (input-shown-of (declared_of head) book (volatile_of cluster) M (volatile_of Later M) hn (has_one is_feeding After.outputs) Takes Events
+        (all-events (IsOwn M) (opening-own M hn opening opens) (mine-own member agent.knows.incarnation message.number Q)) taken)
 
-    pub input-kept : (((m : ℕ) → works_of head m ≡ true) → Hears S M hn Now heard Before) → IsKept head book cluster Events
-    input-kept hears = kept-if-works head book cluster Events (λ works.
+    pub input-kept : (((m : ℕ) → works_of head m ≡ true) → Hears S M hn Now heard Before) → IsTakenSo → IsKept head book cluster Events
+    input-kept hears taken = kept-if-works head book cluster Events (λ works.
         let sound = good.matched.waiting.agents M agent here in
         let lawful = input-lawful-from Now (points_of cluster member) heard agent.role agent.knows machine (λ waited is. (sound.waits waited is).span) sound.ends
         S M (run_in cluster.facts.processes M) Theirs stands (hears works) is-input in
         action-kept head book cluster Events (Input M Theirs) good (begins-all lawful) (λ meets. record {
           lawful = lawful.lawful;
           shows = shows-if (has_one is_feeding After.outputs) refl;
-          shown = shown;
+          shown = shown taken;
           matched = matched;
         }))
+
+    -- so is one that hears no failsafe request
+    pub input-kept-unasked : ((from : MemberId) (run sequence : ℕ) → HearsFailsafe heard from run sequence → ⊥) → (((m : ℕ) → works_of head m ≡ true) → Hears S M hn Now heard Before) → IsKept head book cluster Events
+    input-kept-unasked none hears = input-kept hears (unasked none)
 
     -- ---- who comes to act
     fed-in-time : MeetsPremises head (book ++ Events) → Theirs.feeds ≡ true → Theirs.machine.by_failsafe ≡ false → (grant : Grant) → HeardGrant S M hn grant → IsOnTime (S.declared.margin M) S.clock grant.moment
@@ -460,10 +705,10 @@ module _ (head : HeadText) (book : List Event) (cluster : Cluster) (good : Bridg
     }
     comes-to-act meets acts_behind rests was agent_behind (SetByFailsafe deadline feeds is basis before all) = absurd (rests (before acts_behind))
     comes-to-act meets acts_behind rests was agent_behind (SetAlone deadline is basis before nobody) = absurd (rests (before acts_behind))
-    comes-to-act meets acts_behind rests was agent_behind (Undone ready live_before) = absurd (rests (inl live_before))
+    comes-to-act meets acts_behind rests was agent_behind (Undone was_ready live_before) = absurd (rests (inl live_before))
 
     -- where the premises are met, whoever comes to act in an input armed its watchdog in time, on the grant that it hears
-    pub arms-in-time : ((m : ℕ) → works_of head m ≡ true) → Hears S M hn Now heard Before → MeetsPremises head (book ++ Events) → Acts (machine_seen After.role After.knows After.machine false (run_in cluster.facts.processes M)) → (Acts (S.members M) → ⊥) → ArmsInTime S M hn
+    pub arms-in-time : ((m : ℕ) → works_of head m ≡ true) → Hears S M hn Now heard Before → MeetsPremises head (book ++ Events) → Acts (machine_seen After.role After.knows After.machine (run_in cluster.facts.processes M)) → (Acts (S.members M) → ⊥) → ArmsInTime S M hn
     arms-in-time works hears meets acts_behind rests =
         let sound = good.matched.waiting.agents M agent here in
         let lawful = input-lawful-from Now (points_of cluster member) heard agent.role agent.knows machine (λ waited is. (sound.waits waited is).span) sound.ends

@@ -1,5 +1,7 @@
 -- What holds of each event that an input of an agent brings.
-use Rattle.std.proofs.Common.{◌≡◌, ◌⊎◌, ◌<◌, ℕ, List, [], ◌∷◌, Option, Some, None, refl, sym, subst, ap, ◌∙◌, inl, inr}
+use Rattle.std.proofs.Common.{◌≡◌, ◌⊎◌, ◌<◌, ℕ, Bool, true, false, List, [], ◌∷◌, Option, Some, None, refl, sym, subst, ap, ◌∙◌, inl, inr}
+use Rattle.pat_base.specs.declared.member_id.MemberId.{MemberId}
+use Rattle.pat_base.specs.declared.ticks.Ticks.{Ticks}
 use Rattle.event_book.specs.declared.event.Event.{Event}
 use Rattle.event_book.specs.declared.event.EventKind.{EventKind}
 use Rattle.event_book.specs.declared.event.EventKind.TheVariants as kinds
@@ -14,14 +16,13 @@ use Rattle.event_book.specs.declared.member.ServerOf.{ServerOf}
 use Rattle.event_book.specs.declared.message.Body.{Body}
 use Rattle.event_book.specs.declared.message.Body.TheVariants as bodies
 use Rattle.event_book.specs.declared.message.Message.{Message}
-use Rattle.event_book.specs.declared.reason.Basis.{Basis}
-use Rattle.event_book.specs.declared.reason.Basis.TheVariants as bases
 use Rattle.agent_model.specs.declared.output.Output.{Output}
 use Rattle.agent_model.specs.declared.output.Output.TheVariants as outputs
 use Rattle.agent_model.specs.declared.output.Target.TheVariants as targets
 use Rattle.agent_lease_law.specs.Lawful.{query_in}
+use Rattle.agent_roles.specs.Asks.{IsAsk}
 use Rattle.cluster_model.specs.Messages.{agent_message}
-use Rattle.lease_law.specs.Leases.{Query, Read, Question, Flying, Requested}
+use Rattle.lease_law.specs.Leases.{Query, Read, Question, Flying, Requested, FailsafeRequested, Acknowledged}
 use Rattle.event_book.specs.Premises.{Taking, taken_after, IsHandsOffKind}
 use Rattle.lease_law.specs.Past.{Past, first_past, flying_of, past_after, past_over, query_of}
 use Rattle.lease_law.specs.Feeds.{KeepsMomentOf}
@@ -33,8 +34,8 @@ use Rattle.std.proofs.lemmas.Bool.{cases_eq}
 use Rattle.lease_book.specs.Groups.{IsMemberEnd, IsOfMembers as IsFromMembers, IsNumberedAbove}
 use Rattle.lease_book.specs.Sending.{SendsOnly, flying_from}
 use Rattle.lease_book.proofs.Flights.{asked-there, asked-new, flying-same}
-use Rattle.lease_inputs.specs.InputEvents.{IsMessageOf, Asks, AsksPeer, AnswersPeer, IsOfInput}
-use Rattle.lease_parts.specs.Machines.{IsWithinMembers, IsByGrant}
+use Rattle.lease_inputs.specs.InputEvents.{IsMessageOf, Asks, AsksPeer, AnswersPeer, AnswersRequest, IsOfInput}
+use Rattle.lease_parts.specs.Machines.{IsWithinMembers}
 
 -- the event with which an input begins: its agent is woken, or asked by an operator, or a message comes to it
 abbrev pub IsOpening : Option ℕ → EventKind → Type 0
@@ -91,6 +92,12 @@ opening-moments n heard (kinds.Agent (agents.Operated by action)) is = tt
 opening-moments n heard (kinds.Message (Delivered number)) is = tt
 opening-moments n heard _ is = absurd is
 
+-- this holds of what flies of the messages that outputs with this property send
+pub record MaySend (member : Member) (incarnation : ℕ) (Q : Output → Type 0) (P : Flying → Type 0) (clock : ℕ) : Type 0 where
+  pub store : (sequence : ℕ) (body : Body) (query : Query) → Q (outputs.Send targets.Store sequence body) → query_in body ≡ Some query → P (Requested (record { member = member.id.number; incarnation = incarnation; sequence = sequence; sent = clock; query = query }))
+  pub asks : (to : MemberId) (sequence : ℕ) (ttl : Ticks) → Q (outputs.Send (targets.Member to) sequence (bodies.FailsafeRequest ttl)) → P (FailsafeRequested (record { member = member.id.number; incarnation = incarnation; sequence = sequence; ttl = ttl.0; sent = clock }))
+  pub says : (to : MemberId) (run sequence : ℕ) → Q (outputs.FailsafeAnswer to run sequence true) → P (Acknowledged (record { member = to.number; incarnation = run; sequence = sequence; by = member.id.number }))
+
 -- ---- one of its further events
 module _ (member : Member) (incarnation heard : ℕ) (Q : Output → Type 0) where
   abbrev Mine : EventKind → Type 0
@@ -102,21 +109,24 @@ module _ (member : Member) (incarnation heard : ℕ) (Q : Output → Type 0) whe
   mine-own (kinds.Watchdog (watchdogs.Disarmed by)) is = ap (λ (b : Member). b.id.number) is
   mine-own (kinds.Watchdog (watchdogs.Measured by from)) is = ap (λ (b : Member). b.id.number) is
   mine-own (kinds.Watchdog (watchdogs.Reset by)) is = absurd is
-  mine-own (kinds.Watchdog (watchdogs.HoldTaken by until from r sequence)) is = absurd is
+  mine-own (kinds.Watchdog (watchdogs.HoldTaken by until from r sequence)) is = ap (λ (b : Member). b.id.number) is.0
   mine-own kinds.Tick is = absurd is
   mine-own (kinds.Store happening) is = absurd is
   mine-own (kinds.Agent (agents.Passed by)) is = tt
   mine-own (kinds.Agent _) is = absurd is
   mine-own _ is = tt
 
-  pub mine-taken : (clock : ℕ) (taken : List Taking) (kind : EventKind) → Mine kind → taken_after clock taken kind ≡ taken
-  mine-taken clock taken (kinds.Watchdog (watchdogs.HoldTaken by until from r sequence)) is = absurd is
-  mine-taken clock taken _ is = refl
+  -- where its outputs take no hold but under number 0
+  pub mine-taken : ((until : Ticks) (id : MemberId) (sequence : ℕ) → Q (outputs.HoldTaken until id sequence) → sequence ≡ 0) → (clock : ℕ) (taken : List Taking) (kind : EventKind) → Mine kind → taken_after clock taken kind ≡ taken
+  mine-taken none clock taken (kinds.Watchdog (watchdogs.HoldTaken by until from r sequence)) is =
+      subst (λ (n : ℕ). taken_after clock taken (kinds.Watchdog (watchdogs.HoldTaken by until from r n)) ≡ taken) (sym (none until is.1.id sequence is.1.by)) refl
+  mine-taken none clock taken _ is = refl
 
   sent-from : (message : Message) → IsMessageOf member incarnation Q message → IsMemberEnd message.from
   sent-from message (Asks question) = subst (λ (x : Message). IsMemberEnd x.from) (sym question.is) tt
-  sent-from message (AsksPeer peer id sequence is from) = subst (λ (x : Message). IsMemberEnd x.from) (sym is) tt
+  sent-from message (AsksPeer peer id sequence body asks is from) = subst (λ (x : Message). IsMemberEnd x.from) (sym is) tt
   sent-from message (AnswersPeer peer id asked sequence answer is from) = subst (λ (x : Message). IsMemberEnd x.from) (sym is) tt
+  sent-from message (AnswersRequest peer id asked sequence accepted at is from) = subst (λ (x : Message). IsMemberEnd x.from) (sym is) tt
 
   pub mine-from : (kind : EventKind) → Mine kind → IsFromMembers kind
   mine-from (kinds.Message (Sent number message)) is = sent-from message is
@@ -133,13 +143,10 @@ module _ (member : Member) (incarnation heard : ℕ) (Q : Output → Type 0) whe
   mine-spanned (kinds.Store happening) is = absurd is
   mine-spanned _ is = tt
 
-  by-grant : (basis : Basis) → basis ≡ bases.Grant heard → IsByGrant basis
-  by-grant basis is = subst IsByGrant (sym is) tt
-
   pub mine-members : (count : ℕ) → member.id.number < count → (kind : EventKind) → Mine kind → IsWithinMembers count kind
   mine-members count small (kinds.Watchdog (watchdogs.Armed by until answer)) is = subst (λ (b : Member). b.id.number < count) (sym is.0) small
-  mine-members count small (kinds.Watchdog (watchdogs.Fed by until basis)) is = (subst (λ (b : Member). b.id.number < count) (sym is.0) small, by-grant basis is.1)
-  mine-members count small (kinds.Watchdog (watchdogs.HoldTaken by until from r sequence)) is = absurd is
+  mine-members count small (kinds.Watchdog (watchdogs.Fed by until basis)) is = subst (λ (b : Member). b.id.number < count) (sym is.0) small
+  mine-members count small (kinds.Watchdog (watchdogs.HoldTaken by until from r sequence)) is = subst (λ (b : Member). b.id.number < count) (sym is.0) small
   mine-members count small (kinds.Server (servers.Began server timeline)) is = subst (λ (s : ServerOf). s.id.number < count) (sym is.0) small
   mine-members count small (kinds.Agent (agents.Started agent r)) is = absurd is
   mine-members count small _ is = tt
@@ -161,16 +168,27 @@ module _ (member : Member) (incarnation heard : ℕ) (Q : Output → Type 0) whe
       none-flies : (flying : Flying) → ◌≡◌ {A = Option Flying} None (Some flying) → ⊥
       none-flies flying e = cc
 
-  sent-flies : (P : Flying → Type 0) (clock : ℕ)
-      → ((sequence : ℕ) (body : Body) (query : Query) → Q (outputs.Send targets.Store sequence body) → query_in body ≡ Some query → P (Requested (record { member = member.id.number; incarnation = incarnation; sequence = sequence; sent = clock; query = query })))
-      → (message : Message) → IsMessageOf member incarnation Q message → (flying : Flying) → flying_from clock message ≡ Some flying → P flying
-  sent-flies P clock may message (Asks is) flying e = flying-by P clock is.sequence is.body (λ query here. may is.sequence is.body query is.from here) flying (ap (λ (x : Message). flying_from clock x) (sym is.is) ∙ e)
-  sent-flies P clock may message (AsksPeer peer id sequence is from) flying e = unread P clock message (agent_message member (ends.Member peer) incarnation sequence bodies.Ask) is refl flying e
-  sent-flies P clock may message (AnswersPeer peer id asked sequence answer is from) flying e = unread P clock message (agent_message member (ends.Member peer) asked sequence (bodies.Answer answer)) is refl flying e
+  -- a question that is asked of another member, of which the law reads a failsafe request alone
+  asks-flies : (P : Flying → Type 0) (clock : ℕ) (peer : Member) (id : MemberId) (sequence : ℕ) (body : Body) → IsAsk body → MaySend member incarnation Q P clock → Q (outputs.Send (targets.Member id) sequence body)
+      → (flying : Flying) → flying_from clock (agent_message member (ends.Member peer) incarnation sequence body) ≡ Some flying → P flying
+  asks-flies P clock peer id sequence bodies.Ask asks may from flying e = unread P clock _ (agent_message member (ends.Member peer) incarnation sequence bodies.Ask) refl refl flying e
+  asks-flies P clock peer id sequence (bodies.FailsafeRequest ttl) asks may from flying e = subst P (some-is _ flying e) (may.asks id sequence ttl from)
+  asks-flies P clock peer id sequence _ asks may from flying e = absurd asks
 
-  pub mine-sends : (P : Flying → Type 0) (clock : ℕ)
-      → ((sequence : ℕ) (body : Body) (query : Query) → Q (outputs.Send targets.Store sequence body) → query_in body ≡ Some query → P (Requested (record { member = member.id.number; incarnation = incarnation; sequence = sequence; sent = clock; query = query })))
-      → (kind : EventKind) → Mine kind → SendsOnly P clock kind
+  -- an answer to a failsafe request of another one, of which the law reads an acknowledgement alone
+  says-flies : (P : Flying → Type 0) (clock : ℕ) (peer : Member) (id : MemberId) (asked sequence : ℕ) (accepted : Bool) → peer.id.number ≡ id.number → MaySend member incarnation Q P clock → Q (outputs.FailsafeAnswer id asked sequence accepted)
+      → (flying : Flying) → flying_from clock (agent_message member (ends.Member peer) asked sequence (bodies.FailsafeAnswer accepted)) ≡ Some flying → P flying
+  says-flies P clock peer id asked sequence true at may from flying e =
+      subst P (ap (λ (n : ℕ). Acknowledged (record { member = n; incarnation = asked; sequence = sequence; by = member.id.number })) (sym at) ∙ some-is _ flying e) (may.says id asked sequence from)
+  says-flies P clock peer id asked sequence false at may from flying e = unread P clock _ (agent_message member (ends.Member peer) asked sequence (bodies.FailsafeAnswer false)) refl refl flying e
+
+  sent-flies : (P : Flying → Type 0) (clock : ℕ) → MaySend member incarnation Q P clock → (message : Message) → IsMessageOf member incarnation Q message → (flying : Flying) → flying_from clock message ≡ Some flying → P flying
+  sent-flies P clock may message (Asks is) flying e = flying-by P clock is.sequence is.body (λ query here. may.store is.sequence is.body query is.from here) flying (ap (λ (x : Message). flying_from clock x) (sym is.is) ∙ e)
+  sent-flies P clock may message (AsksPeer peer id sequence body asks is from) flying e = asks-flies P clock peer id sequence body asks may from flying (ap (λ (x : Message). flying_from clock x) (sym is) ∙ e)
+  sent-flies P clock may message (AnswersPeer peer id asked sequence answer is from) flying e = unread P clock message (agent_message member (ends.Member peer) asked sequence (bodies.Answer answer)) is refl flying e
+  sent-flies P clock may message (AnswersRequest peer id asked sequence accepted at is from) flying e = says-flies P clock peer id asked sequence accepted at may from flying (ap (λ (x : Message). flying_from clock x) (sym is) ∙ e)
+
+  pub mine-sends : (P : Flying → Type 0) (clock : ℕ) → MaySend member incarnation Q P clock → (kind : EventKind) → Mine kind → SendsOnly P clock kind
   mine-sends P clock may (kinds.Message (Sent number message)) is = (
     sent-from message is,
     λ flying e. sent-flies P clock may message is flying e,

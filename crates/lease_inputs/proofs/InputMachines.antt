@@ -1,6 +1,6 @@
 -- The machine of a member behind what an input of its agent brings.
 use Rattle.pat_base.specs.Changes.{with_changed}
-use Rattle.std.proofs.Common.{◌≡◌, ◌+◌, ◌==◌, ◌&&◌, ◌||◌, not, nat_le, ℕ, Bool, true, false, if◌then◌else◌, List, [], ◌∷◌, Option, Some, None, length, slice_get, option_and_then, refl, sym, subst, ap, ◌∙◌}
+use Rattle.std.proofs.Common.{◌≡◌, ◌+◌, ◌==◌, ◌&&◌, ◌||◌, not, nat_le, ℕ, Bool, true, false, if◌then◌else◌, List, [], ◌∷◌, Option, Some, None, length, slice_get, option_and_then, option_map, refl, sym, subst, ap, ◌∙◌}
 use Rattle.pat_base.specs.declared.member_id.MemberId.{MemberId}
 use Rattle.pat_base.specs.declared.server_id.ServerId.{ServerId}
 use Rattle.pat_base.specs.declared.server_state.Required.{Required}
@@ -32,6 +32,7 @@ use Rattle.event_book.specs.declared.reason.Basis.TheVariants as bases
 use Rattle.event_book.specs.declared.reason.Reason.{Reason}
 use Rattle.event_book.specs.Members.{server_of, server_id_of}
 use Rattle.event_book.specs.Servers.{begun_in, loses_log, replica_starts_in, starts_as_primary, starts_as_replica, stops, servers_by_log}
+use Rattle.event_book.specs.Watchdogs.{prolonged_to}
 use Rattle.event_book.proofs.Parts.{logged-kept}
 use Rattle.event_book.proofs.Starts.{down-starts}
 use Rattle.agent_model.specs.declared.machine.Machine.{Machine}
@@ -51,12 +52,13 @@ use Rattle.cluster_model.specs.Limits.{most_in_flight}
 use Rattle.cluster_model.specs.Messages.{agent_message, lost_at_once, send_events, sending_events, replying_events, receiver_of, output_events}
 use Rattle.wal_model.specs.Lacking.{lacks_in}
 use Rattle.cluster_model.specs.Losing.{loss_if}
-use Rattle.cluster_model.specs.Orders.{agent_noting, declared_member, following_of, is_same_required, replica_start_kinds, require_of, required_names, server_at, stop_kind, stop_kinds, upstream_of, repair_over, stop_of, wipe_of}
+use Rattle.cluster_model.specs.Orders.{agent_noting, declared_member, following_of, is_same_required, replica_start_kinds, require_of, required_names, server_at, stop_kind, stop_kinds, upstream_of, repair_over, hold_taken, stop_of, wipe_of}
 use Rattle.cluster_model.specs.Parts.{events_of, for_some}
 use Rattle.cluster_model.specs.Requests.{told_kind}
 use Rattle.cluster_model.specs.State.{Cluster}
 use Rattle.cluster_model.proofs.Founds.{repaired-holds, told-holds}
 use Rattle.cluster_model.proofs.Lists.{HoldsIf}
+use Rattle.lease_law.proofs.Tools.{none-some}
 use Rattle.lease_parts.proofs.Quiet.{live-kept}
 use Rattle.lease_parts.specs.Machines.{live_in, live_now}
 use Rattle.lease_inputs.proofs.InputStays.{item-here}
@@ -306,6 +308,11 @@ unmoved cluster later m machine servers deadlines holds old = record {
   deadline = deadlines ∙ old.deadline;
   hold = holds ∙ old.hold;
 }
+
+-- a hold is taken for one of these members
+abbrev pub IsHeldFor : List Member → Output → Type 0
+IsHeldFor members (outputs.HoldTaken until from sequence) = (peer : Member) × (slice_get members from.number ≡ Some peer)
+IsHeldFor members _ = Unit {0}
 
 -- no log is repaired by this output
 abbrev pub RepairsNone : Output → Type 0
@@ -636,37 +643,53 @@ module _ (member : Member) where
       subst (λ (found : Option ServerFacts). Here (Behind cluster (kinds_of (option_and_then (stop_of member) found))) (with_server (status_stopping (record { 0 = cluster.facts.clock }) machine.server) machine)) (sym old.server.is)
       (stop-by cluster machine s (is_up s.state) old.server.seen_is (ap (λ (x : Seen). is_up x.state) (sym old.server.seen_is)) old)
 
-  pub output-here : (cluster : Cluster) (message : HeardMessage) (machine : Machine) (output : Output) → IsOfTable output → RepairsNone output → Here cluster machine
+  holds-here : (cluster : Cluster) (message : HeardMessage) (machine : Machine) (until : Ticks) (sequence : ℕ) (peer : Member) (found : Option Member) → found ≡ Some peer → Here cluster machine
+      → Here (Behind cluster (kinds_of (option_map (hold_taken member until message.incarnation sequence) found))) (record machine { hold = prolonged_to until machine.hold })
+  holds-here cluster message machine until sequence peer None is old = absurd (none-some peer is)
+  holds-here cluster message machine until sequence peer (Some one) is old = record {
+    server = stays-server cluster (cluster_after cluster (kinds.Watchdog (watchdogs.HoldTaken member until one message.incarnation sequence))) member.id.number (status_seen machine.server) refl old.server;
+    deadline = old.deadline;
+    hold = item-here cluster.facts.holds member.id.number (prolonged_to until) machine.hold old.hold;
+  }
+
+  pub output-here : (cluster : Cluster) (message : HeardMessage) (machine : Machine) (output : Output) → IsOfTable output → RepairsNone output → IsHeldFor cluster.facts.members output → Here cluster machine
       → Here (cluster_over cluster (output_events member message cluster output)) (machine_after_output (record { 0 = cluster.facts.clock }) machine output)
-  output-here cluster message machine (outputs.Repair leader repair) table none old = absurd none
-  output-here cluster message machine outputs.ShutDown table none old = shut-here cluster machine old
-  output-here cluster message machine (outputs.Send to sequence body) table none old = sends-here cluster machine (receiver_of cluster.facts.members to) sequence body (slice_get cluster.facts.processes member.id.number) old
-  output-here cluster message machine (outputs.Answer to asked sequence answer) table none old = replies-here cluster machine (receiver_of cluster.facts.members (targets.Member to)) asked sequence (bodies.Answer answer) old
-  output-here cluster message machine outputs.Begin table none old = begin-here cluster machine old
-  output-here cluster message machine (outputs.StartReplica leader) table none old = start-here cluster machine (upstream_id leader) (declared_member cluster.facts.members leader) old
-  output-here cluster message machine (outputs.Stop reason) table none old = stop-here cluster machine reason old
-  output-here cluster message machine (outputs.Follow leader) table none old = follow-here cluster machine (server_id_of leader) (slice_get cluster.facts.members leader.number) old
-  output-here cluster message machine (outputs.Require required) table none old =
+  output-here cluster message machine (outputs.Repair leader repair) table none held old = absurd none
+  output-here cluster message machine outputs.ShutDown table none held old = shut-here cluster machine old
+  output-here cluster message machine (outputs.Send to sequence body) table none held old = sends-here cluster machine (receiver_of cluster.facts.members to) sequence body (slice_get cluster.facts.processes member.id.number) old
+  output-here cluster message machine (outputs.Answer to asked sequence answer) table none held old = replies-here cluster machine (receiver_of cluster.facts.members (targets.Member to)) asked sequence (bodies.Answer answer) old
+  output-here cluster message machine outputs.Begin table none held old = begin-here cluster machine old
+  output-here cluster message machine (outputs.StartReplica leader) table none held old = start-here cluster machine (upstream_id leader) (declared_member cluster.facts.members leader) old
+  output-here cluster message machine (outputs.Stop reason) table none held old = stop-here cluster machine reason old
+  output-here cluster message machine (outputs.Follow leader) table none held old = follow-here cluster machine (server_id_of leader) (slice_get cluster.facts.members leader.number) old
+  output-here cluster message machine (outputs.Require required) table none held old =
       let here : Here (cluster_over cluster (output_events member message cluster (outputs.Require required))) machine = require-here cluster machine required old in record { server = here.server; deadline = here.deadline; hold = here.hold }
-  output-here cluster message machine (outputs.Armed until) table none old = record {
+  output-here cluster message machine (outputs.Armed until) table none held old = record {
     server = stays-server cluster (cluster_after (cluster_after cluster (kinds.Watchdog (watchdogs.Measured member message.sent))) (kinds.Watchdog (watchdogs.Armed member until message.number))) member.id.number (status_seen machine.server) refl old.server;
     deadline = item-here cluster.facts.deadlines member.id.number _ machine.watchdog.deadline old.deadline;
     hold = old.hold;
   }
-  output-here cluster message machine (outputs.Fed until) table none old = record {
+  output-here cluster message machine (outputs.Fed until) table none held old = record {
     server = stays-server cluster (cluster_after (cluster_after cluster (kinds.Watchdog (watchdogs.Measured member message.sent))) (kinds.Watchdog (watchdogs.Fed member until (bases.Grant message.number)))) member.id.number (status_seen machine.server) refl old.server;
     deadline = item-here cluster.facts.deadlines member.id.number _ machine.watchdog.deadline old.deadline;
     hold = old.hold;
   }
-  output-here cluster message machine outputs.Disarmed table none old = record {
+  output-here cluster message machine outputs.Disarmed table none held old = record {
     server = stays-server cluster (cluster_after cluster (kinds.Watchdog (watchdogs.Disarmed member))) member.id.number (status_seen machine.server) refl old.server;
     deadline = item-here cluster.facts.deadlines member.id.number _ machine.watchdog.deadline old.deadline;
     hold = old.hold;
   }
-  output-here cluster message machine (outputs.Note note) table none old = unmoved cluster (cluster_after cluster (agent_noting cluster.facts.members member note)) member.id.number machine refl refl refl old
-  output-here cluster message machine outputs.ClaimsOutsideSync table none old = unmoved cluster (cluster_after cluster (kinds.Agent (agents.Passed member))) member.id.number machine refl refl refl old
-  output-here cluster message machine (outputs.Restart as_primary) table none old = restart-here cluster machine old
-  output-here cluster message machine outputs.Wipe table none old = wipe-here cluster machine old
-  output-here cluster message machine (outputs.Told request told) table none old =
+  output-here cluster message machine (outputs.Note note) table none held old = unmoved cluster (cluster_after cluster (agent_noting cluster.facts.members member note)) member.id.number machine refl refl refl old
+  output-here cluster message machine outputs.ClaimsOutsideSync table none held old = unmoved cluster (cluster_after cluster (kinds.Agent (agents.Passed member))) member.id.number machine refl refl refl old
+  output-here cluster message machine (outputs.Restart as_primary) table none held old = restart-here cluster machine old
+  output-here cluster message machine outputs.Wipe table none held old = wipe-here cluster machine old
+  output-here cluster message machine (outputs.Told request told) table none held old =
       note-here cluster machine (told_kind member (agent_at cluster.agents member.id.number) told) (told-holds IsOfNote member (agent_at cluster.agents member.id.number) told (λ reply. tt)) old
-  output-here cluster message machine (outputs.HoldTaken until from sequence) table none old = absurd table
+  output-here cluster message machine (outputs.HoldTaken until from sequence) table none held old = holds-here cluster message machine until sequence held.0 (slice_get cluster.facts.members from.number) held.1 old
+  output-here cluster message machine (outputs.FailsafeAnswer to asked sequence accepted) table none held old = replies-here cluster machine (receiver_of cluster.facts.members (targets.Member to)) asked sequence (bodies.FailsafeAnswer accepted) old
+  output-here cluster message machine (outputs.FedByFailsafe until members sequence since) table none held old = record {
+    server = stays-server cluster (cluster_after (cluster_after cluster (kinds.Watchdog (watchdogs.Measured member since))) (kinds.Watchdog (watchdogs.Fed member until (bases.Acknowledgements members sequence)))) member.id.number (status_seen machine.server) refl old.server;
+    deadline = item-here cluster.facts.deadlines member.id.number _ machine.watchdog.deadline old.deadline;
+    hold = old.hold;
+  }
+  output-here cluster message machine outputs.StaysByFailsafe table none held old = unmoved cluster (cluster_after cluster (kinds.Note (notes.StaysByFailsafe member))) member.id.number machine refl refl refl old

@@ -1,9 +1,10 @@
 -- All outputs of an input, one after another: the numbers of its messages, the machine that they leave, who begins in them, and what they
 -- feed.
 use Rattle.run_promise.proofs.Upholding.{over-append}
-use Rattle.std.proofs.Common.{◌≡◌, ◌⊎◌, ◌+◌, ◌++◌, ◌||◌, ◌≤◌, ◌<◌, nat_le, ℕ, Bool, true, false, List, [], ◌∷◌, Option, Some, None, All, length, slice_get, refl, sym, subst, ap, ◌∙◌, arith, inl, inr}
+use Rattle.std.proofs.Common.{◌≡◌, ◌⊎◌, ◌+◌, ◌++◌, ◌||◌, ◌≤◌, ◌<◌, nat_le, ℕ, Bool, true, false, List, [], ◌∷◌, Option, Some, None, All, length, slice_get, option_map, refl, sym, subst, ap, ◌∙◌, arith, inl, inr}
 use Rattle.std.proofs.lemmas.List.Elements.{All-head, All-tail}
 use Rattle.pat_base.specs.declared.member_id.MemberId.{MemberId}
+use Rattle.pat_base.specs.declared.member_set.MemberSet.{MemberSet}
 use Rattle.pat_base.specs.declared.server_state.State.{State}
 use Rattle.pat_base.specs.declared.server_state.State.TheVariants as states
 use Rattle.pat_base.specs.declared.ticks.Ticks.{Ticks}
@@ -23,7 +24,9 @@ use Rattle.event_book.specs.declared.message.Body.{Body}
 use Rattle.event_book.specs.declared.message.Body.TheVariants as bodies
 use Rattle.event_book.specs.declared.message.Message.{Message}
 use Rattle.event_book.specs.declared.link.LinkEnd.{LinkEnd}
+use Rattle.event_book.specs.declared.link.LinkEnd.TheVariants as ends
 use Rattle.event_book.specs.declared.reason.Basis.TheVariants as bases
+use Rattle.event_book.specs.Facts.{Facts}
 use Rattle.event_book.specs.Flight.{sent_after}
 use Rattle.event_book.specs.Members.{server_id_of}
 use Rattle.event_book.specs.Writers.{BeginsKind}
@@ -39,6 +42,7 @@ use Rattle.cluster_model.specs.declared.heard_message.HeardMessage.{HeardMessage
 use Rattle.agent_roles.proofs.Living.{follow-live, restart-live, start-live, stop-live, wipe-live}
 use Rattle.cluster_model.specs.Beginnings.{server_restart_in, server_restart_kinds}
 use Rattle.cluster_model.specs.Cluster.{cluster_after, cluster_over}
+use Rattle.cluster_model.specs.FailsafeDeadlines.{failsafe_deadlines_after}
 use Rattle.cluster_model.specs.Limits.{most_in_flight}
 use Rattle.cluster_model.specs.Messages.{agent_message, lost_at_once, send_events, sending_events, replying_events, receiver_of, output_events}
 use Rattle.cluster_model.specs.Orders.{server_at}
@@ -48,13 +52,15 @@ use Rattle.lease_law.specs.Claims.{BeginsBehind, IsArmedIn}
 use Rattle.lease_law.specs.Feeds.{KeepsMomentOf, IsFedBy}
 use Rattle.event_book.specs.Kinds.{AllAre}
 use Rattle.lease_law.proofs.Runs.{assoc, none-more}
+use Rattle.lease_law.proofs.Tools.{none-some, some-is}
 use Rattle.lease_book.specs.Groups.{IsNumberedAbove, AreNumberedAbove}
 use Rattle.cluster_model.proofs.Lists.{all-both, all-front, all-back, all-kinds}
-use Rattle.lease_inputs.specs.InputEvents.{IsMessageOf, Asks, AsksPeer, AnswersPeer, IsOfInput, IsToBegin}
+use Rattle.lease_inputs.specs.InputEvents.{IsMessageOf, Asks, AsksPeer, AnswersPeer, AnswersRequest, ByGrant, ByFailsafe, IsFeedOf, IsOfInput, IsToBegin, RunsAmong}
 use Rattle.lease_parts.specs.Machines.{live_in, live_now}
+use Rattle.lease_parts.specs.Waiting.{IsKnownEnd}
 use Rattle.lease_inputs.proofs.InputEvents.{again-mine, output-mine}
-use Rattle.lease_inputs.proofs.InputMachines.{Mirrors, RepairsNone, Resembles, mirrored, output-here, repair-resembles}
-use Rattle.lease_inputs.proofs.InputStays.{Stays, stays-over}
+use Rattle.lease_inputs.proofs.InputMachines.{IsHeldFor, Mirrors, RepairsNone, Resembles, mirrored, output-here, repair-resembles}
+use Rattle.lease_inputs.proofs.InputStays.{Stays, item-here, runs-over, stays-over}
 
 -- the number of the message that was sent last, behind these events
 abbrev pub sent_over : ℕ → List Event → ℕ
@@ -74,12 +80,14 @@ numbered-both last (x ∷ xs) ys first second = (first.0, numbered-both (sent_af
 abbrev pub no_message : Output → Type 0
 no_message (outputs.Send to sequence body) = ⊥
 no_message (outputs.Answer to asked sequence answer) = ⊥
+no_message (outputs.FailsafeAnswer to asked sequence accepted) = ⊥
 no_message _ = Unit {0}
 
 pub no-sent : (member : Member) (incarnation : ℕ) (message : Message) → IsMessageOf member incarnation no_message message → ⊥
 no-sent member incarnation message (Asks question) = question.from
-no-sent member incarnation message (AsksPeer peer id sequence is from) = from
+no-sent member incarnation message (AsksPeer peer id sequence body asks is from) = from
 no-sent member incarnation message (AnswersPeer peer id asked sequence answer is from) = from
+no-sent member incarnation message (AnswersRequest peer id asked sequence accepted at is from) = from
 
 unnumbered : (member : Member) (incarnation heard last : ℕ) (kind : EventKind) → IsOfInput member incarnation heard no_message kind → IsNumberedAbove last kind × (sent_after last kind ≡ last)
 unnumbered member incarnation heard last (kinds.Message (Sent number message)) is = absurd (no-sent member incarnation message is)
@@ -125,6 +133,11 @@ MayBegin X outputs.Begin = X
 MayBegin X (outputs.Restart as_primary) = X
 MayBegin X _ = Unit {0}
 
+-- a message that is sent goes between these members and the key store
+abbrev pub GoesBetween : List Member → EventKind → Type 0
+GoesBetween members (kinds.Message (Sent number message)) = IsKnownEnd members message.from × IsKnownEnd members message.to
+GoesBetween members _ = Unit {0}
+
 -- no server starts again by this output
 abbrev RestartsNone : Output → Type 0
 RestartsNone (outputs.Restart as_primary) = ⊥
@@ -132,8 +145,8 @@ RestartsNone _ = Unit {0}
 
 -- ---- the outputs
 module _ (member : Member) (incarnation : ℕ) (message : HeardMessage) where
-  abbrev Runs : List AgentProcess → Type 0
-  Runs processes = (process : AgentProcess) → slice_get processes member.id.number ≡ Some process → process.incarnation ≡ incarnation
+  abbrev Runs : Facts → Type 0
+  Runs facts = RunsAmong member incarnation facts
 
   abbrev Brings : Cluster → Output → List Event
   Brings cluster output = output_events member message cluster output
@@ -147,11 +160,11 @@ module _ (member : Member) (incarnation : ℕ) (message : HeardMessage) where
   any-all : (outs : List Output) → All Any outs
   any-all outs = λ k d h. tt
 
-  pub stays-output : (cluster : Cluster) (output : Output) → Runs cluster.facts.processes → IsOfTable output → Stays member.id.number cluster (Later cluster output)
+  pub stays-output : (cluster : Cluster) (output : Output) → Runs cluster.facts → IsOfTable output → Stays member.id.number cluster (Later cluster output)
   stays-output cluster output runs table = stays-over member incarnation message.number Any cluster (Brings cluster output) (output-mine member incarnation message.number Any cluster message refl runs output table tt)
 
-  runs-later : (cluster : Cluster) (output : Output) → Runs cluster.facts.processes → IsOfTable output → Runs (Later cluster output).facts.processes
-  runs-later cluster output runs table = subst Runs (sym (stays-output cluster output runs table).processes) runs
+  runs-later : (cluster : Cluster) (output : Output) → Runs cluster.facts → IsOfTable output → Runs (Later cluster output).facts
+  runs-later cluster output runs table = runs-over member incarnation message.number Any cluster (Later cluster output) (stays-output cluster output runs table) runs
 
   -- ---- numbers
   lost-numbered : (cluster : Cluster) (test : Bool) (number last : ℕ) → AreNumberedAbove last (events_of cluster (lost_at_once test number))
@@ -172,23 +185,88 @@ module _ (member : Member) (incarnation : ℕ) (message : HeardMessage) where
   reply-numbered cluster None asked sequence body = tt
   reply-numbered cluster (Some to) asked sequence body = message-numbered cluster (agent_message member to asked sequence body)
 
-  other-numbered : (cluster : Cluster) (output : Output) → Runs cluster.facts.processes → IsOfTable output → no_message output → AreNumberedAbove cluster.facts.sent (Brings cluster output)
+  other-numbered : (cluster : Cluster) (output : Output) → Runs cluster.facts → IsOfTable output → no_message output → AreNumberedAbove cluster.facts.sent (Brings cluster output)
   other-numbered cluster output runs table silent =
       unnumbered-all member incarnation message.number cluster.facts.sent (Brings cluster output) (output-mine member incarnation message.number no_message cluster message refl runs output table silent)
 
-  pub output-numbered : (cluster : Cluster) (output : Output) → Runs cluster.facts.processes → IsOfTable output → AreNumberedAbove cluster.facts.sent (Brings cluster output)
+  pub output-numbered : (cluster : Cluster) (output : Output) → Runs cluster.facts → IsOfTable output → AreNumberedAbove cluster.facts.sent (Brings cluster output)
   output-numbered cluster (outputs.Send to sequence body) runs table = send-numbered cluster (receiver_of cluster.facts.members to) sequence body (slice_get cluster.facts.processes member.id.number)
   output-numbered cluster (outputs.Answer to asked sequence answer) runs table = reply-numbered cluster (receiver_of cluster.facts.members (targets.Member to)) asked sequence (bodies.Answer answer)
-  output-numbered cluster (outputs.HoldTaken until from sequence) runs table = absurd table
+  output-numbered cluster (outputs.FailsafeAnswer to asked sequence accepted) runs table = reply-numbered cluster (receiver_of cluster.facts.members (targets.Member to)) asked sequence (bodies.FailsafeAnswer accepted)
   output-numbered cluster output runs table = other-numbered cluster output runs table tt
 
-  pub each-numbered : (cluster : Cluster) (outs : List Output) → Runs cluster.facts.processes → All IsOfTable outs → AreNumberedAbove cluster.facts.sent (each (output_events member message) cluster outs)
+  pub each-numbered : (cluster : Cluster) (outs : List Output) → Runs cluster.facts → All IsOfTable outs → AreNumberedAbove cluster.facts.sent (each (output_events member message) cluster outs)
   each-numbered cluster [] runs table = tt
   each-numbered cluster (output ∷ more) runs table =
       let one = All-head IsOfTable output more table in
       numbered-both cluster.facts.sent (Brings cluster output) (each (output_events member message) (Later cluster output) more) (output-numbered cluster output runs one)
       (subst (λ (n : ℕ). AreNumberedAbove n (each (output_events member message) (Later cluster output) more)) (sent-is cluster (Brings cluster output))
       (each-numbered (Later cluster output) more (runs-later cluster output runs one) (All-tail IsOfTable output more table)))
+
+  -- ---- between members
+  lost-between : (members : List Member) (cluster : Cluster) (test : Bool) (number : ℕ) → AllAre (GoesBetween members) (events_of cluster (lost_at_once test number))
+  lost-between members cluster true number = (tt, tt)
+  lost-between members cluster false number = tt
+
+  message-between : (members : List Member) (cluster : Cluster) (sends : Message) → IsKnownEnd members sends.from → IsKnownEnd members sends.to → AllAre (GoesBetween members) (send_events cluster sends)
+  message-between members cluster sends from to =
+      let sent : EventKind = kinds.Message (Sent (cluster.facts.sent + 1) sends) in
+      ((from, to), lost-between members (cluster_after cluster sent) (nat_le most_in_flight (length cluster.facts.flight)) (cluster.facts.sent + 1))
+
+  -- a member that is found at this number stands at its own
+  stands-there : (members : List Member) → ((n : ℕ) (peer : Member) → slice_get members n ≡ Some peer → peer.id.number ≡ n) → (n : ℕ) (peer : Member) → slice_get members n ≡ Some peer → slice_get members peer.id.number ≡ Some peer
+  stands-there members numbered n peer is = ap (λ (k : ℕ). slice_get members k) (numbered n peer is) ∙ is
+
+  send-between : (cluster : Cluster) → slice_get cluster.facts.members member.id.number ≡ Some member → (to : Option LinkEnd) → ((end : LinkEnd) → to ≡ Some end → IsKnownEnd cluster.facts.members end) → (sequence : ℕ) (body : Body) (found : Option AgentProcess)
+      → AllAre (GoesBetween cluster.facts.members) (sending_events cluster member found to sequence body)
+  send-between cluster mine to known sequence body None = tt
+  send-between cluster mine None known sequence body (Some process) = tt
+  send-between cluster mine (Some to) known sequence body (Some process) = message-between cluster.facts.members cluster (agent_message member to process.incarnation sequence body) mine (known to refl)
+
+  reply-between : (cluster : Cluster) → slice_get cluster.facts.members member.id.number ≡ Some member → (to : Option LinkEnd) → ((end : LinkEnd) → to ≡ Some end → IsKnownEnd cluster.facts.members end) → (asked sequence : ℕ) (body : Body)
+      → AllAre (GoesBetween cluster.facts.members) (replying_events cluster member to asked sequence body)
+  reply-between cluster mine None known asked sequence body = tt
+  reply-between cluster mine (Some to) known asked sequence body = message-between cluster.facts.members cluster (agent_message member to asked sequence body) mine (known to refl)
+
+  known-peer : (members : List Member) → ((n : ℕ) (peer : Member) → slice_get members n ≡ Some peer → peer.id.number ≡ n) → (n : ℕ) (peer : Option Member) → slice_get members n ≡ peer → (end : LinkEnd) → option_map (λ (m : Member). ends.Member m) peer ≡ Some end → IsKnownEnd members end
+  known-peer members numbered n None is end e = absurd (none-some end e)
+  known-peer members numbered n (Some peer) is end e = subst (IsKnownEnd members) (some-is (ends.Member peer) end e) (stands-there members numbered n peer is)
+
+  known-store : (members : List Member) (end : LinkEnd) → ◌≡◌ {A = Option LinkEnd} (Some ends.Store) (Some end) → IsKnownEnd members end
+  known-store members end e = subst (IsKnownEnd members) (some-is ends.Store end e) tt
+
+  quiet-between : (members : List Member) (events : List Event) → AllAre (IsOfInput member incarnation message.number no_message) events → AllAre (GoesBetween members) events
+  quiet-between members [] all = tt
+  quiet-between members (event ∷ events) all = (one event.kind all.0, quiet-between members events all.1)
+    where
+      one : (kind : EventKind) → IsOfInput member incarnation message.number no_message kind → GoesBetween members kind
+      one (kinds.Message (Sent number sends)) is = absurd (no-sent member incarnation sends is)
+      one (kinds.Message (Delivered number)) is = absurd is
+      one (kinds.Message (Lost number)) is = tt
+      one _ is = tt
+
+  other-between : (cluster : Cluster) (output : Output) → Runs cluster.facts → IsOfTable output → no_message output → AllAre (GoesBetween cluster.facts.members) (Brings cluster output)
+  other-between cluster output runs table silent = quiet-between cluster.facts.members (Brings cluster output) (output-mine member incarnation message.number no_message cluster message refl runs output table silent)
+
+  output-between : (cluster : Cluster) (output : Output) → slice_get cluster.facts.members member.id.number ≡ Some member → Runs cluster.facts → IsOfTable output → AllAre (GoesBetween cluster.facts.members) (Brings cluster output)
+  output-between cluster (outputs.Send targets.Store sequence body) mine runs table = send-between cluster mine (Some ends.Store) (known-store cluster.facts.members) sequence body (slice_get cluster.facts.processes member.id.number)
+  output-between cluster (outputs.Send (targets.Member to) sequence body) mine runs table =
+      send-between cluster mine (receiver_of cluster.facts.members (targets.Member to)) (known-peer cluster.facts.members runs.numbered to.number (slice_get cluster.facts.members to.number) refl) sequence body (slice_get cluster.facts.processes member.id.number)
+  output-between cluster (outputs.Answer to asked sequence answer) mine runs table =
+      reply-between cluster mine (receiver_of cluster.facts.members (targets.Member to)) (known-peer cluster.facts.members runs.numbered to.number (slice_get cluster.facts.members to.number) refl) asked sequence (bodies.Answer answer)
+  output-between cluster (outputs.FailsafeAnswer to asked sequence accepted) mine runs table =
+      reply-between cluster mine (receiver_of cluster.facts.members (targets.Member to)) (known-peer cluster.facts.members runs.numbered to.number (slice_get cluster.facts.members to.number) refl) asked sequence (bodies.FailsafeAnswer accepted)
+  output-between cluster output mine runs table = other-between cluster output runs table tt
+
+  -- each message of an input goes between members and the key store
+  pub each-between : (cluster : Cluster) (outs : List Output) → slice_get cluster.facts.members member.id.number ≡ Some member → Runs cluster.facts → All IsOfTable outs → AllAre (GoesBetween cluster.facts.members) (each (output_events member message) cluster outs)
+  each-between cluster [] mine runs table = tt
+  each-between cluster (output ∷ more) mine runs table =
+      let one = All-head IsOfTable output more table in let next = Later cluster output in
+      let members : next.facts.members ≡ cluster.facts.members = (stays-output cluster output runs one).members in
+      all-both (GoesBetween cluster.facts.members) (Brings cluster output) (each (output_events member message) next more) (output-between cluster output mine runs one)
+      (subst (λ (l : List Member). AllAre (GoesBetween l) (each (output_events member message) next more)) members
+      (each-between next more (ap (λ (l : List Member). slice_get l member.id.number) members ∙ mine) (runs-later cluster output runs one) (All-tail IsOfTable output more table)))
 
   -- ---- the machine
   -- a repair comes last
@@ -200,28 +278,31 @@ module _ (member : Member) (incarnation : ℕ) (message : HeardMessage) where
       (repair-resembles cluster member message machine leader repair (mirrored cluster member.id.number machine old)))
 
   -- one output is carried out, and then the others
-  more-resemble : (now : Ticks) (cluster : Cluster) (machine : Machine) (output : Output) (more : List Output) → RepairsNone output → IsOfTable output → cluster.facts.clock ≡ now.0 → Mirrors cluster member.id.number machine
+  more-resemble : (now : Ticks) (cluster : Cluster) (machine : Machine) (output : Output) (more : List Output) → RepairsNone output → IsOfTable output → IsHeldFor cluster.facts.members output → cluster.facts.clock ≡ now.0 → Mirrors cluster member.id.number machine
       → (Mirrors (Later cluster output) member.id.number (machine_after_output now machine output)
       → Resembles (cluster_over (Later cluster output) (each (output_events member message) (Later cluster output) more)) member.id.number (machine_after_outputs now (machine_after_output now machine output) more))
       → Resembles (cluster_over cluster (each (output_events member message) cluster (output ∷ more))) member.id.number (machine_after_outputs now (machine_after_output now machine output) more)
-  more-resemble now cluster machine output more none table clock old then =
+  more-resemble now cluster machine output more none table held clock old then =
       let next = Later cluster output in
-      let made = output-here member cluster message machine output table none old in
+      let made = output-here member cluster message machine output table none held old in
       subst (λ (c : Cluster). Resembles c member.id.number (machine_after_outputs now (machine_after_output now machine output) more)) (sym (over-append cluster (Brings cluster output) (each (output_events member message) next more)))
       (then (subst (λ (n : ℕ). let t : Ticks = record { 0 = n } in Mirrors next member.id.number (machine_after_output t machine output)) clock made))
+
+  held-later : (cluster : Cluster) (output : Output) → Runs cluster.facts → IsOfTable output → (more : List Output) → All (IsHeldFor cluster.facts.members) more → All (IsHeldFor (Later cluster output).facts.members) more
+  held-later cluster output runs table more held = subst (λ (l : List Member). All (IsHeldFor l) more) (sym (stays-output cluster output runs table).members) held
 
   repairs-none : (output : Output) (later : List Output) → EndsRepairing output later → RepairsNone output ⊎ ((leader : MemberId) × ((repair : Repair) × ((output ≡ outputs.Repair leader repair) × (later ≡ []))))
   repairs-none (outputs.Repair leader repair) later ends = inr (leader, (repair, (refl, ends)))
   repairs-none _ later ends = inl tt
 
-  pub each-resembles : (now : Ticks) (cluster : Cluster) (machine : Machine) (outs : List Output) → Runs cluster.facts.processes → All IsOfTable outs → RepairsLast outs → cluster.facts.clock ≡ now.0 → Mirrors cluster member.id.number machine
+  pub each-resembles : (now : Ticks) (cluster : Cluster) (machine : Machine) (outs : List Output) → Runs cluster.facts → All IsOfTable outs → All (IsHeldFor cluster.facts.members) outs → RepairsLast outs → cluster.facts.clock ≡ now.0 → Mirrors cluster member.id.number machine
       → Resembles (cluster_over cluster (each (output_events member message) cluster outs)) member.id.number (machine_after_outputs now machine outs)
-  each-resembles now cluster machine [] runs table last clock old = mirrored cluster member.id.number machine old
-  each-resembles now cluster machine (output ∷ more) runs table last clock old =
+  each-resembles now cluster machine [] runs table held last clock old = mirrored cluster member.id.number machine old
+  each-resembles now cluster machine (output ∷ more) runs table held last clock old =
       let one = All-head IsOfTable output more table in
       elim (repairs-none output more last.0) [
-        | inl none ↦ more-resemble now cluster machine output more none one clock old
-            (each-resembles now (Later cluster output) (machine_after_output now machine output) more (runs-later cluster output runs one) (All-tail IsOfTable output more table) last.1 ((stays-output cluster output runs one).clock ∙ clock))
+        | inl none ↦ more-resemble now cluster machine output more none one (All-head (IsHeldFor cluster.facts.members) output more held) clock old
+            (each-resembles now (Later cluster output) (machine_after_output now machine output) more (runs-later cluster output runs one) (All-tail IsOfTable output more table) (held-later cluster output runs one more (All-tail (IsHeldFor cluster.facts.members) output more held)) last.1 ((stays-output cluster output runs one).clock ∙ clock))
         | inr ends ↦ subst (λ (x : Output). Resembles (cluster_over cluster (each (output_events member message) cluster (x ∷ more))) member.id.number (machine_after_outputs now (machine_after_output now machine x) more)) (sym ends.1.1.0)
             (subst (λ (l : List Output). Resembles (cluster_over cluster (each (output_events member message) cluster (outputs.Repair ends.0 ends.1.0 ∷ more))) member.id.number (machine_after_outputs now machine l)) (sym ends.1.1.1)
             (last-resembles cluster machine ends.0 ends.1.0 more ends.1.1.1 old))
@@ -347,7 +428,7 @@ module _ (member : Member) (incarnation : ℕ) (message : HeardMessage) where
   restarts-none _ = inl tt
 
   brings-begin : (P : List Output → Type 0) (R : List Event → ℕ → Type 0) → ((before more : List Event) → R before member.id.number → R (before ++ more) member.id.number)
-      → (cluster : Cluster) (done : List Output) (before : List Event) (output : Output) → Runs cluster.facts.processes → IsOfTable output → BeginsOnly (P done) output → (P done → R before member.id.number)
+      → (cluster : Cluster) (done : List Output) (before : List Event) (output : Output) → Runs cluster.facts → IsOfTable output → BeginsOnly (P done) output → (P done → R before member.id.number)
       → (live_in cluster.facts.servers member.id.number ≡ true → R before member.id.number) → BeginsBehind R before (Brings cluster output)
   brings-begin P R grow cluster done before output runs table begin makes lives = elim (restarts-none output) [
     | inl none ↦ output-begins (P done) R grow before (Brings cluster output) makes (output-mine member incarnation message.number (MayBegin (P done)) cluster message refl runs output table (may-begin (P done) output none begin))
@@ -369,10 +450,10 @@ module _ (member : Member) (incarnation : ℕ) (message : HeardMessage) where
   pub each-begins : (P : List Output → Type 0) (R : List Event → ℕ → Type 0) → ((before more : List Event) → R before member.id.number → R (before ++ more) member.id.number)
       → ((outs : List Output) (before : List Event) → P outs → (has_one is_arming outs ≡ true → ArmedIn before) → R before member.id.number)
       → (cluster : Cluster) (machine : Machine) (done : List Output) (before : List Event) (outs : List Output) → Mirrors cluster member.id.number machine → (live machine.server.state ≡ true → R before member.id.number)
-      → Runs cluster.facts.processes → All IsOfTable outs → RepairsLast outs → Keeps before → Keeps (each (output_events member message) cluster outs)
+      → Runs cluster.facts → All IsOfTable outs → All (IsHeldFor cluster.facts.members) outs → RepairsLast outs → Keeps before → Keeps (each (output_events member message) cluster outs)
       → (has_one is_arming done ≡ true → ArmedIn before) → OutputsBeginBehind P done outs → BeginsBehind R before (each (output_events member message) cluster outs)
-  each-begins P R grow makes cluster machine done before [] mirrors lives runs table last kept all armed begin = tt
-  each-begins P R grow makes cluster machine done before (output ∷ more) mirrors lives runs table last kept all armed begin =
+  each-begins P R grow makes cluster machine done before [] mirrors lives runs table held last kept all armed begin = tt
+  each-begins P R grow makes cluster machine done before (output ∷ more) mirrors lives runs table held last kept all armed begin =
       let one = All-head IsOfTable output more table in
       let next = Later cluster output in
       let events = Brings cluster output in
@@ -382,9 +463,9 @@ module _ (member : Member) (incarnation : ℕ) (message : HeardMessage) where
       begins-both R before events rest
       (brings-begin P R grow cluster done before output runs one begin.0 may (λ alive. lives (sym (mirrored cluster member.id.number machine mirrors).lives ∙ alive)))
       (elim (repairs-none output more last.0) [
-        | inl none ↦ each-begins P R grow makes next (machine_after_output now machine output) (with_output output done) (before ++ events) more (output-here member cluster message machine output one none mirrors)
+        | inl none ↦ each-begins P R grow makes next (machine_after_output now machine output) (with_output output done) (before ++ events) more (output-here member cluster message machine output one none (All-head (IsHeldFor cluster.facts.members) output more held) mirrors)
             (lives-on now machine (P done) output begin.0 (λ p. grow before events (may p)) (λ alive. grow before events (lives alive)))
-            (runs-later cluster output runs one) (All-tail IsOfTable output more table) last.1
+            (runs-later cluster output runs one) (All-tail IsOfTable output more table) (held-later cluster output runs one more (All-tail (IsHeldFor cluster.facts.members) output more held)) last.1
             (all-both (KeepsMomentOf message.number) before events kept (all-front (KeepsMomentOf message.number) events rest all))
             (all-back (KeepsMomentOf message.number) events rest all)
             (λ e. elim (arms-or done output e) [ inl was ↦ armed-more member.id.number message.number before events (armed was) | inr here ↦ arming-told cluster output before kept here ])
@@ -392,43 +473,136 @@ module _ (member : Member) (incarnation : ℕ) (message : HeardMessage) where
         | inr ends ↦ subst (λ (l : List Output). BeginsBehind R (before ++ events) (each (output_events member message) next l)) (sym ends.1.1.1) tt
       ])
 
-  -- ---- what is fed
-  pub record FedIn (events : List Event) : Type 0 where
+  -- ---- what is fed, on which basis
+  -- the watchdog is fed in this event: by the grant that is heard, or by acknowledgements
+  pub record IsFedHere (Q : Output → Type 0) (kind : EventKind) : Type 0 where
+    pub until : Ticks
+    pub acknowledging : MemberSet
+    pub sequence : ℕ
+    pub since : Ticks
+    pub is : kind ≡ kinds.Watchdog (watchdogs.Fed member until (bases.Acknowledgements acknowledging sequence))
+    pub from : Q (outputs.FedByFailsafe until acknowledging sequence since)
+
+  abbrev pub IsFedAs : (Output → Type 0) → Bool → EventKind → Type 0
+  IsFedAs Q false kind = IsFedBy member.id.number message.number kind
+  IsFedAs Q true kind = IsFedHere Q kind
+
+  pub record FedIn (Q : Output → Type 0) (by_failsafe : Bool) (events : List Event) : Type 0 where
     pub front : List Event
     pub event : Event
     pub rest : List Event
     pub is : front ++ event ∷ rest ≡ events
-    pub fed : IsFedBy member.id.number message.number event.kind
+    pub fed : IsFedAs Q by_failsafe event.kind
 
-  fed-later : (events rest : List Event) → FedIn rest → FedIn (events ++ rest)
-  fed-later events rest old = record { front = events ++ old.front; event = old.event; rest = old.rest; is = assoc events old.front (old.event ∷ old.rest) ∙ ap (λ (l : List Event). events ++ l) old.is; fed = old.fed }
+  fed-later : (Q : Output → Type 0) (b : Bool) (events rest : List Event) → FedIn Q b rest → FedIn Q b (events ++ rest)
+  fed-later Q b events rest old = record { front = events ++ old.front; event = old.event; rest = old.rest; is = assoc events old.front (old.event ∷ old.rest) ∙ ap (λ (l : List Event). events ++ l) old.is; fed = old.fed }
 
-  fed-now : (cluster : Cluster) (output : Output) (rest : List Event) → is_feeding output ≡ true → FedIn (Brings cluster output ++ rest)
-  fed-now cluster (outputs.Armed until) rest e = record {
+  not-so : false ≡ true → ⊥
+  not-so e = cc
+
+  fed-now : (Q : Output → Type 0) (now : Ticks) (cluster : Cluster) (machine : Machine) (output : Output) (rest : List Event) → Q output → is_feeding output ≡ true → FedIn Q (machine_after_output now machine output).by_failsafe (Brings cluster output ++ rest)
+  fed-now Q now cluster machine (outputs.Armed until) rest may e = record {
     front = measured cluster ∷ [];
     event = record { tick = record { 0 = cluster.facts.clock }; kind = kinds.Watchdog (watchdogs.Armed member until message.number) };
     rest = rest;
     is = refl;
     fed = (refl, refl);
   }
-  fed-now cluster (outputs.Fed until) rest e = record {
+  fed-now Q now cluster machine (outputs.Fed until) rest may e = record {
     front = measured cluster ∷ [];
     event = record { tick = record { 0 = cluster.facts.clock }; kind = kinds.Watchdog (watchdogs.Fed member until (bases.Grant message.number)) };
     rest = rest;
     is = refl;
     fed = (refl, refl);
   }
-  fed-now cluster _ rest e = absurd (no-way e)
-    where
-      no-way : false ≡ true → ⊥
-      no-way e = cc
+  fed-now Q now cluster machine (outputs.FedByFailsafe until acknowledging sequence since) rest may e = record {
+    front = record { tick = record { 0 = cluster.facts.clock }; kind = kinds.Watchdog (watchdogs.Measured member since) } ∷ [];
+    event = record { tick = record { 0 = cluster.facts.clock }; kind = kinds.Watchdog (watchdogs.Fed member until (bases.Acknowledgements acknowledging sequence)) };
+    rest = rest;
+    is = refl;
+    fed = record { until = until; acknowledging = acknowledging; sequence = sequence; since = since; is = refl; from = may };
+  }
+  fed-now Q now cluster machine _ rest may e = absurd (not-so e)
 
-  pub each-fed : (cluster : Cluster) (outs : List Output) → has_one is_feeding outs ≡ true → FedIn (each (output_events member message) cluster outs)
-  each-fed cluster [] e = absurd (no-way e)
+  -- who isn't fed has its deadline from where it had it
+  unfed-one : (now : Ticks) (machine : Machine) (output : Output) → is_feeding output ≡ false → (machine_after_output now machine output).by_failsafe ≡ machine.by_failsafe
+  unfed-one now machine (outputs.Armed until) e = absurd (not-so (sym e))
+  unfed-one now machine (outputs.Fed until) e = absurd (not-so (sym e))
+  unfed-one now machine (outputs.FedByFailsafe until acknowledging sequence since) e = absurd (not-so (sym e))
+  unfed-one now machine _ e = refl
+
+  neither : (b c : Bool) → (b || c) ≡ false → (b ≡ false) × (c ≡ false)
+  neither true c e = absurd (not-so (sym e))
+  neither false c e = (refl, e)
+
+  unfed-basis : (now : Ticks) (machine : Machine) (outs : List Output) → has_one is_feeding outs ≡ false → (machine_after_outputs now machine outs).by_failsafe ≡ machine.by_failsafe
+  unfed-basis now machine [] e = refl
+  unfed-basis now machine (output ∷ more) e =
+      let none = neither (is_feeding output) (has_one is_feeding more) e in
+      unfed-basis now (machine_after_output now machine output) more none.1 ∙ unfed-one now machine output none.0
+
+  is-left : (b c : Bool) → c ≡ false → (b || c) ≡ true → b ≡ true
+  is-left true c f e = refl
+  is-left false c f e = sym f ∙ e
+
+  fed-step : (Q : Output → Type 0) (now : Ticks) (cluster : Cluster) (machine : Machine) (output : Output) (more : List Output) (rest : List Event) → Q output → (is_feeding output || has_one is_feeding more) ≡ true
+      → (has_one is_feeding more ≡ true → FedIn Q (machine_after_outputs now (machine_after_output now machine output) more).by_failsafe rest) → FedIn Q (machine_after_outputs now (machine_after_output now machine output) more).by_failsafe (Brings cluster output ++ rest)
+  fed-step Q now cluster machine output more rest may e then = by (has_one is_feeding more) refl
     where
-      no-way : false ≡ true → ⊥
-      no-way e = cc
-  each-fed cluster (output ∷ more) e = elim (or-else (is_feeding output) (has_one is_feeding more) (λ a. a) (λ b. b) e) [
-    | inl here ↦ fed-now cluster output (each (output_events member message) (Later cluster output) more) here
-    | inr later ↦ fed-later (Brings cluster output) (each (output_events member message) (Later cluster output) more) (each-fed (Later cluster output) more later)
-  ]
+      after : Machine
+      after = machine_after_output now machine output
+
+      by : (test : Bool) → has_one is_feeding more ≡ test → FedIn Q (machine_after_outputs now after more).by_failsafe (Brings cluster output ++ rest)
+      by true later = fed-later Q (machine_after_outputs now after more).by_failsafe (Brings cluster output) rest (then later)
+      by false none =
+          subst (λ (b : Bool). FedIn Q b (Brings cluster output ++ rest)) (sym (unfed-basis now after more none))
+          (fed-now Q now cluster machine output rest may (is-left (is_feeding output) (has_one is_feeding more) none e))
+
+  -- the last feed tells which basis the deadline has
+  pub each-fed : (Q : Output → Type 0) (now : Ticks) (cluster : Cluster) (machine : Machine) (outs : List Output) → All Q outs → has_one is_feeding outs ≡ true → FedIn Q (machine_after_outputs now machine outs).by_failsafe (each (output_events member message) cluster outs)
+  each-fed Q now cluster machine [] all e = absurd (not-so e)
+  each-fed Q now cluster machine (output ∷ more) all e =
+      fed-step Q now cluster machine output more (each (output_events member message) (Later cluster output) more) (All-head Q output more all) e
+      (λ later. each-fed Q now (Later cluster output) (machine_after_output now machine output) more (All-tail Q output more all) later)
+
+  -- ---- whose deadlines acknowledgements set last
+  abbrev NoFeed : Output → Type 0
+  NoFeed (outputs.Armed until) = ⊥
+  NoFeed (outputs.Fed until) = ⊥
+  NoFeed (outputs.FedByFailsafe until acknowledging sequence since) = ⊥
+  NoFeed _ = Unit {0}
+
+  unset-one : (before : List Bool) (kind : EventKind) → IsOfInput member incarnation message.number NoFeed kind → failsafe_deadlines_after before kind ≡ before
+  unset-one before (kinds.Watchdog (watchdogs.Armed by until answer)) is = absurd is.2
+  unset-one before (kinds.Watchdog (watchdogs.Fed by until basis)) is = absurd (by-none is.1)
+    where
+      by-none : IsFeedOf message.number NoFeed until basis → ⊥
+      by-none (ByGrant same from) = from
+      by-none (ByFailsafe acknowledging sequence since same from) = from
+  unset-one before (kinds.Watchdog _) is = refl
+  unset-one before _ is = refl
+
+  unset-all : (cluster : Cluster) (events : List Event) → AllAre (IsOfInput member incarnation message.number NoFeed) events → (cluster_over cluster events).failsafe_deadlines ≡ cluster.failsafe_deadlines
+  unset-all cluster [] all = refl
+  unset-all cluster (event ∷ events) all = unset-all (cluster_after cluster event.kind) events all.1 ∙ unset-one cluster.failsafe_deadlines event.kind all.0
+
+  abbrev IsBasis : Cluster → Machine → Type 0
+  IsBasis cluster machine = slice_get cluster.failsafe_deadlines member.id.number ≡ Some machine.by_failsafe
+
+  unset-output : (now : Ticks) (cluster : Cluster) (machine : Machine) (output : Output) → Runs cluster.facts → IsOfTable output → NoFeed output → is_feeding output ≡ false → IsBasis cluster machine → IsBasis (Later cluster output) (machine_after_output now machine output)
+  unset-output now cluster machine output runs table none unfed old =
+      ap (λ (l : List Bool). slice_get l member.id.number) (unset-all cluster (Brings cluster output) (output-mine member incarnation message.number NoFeed cluster message refl runs output table none))
+      ∙ old ∙ ap (λ (b : Bool). Some b) (sym (unfed-one now machine output unfed))
+
+  output-basis : (now : Ticks) (cluster : Cluster) (machine : Machine) (output : Output) → Runs cluster.facts → IsOfTable output → IsBasis cluster machine → IsBasis (Later cluster output) (machine_after_output now machine output)
+  output-basis now cluster machine (outputs.Armed until) runs table old = item-here cluster.failsafe_deadlines member.id.number (λ was. false) machine.by_failsafe old
+  output-basis now cluster machine (outputs.Fed until) runs table old = item-here cluster.failsafe_deadlines member.id.number (λ was. false) machine.by_failsafe old
+  output-basis now cluster machine (outputs.FedByFailsafe until acknowledging sequence since) runs table old = item-here cluster.failsafe_deadlines member.id.number (λ was. true) machine.by_failsafe old
+  output-basis now cluster machine output runs table old = unset-output now cluster machine output runs table tt refl old
+
+  pub each-basis : (now : Ticks) (cluster : Cluster) (machine : Machine) (outs : List Output) → Runs cluster.facts → All IsOfTable outs → IsBasis cluster machine → IsBasis (cluster_over cluster (each (output_events member message) cluster outs)) (machine_after_outputs now machine outs)
+  each-basis now cluster machine [] runs table old = old
+  each-basis now cluster machine (output ∷ more) runs table old =
+      let one = All-head IsOfTable output more table in let next = Later cluster output in
+      subst (λ (c : Cluster). IsBasis c (machine_after_outputs now (machine_after_output now machine output) more)) (sym (over-append cluster (Brings cluster output) (each (output_events member message) next more)))
+      (each-basis now next (machine_after_output now machine output) more (runs-later cluster output runs one) (All-tail IsOfTable output more table) (output-basis now cluster machine output runs one old))

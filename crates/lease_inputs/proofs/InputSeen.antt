@@ -9,9 +9,10 @@ use Rattle.leader_key.specs.Watchdog.{HasMargin, is_armable}
 use Rattle.event_book.specs.declared.member.Member.{Member}
 use Rattle.agent_model.specs.declared.machine.Machine.{Machine}
 use Rattle.agent_model.specs.Agents.{AgentFacts}
-use Rattle.agent_lease_law.specs.Lawful.{IsYoung}
+use Rattle.agent_lease_law.specs.Lawful.{CanFeed, IsYoung}
 use Rattle.agent_roles.specs.Seen.{moment_seen, hold_seen, machine_seen}
 use Rattle.agent_model.specs.declared.knowledge.PendingQuestion.{PendingQuestion}
+use Rattle.cluster_model.specs.FailsafeDeadlines.{is_set_by_failsafe}
 use Rattle.cluster_model.specs.Machines.{machine_from, machine_of, replication_of}
 use Rattle.pat_base.specs.declared.ticks.TheConstants.{TICKS_OF_SECOND}
 use Rattle.agent_model.specs.declared.machine.Replication.{Replication}
@@ -31,15 +32,16 @@ pub record IsFound (cluster : Cluster) (member : Member) (machine : Machine) : T
   pub options : MemberOptions
   pub options_is : slice_get cluster.options member.id.number ≡ Some options
   pub mirrors : Mirrors cluster member.id.number machine
+  pub basis : is_set_by_failsafe (slice_get cluster.failsafe_deadlines member.id.number) ≡ machine.by_failsafe
   pub mode : machine.watchdog.mode ≡ options.watchdog
   pub works : machine.watchdog.works ≡ options.device_works
   pub margin : machine.watchdog.margin ≡ Some (record { 0 = TICKS_OF_SECOND * options.margin.seconds })
 
-found-by : (cluster : Cluster) (member : Member) (receives : Bool) (replication : Option Replication) (machine : Machine) (options : Option MemberOptions) (deadline hold : Option (Option Ticks)) (s : Option ServerFacts)
+found-by : (cluster : Cluster) (member : Member) (receives by_failsafe : Bool) (replication : Option Replication) (machine : Machine) (options : Option MemberOptions) (deadline hold : Option (Option Ticks)) (s : Option ServerFacts)
     → slice_get cluster.options member.id.number ≡ options → slice_get cluster.facts.deadlines member.id.number ≡ deadline → slice_get cluster.facts.holds member.id.number ≡ hold → slice_get cluster.facts.servers member.id.number ≡ s
-    → machine_from receives replication options deadline hold s ≡ Some machine → IsFound cluster member machine
-found-by cluster member receives None machine options deadline hold s a b c d e = absurd (none-some machine e)
-found-by cluster member receives (Some replication) machine (Some options) (Some deadline) (Some hold) (Some s) a b c d e =
+    → is_set_by_failsafe (slice_get cluster.failsafe_deadlines member.id.number) ≡ by_failsafe → machine_from receives by_failsafe replication options deadline hold s ≡ Some machine → IsFound cluster member machine
+found-by cluster member receives by_failsafe None machine options deadline hold s a b c d f e = absurd (none-some machine e)
+found-by cluster member receives by_failsafe (Some replication) machine (Some options) (Some deadline) (Some hold) (Some s) a b c d f e =
     subst (IsFound cluster member) (some-is _ machine e) (record {
       options = options;
       options_is = a;
@@ -47,17 +49,18 @@ found-by cluster member receives (Some replication) machine (Some options) (Some
       mode = refl;
       works = refl;
       margin = refl;
+      basis = f;
     })
-found-by cluster member receives (Some replication) machine None deadline hold s a b c d e = absurd (none-some machine e)
-found-by cluster member receives (Some replication) machine (Some options) None hold s a b c d e = absurd (none-some machine e)
-found-by cluster member receives (Some replication) machine (Some options) (Some deadline) None s a b c d e = absurd (none-some machine e)
-found-by cluster member receives (Some replication) machine (Some options) (Some deadline) (Some hold) None a b c d e = absurd (none-some machine e)
+found-by cluster member receives by_failsafe (Some replication) machine None deadline hold s a b c d f e = absurd (none-some machine e)
+found-by cluster member receives by_failsafe (Some replication) machine (Some options) None hold s a b c d f e = absurd (none-some machine e)
+found-by cluster member receives by_failsafe (Some replication) machine (Some options) (Some deadline) None s a b c d f e = absurd (none-some machine e)
+found-by cluster member receives by_failsafe (Some replication) machine (Some options) (Some deadline) (Some hold) None a b c d f e = absurd (none-some machine e)
 
 pub found-of : (cluster : Cluster) (member : Member) (machine : Machine) → machine_of cluster member ≡ Some machine → IsFound cluster member machine
 found-of cluster member machine e =
-    found-by cluster member (is_some (source_of cluster.facts.members cluster.facts.servers cluster.facts.cuts member))
+    found-by cluster member (is_some (source_of cluster.facts.members cluster.facts.servers cluster.facts.cuts member)) (is_set_by_failsafe (slice_get cluster.failsafe_deadlines member.id.number))
     (option_map (replication_of cluster.facts.members cluster.facts.servers cluster.facts.cuts member) (slice_get cluster.facts.servers member.id.number)) machine
-    (slice_get cluster.options member.id.number) (slice_get cluster.facts.deadlines member.id.number) (slice_get cluster.facts.holds member.id.number) (slice_get cluster.facts.servers member.id.number) refl refl refl refl e
+    (slice_get cluster.options member.id.number) (slice_get cluster.facts.deadlines member.id.number) (slice_get cluster.facts.holds member.id.number) (slice_get cluster.facts.servers member.id.number) refl refl refl refl refl e
 
 -- ---- what the law sees of it
 deadline-is : (deadline : Option Ticks) → deadline_now (Some deadline) ≡ moment_seen deadline
@@ -68,13 +71,13 @@ hold-is : (hold : Option Ticks) → hold_now (Some hold) ≡ hold_seen hold
 hold-is None = refl
 hold-is (Some hold) = refl
 
-pub seen-of : (cluster : Cluster) (m : ℕ) (agent : AgentFacts) (machine : Machine) → Resembles cluster m machine → slice_get cluster.agents m ≡ Some (Some agent)
-    → machine_in cluster m ≡ machine_seen agent.role agent.knows machine false (run_in cluster.facts.processes m)
-seen-of cluster m agent machine resembles is =
+pub seen-of : (cluster : Cluster) (m : ℕ) (agent : AgentFacts) (machine : Machine) → Resembles cluster m machine → is_set_by_failsafe (slice_get cluster.failsafe_deadlines m) ≡ machine.by_failsafe → slice_get cluster.agents m ≡ Some (Some agent)
+    → machine_in cluster m ≡ machine_seen agent.role agent.knows machine (run_in cluster.facts.processes m)
+seen-of cluster m agent machine resembles basis is =
     machine-same _ _ _ _ _ _ _ _ _ _ _ _
     resembles.lives
     (ap deadline_now resembles.deadline ∙ deadline-is machine.watchdog.deadline)
-    refl
+    basis
     (ap hold_now resembles.hold ∙ hold-is machine.hold)
     (ap agent_now is)
     refl
@@ -107,6 +110,10 @@ has-margin cluster member machine found = subst (λ (o : Option Ticks). IfSome o
   where
     short : (options : MemberOptions) → 10 * options.margin.seconds ≤ 150
     short options = omega (arith, options.margin.most)
+
+-- its watchdog can be fed
+pub can-feed : (head : HeadText) (past : Past) (cluster : Cluster) (member : Member) (machine : Machine) → IsMatched head past cluster → (found : IsFound cluster member machine) → works_of head member.id.number ≡ true → CanFeed machine
+can-feed head past cluster member machine matched found works = record { armable = armable-of head past cluster member machine matched found works; margin = has-margin cluster member machine found }
 
 pub is-young : (cluster : Cluster) (member : Member) (machine : Machine) (now : Ticks) (waited : PendingQuestion) → (found : IsFound cluster member machine) → IsYoung machine.watchdog.margin now waited
 is-young cluster member machine now waited found = subst (λ (o : Option Ticks). IsYoung o now waited) (sym found.margin) tt

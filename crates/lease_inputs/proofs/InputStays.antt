@@ -17,6 +17,7 @@ use Rattle.event_book.specs.declared.event.ServerEvent.{ServerEvent}
 use Rattle.event_book.specs.declared.event.WatchdogEvent.TheVariants as watchdogs
 use Rattle.event_book.specs.declared.member.Member.{Member}
 use Rattle.event_book.specs.declared.member.ServerOf.{ServerOf}
+use Rattle.event_book.specs.Facts.{Facts}
 use Rattle.event_book.specs.Processes.{processes_after}
 use Rattle.event_book.specs.Clock.{now_after}
 use Rattle.event_book.specs.Members.{server_of}
@@ -30,7 +31,7 @@ use Rattle.cluster_model.specs.Parts.{each}
 use Rattle.cluster_model.specs.State.{Cluster}
 use Rattle.event_book.specs.Kinds.{AllAre}
 use Rattle.cluster_model.proofs.Lists.{all-both}
-use Rattle.lease_inputs.specs.InputEvents.{IsOfInput}
+use Rattle.lease_inputs.specs.InputEvents.{IsOfInput, RunsAmong}
 use Rattle.lease_inputs.proofs.InputEvents.{output-mine}
 use Rattle.cluster_model.proofs.Places.{get-here, get-elsewhere}
 
@@ -38,16 +39,18 @@ use Rattle.cluster_model.proofs.Places.{get-here, get-elsewhere}
 pub record Stays (m : ℕ) (cluster later : Cluster) : Type 0 where
   pub agents : later.agents ≡ cluster.agents
   pub processes : later.facts.processes ≡ cluster.facts.processes
+  pub members : later.facts.members ≡ cluster.facts.members
   pub clock : later.facts.clock ≡ cluster.facts.clock
   pub servers : (n : ℕ) → n ≢ m → slice_get later.facts.servers n ≡ slice_get cluster.facts.servers n
 
 pub stays-same : (m : ℕ) (cluster : Cluster) → Stays m cluster cluster
-stays-same m cluster = record { agents = refl; processes = refl; clock = refl; servers = λ n other. refl }
+stays-same m cluster = record { agents = refl; processes = refl; members = refl; clock = refl; servers = λ n other. refl }
 
 pub stays-then : (m : ℕ) (a b c : Cluster) → Stays m a b → Stays m b c → Stays m a c
 stays-then m a b c first second = record {
   agents = second.agents ∙ first.agents;
   processes = second.processes ∙ first.processes;
+  members = second.members ∙ first.members;
   clock = second.clock ∙ first.clock;
   servers = λ n other. second.servers n other ∙ first.servers n other;
 }
@@ -116,6 +119,7 @@ module _ (member : Member) (incarnation heard : ℕ) (Q : Output → Type 0) whe
   stays-one cluster kind is = record {
     agents = agents-one cluster kind is;
     processes = processes-one cluster.facts.processes kind is;
+    members = refl;
     clock = clock-one cluster.facts.clock kind is;
     servers = servers-one (now_after cluster.facts.clock kind) cluster.facts.servers kind is;
   }
@@ -126,10 +130,16 @@ module _ (member : Member) (incarnation heard : ℕ) (Q : Output → Type 0) whe
       stays-then member.id.number cluster (cluster_after cluster event.kind) (cluster_over (cluster_after cluster event.kind) events) (stays-one cluster event.kind all.0) (stays-over (cluster_after cluster event.kind) events all.1)
 
   -- ---- all outputs of an input
-  abbrev Runs : List AgentProcess → Type 0
-  Runs processes = (process : AgentProcess) → slice_get processes member.id.number ≡ Some process → process.incarnation ≡ incarnation
+  abbrev Runs : Facts → Type 0
+  Runs facts = RunsAmong member incarnation facts
 
-  pub each-mine : (cluster : Cluster) (message : HeardMessage) → message.number ≡ heard → Runs cluster.facts.processes → (outs : List Output) → All IsOfTable outs → All Q outs → AllAre Mine (each (output_events member message) cluster outs)
+  pub runs-over : (cluster later : Cluster) → Stays member.id.number cluster later → Runs cluster.facts → Runs later.facts
+  runs-over cluster later stays runs = record {
+    process = λ process is. runs.process process (ap (λ (l : List AgentProcess). slice_get l member.id.number) (sym stays.processes) ∙ is);
+    numbered = λ n peer is. runs.numbered n peer (ap (λ (l : List Member). slice_get l n) (sym stays.members) ∙ is);
+  }
+
+  pub each-mine : (cluster : Cluster) (message : HeardMessage) → message.number ≡ heard → Runs cluster.facts → (outs : List Output) → All IsOfTable outs → All Q outs → AllAre Mine (each (output_events member message) cluster outs)
   each-mine cluster message at runs [] table all = tt
   each-mine cluster message at runs (output ∷ more) table all =
       let first = output-mine member incarnation heard Q cluster message at runs output (All-head IsOfTable output more table) (All-head Q output more all) in
@@ -137,4 +147,4 @@ module _ (member : Member) (incarnation heard : ℕ) (Q : Output → Type 0) whe
       let later = cluster_over cluster events in
       let stays = stays-over cluster events first in
       all-both Mine events (each (output_events member message) later more) first
-      (each-mine later message at (subst Runs (sym stays.processes) runs) more (All-tail IsOfTable output more table) (All-tail Q output more all))
+      (each-mine later message at (runs-over cluster later stays runs) more (All-tail IsOfTable output more table) (All-tail Q output more all))

@@ -14,9 +14,10 @@ use Rattle.agent_model.specs.declared.output.Output.{Output}
 use Rattle.agent_model.specs.declared.output.Output.TheVariants as outputs
 use Rattle.agent_model.specs.declared.output.Target.TheVariants as targets
 use Rattle.agent_model.specs.Agents.{AgentFacts, Outcome, EndsAlone}
-use Rattle.agent_lease_law.specs.Lawful.{query_in, IsSentBy}
+use Rattle.agent_lease_law.specs.Lawful.{query_in, IsSentBy, AsksStore, AsksMember, SaysYes}
+use Rattle.agent_lease_law.specs.Modes.{KeepsMode}
 use Rattle.cluster_model.specs.Cluster.{agent_after}
-use Rattle.lease_law.specs.Leases.{Query, Read, Question, Flying, Requested}
+use Rattle.lease_law.specs.Leases.{Query, Read, Question, FailsafeRequest, Acknowledgement, Flying, Requested, FailsafeRequested, Acknowledged}
 use Rattle.lease_law.specs.Past.{lease_span, query_of}
 use Rattle.lease_law.proofs.Tools.{eq-from, ne-from, none-some, some-is}
 use Rattle.lease_book.specs.Waiting.{IsLastAsked, IsLastRun}
@@ -48,14 +49,22 @@ pub record IsNew (m incarnation clock : ℕ) (outs : List Output) (q : Question)
   pub is : q ≡ record { member = m; incarnation = incarnation; sequence = sequence; sent = clock; query = query }
 
 pub new-of : (m incarnation clock : ℕ) (outs : List Output) (q : Question) → IsSentBy m incarnation clock outs (Requested q) → IsNew m incarnation clock outs q
-new-of m incarnation clock outs q sent = record {
-  sequence = sent.sequence;
-  body = sent.body;
-  query = sent.query;
-  among = sent.among;
-  query_is = sent.query_is;
-  is = requested-is q _ sent.is;
+new-of m incarnation clock outs q (AsksStore sequence body query among query_is is) = record {
+  sequence = sequence;
+  body = body;
+  query = query;
+  among = among;
+  query_is = query_is;
+  is = requested-is q _ is;
 }
+new-of m incarnation clock outs q (AsksMember to sequence ttl among is) = absurd (not-asked _ is)
+  where
+    not-asked : (request : FailsafeRequest) → ◌≡◌ {A = Flying} (Requested q) (FailsafeRequested request) → ⊥
+    not-asked request e = cc
+new-of m incarnation clock outs q (SaysYes to run sequence among is) = absurd (not-said _ is)
+  where
+    not-said : (said : Acknowledgement) → ◌≡◌ {A = Flying} (Requested q) (Acknowledged said) → ⊥
+    not-said said e = cc
 
 -- ---- the agent whose input it is
 module _ (m clock : ℕ) (now : Ticks) (known knows : Knowledge) (outs : List Output) (asked after : ℕ → Option Question) where
@@ -164,21 +173,22 @@ runs-after m clock incarnation outs asked after processes in-run questions old n
 ]
 
 -- agents know themselves
-pub knows-after : (m : ℕ) (agent : AgentFacts) (outcome : Outcome) (processes : List AgentProcess) (agents : List (Option AgentFacts)) → slice_get agents m ≡ Some (Some agent)
-    → outcome.knows.who ≡ agent.knows.who → outcome.knows.incarnation ≡ agent.knows.incarnation → is_paused outcome.knows ≡ false → KnowThemselves processes agents → KnowThemselves processes (with_changed agents m (agent_after (Some outcome)))
-knows-after m agent outcome processes agents here who incarnation unpaused old n one is =
+pub knows-after : (mode : Bool) (m : ℕ) (agent : AgentFacts) (outcome : Outcome) (processes : List AgentProcess) (agents : List (Option AgentFacts)) → slice_get agents m ≡ Some (Some agent)
+    → outcome.knows.who ≡ agent.knows.who → outcome.knows.incarnation ≡ agent.knows.incarnation → KeepsMode mode outcome.knows → is_paused outcome.knows ≡ false → KnowThemselves mode processes agents → KnowThemselves mode processes (with_changed agents m (agent_after (Some outcome)))
+knows-after mode m agent outcome processes agents here who incarnation keeps unpaused old n one is =
     by (n == m) refl (sym (get-changed agents m n (agent_after (Some outcome))) ∙ is)
   where
-    by : (same : Bool) → (n == m) ≡ same → cond same (option_map (agent_after (Some outcome)) (slice_get agents n)) (slice_get agents n) ≡ Some (Some one) → KnowsItself n (slice_get processes n) one
+    by : (same : Bool) → (n == m) ≡ same → cond same (option_map (agent_after (Some outcome)) (slice_get agents n)) (slice_get agents n) ≡ Some (Some one) → KnowsItself mode n (slice_get processes n) one
     by true same e =
         let was = old m agent here in
-        subst (λ (a : AgentFacts). KnowsItself n (slice_get processes n) a) (the-after (slice_get agents n) outcome one e)
-        (subst (λ (k : ℕ). KnowsItself k (slice_get processes k) (record { role = outcome.role; knows = outcome.knows })) (sym (eq-from n m same)) (record {
+        subst (λ (a : AgentFacts). KnowsItself mode n (slice_get processes n) a) (the-after (slice_get agents n) outcome one e)
+        (subst (λ (k : ℕ). KnowsItself mode k (slice_get processes k) (record { role = outcome.role; knows = outcome.knows })) (sym (eq-from n m same)) (record {
           found = was.found;
           is = was.is;
           running = was.running;
           incarnation = incarnation ∙ was.incarnation;
           me = ap (λ w. w.me.number) who ∙ was.me;
+          keeps = keeps;
           unpaused = unpaused;
         }))
     by false same e = old n one e

@@ -1,7 +1,10 @@
 -- What an input of an agent brings, event by event.
-use Rattle.std.specs.Prelude.{ℕ, ◌≡◌, ◌⊎◌, Bool}
+use Rattle.std.specs.Prelude.{ℕ, ◌≡◌, ◌⊎◌, Bool, Some, slice_get}
 use Rattle.pat_base.specs.declared.member_id.MemberId.{MemberId}
+use Rattle.pat_base.specs.declared.member_set.MemberSet.{MemberSet}
 use Rattle.pat_base.specs.declared.peer_answer.PeerAnswer.{PeerAnswer}
+use Rattle.pat_base.specs.declared.ticks.Ticks.{Ticks}
+use Rattle.event_book.specs.declared.agent_process.AgentProcess.{AgentProcess}
 use Rattle.event_book.specs.declared.event.AgentEvent.TheVariants as agents
 use Rattle.event_book.specs.declared.event.EventKind.{EventKind}
 use Rattle.event_book.specs.declared.event.EventKind.TheVariants as kinds
@@ -15,12 +18,20 @@ use Rattle.event_book.specs.declared.member.Member.{Member}
 use Rattle.event_book.specs.declared.message.Body.{Body}
 use Rattle.event_book.specs.declared.message.Body.TheVariants as bodies
 use Rattle.event_book.specs.declared.message.Message.{Message}
+use Rattle.event_book.specs.declared.reason.Basis.{Basis}
 use Rattle.event_book.specs.declared.reason.Basis.TheVariants as bases
+use Rattle.event_book.specs.Facts.{Facts}
 use Rattle.event_book.specs.Members.{server_of}
+use Rattle.agent_roles.specs.Asks.{IsAsk}
 use Rattle.agent_model.specs.declared.output.Output.{Output}
 use Rattle.agent_model.specs.declared.output.Output.TheVariants as outputs
 use Rattle.agent_model.specs.declared.output.Target.TheVariants as targets
 use Rattle.cluster_model.specs.Messages.{agent_message}
+
+-- the agent of this member runs in this incarnation, and members stand at their numbers
+pub record RunsAmong (member : Member) (incarnation : ℕ) (facts : Facts) : Type 0 where
+  pub process : (process : AgentProcess) → slice_get facts.processes member.id.number ≡ Some process → process.incarnation ≡ incarnation
+  pub numbered : (n : ℕ) (peer : Member) → slice_get facts.members n ≡ Some peer → peer.id.number ≡ n
 
 -- a question of this member in its incarnation, which an output with this property sends
 pub record IsQuestionOf (member : Member) (incarnation : ℕ) (Q : Output → Type 0) (message : Message) : Type 0 where
@@ -33,12 +44,24 @@ pub record IsQuestionOf (member : Member) (incarnation : ℕ) (Q : Output → Ty
 -- or an answer to another member
 pub data IsMessageOf (member : Member) (incarnation : ℕ) (Q : Output → Type 0) (message : Message) : Type 0 where
   Asks : (question : IsQuestionOf member incarnation Q message) → IsMessageOf member incarnation Q message
-  AsksPeer : (peer : Member) → (id : MemberId) → (sequence : ℕ) → (is : message ≡ agent_message member (ends.Member peer) incarnation sequence bodies.Ask) → (from : Q (outputs.Send (targets.Member id) sequence bodies.Ask)) → IsMessageOf member incarnation Q message
+  AsksPeer : (peer : Member) → (id : MemberId) → (sequence : ℕ) → (body : Body) → (asks : IsAsk body) → (is : message ≡ agent_message member (ends.Member peer) incarnation sequence body) → (from : Q (outputs.Send (targets.Member id) sequence body)) → IsMessageOf member incarnation Q message
   AnswersPeer : (peer : Member) → (id : MemberId) → (asked sequence : ℕ) → (answer : PeerAnswer) → (is : message ≡ agent_message member (ends.Member peer) asked sequence (bodies.Answer answer)) → (from : Q (outputs.Answer id asked sequence answer)) → IsMessageOf member incarnation Q message
+  AnswersRequest : (peer : Member) → (id : MemberId) → (asked sequence : ℕ) → (accepted : Bool) → (at : peer.id.number ≡ id.number) → (is : message ≡ agent_message member (ends.Member peer) asked sequence (bodies.FailsafeAnswer accepted)) → (from : Q (outputs.FailsafeAnswer id asked sequence accepted)) → IsMessageOf member incarnation Q message
 
 -- its server begins to accept writes by an output with this property: it is to begin, or to start again
 abbrev pub IsToBegin : (Output → Type 0) → Type 0
 IsToBegin Q = Q outputs.Begin ⊎ ((as_primary : Bool) × Q (outputs.Restart as_primary))
+
+-- its watchdog is fed by an output with this property: on the grant that is heard in the message of this number, or on acknowledgements
+pub data IsFeedOf (heard : ℕ) (Q : Output → Type 0) (until : Ticks) (basis : Basis) : Type 0 where
+  ByGrant : (is : basis ≡ bases.Grant heard) → (from : Q (outputs.Fed until)) → IsFeedOf heard Q until basis
+  ByFailsafe : (members : MemberSet) → (sequence : ℕ) → (since : Ticks) → (is : basis ≡ bases.Acknowledgements members sequence) → (from : Q (outputs.FedByFailsafe until members sequence since)) → IsFeedOf heard Q until basis
+
+-- it takes a hold by an output with this property, for a request of this member
+pub record IsHoldOf (Q : Output → Type 0) (until : Ticks) (from : Member) (sequence : ℕ) : Type 0 where
+  pub id : MemberId
+  pub at : from.id.number ≡ id.number
+  pub by : Q (outputs.HoldTaken until id sequence)
 
 -- what an output with this property brings, of an agent of this member in its incarnation that heard the message of this number
 abbrev pub IsOfInput : Member → ℕ → ℕ → (Output → Type 0) → EventKind → Type 0
@@ -54,7 +77,8 @@ IsOfInput member incarnation heard Q (kinds.Log (logs.Rewound server from kept a
 IsOfInput member incarnation heard Q (kinds.Log (logs.Copied server from)) = server ≡ server_of member
 IsOfInput member incarnation heard Q (kinds.Log (logs.Wiped server)) = server ≡ server_of member
 IsOfInput member incarnation heard Q (kinds.Watchdog (watchdogs.Armed by until answer)) = (by ≡ member) × (answer ≡ heard) × Q (outputs.Armed until)
-IsOfInput member incarnation heard Q (kinds.Watchdog (watchdogs.Fed by until basis)) = (by ≡ member) × (basis ≡ bases.Grant heard) × Q (outputs.Fed until)
+IsOfInput member incarnation heard Q (kinds.Watchdog (watchdogs.Fed by until basis)) = (by ≡ member) × IsFeedOf heard Q until basis
+IsOfInput member incarnation heard Q (kinds.Watchdog (watchdogs.HoldTaken by until from run sequence)) = (by ≡ member) × IsHoldOf Q until from sequence
 IsOfInput member incarnation heard Q (kinds.Watchdog (watchdogs.Disarmed by)) = by ≡ member
 IsOfInput member incarnation heard Q (kinds.Watchdog (watchdogs.Measured by from)) = by ≡ member
 IsOfInput member incarnation heard Q (kinds.Replication (replications.RequiredSet server required names)) = server ≡ server_of member

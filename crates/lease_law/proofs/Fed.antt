@@ -1,10 +1,10 @@
 -- What an input does with the watchdog: who acts after it, and what guards it.
-use Rattle.std.proofs.Common.{◌≡◌, ◌⊎◌, ℕ, ◌+◌, ◌≤◌, ◌<◌, Bool, true, List, Option, Some, None, refl, ◌∙◌, ap, sym, subst, arith, inl, inr}
+use Rattle.std.proofs.Common.{◌≡◌, ◌⊎◌, ℕ, ◌+◌, ◌≤◌, ◌<◌, Bool, true, false, List, Option, Some, None, refl, ◌∙◌, ap, sym, subst, arith, inl, inr}
 use Rattle.lease_law.specs.Leases.{LeaderKey, FailsafeKey, Query, Renew, Release, Question, Grant, Requested}
 use Rattle.event_book.specs.Premises.{Taking, IsOnTime}
 use Rattle.lease_law.specs.States.{FailsafeCheck, Agent, Machine, State, Acts}
 use Rattle.lease_law.specs.Inputs.{AgentInput, HeardGrant, HeardYes, IsDeadline, Fed, FedKnown, AllYes, WatchdogMay, Kept, Removed, SetByGrant, SetByFailsafe, SetAlone, Undone, Owns, MayCarry, MayCarryIf, MayQuery, MayAsk, IsLawful, IsInTime}
-use Rattle.lease_law.proofs.Tools.{some-is, not-false}
+use Rattle.lease_law.proofs.Tools.{some-is, none-some, not-false}
 use Rattle.std.proofs.lemmas.Bool.{cases_eq}
 use Rattle.lease_law.specs.Carried.{Spans, IsGuarded, IsThere, ActsAlone, IsAtRest, HasTaken, IsPresent, IsSound}
 use Rattle.lease_law.proofs.Onward.{spans-sub, holds-grow}
@@ -150,6 +150,11 @@ yes-holds s m input was until inv timely was_is feeds basis all p e =
     let time = timely.by_failsafe feeds basis was all.failsafe_check was_is all.is p t.moment e t.is in
     omega (arith, (set-in-time (s.declared.margin m) s.clock all.failsafe_check.ttl all.failsafe_check.sent t.moment until all.deadline_is time y.1).1, y.0)
 
+-- no set is carried under a deadline that acknowledgements set
+not-carried : (input : AgentInput) (until : ℕ) → input.machine.deadline ≡ Some until → input.machine.by_failsafe ≡ true → (input.machine.deadline ≡ None) ⊎ (input.machine.by_failsafe ≡ false) → ⊥
+not-carried input until is basis (inl none) = none-some until (sym none ∙ is)
+not-carried input until is basis (inr by) = not-false input.machine.by_failsafe by basis
+
 pub watchdog-guards : (s : State) (m : ℕ) (input : AgentInput) (members : ℕ → Machine) → IsSound s → IsInTime s m input → (law : IsLawful s m input) → WatchdogMay s m input law.was law.agent → ((p : ℕ) → (s.members p).hold ≤ (members p).hold) → Acts input.machine → IsGuarded s.clock s.failsafe s.leader input.flight members m input.machine.deadline input.machine.by_failsafe
 watchdog-guards s m input members inv timely law (Kept same basis acts) grow ya =
     let g = inv.guarded m (acts ya) in
@@ -166,7 +171,7 @@ watchdog-guards s m input members inv timely law (Kept same basis acts) grow ya 
                 f = h.f;
                 is = h.is;
                 owner = h.owner;
-                spans = spans-input s m input law.was law.agent m (λ p. g.until ≤ (members p).hold) (sends-of s m input law) (λ set r p e. absurd (not-false input.machine.by_failsafe r.by_grant (basis ∙ c.0))) h.spans;
+                spans = spans-input s m input law.was law.agent m (λ p. g.until ≤ (members p).hold) (sends-of s m input law) (λ set r p e. absurd (not-carried input g.until (same ∙ g.is) (basis ∙ c.0) r.by_grant)) h.spans;
               },
             )
       ];
@@ -188,7 +193,7 @@ watchdog-guards s m input members inv timely law (SetByFailsafe until feeds is b
           f = b.there.f;
           is = b.there.is;
           owner = owner-of s m b.there.f inv (acts ya) b.there.is;
-          spans = spans-input s m input law.was law.agent m (λ p. until ≤ (members p).hold) (sends-of s m input law) (λ set r p e. absurd (not-false input.machine.by_failsafe r.by_grant basis))
+          spans = spans-input s m input law.was law.agent m (λ p. until ≤ (members p).hold) (sends-of s m input law) (λ set r p e. absurd (not-carried input until is basis r.by_grant))
               (spans-sub s.failsafe s.leader s.flight m (λ p. all.failsafe_check.members p ≡ true) (λ p. until ≤ (members p).hold)
               (λ p other e. omega (arith, yes-holds s m input law.was until inv timely law.was_is feeds basis all p e, grow p))
               (b.spans (acts ya)));

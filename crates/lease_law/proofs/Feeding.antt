@@ -1,5 +1,5 @@
 -- A timely book's feeds are in time.
-use Rattle.std.proofs.Common.{◌≡◌, ℕ, Bool, true, false, List, [], ◌∷◌, ◌++◌, Option, Some, None, refl, ◌∙◌, ap, sym, subst, inr}
+use Rattle.std.proofs.Common.{◌≡◌, ℕ, zero, suc, Bool, true, false, List, [], ◌∷◌, ◌++◌, Option, Some, None, refl, ◌∙◌, ap, sym, subst, inr}
 use Rattle.event_book.specs.declared.event.Event.{Event}
 use Rattle.event_book.specs.declared.event.EventKind.{EventKind}
 use Rattle.event_book.specs.declared.event.EventKind.TheVariants as kinds
@@ -15,7 +15,7 @@ use Rattle.event_book.specs.declared.message.Body.TheVariants as bodies
 use Rattle.event_book.specs.Clock.{now_after}
 use Rattle.event_book.specs.Functions.{put_at}
 use Rattle.lease_law.specs.Leases.{Question, Grant, Answer, Flying, Requested, Answered}
-use Rattle.event_book.specs.Premises.{Taking, IsTaken, IsOnTime, moments_sent_after, taken_after, runs_after, Moments, IsFeedInTime, IsKindInTime, AreInTime, IsTimely}
+use Rattle.event_book.specs.Premises.{Taking, IsTaken, IsOnTime, moments_sent_after, taken_with, taken_after, runs_after, Moments, IsFeedInTime, IsKindInTime, AreInTime, IsTimely}
 use Rattle.lease_law.specs.States.{Declared}
 use Rattle.lease_law.specs.Inputs.{AgentInput, IsInTime}
 use Rattle.lease_law.specs.Past.{Past, grant_of, answer_of, question_in_flight_of, answer_in_flight_of, peer_in_flight_of, flying_of, past_flight_by, past_after, past_over, first_past, past_of, VolatileState, state_of}
@@ -118,8 +118,12 @@ aside-sent : (clock number : ℕ) (sent : ℕ → Option ℕ) (kind : EventKind)
 aside-sent clock number sent (kinds.Message (messages.Sent other message)) is = put-there sent other (Some clock) number (λ same. is (sym same))
 aside-sent clock number sent _ is = refl
 
+more-with : (clock : ℕ) (taken : List Taking) (by from incarnation sequence : ℕ) (t : Taking) → IsTaken taken t → IsTaken (taken_with clock taken by from incarnation sequence) t
+more-with clock taken by from incarnation zero t is = is
+more-with clock taken by from incarnation (suc before) t is = inr is
+
 more-taken : (clock : ℕ) (taken : List Taking) (kind : EventKind) (t : Taking) → IsTaken taken t → IsTaken (taken_after clock taken kind) t
-more-taken clock taken (kinds.Watchdog (watchdogs.HoldTaken member until from incarnation sequence)) t is = inr is
+more-taken clock taken (kinds.Watchdog (watchdogs.HoldTaken member until from incarnation sequence)) t is = more-with clock taken member.id.number from.id.number incarnation sequence t is
 more-taken clock taken _ t is = is
 
 stills-clock : (past : Past) (front : List Event) → AllAre KeepsClockAndRuns front → (past_over past front).clock ≡ past.clock

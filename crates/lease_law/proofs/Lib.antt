@@ -14,5 +14,6 @@ pub mod Deciding
 pub mod Delivering
 pub mod Configurations
 pub mod Unpaused
+pub mod Modes
 pub mod LocalActions
 pub mod Timely

@@ -14,7 +14,8 @@ use Rattle.lease_law.specs.Leases.{LeaderKey, FailsafeKey, FailsafeRequest, Flyi
 use Rattle.event_book.specs.Premises.{Taking}
 use Rattle.lease_law.specs.States.{Agent, Machine, Declared, State}
 use Rattle.lease_law.specs.Actions.{Input, taken_by, state_after}
-use Rattle.lease_law.specs.Past.{Past, is_acknowledged, past_after, past_over, first_past, past_of, VolatileState, machine_of, state_of}
+use Rattle.event_book.specs.Watchdogs.{is_acknowledged}
+use Rattle.lease_law.specs.Past.{Past, past_after, past_over, first_past, past_of, VolatileState, machine_of, state_of}
 use Rattle.event_book.specs.Kinds.{AllAre}
 use Rattle.lease_law.specs.Showing.{IsOwnWatchdog, IsOwn, input_of}
 use Rattle.lease_law.proofs.Tools.{put-all}

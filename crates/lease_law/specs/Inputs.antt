@@ -141,9 +141,9 @@ pub record MayCarry (s : State) (input : AgentInput) (agent : Agent) (carried : 
   pub mode : s.declared.failsafe ≡ true
   -- its server is live: else another may act by failsafe, and the set that it was covered by changes under it
   pub live : input.machine.live ≡ true
-  -- the deadline was set by a grant. Over one by acknowledgements the set could take in c, which holds nothing, creates the key
+  -- a deadline was set by a grant. Over one by acknowledgements the set could take in c, which holds nothing, creates the key
   -- at its expiry and begins
-  pub by_grant : input.machine.by_failsafe ≡ false
+  pub by_grant : (input.machine.deadline ≡ None) ⊎ (input.machine.by_failsafe ≡ false)
   -- no acknowledgement is waited for: the members of the set weren't asked
   pub failsafe_check : agent.failsafe_check ≡ None
   -- its members are known from then on, and asked later

@@ -10,4 +10,5 @@ pub mod Books
 pub mod Showing
 pub mod Stores
 pub mod Pauses
+pub mod Modes
 pub mod Claims

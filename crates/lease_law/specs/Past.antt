@@ -11,8 +11,6 @@ use Rattle.event_book.specs.declared.event.MessageEvent.TheVariants.{Sent, Deliv
 use Rattle.event_book.specs.declared.event.StoreEvent.TheVariants as stores
 use Rattle.event_book.specs.declared.event.WatchdogEvent.{WatchdogEvent}
 use Rattle.event_book.specs.declared.event.WatchdogEvent.TheVariants as watchdogs
-use Rattle.event_book.specs.declared.reason.Basis.{Basis}
-use Rattle.event_book.specs.declared.reason.Basis.TheVariants as bases
 use Rattle.event_book.specs.declared.link.LinkEnd.{LinkEnd}
 use Rattle.event_book.specs.declared.link.LinkEnd.TheVariants as ends
 use Rattle.event_book.specs.declared.message.Body.{Body}
@@ -20,6 +18,7 @@ use Rattle.event_book.specs.declared.message.Body.TheVariants as bodies
 use Rattle.event_book.specs.Clock.{now_after}
 use Rattle.event_book.specs.Functions.{put_at, set_members}
 use Rattle.event_book.specs.Premises.{Taking, moments_sent_after, taken_after, runs_after}
+use Rattle.event_book.specs.Watchdogs.{is_acknowledged}
 use Rattle.event_book.specs.Writers.{writes_after}
 use Rattle.lease_law.specs.Leases.{LeaderKey, FailsafeKey, Query, Create, Renew, Release, Write, Read, Question, Grant, Answer, Flying, Requested, Answered, FailsafeRequested, Acknowledged}
 use Rattle.lease_law.specs.Outcomes.{seen_of, shown_if, failsafe_carried, renewed}
@@ -162,11 +161,6 @@ deadline_by deadline (watchdogs.Fed member until basis) = put_at deadline member
 deadline_by deadline (watchdogs.Disarmed member) = put_at deadline member.id.number None
 deadline_by deadline (watchdogs.Reset member) = put_at deadline member.id.number None
 deadline_by deadline _ = deadline
-
--- a watchdog is fed by acknowledgements of a failsafe request, and not by a grant
-abbrev pub is_acknowledged : Basis → Bool
-is_acknowledged (bases.Grant answer) = false
-is_acknowledged (bases.Acknowledgements members sequence) = true
 
 -- whose deadline acknowledgements set last, after a watchdog is armed or fed
 abbrev pub by_failsafe_by : (ℕ → Bool) → WatchdogEvent → ℕ → Bool

@@ -23,6 +23,7 @@ ghost use Rattle.lease_law.specs.Leases.{FailsafeRequest, Requested, Read};
 ghost use Rattle.lease_law.specs.Outcomes.{outcome_of};
 ghost use Rattle.lease_law.specs.Past.{Past, VolatileState, first_past, past_after, past_of, past_over, machine_of, query_of, state_of};
 ghost use Rattle.lease_law.specs.Pauses.{NobodyPauses};
+ghost use Rattle.lease_law.specs.Modes.{IsDeclaredMode, LeavesMode};
 ghost use Rattle.event_book.specs.Premises.{IsTimely, IsHandsOff, IsHandsOffKind};
 ghost use Rattle.event_book.specs.Kinds.{AllAre};
 ghost use Rattle.lease_law.specs.States.{Declared, is_due, tick_machine};
@@ -126,6 +127,13 @@ pub fn delivery_is_shown()
 pub fn nobody_pauses()
     ensures first { (first : Settings) (names : List Name) (base : ℕ) → first.config.pause ≡ false → NobodyPauses (start_of first names base) }
     ensures each { (facts : Facts) (kind : EventKind) → IsHandsOffKind kind → NobodyPauses facts → NobodyPauses (facts_after facts kind) }
+{}
+
+/// Failsafe mode is as it was declared in each configuration that the key store holds and in each snapshot in flight, while none is granted that
+/// has it otherwise.
+pub fn the_mode_is_the_declared_one()
+    ensures first { (first : Settings) (names : List Name) (base : ℕ) → IsDeclaredMode first.config.failsafe_mode (start_of first names base) }
+    ensures each { (mode : Bool) (facts : Facts) (kind : EventKind) → LeavesMode mode kind → IsDeclaredMode mode facts → IsDeclaredMode mode (facts_after facts kind) }
 {}
 
 /// Starts, kills, crashes, what changes nothing, ticks and losses are shown by their events where the machines are as the action leaves them.

@@ -79,7 +79,7 @@ action-kept head book cluster events action good begins tells = record {
 -- the law's machines are those that are seen of the cluster
 pub machine-is : (head : HeadText) (past : Past) (cluster : Cluster) → IsMatched head past cluster → (m : ℕ) → machine_of past (volatile_of cluster m) m ≡ machine_in cluster m
 machine-is head past cluster matched m =
-    machine-same _ _ _ _ _ _ _ _ _ _ _ _ refl (matched.machines.deadline m) (matched.machines.by_grant m) (matched.machines.hold m) refl (matched.machines.runs m)
+    machine-same _ _ _ _ _ _ _ _ _ _ _ _ refl (matched.machines.deadline m) (matched.failsafe.bases m) (matched.machines.hold m) refl (matched.machines.runs m)
 
 acted-is : (s : Lease) (action : Action) → IsLocalAction action → (act s action).members ≡ machines_by_action action s.members
 acted-is s (Start k) is = refl

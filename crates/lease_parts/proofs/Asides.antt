@@ -30,12 +30,17 @@ use Rattle.lease_law.proofs.Unpaused.{pauses-by}
 use Rattle.lease_book.specs.Flights.{IsCausal}
 use Rattle.lease_book.proofs.Flights.{flight-by}
 use Rattle.lease_parts.specs.Asides.{IsAside, IsAsideIn}
+use Rattle.lease_law.specs.Modes.{LeavesMode}
+use Rattle.agent_lease_law.specs.Modes.{KeepsMode}
 use Rattle.lease_parts.specs.Bridged.{KnowsItself, KnowThemselves, IsMatched}
+use Rattle.lease_parts.specs.Declaring.{declared_of}
+use Rattle.lease_parts.proofs.Fitting.{failsafe-by}
+use Rattle.lease_parts.proofs.Fresh.{fresh-keeps}
 use Rattle.run_promise.specs.Members.{member_count}
 use Rattle.lease_parts.specs.Machines.{run_in}
 use Rattle.lease_parts.proofs.Machines.{machines-by, sized-by}
 use Rattle.cluster_model.proofs.Places.{get-changed, length-changed, there}
-use Rattle.lease_parts.proofs.Waiting.{aside-within, waiting-aside, waiting-started}
+use Rattle.lease_parts.proofs.Waiting.{aside-sends, aside-within, waiting-aside, waiting-started}
 use Rattle.agent_model.specs.Pausing.{is_paused}
 
 -- what such an event is beside
@@ -51,6 +56,10 @@ pub aside-hands_off : (May : ℕ → Type 0) (kind : EventKind) → IsAsideIn Ma
 aside-hands_off May (kinds.Store (stores.Granted number by txn standbys)) is = absurd is
 aside-hands_off May (kinds.Server (servers.Promoted server)) is = absurd is
 aside-hands_off May _ is = tt
+
+pub aside-mode : (mode : Bool) (May : ℕ → Type 0) (kind : EventKind) → IsAsideIn May kind → LeavesMode mode kind
+aside-mode mode May (kinds.Store (stores.Granted number by txn standbys)) is = absurd is
+aside-mode mode May _ is = tt
 
 aside-begins : (May P : ℕ → Type 0) (kind : EventKind) → IsAsideIn May kind → ((n : ℕ) → May n → P n) → BeginsKind P kind
 aside-begins May P (kinds.Server (servers.Began server timeline)) is so = so server.id.number is
@@ -76,20 +85,20 @@ aside-sized May cluster (kinds.Agent (agents.Started agent incarnation)) is = ab
 aside-sized May cluster _ is = refl
 
 -- an agent and its process change together
-knows-at : (processes : List AgentProcess) (agents : List (Option AgentFacts)) (k m : ℕ) (change : AgentProcess → AgentProcess) (becomes : Option AgentFacts → Option AgentFacts) (agent : AgentFacts) (same : Bool) → (m == k) ≡ same
-    → (m ≡ k → option_map becomes (slice_get agents m) ≡ Some (Some agent) → KnowsItself m (option_map change (slice_get processes m)) agent)
-    → (slice_get agents m ≡ Some (Some agent) → KnowsItself m (slice_get processes m) agent)
+knows-at : (mode : Bool) (processes : List AgentProcess) (agents : List (Option AgentFacts)) (k m : ℕ) (change : AgentProcess → AgentProcess) (becomes : Option AgentFacts → Option AgentFacts) (agent : AgentFacts) (same : Bool) → (m == k) ≡ same
+    → (m ≡ k → option_map becomes (slice_get agents m) ≡ Some (Some agent) → KnowsItself mode m (option_map change (slice_get processes m)) agent)
+    → (slice_get agents m ≡ Some (Some agent) → KnowsItself mode m (slice_get processes m) agent)
     → cond same (option_map becomes (slice_get agents m)) (slice_get agents m) ≡ Some (Some agent)
-    → KnowsItself m (cond same (option_map change (slice_get processes m)) (slice_get processes m)) agent
-knows-at processes agents k m change becomes agent true e here before is = here (eq-from m k e) is
-knows-at processes agents k m change becomes agent false e here before is = before is
+    → KnowsItself mode m (cond same (option_map change (slice_get processes m)) (slice_get processes m)) agent
+knows-at mode processes agents k m change becomes agent true e here before is = here (eq-from m k e) is
+knows-at mode processes agents k m change becomes agent false e here before is = before is
 
-knows-changed : (processes : List AgentProcess) (agents : List (Option AgentFacts)) (k : ℕ) (change : AgentProcess → AgentProcess) (becomes : Option AgentFacts → Option AgentFacts)
-    → ((m : ℕ) (agent : AgentFacts) → m ≡ k → option_map becomes (slice_get agents m) ≡ Some (Some agent) → KnowsItself m (option_map change (slice_get processes m)) agent)
-    → KnowThemselves processes agents → KnowThemselves (with_changed processes k change) (with_changed agents k becomes)
-knows-changed processes agents k change becomes here before m agent is =
-    subst (λ (o : Option AgentProcess). KnowsItself m o agent) (sym (get-changed processes k m change))
-    (knows-at processes agents k m change becomes agent (m == k) refl (here m agent) (before m agent) (sym (get-changed agents k m becomes) ∙ is))
+knows-changed : (mode : Bool) (processes : List AgentProcess) (agents : List (Option AgentFacts)) (k : ℕ) (change : AgentProcess → AgentProcess) (becomes : Option AgentFacts → Option AgentFacts)
+    → ((m : ℕ) (agent : AgentFacts) → m ≡ k → option_map becomes (slice_get agents m) ≡ Some (Some agent) → KnowsItself mode m (option_map change (slice_get processes m)) agent)
+    → KnowThemselves mode processes agents → KnowThemselves mode (with_changed processes k change) (with_changed agents k becomes)
+knows-changed mode processes agents k change becomes here before m agent is =
+    subst (λ (o : Option AgentProcess). KnowsItself mode m o agent) (sym (get-changed processes k m change))
+    (knows-at mode processes agents k m change becomes agent (m == k) refl (here m agent) (before m agent) (sym (get-changed agents k m becomes) ∙ is))
 
 none-there : {A : Type 0} (found : Option (Option A)) (agent : A) → option_map (λ (agent : Option A). let none : Option A = None in none) found ≡ Some (Some agent) → ⊥
 none-there None agent e = cc
@@ -100,37 +109,38 @@ the-started None started agent e = cc
 the-started (Some found) started agent e = cc
 
 -- a process is suspended, or goes on
-suspended-knows : (m : ℕ) (to same : Bool) (process : Option AgentProcess) (agent : AgentFacts) → KnowsItself m process agent
-    → KnowsItself m (cond same (option_map (λ (process : AgentProcess). let changed : AgentProcess = record process { suspended = to } in changed) process) process) agent
-suspended-knows m to true process agent old = record {
+suspended-knows : (mode : Bool) (m : ℕ) (to same : Bool) (process : Option AgentProcess) (agent : AgentFacts) → KnowsItself mode m process agent
+    → KnowsItself mode m (cond same (option_map (λ (process : AgentProcess). let changed : AgentProcess = record process { suspended = to } in changed) process) process) agent
+suspended-knows mode m to true process agent old = record {
   found = let changed : AgentProcess = record old.found { suspended = to } in changed;
   is = ap (option_map (λ (process : AgentProcess). let changed : AgentProcess = record process { suspended = to } in changed)) old.is;
   running = old.running;
   incarnation = old.incarnation;
   me = old.me;
+  keeps = old.keeps;
   unpaused = old.unpaused;
 }
-suspended-knows m to false process agent old = old
+suspended-knows mode m to false process agent old = old
 
-knows-suspended : (to : Bool) (processes : List AgentProcess) (agents : List (Option AgentFacts)) (k : ℕ)
-    → KnowThemselves processes agents → KnowThemselves (with_changed processes k (λ process. record process { suspended = to })) agents
-knows-suspended to processes agents k before m agent is =
-    subst (λ (o : Option AgentProcess). KnowsItself m o agent) (sym (get-changed processes k m _)) (suspended-knows m to (m == k) (slice_get processes m) agent (before m agent is))
+knows-suspended : (mode : Bool) (to : Bool) (processes : List AgentProcess) (agents : List (Option AgentFacts)) (k : ℕ)
+    → KnowThemselves mode processes agents → KnowThemselves mode (with_changed processes k (λ process. record process { suspended = to })) agents
+knows-suspended mode to processes agents k before m agent is =
+    subst (λ (o : Option AgentProcess). KnowsItself mode m o agent) (sym (get-changed processes k m _)) (suspended-knows mode m to (m == k) (slice_get processes m) agent (before m agent is))
 
-aside-knows : (May : ℕ → Type 0) (cluster : Cluster) (kind : EventKind) → IsAsideIn May kind
-    → KnowThemselves cluster.facts.processes cluster.agents → KnowThemselves (processes_after cluster.facts.processes kind) (agent_facts_after cluster kind)
-aside-knows May cluster (kinds.Message (messages.Sent number message)) is old = absurd is
-aside-knows May cluster (kinds.Message (messages.Delivered number)) is old = absurd is
-aside-knows May cluster (kinds.Watchdog (watchdogs.Reset member)) is old =
-    knows-changed cluster.facts.processes cluster.agents member.id.number _ _ (λ m agent here none. absurd (none-there (slice_get cluster.agents m) agent none)) old
-aside-knows May cluster (kinds.Agent (agents.Woken agent)) is old = absurd is
-aside-knows May cluster (kinds.Agent (agents.Operated agent action)) is old = absurd is
-aside-knows May cluster (kinds.Agent (agents.Killed member)) is old =
-    knows-changed cluster.facts.processes cluster.agents member.id.number _ _ (λ m agent here none. absurd (none-there (slice_get cluster.agents m) agent none)) old
-aside-knows May cluster (kinds.Agent (agents.Started member incarnation)) is old = absurd is
-aside-knows May cluster (kinds.Agent (agents.Suspended member)) is old = knows-suspended true cluster.facts.processes cluster.agents member.id.number old
-aside-knows May cluster (kinds.Agent (agents.Resumed member)) is old = knows-suspended false cluster.facts.processes cluster.agents member.id.number old
-aside-knows May cluster _ is old = old
+aside-knows : (mode : Bool) (May : ℕ → Type 0) (cluster : Cluster) (kind : EventKind) → IsAsideIn May kind
+    → KnowThemselves mode cluster.facts.processes cluster.agents → KnowThemselves mode (processes_after cluster.facts.processes kind) (agent_facts_after cluster kind)
+aside-knows mode May cluster (kinds.Message (messages.Sent number message)) is old = absurd is
+aside-knows mode May cluster (kinds.Message (messages.Delivered number)) is old = absurd is
+aside-knows mode May cluster (kinds.Watchdog (watchdogs.Reset member)) is old =
+    knows-changed mode cluster.facts.processes cluster.agents member.id.number _ _ (λ m agent here none. absurd (none-there (slice_get cluster.agents m) agent none)) old
+aside-knows mode May cluster (kinds.Agent (agents.Woken agent)) is old = absurd is
+aside-knows mode May cluster (kinds.Agent (agents.Operated agent action)) is old = absurd is
+aside-knows mode May cluster (kinds.Agent (agents.Killed member)) is old =
+    knows-changed mode cluster.facts.processes cluster.agents member.id.number _ _ (λ m agent here none. absurd (none-there (slice_get cluster.agents m) agent none)) old
+aside-knows mode May cluster (kinds.Agent (agents.Started member incarnation)) is old = absurd is
+aside-knows mode May cluster (kinds.Agent (agents.Suspended member)) is old = knows-suspended mode true cluster.facts.processes cluster.agents member.id.number old
+aside-knows mode May cluster (kinds.Agent (agents.Resumed member)) is old = knows-suspended mode false cluster.facts.processes cluster.agents member.id.number old
+aside-knows mode May cluster _ is old = old
 
 -- one such event, in which one of the members begins if anybody does
 pub aside-matched : (May : ℕ → Type 0) (head : HeadText) (past : Past) (cluster : Cluster) (kind : EventKind) → IsAsideIn May kind → ((n : ℕ) → May n → n < member_count head)
@@ -144,7 +154,9 @@ aside-matched May head past cluster kind is within old = record {
   flight = flight-by past cluster.facts kind (aside-causal May past cluster.facts kind is) old.store old.flight;
   machines = machines-by (member_count head) past cluster.facts kind old.sized (aside-within May (member_count head) kind is (aside-begins May (λ n. n < member_count head) kind is within)) old.machines;
   unpaused = pauses-by cluster.facts kind (aside-hands_off May kind is) old.unpaused;
-  agents = aside-knows May cluster kind is old.agents;
+  failsafe = failsafe-by (declared_of head).failsafe (member_count head) past cluster kind (record { store = old.store; flight = old.flight }) (aside-within May (member_count head) kind is (aside-begins May (λ n. n < member_count head) kind is within))
+      (aside-sends cluster.facts.members (declared_of head).failsafe May kind is) (aside-mode (declared_of head).failsafe May kind is) old.failsafe;
+  agents = aside-knows (declared_of head).failsafe May cluster kind is old.agents;
   waiting = waiting-aside May head past cluster kind is old;
 }
 
@@ -170,10 +182,10 @@ pub matched-behind : (head : HeadText) (book : List Event) (cluster : Cluster) (
 matched-behind head book cluster events all old = matched-behind-as (λ n. ⊥) head book cluster events all (λ n e. absurd e) old
 
 -- ---- an agent starts
-started-knows : (count : ℕ) (cluster : Cluster) (member : Member) (incarnation : ℕ) → length cluster.facts.processes ≡ count → member.id.number < count
-    → KnowThemselves cluster.facts.processes cluster.agents → KnowThemselves (processes_after cluster.facts.processes (kinds.Agent (agents.Started member incarnation))) (agent_facts_after cluster (kinds.Agent (agents.Started member incarnation)))
-started-knows count cluster member incarnation sized is old =
-    knows-changed cluster.facts.processes cluster.agents member.id.number _ _ (λ m agent here started.
+started-knows : (mode : Bool) (count : ℕ) (cluster : Cluster) (member : Member) (incarnation : ℕ) → length cluster.facts.processes ≡ count → member.id.number < count
+    → KnowThemselves mode cluster.facts.processes cluster.agents → KnowThemselves mode (processes_after cluster.facts.processes (kinds.Agent (agents.Started member incarnation))) (agent_facts_after cluster (kinds.Agent (agents.Started member incarnation)))
+started-knows mode count cluster member incarnation sized is old =
+    knows-changed mode cluster.facts.processes cluster.agents member.id.number _ _ (λ m agent here started.
     let one = the-started (slice_get cluster.agents m) _ agent started in
     let process = there cluster.facts.processes m (subst (λ (n : ℕ). n < length cluster.facts.processes) (sym here) (subst (λ (n : ℕ). member.id.number < n) (sym sized) is)) in
     record {
@@ -182,6 +194,7 @@ started-knows count cluster member incarnation sized is old =
       running = refl;
       incarnation = ap (λ (a : AgentFacts). a.knows.incarnation) (sym one);
       me = ap (λ (a : AgentFacts). a.knows.who.me.number) (sym one) ∙ sym here;
+      keeps = subst (λ (a : AgentFacts). KeepsMode mode a.knows) one (fresh-keeps mode _ _ _);
       unpaused = ap (λ (a : AgentFacts). is_paused a.knows) (sym one);
     }) old
 
@@ -199,6 +212,7 @@ started-matched head past cluster member incarnation small later old =
       flight = flight-by past cluster.facts kind tt old.store old.flight;
       machines = machines-by (member_count head) past cluster.facts kind old.sized small old.machines;
       unpaused = pauses-by cluster.facts kind tt old.unpaused;
-      agents = started-knows (member_count head) cluster member incarnation old.sized.agents small old.agents;
+      failsafe = failsafe-by (declared_of head).failsafe (member_count head) past cluster kind (record { store = old.store; flight = old.flight }) small tt tt old.failsafe;
+      agents = started-knows (declared_of head).failsafe (member_count head) cluster member incarnation old.sized.agents small old.agents;
       waiting = waiting-started head past cluster member incarnation small later old;
     }

@@ -29,7 +29,10 @@ use Rattle.lease_parts.specs.Declaring.{declared_of}
 use Rattle.run_promise.specs.Members.{declared_members, member_count}
 use Rattle.lease_parts.specs.Machines.{IsSameEverywhere, deadline_now, hold_now, live_now, run_in}
 use Rattle.lease_parts.specs.Volatile.{agent_now, volatile_of}
-use Rattle.lease_parts.proofs.Fresh.{fresh-seen}
+use Rattle.agent_lease_law.specs.Modes.{KeepsMode}
+use Rattle.cluster_model.specs.FailsafeDeadlines.{is_set_by_failsafe}
+use Rattle.lease_law.proofs.Modes.{mode-first}
+use Rattle.lease_parts.proofs.Fresh.{fresh-keeps, fresh-seen}
 use Rattle.run_promise.proofs.Members.{counted, numbered}
 use Rattle.lease_parts.proofs.Waiting.{waiting-first}
 use Rattle.agent_model.specs.Pausing.{is_paused}
@@ -64,7 +67,6 @@ first-machines head = record {
   deadline = λ m. sym (seen-replicate (let none : Option Ticks = None in none) deadline_now None refl refl (member_count head) m);
   hold = λ m. sym (seen-replicate (let none : Option Ticks = None in none) hold_now 0 refl refl (member_count head) m);
   runs = λ m. sym (first-run (member_count head) m);
-  by_grant = λ m. refl;
   writes = λ m. sym (seen-replicate (fresh head.base) writes_now false refl refl (member_count head) m);
 }
 
@@ -82,11 +84,11 @@ first-volatile head =
     fun_ext (λ m. volatile-same _ _ _ _ (seen-replicate (fresh head.base) live_now false refl refl (member_count head) m)
     (ap agent_now (slice_get-map (first_agent head.cluster (options_of head) members) members m) ∙ agent-first head.cluster (options_of head) members (slice_get members m)))
 
-knows-first : (scope : Name) (options : List MemberOptions) (members : List Member) (count m : ℕ) (found : Option Member) (agent : AgentFacts) → slice_get members m ≡ found → m < count
+knows-first : (mode : Bool) (scope : Name) (options : List MemberOptions) (members : List Member) (count m : ℕ) (found : Option Member) (agent : AgentFacts) → slice_get members m ≡ found → m < count
     → ((member : Member) → slice_get members m ≡ Some member → member.id.number ≡ m)
-    → option_map (first_agent scope options members) found ≡ Some (Some agent) → KnowsItself m (slice_get (first_processes count) m) agent
-knows-first scope options members count m None agent is small number there = absurd (none-some (Some agent) there)
-knows-first scope options members count m (Some member) agent is small number there =
+    → option_map (first_agent scope options members) found ≡ Some (Some agent) → KnowsItself mode m (slice_get (first_processes count) m) agent
+knows-first mode scope options members count m None agent is small number there = absurd (none-some (Some agent) there)
+knows-first mode scope options members count m (Some member) agent is small number there =
     let same = some-is _ agent (some-is _ (Some agent) there) in
     record {
       found = running_in 1;
@@ -94,15 +96,16 @@ knows-first scope options members count m (Some member) agent is small number th
       running = refl;
       incarnation = ap (λ (a : AgentFacts). a.knows.incarnation) (sym same);
       me = ap (λ (a : AgentFacts). a.knows.who.me.number) (sym same) ∙ number member is;
+      keeps = subst (λ (a : AgentFacts). KeepsMode mode a.knows) same (fresh-keeps mode _ _ _);
       unpaused = ap (λ (a : AgentFacts). is_paused a.knows) (sym same);
     }
 
-first-knows : (head : HeadText) → length (names_of head) ≤ MOST_MEMBERS → KnowThemselves (first_processes (member_count head)) (cluster_of head).agents
+first-knows : (head : HeadText) → length (names_of head) ≤ MOST_MEMBERS → KnowThemselves (declared_of head).failsafe (first_processes (member_count head)) (cluster_of head).agents
 first-knows head few m agent is =
     let members : List Member = declared_members head in
     let there : option_map (first_agent head.cluster (options_of head) members) (slice_get members m) ≡ Some (Some agent) = sym (slice_get-map (first_agent head.cluster (options_of head) members) members m) ∙ is in
     let sized : length (cluster_of head).agents ≡ member_count head = length-map members (first_agent head.cluster (options_of head) members) ∙ counted head few in
-    knows-first head.cluster (options_of head) members (member_count head) m (slice_get members m) agent refl (subst (λ (n : ℕ). m < n) sized (slice_get_within (cluster_of head).agents m (Some agent) is)) (numbered head few m) there
+    knows-first (declared_of head).failsafe head.cluster (options_of head) members (member_count head) m (slice_get members m) agent refl (subst (λ (n : ℕ). m < n) sized (slice_get_within (cluster_of head).agents m (Some agent) is)) (numbered head few m) there
 
 pub bridged-first : (head : HeadText) → length (names_of head) ≤ MOST_MEMBERS → head.config.config.pause ≡ false → Bridged head [] (cluster_of head)
 bridged-first head few unpaused = record {
@@ -120,6 +123,14 @@ bridged-first head few unpaused = record {
     flight = flight-first head.config (names_of head) head.base;
     machines = first-machines head;
     unpaused = pauses-first head.config (names_of head) head.base unpaused;
+    failsafe = record {
+      sized = length-replicate (member_count head) false;
+      bases = λ m. sym (seen-replicate false is_set_by_failsafe false refl refl (member_count head) m);
+      told = mode-first head.config (names_of head) head.base;
+      asked = λ i carried e. absurd (none-some carried e);
+      numbered = numbered head few;
+      between = λ i carried e. absurd (none-some carried e);
+    };
     agents = first-knows head few;
     waiting = waiting-first head;
   };

@@ -1,12 +1,20 @@
 -- What the law sees of an agent that starts.
-use Rattle.std.proofs.Common.{ℕ, ◌≡◌, ◌==◌, Bool, false, ap}
+use Rattle.std.proofs.Common.{ℕ, ◌≡◌, ◌==◌, Bool, true, false, ap}
 use Rattle.std.proofs.Math.Path.{fun_ext}
 use Rattle.std.proofs.lemmas.Nat.Bits.{bit_at-zero}
 use Rattle.std.specs.Int.{bit_at}
 use Rattle.agent_model.specs.declared.who.Who.{Who}
+use Rattle.agent_lease_law.specs.Modes.{KeepsMode}
 use Rattle.cluster_model.specs.Inputs.{starting_agent}
 use Rattle.lease_law.specs.States.{Agent, fresh_agent}
 use Rattle.lease_parts.specs.AgentSeen.{agent_seen}
+
+-- of failsafe mode it takes nothing to be on
+pub fresh-keeps : (mode : Bool) (who : Who) (now incarnation : ℕ) → KeepsMode mode (starting_agent who now incarnation).knows
+fresh-keeps mode who now incarnation = record { settings = λ e. absurd (not-so e); confirmed = λ e. absurd (not-so e); races = λ e. absurd (not-so e) }
+  where
+    not-so : false ≡ true → ⊥
+    not-so e = cc
 
 -- it knows nothing
 pub fresh-seen : (who : Who) (now incarnation : ℕ) → agent_seen (starting_agent who now incarnation) ≡ fresh_agent incarnation

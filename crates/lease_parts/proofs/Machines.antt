@@ -6,8 +6,6 @@ use Rattle.pat_base.specs.declared.ticks.Ticks.{Ticks}
 use Rattle.pat_base.specs.Changes.{with_changed}
 use Rattle.pg_model.specs.Facts.{ServerFacts}
 use Rattle.event_book.specs.declared.agent_process.AgentProcess.{AgentProcess}
-use Rattle.event_book.specs.declared.reason.Basis.{Basis}
-use Rattle.event_book.specs.declared.reason.Basis.TheVariants as bases
 use Rattle.event_book.specs.declared.event.AgentEvent.{AgentEvent}
 use Rattle.event_book.specs.declared.event.AgentEvent.TheVariants as agents
 use Rattle.event_book.specs.declared.event.EventKind.{EventKind}
@@ -22,13 +20,14 @@ use Rattle.event_book.specs.Facts.{Facts, facts_after}
 use Rattle.event_book.specs.declared.event.Event.{Event}
 use Rattle.event_book.specs.Functions.{put_at}
 use Rattle.event_book.specs.Servers.{servers_after}
-use Rattle.event_book.specs.Watchdogs.{deadlines_after, deadlines_by, holds_after, holds_by, prolonged_to}
+use Rattle.event_book.specs.Watchdogs.{is_acknowledged, deadlines_after, deadlines_by, holds_after, holds_by, prolonged_to}
 use Rattle.event_book.specs.Writers.{writes_in, writes_now, writes_after, writes_by_server, writes_by_watchdog, BeginsKind, BeginsServer}
 use Rattle.event_book.proofs.Told.{count-of, writes-of, writes-same}
-use Rattle.lease_law.specs.Past.{Past, past_after, deadline_after, deadline_by, by_failsafe_after, by_failsafe_by, is_acknowledged, hold_after, hold_by}
+use Rattle.lease_law.specs.Past.{Past, past_after, deadline_after, deadline_by, by_failsafe_after, by_failsafe_by, hold_after, hold_by}
 use Rattle.event_book.specs.Premises.{runs_after}
 use Rattle.lease_law.proofs.Tools.{put-all}
-use Rattle.lease_parts.specs.Machines.{deadline_now, deadline_in, hold_now, hold_in, run_now, run_in, IsSameEverywhere, IsSized, IsByGrant, IsWithinMembers}
+use Rattle.lease_parts.specs.Machines.{deadline_now, deadline_in, hold_now, hold_in, run_now, run_in, IsSameEverywhere, IsSized, IsWithinMembers}
+use Rattle.cluster_model.specs.FailsafeDeadlines.{failsafe_deadlines_after, failsafe_deadlines_by, is_set_by_failsafe}
 use Rattle.cluster_model.proofs.Places.{get-changed, length-changed, there}
 
 -- what is put at a place is what is seen of the changed item there
@@ -71,7 +70,7 @@ deadline-watched : (before : ℕ → Option ℕ) (deadlines : List (Option Ticks
 deadline-watched before deadlines (watchdogs.Armed member until answer) is same m =
     seen-put deadline_now before deadlines member.id.number m _ (Some until.0) (seen-there deadline_now deadlines member.id.number _ (Some until.0) is (λ found. refl)) (same m)
 deadline-watched before deadlines (watchdogs.Fed member until basis) is same m =
-    seen-put deadline_now before deadlines member.id.number m _ (Some until.0) (seen-there deadline_now deadlines member.id.number _ (Some until.0) is.0 (λ found. refl)) (same m)
+    seen-put deadline_now before deadlines member.id.number m _ (Some until.0) (seen-there deadline_now deadlines member.id.number _ (Some until.0) is (λ found. refl)) (same m)
 deadline-watched before deadlines (watchdogs.Disarmed member) is same m = seen-put deadline_now before deadlines member.id.number m _ None (no-deadline (slice_get deadlines member.id.number)) (same m)
 deadline-watched before deadlines (watchdogs.Reset member) is same m = seen-put deadline_now before deadlines member.id.number m _ None (no-deadline (slice_get deadlines member.id.number)) (same m)
 deadline-watched before deadlines _ is same m = same m
@@ -129,22 +128,28 @@ runs-of before processes (kinds.Agent happening) is same m = runs-by before proc
 runs-of before processes (kinds.Watchdog happening) is same m = same m ∙ runs-watched processes happening m
 runs-of before processes _ is same m = same m
 
-by-grant : (basis : Basis) → IsByGrant basis → is_acknowledged basis ≡ false
-by-grant (bases.Grant answer) is = refl
-by-grant (bases.Acknowledgements members sequence) is = absurd is
+basis-watched : (before : ℕ → Bool) (known : List Bool) (happening : WatchdogEvent) → IsWithinMembers (length known) (kinds.Watchdog happening)
+    → ((m : ℕ) → before m ≡ is_set_by_failsafe (slice_get known m)) → (m : ℕ) → by_failsafe_by before happening m ≡ is_set_by_failsafe (slice_get (failsafe_deadlines_by known happening) m)
+basis-watched before known (watchdogs.Armed member until answer) is same m =
+    seen-put is_set_by_failsafe before known member.id.number m _ false (seen-there is_set_by_failsafe known member.id.number _ false is (λ found. refl)) (same m)
+basis-watched before known (watchdogs.Fed member until basis) is same m =
+    seen-put is_set_by_failsafe before known member.id.number m _ (is_acknowledged basis) (seen-there is_set_by_failsafe known member.id.number _ (is_acknowledged basis) is (λ found. refl)) (same m)
+basis-watched before known _ is same m = same m
 
-put-false : (before : ℕ → Bool) (k : ℕ) (value : Bool) → value ≡ false → ((m : ℕ) → before m ≡ false) → (m : ℕ) → put_at before k value m ≡ false
-put-false before k value is all = put-all before k value (λ m b. b ≡ false) is (λ m other. all m)
+-- whose deadline acknowledgements set last
+pub basis-of : (before : ℕ → Bool) (known : List Bool) (kind : EventKind) → IsWithinMembers (length known) kind
+    → ((m : ℕ) → before m ≡ is_set_by_failsafe (slice_get known m)) → (m : ℕ) → by_failsafe_after before kind m ≡ is_set_by_failsafe (slice_get (failsafe_deadlines_after known kind) m)
+basis-of before known (kinds.Watchdog happening) is same m = basis-watched before known happening is same m
+basis-of before known _ is same m = same m
 
-by_grant-watched : (count : ℕ) (before : ℕ → Bool) (happening : WatchdogEvent) → IsWithinMembers count (kinds.Watchdog happening)
-    → ((m : ℕ) → before m ≡ false) → (m : ℕ) → by_failsafe_by before happening m ≡ false
-by_grant-watched count before (watchdogs.Armed member until answer) is all m = put-false before member.id.number false refl all m
-by_grant-watched count before (watchdogs.Fed member until basis) is all m = put-false before member.id.number (is_acknowledged basis) (by-grant basis is.1) all m
-by_grant-watched count before _ is all m = all m
+bases-watched : (known : List Bool) (happening : WatchdogEvent) → length (failsafe_deadlines_by known happening) ≡ length known
+bases-watched known (watchdogs.Armed member until answer) = length-changed known _ _
+bases-watched known (watchdogs.Fed member until basis) = length-changed known _ _
+bases-watched known _ = refl
 
-pub by_grant-of : (count : ℕ) (before : ℕ → Bool) (kind : EventKind) → IsWithinMembers count kind → ((m : ℕ) → before m ≡ false) → (m : ℕ) → by_failsafe_after before kind m ≡ false
-by_grant-of count before (kinds.Watchdog happening) is all m = by_grant-watched count before happening is all m
-by_grant-of count before _ is all m = all m
+pub bases-sized : (known : List Bool) (kind : EventKind) → length (failsafe_deadlines_after known kind) ≡ length known
+bases-sized known (kinds.Watchdog happening) = bases-watched known happening
+bases-sized known _ = refl
 
 -- a server that doesn't begin writes past the members no more than before
 no-writes-server : (before : ℕ → Bool) (happening : ServerEvent) (n : ℕ) → BeginsServer (λ server. server ≢ n) happening → before n ≡ false → writes_by_server before happening n ≡ false
@@ -238,6 +243,5 @@ machines-by count past facts kind sized is old = record {
   deadline = deadline-of past.deadline facts.deadlines kind (subst (λ (n : ℕ). IsWithinMembers n kind) (sym sized.deadlines) is) old.deadline;
   hold = hold-of past.hold facts.holds kind (subst (λ (n : ℕ). IsWithinMembers n kind) (sym sized.holds) is) old.hold;
   runs = runs-of past.runs facts.processes kind (subst (λ (n : ℕ). IsWithinMembers n kind) (sym sized.agents) is) old.runs;
-  by_grant = by_grant-of count past.by_failsafe kind is old.by_grant;
   writes = writes-in past.writes (now_after facts.clock kind) facts.servers kind (subst (λ (n : ℕ). IsWithinMembers n kind) (sym sized.servers) is) old.writes;
 }

@@ -96,14 +96,14 @@ there-too : {A B : Type 0} (f : A → B) (found : Option A) → IsThere found �
 there-too f None there = absurd there
 there-too f (Some x) there = tt
 
-disarms : (member : Member) (receives : Bool) (replication : Option Replication) (options : Option MemberOptions) (deadline hold : Option (Option Ticks)) (s : Option ServerFacts) → IsThere replication → IsThere options → IsThere deadline → IsThere hold → IsThere s
-    → IsStartOf member (live_now s) (deadline_now deadline) (disarm_of member (machine_from receives replication options deadline hold s))
-disarms member receives None options deadline hold s r a b c d = absurd r
-disarms member receives (Some replication) None deadline hold s r a b c d = absurd a
-disarms member receives (Some replication) (Some options) None hold s r a b c d = absurd b
-disarms member receives (Some replication) (Some options) (Some deadline) None s r a b c d = absurd c
-disarms member receives (Some replication) (Some options) (Some deadline) (Some hold) None r a b c d = absurd d
-disarms member receives (Some replication) (Some options) (Some deadline) (Some hold) (Some s) r a b c d = disarms-if member (live s.state) deadline
+disarms : (member : Member) (receives by_failsafe : Bool) (replication : Option Replication) (options : Option MemberOptions) (deadline hold : Option (Option Ticks)) (s : Option ServerFacts) → IsThere replication → IsThere options → IsThere deadline → IsThere hold → IsThere s
+    → IsStartOf member (live_now s) (deadline_now deadline) (disarm_of member (machine_from receives by_failsafe replication options deadline hold s))
+disarms member receives by_failsafe None options deadline hold s r a b c d = absurd r
+disarms member receives by_failsafe (Some replication) None deadline hold s r a b c d = absurd a
+disarms member receives by_failsafe (Some replication) (Some options) None hold s r a b c d = absurd b
+disarms member receives by_failsafe (Some replication) (Some options) (Some deadline) None s r a b c d = absurd c
+disarms member receives by_failsafe (Some replication) (Some options) (Some deadline) (Some hold) None r a b c d = absurd d
+disarms member receives by_failsafe (Some replication) (Some options) (Some deadline) (Some hold) (Some s) r a b c d = disarms-if member (live s.state) deadline
 
 is-there : {A : Type 0} (xs : List A) (k : ℕ) → k < length xs → IsThere (slice_get xs k)
 is-there xs k small = let found = there xs k small in subst IsThere (sym found.1) tt
@@ -117,7 +117,7 @@ start-disarms head book cluster member small good =
     let k : ℕ = member.id.number in
     let within : (n : ℕ) → n ≡ member_count head → k < n = λ n e. subst (λ (n : ℕ). k < n) (sym e) small in
     let server : IsThere (slice_get cluster.facts.servers k) = is-there cluster.facts.servers k (within (length cluster.facts.servers) good.matched.sized.servers) in
-    disarms member _ _ (slice_get cluster.options k) (slice_get cluster.facts.deadlines k) (slice_get cluster.facts.holds k) (slice_get cluster.facts.servers k)
+    disarms member _ _ _ (slice_get cluster.options k) (slice_get cluster.facts.deadlines k) (slice_get cluster.facts.holds k) (slice_get cluster.facts.servers k)
     (there-too (replication_of cluster.facts.members cluster.facts.servers cluster.facts.cuts member) (slice_get cluster.facts.servers k) server)
     (is-there cluster.options k (within (length cluster.options) (ap (λ xs. length xs) good.matched.options ∙ options-sized head)))
     (is-there cluster.facts.deadlines k (within (length cluster.facts.deadlines) good.matched.sized.deadlines))

@@ -36,13 +36,14 @@ use Rattle.lease_book.specs.Flights.{AreCausal, IsSameBook}
 use Rattle.lease_book.specs.Waiting.{IsLastRun}
 use Rattle.lease_book.proofs.Delivering.{granted-delivery, read-delivery, refused-delivery}
 use Rattle.lease_book.proofs.Groups.{granted-causal, read-causal, refused-causal}
+use Rattle.lease_law.specs.Modes.{IsModeAsked, IsModeSet}
 use Rattle.lease_parts.specs.Bridged.{Bridged, IsMatched, KnowThemselves}
 use Rattle.lease_parts.specs.Declaring.{declared_of}
-use Rattle.run_promise.specs.Members.{member_count}
+use Rattle.run_promise.specs.Members.{declared_members, member_count}
 use Rattle.lease_parts.specs.Kept.{IsKept}
 use Rattle.lease_parts.specs.Machines.{live_in, run_in}
 use Rattle.lease_parts.specs.Volatile.{agent_now, volatile_of}
-use Rattle.lease_parts.specs.Waiting.{AreAgentsSound, IsAddressed}
+use Rattle.lease_parts.specs.Waiting.{AreAgentsSound, IsAddressed, IsKnownEnd}
 use Rattle.lease_parts.proofs.Actions.{action-kept}
 use Rattle.lease_parts.proofs.Composing.{kept-none, kept-then}
 use Rattle.lease_parts.proofs.Ending.{kept-loss}
@@ -58,17 +59,17 @@ pub record LeavesMembers (past : Past) (cluster : Cluster) (events : List Event)
 
 pub same-volatile : (before after : Cluster) → after.agents ≡ before.agents → after.facts.servers ≡ before.facts.servers → volatile_of after ≡ volatile_of before
 same-volatile before after agents servers =
-    ap (λ (xs : List (Option AgentFacts)). volatile_of (record { scope = after.scope; options = after.options; facts = after.facts; agents = xs })) agents
+    ap (λ (xs : List (Option AgentFacts)). volatile_of (record { scope = after.scope; options = after.options; facts = after.facts; failsafe_deadlines = after.failsafe_deadlines; agents = xs })) agents
     ∙ ap (λ ss. λ (m : ℕ). let state : VolatileState = record { live = live_in ss m; agent = agent_now (slice_get before.agents m) } in state) servers
 
 -- what agents know is the same
-pub matched-after : (head : HeadText) (past : Past) (cluster : Cluster) (events : List Event) → AreCausal past cluster.facts events → AllAre (IsFitting (member_count head)) events
+pub matched-after : (head : HeadText) (past : Past) (cluster : Cluster) (events : List Event) → AreCausal past cluster.facts events → AllAre (IsFitting head) events
     → LeavesMembers past cluster events → IsMatched head past cluster → IsMatched head (past_over past events) (cluster_over cluster events)
 matched-after head past cluster events causal all leaves old =
     let later : Cluster = cluster_over cluster events in
     matched-from head (past_over past events) later (fits-over head past cluster events causal all (fits-of head past cluster old))
     (ap (λ xs. length xs) leaves.agents ∙ old.agents_sized)
-    (subst (λ processes. KnowThemselves processes later.agents) (sym leaves.processes) (subst (λ agents. KnowThemselves cluster.facts.processes agents) (sym leaves.agents) old.agents))
+    (subst (λ processes. KnowThemselves (declared_of head).failsafe processes later.agents) (sym leaves.processes) (subst (λ agents. KnowThemselves (declared_of head).failsafe cluster.facts.processes agents) (sym leaves.agents) old.agents))
     (λ m. subst (λ (asked : ℕ → Option Question). IsLastRun asked m (run_in later.facts.processes m)) (sym leaves.asked)
     (subst (λ processes. IsLastRun past.asked m (run_in processes m)) (sym leaves.processes) (old.waiting.runs m)))
     (subst (λ (asked : ℕ → Option Question). AreAgentsSound asked later.agents) (sym leaves.asked) (subst (λ agents. AreAgentsSound past.asked agents) (sym leaves.agents) old.waiting.agents))
@@ -76,7 +77,7 @@ matched-after head past cluster events causal all leaves old =
 -- one delivery to the key store
 delivery-kept : (head : HeadText) (book : List Event) (cluster : Cluster) (events : List Event) (number answer : ℕ) (granted : Bool) → Bridged head book cluster
     → ((P : List Event → ℕ → Type 0) → BeginsBehind P [] events) → LeavesMembers (past_of book) cluster events → AreCausal (past_of book) cluster.facts events
-    → (AreHandsOff events → AllAre (IsFitting (member_count head)) events)
+    → (AreHandsOff events → AllAre (IsFitting head) events)
     → IsShown (declared_of head) book (volatile_of cluster) (record { action = Deliver number answer granted; events = events; volatile_states = volatile_of cluster })
     → IsKept head book cluster events
 delivery-kept head book cluster events number answer granted good begins leaves causal fitting shown =
@@ -113,6 +114,39 @@ module _ (head : HeadText) (book : List Event) (cluster : Cluster) (number : ℕ
   same-book : IsSameBook (past_of book) cluster.facts
   same-book = record { store = good.matched.store; flight = good.matched.flight }
 
+  abbrev Mode : Bool
+  Mode = (declared_of head).failsafe
+
+  -- an event that neither sends nor is granted
+  plain : Unit {0} × (Unit {0} × (Unit {0} × Unit {0}))
+  plain = (tt, (tt, (tt, tt)))
+
+  no-question : true ≡ false → ⊥
+  no-question e = cc
+
+  -- an answer is no question
+  answers : (body : Body) → Asks body → Unit {0} × (Unit {0} × ((Unit {0} × ((true ≡ false → 0 < sequence) × (Unit {0} × (Unit {0} × IsKnownEnd (declared_members head) (ends.Member by))))) × Unit {0}))
+  answers body is = (
+    tt,
+    (
+      tt,
+      (
+        (
+          tt,
+          (
+            λ e. absurd (no-question e),
+            (tt, (tt, subst (λ (members : List Member). IsKnownEnd members (ends.Member by)) good.matched.members (subst (λ (m : Message). IsKnownEnd cluster.facts.members m.from) is (good.matched.failsafe.between number message found).0))),
+          ),
+        ),
+        tt,
+      ),
+    ),
+  )
+
+  -- what is asked doesn't change the mode
+  asks-mode : (txn : Txn) → Asks (bodies.Request txn) → IsModeSet Mode txn
+  asks-mode txn is = subst (λ (m : Message). IsModeAsked Mode m.body) is (good.matched.failsafe.asked number message found)
+
   reached : (body : Body) → Asks body → agent_facts_reached cluster (in_flight cluster.facts.flight number) ≡ cluster.agents
   reached body is = ap (agent_facts_reached cluster) found ∙ ap (λ (m : Message). agent_facts_reached_at cluster message m.to) is
 
@@ -125,7 +159,7 @@ module _ (head : HeadText) (book : List Event) (cluster : Cluster) (number : ℕ
       (delivery-kept head book cluster events number answer true good (λ P. (tt, (tt, tt)))
       (record { agents = reached bodies.Read is; servers = refl; processes = refl; asked = refl })
       (read-causal (past_of book) cluster.facts Moment number answer by incarnation sequence above)
-      (λ hands_off. ((tt, tt, tt), ((tt, tt, tt), tt)))
+      (λ hands_off. (plain, (answers (bodies.Read) is, tt)))
       (read-delivery (declared_of head) book cluster.facts (volatile_of cluster) Moment number answer message by incarnation sequence same-book found is above).0)
       (λ later. lost-kept head (book ++ events) (cluster_over cluster events) (nat_le most_in_flight (length Later.facts.flight)) answer later)
 
@@ -140,7 +174,7 @@ module _ (head : HeadText) (book : List Event) (cluster : Cluster) (number : ℕ
       (delivery-kept head book cluster events number answer true good (λ P. (tt, (tt, (tt, tt))))
       (record { agents = reached (bodies.Request txn) is; servers = refl; processes = refl; asked = refl })
       (granted-causal (past_of book) cluster.facts Moment number answer message by incarnation sequence txn names good.matched.flight found is above span)
-      (λ hands_off. ((tt, tt, tt), ((hands_off.1.0, tt, tt), ((tt, tt, tt), tt))))
+      (λ hands_off. (plain, ((hands_off.1.0, (tt, (tt, asks-mode txn is))), (answers (bodies.Request txn) is, tt))))
       (granted-delivery (declared_of head) book cluster.facts (volatile_of cluster) Moment number answer message by incarnation sequence txn names same-book found is above span decides).0)
       (λ later. lost-kept head (book ++ events) (cluster_over cluster events) (nat_le most_in_flight (length Later.facts.flight)) answer later)
   decision-kept txn (Refusal key expected) is span decides =
@@ -151,7 +185,7 @@ module _ (head : HeadText) (book : List Event) (cluster : Cluster) (number : ℕ
       (delivery-kept head book cluster events number answer false good (λ P. (tt, (tt, (tt, tt))))
       (record { agents = reached (bodies.Request txn) is; servers = refl; processes = refl; asked = refl })
       (refused-causal (past_of book) cluster.facts Moment number answer by incarnation sequence (txn_kind_of txn) key expected above)
-      (λ hands_off. ((tt, tt, tt), ((tt, tt, tt), ((tt, tt, tt), tt))))
+      (λ hands_off. (plain, (plain, (answers (bodies.Request txn) is, tt))))
       (refused-delivery (declared_of head) book cluster.facts (volatile_of cluster) Moment number answer message by incarnation sequence txn (txn_kind_of txn) key expected same-book found is above decides).0)
       (λ later. lost-kept head (book ++ events) (cluster_over cluster events) (nat_le most_in_flight (length Later.facts.flight)) answer later)
 

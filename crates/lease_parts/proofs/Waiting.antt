@@ -29,6 +29,7 @@ use Rattle.lease_book.proofs.Waits.{run-new}
 use Rattle.lease_parts.specs.Asides.{IsAsideIn}
 use Rattle.event_book.specs.Writers.{BeginsKind}
 use Rattle.lease_parts.specs.Bridged.{IsMatched}
+use Rattle.lease_parts.specs.Declaring.{declared_of}
 use Rattle.run_promise.specs.Members.{declared_members, member_count}
 use Rattle.lease_parts.specs.Machines.{IsWithinMembers, run_in}
 use Rattle.lease_parts.specs.Waiting.{AgentsAreSound, IsAgentSound}
@@ -43,11 +44,11 @@ aside-asked May past (kinds.Message (messages.Delivered number)) is = refl
 aside-asked May past (kinds.Message (messages.Lost number)) is = refl
 aside-asked May past _ is = refl
 
-aside-sends : (May : ℕ → Type 0) (kind : EventKind) → IsAsideIn May kind → SendsAddressed kind
-aside-sends May (kinds.Message (messages.Sent number message)) is = absurd is
-aside-sends May (kinds.Message (messages.Delivered number)) is = tt
-aside-sends May (kinds.Message (messages.Lost number)) is = tt
-aside-sends May _ is = tt
+pub aside-sends : (members : List Member) (mode : Bool) (May : ℕ → Type 0) (kind : EventKind) → IsAsideIn May kind → SendsAddressed members mode kind
+aside-sends members mode May (kinds.Message (messages.Sent number message)) is = absurd is
+aside-sends members mode May (kinds.Message (messages.Delivered number)) is = tt
+aside-sends members mode May (kinds.Message (messages.Lost number)) is = tt
+aside-sends members mode May _ is = tt
 
 -- whose server begins is one of so many
 pub aside-within : (May : ℕ → Type 0) (count : ℕ) (kind : EventKind) → IsAsideIn May kind → BeginsKind (λ n. n < count) kind → IsWithinMembers count kind
@@ -91,7 +92,7 @@ pub waiting-aside : (May : ℕ → Type 0) (head : HeadText) (past : Past) (clus
 waiting-aside May head past cluster kind aside old =
     let asked = aside-asked May past kind aside in
     record {
-      carried = carried-by past cluster.facts kind (record { store = old.store; flight = old.flight }) (aside-sends May kind aside) old.waiting.carried;
+      carried = carried-by cluster.facts.members (declared_of head).failsafe past cluster.facts kind (record { store = old.store; flight = old.flight }) (aside-sends cluster.facts.members (declared_of head).failsafe May kind aside) old.waiting.carried;
       runs = λ m. subst (λ (n : ℕ). IsLastRun (past_after past kind).asked m n) (sym (same-run May cluster.facts.processes kind m aside)) (subst (λ (a : ℕ → Option Question). IsLastRun a m (run_in cluster.facts.processes m)) (sym asked) (old.waiting.runs m));
       agents = λ m agent e. subst (λ (a : ℕ → Option Question). IsAgentSound a m agent) (sym asked) (old.waiting.agents m agent (aside-left May cluster kind m agent aside e));
     }
@@ -121,7 +122,7 @@ waiting-started head past cluster member incarnation small later old =
     let runs : ℕ → ℕ = run_in cluster.facts.processes in
     let started : AgentFacts = starting_agent (who_of cluster.scope cluster.options cluster.facts.members member) cluster.facts.clock incarnation in
     record {
-      carried = carried-by past cluster.facts kind (record { store = old.store; flight = old.flight }) tt old.waiting.carried;
+      carried = carried-by cluster.facts.members (declared_of head).failsafe past cluster.facts kind (record { store = old.store; flight = old.flight }) tt old.waiting.carried;
       runs = λ m. subst (λ (n : ℕ). IsLastRun past.asked m n) (runs-of runs cluster.facts.processes kind (subst (λ (n : ℕ). k < n) (sym old.sized.agents) small) (λ n. refl) m)
           (put-all runs k incarnation (λ n r. IsLastRun past.asked n r) (later-run past.asked k (runs k) incarnation later (old.waiting.runs k)) (λ n other. old.waiting.runs n) m);
       agents = λ m agent e. started-by past.asked m k (slice_get cluster.agents m) (m == k) started agent refl

@@ -1,5 +1,5 @@
 -- What a head declares, as the law of one writer reads it.
-use Rattle.std.specs.Prelude.{ℕ, ◌*◌, Bool, true, false, Option, Some, None, slice_get}
+use Rattle.std.specs.Prelude.{ℕ, ◌*◌, Bool, true, Option, Some, None, slice_get}
 use Rattle.script_model.specs.Script.{HeadText, MemberText}
 use Rattle.leader_key.specs.Watchdog.{is_armable}
 use Rattle.lease_law.specs.States.{Declared}
@@ -15,9 +15,9 @@ abbrev pub works_said : Option MemberText → Bool
 works_said None = true
 works_said (Some member) = is_armable member.options.watchdog member.options.device_works
 
--- what a head declares for the law: the margins of its members; no failsafe mode yet
+-- what a head declares for the law: the margins of its members, and whether failsafe mode is on
 abbrev pub declared_of : HeadText → Declared
-declared_of head = record { margin = λ m. margin_said (slice_get head.members m); failsafe = false }
+declared_of head = record { margin = λ m. margin_said (slice_get head.members m); failsafe = head.config.config.failsafe_mode }
 
 -- whose watchdog is on and works
 abbrev pub works_of : HeadText → ℕ → Bool

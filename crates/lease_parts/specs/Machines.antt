@@ -5,8 +5,6 @@ use Rattle.pat_base.specs.ServerState.{live}
 use Rattle.pg_model.specs.Facts.{ServerFacts}
 use Rattle.event_book.specs.declared.agent_process.AgentProcess.{AgentProcess}
 use Rattle.event_book.specs.declared.event.AgentEvent.TheVariants as agents
-use Rattle.event_book.specs.declared.reason.Basis.{Basis}
-use Rattle.event_book.specs.declared.reason.Basis.TheVariants as bases
 use Rattle.event_book.specs.declared.event.EventKind.{EventKind}
 use Rattle.event_book.specs.declared.event.EventKind.TheVariants as kinds
 use Rattle.event_book.specs.declared.event.ServerEvent.TheVariants as servers
@@ -51,13 +49,11 @@ run_now (Some process) = process.incarnation
 abbrev pub run_in : List AgentProcess → ℕ → ℕ
 run_in processes m = run_now (slice_get processes m)
 
--- a book's past has of each machine what the book leaves, and each deadline is by a grant; which servers accept writes by the book is
--- as their states say
+-- a book's past has of each machine what the book leaves; which servers accept writes by the book is as their states say
 pub record IsSameEverywhere (past : Past) (facts : Facts) : Type 0 where
   pub deadline : (m : ℕ) → past.deadline m ≡ deadline_in facts.deadlines m
   pub hold : (m : ℕ) → past.hold m ≡ hold_in facts.holds m
   pub runs : (m : ℕ) → past.runs m ≡ run_in facts.processes m
-  pub by_grant : (m : ℕ) → past.by_failsafe m ≡ false
   pub writes : (m : ℕ) → past.writes m ≡ writes_in facts.servers m
 
 -- lists by members are of this length
@@ -67,16 +63,10 @@ pub record IsSized (count : ℕ) (facts : Facts) : Type 0 where
   pub deadlines : length facts.deadlines ≡ count
   pub holds : length facts.holds ≡ count
 
--- a watchdog is fed by a grant
-abbrev pub IsByGrant : Basis → Type 0
-IsByGrant (bases.Grant answer) = Unit {0}
-IsByGrant (bases.Acknowledgements members sequence) = ⊥
-
--- whose watchdog this event feeds, who takes a hold, whose server begins and whose agent starts is one of so many members; and feeds are by
--- grants
+-- whose watchdog this event feeds, who takes a hold, whose server begins and whose agent starts is one of so many members
 abbrev pub IsWithinMembers : ℕ → EventKind → Type 0
 IsWithinMembers count (kinds.Watchdog (watchdogs.Armed member until answer)) = member.id.number < count
-IsWithinMembers count (kinds.Watchdog (watchdogs.Fed member until basis)) = (member.id.number < count) × IsByGrant basis
+IsWithinMembers count (kinds.Watchdog (watchdogs.Fed member until basis)) = member.id.number < count
 IsWithinMembers count (kinds.Watchdog (watchdogs.HoldTaken member until from incarnation sequence)) = member.id.number < count
 IsWithinMembers count (kinds.Server (servers.Began server timeline)) = server.id.number < count
 IsWithinMembers count (kinds.Agent (agents.Started agent incarnation)) = agent.id.number < count

@@ -1,6 +1,7 @@
 -- What the law of one writer sees of a cluster.
-use Rattle.std.specs.Prelude.{ℕ, false, Option, Some, None, option_map, slice_get}
+use Rattle.std.specs.Prelude.{ℕ, Option, Some, None, option_map, slice_get}
 use Rattle.agent_model.specs.Agents.{AgentFacts}
+use Rattle.cluster_model.specs.FailsafeDeadlines.{is_set_by_failsafe}
 use Rattle.cluster_model.specs.State.{Cluster}
 use Rattle.lease_law.specs.Past.{VolatileState}
 use Rattle.lease_law.specs.States.{Agent, Machine, fresh_agent}
@@ -16,12 +17,12 @@ agent_now (Some agent) = option_map agent_seen agent
 abbrev pub volatile_of : Cluster → ℕ → VolatileState
 volatile_of cluster m = record { live = live_in cluster.facts.servers m; agent = agent_now (slice_get cluster.agents m) }
 
--- the machine of a member, by a cluster whose deadlines are all by grants
+-- the machine of a member, by a cluster
 abbrev pub machine_in : Cluster → ℕ → Machine
 machine_in cluster m = record {
   live = live_in cluster.facts.servers m;
   deadline = deadline_in cluster.facts.deadlines m;
-  by_failsafe = false;
+  by_failsafe = is_set_by_failsafe (slice_get cluster.failsafe_deadlines m);
   hold = hold_in cluster.facts.holds m;
   agent = agent_now (slice_get cluster.agents m);
   runs = run_in cluster.facts.processes m;

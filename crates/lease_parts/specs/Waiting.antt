@@ -1,5 +1,5 @@
 -- What agents that wait for an answer know of it, and what is in flight.
-use Rattle.std.specs.Prelude.{ℕ, ◌≡◌, ◌≤◌, true, List, Option, Some, slice_get}
+use Rattle.std.specs.Prelude.{ℕ, ◌≡◌, ◌≤◌, ◌<◌, true, false, List, Option, Some, slice_get}
 use Rattle.std.specs.FinMap.{find}
 use Rattle.std.specs.Option.{ForSome}
 use Rattle.store_keys.specs.declared.key.Key.TheVariants as keys
@@ -7,12 +7,14 @@ use Rattle.lease_store.specs.KeyOrder.{key_cmp}
 use Rattle.leader_key.specs.Watchdog.{IsLeaseSpan}
 use Rattle.event_book.specs.declared.link.LinkEnd.{LinkEnd}
 use Rattle.event_book.specs.declared.link.LinkEnd.TheVariants as ends
+use Rattle.event_book.specs.declared.member.Member.{Member}
 use Rattle.event_book.specs.declared.message.Body.{Body}
 use Rattle.event_book.specs.declared.message.Body.TheVariants as bodies
 use Rattle.event_book.specs.Flight.{InFlightFacts, Flight, in_flight}
 use Rattle.agent_model.specs.declared.knowledge.PendingQuestion.{PendingQuestion}
 use Rattle.agent_model.specs.Agents.{AgentFacts, EndsAlone}
 use Rattle.agent_model.specs.Decisions.{asks_lease}
+use Rattle.cluster_model.specs.Deliveries.{is_answer}
 use Rattle.cluster_model.specs.State.{Cluster}
 use Rattle.lease_law.specs.Leases.{Question}
 use Rattle.lease_law.specs.Past.{Past, lease_span}
@@ -53,6 +55,8 @@ IsAnswer _ = ⊥
 abbrev pub IsPeerBody : Body → Type 0
 IsPeerBody bodies.Ask = Unit {0}
 IsPeerBody (bodies.Answer answer) = Unit {0}
+IsPeerBody (bodies.FailsafeRequest ttl) = Unit {0}
+IsPeerBody (bodies.FailsafeAnswer accepted) = Unit {0}
 IsPeerBody _ = ⊥
 
 -- a message is a question of a member to the key store, an answer of the key store to a member, or goes from one member to another
@@ -62,9 +66,20 @@ IsAddressed ends.Store (ends.Member member) body = IsAnswer body
 IsAddressed (ends.Member by) (ends.Member member) body = IsPeerBody body
 IsAddressed ends.Store ends.Store body = ⊥
 
--- what holds of each message in flight: it is one of these, and the leader key of its snapshot has an expiry
+-- an end of a link is the key store, or one of these members, which stands at its number
+abbrev pub IsKnownEnd : List Member → LinkEnd → Type 0
+IsKnownEnd members ends.Store = Unit {0}
+IsKnownEnd members (ends.Member member) = slice_get members member.id.number ≡ Some member
+
+-- each message in flight goes between such ends
+abbrev pub AreBetweenMembers : List Member → Flight → Type 0
+AreBetweenMembers members flight = (i : ℕ) (carried : InFlightFacts) → in_flight flight i ≡ Some carried → IsKnownEnd members carried.message.from × IsKnownEnd members carried.message.to
+
+-- what holds of each message in flight: it is one of these, a question has a number that counts from 1, and the leader key of its snapshot
+-- has an expiry
 pub record IsCarriedWell (carried : InFlightFacts) : Type 0 where
   pub addressed : IsAddressed carried.message.from carried.message.to carried.message.body
+  pub numbered : is_answer carried.message.body ≡ false → 0 < carried.message.sequence
   pub leased : IsLeased (find key_cmp keys.Leader carried.snapshot)
 
 -- each message in flight is such

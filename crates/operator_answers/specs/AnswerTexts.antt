@@ -46,6 +46,8 @@ answer_text texts.Restarted = codes "restarted"
 answer_text texts.IsLeader = codes "I am the leader"
 answer_text texts.ReinitializeStarted = codes "reinitialize started"
 answer_text texts.ConfigurationNotWritten = codes "Configuration was not written"
+answer_text texts.Accepted = codes "Accepted"
+answer_text texts.Refused = codes "Refused"
 answer_text (texts.BadConfiguration fault) = fault_text fault
 
 -- this holds where the text is always the same: it names no member and no fault

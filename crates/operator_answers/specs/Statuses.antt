@@ -21,6 +21,14 @@ conflict = 409
 abbrev pub precondition_failed : ℕ
 precondition_failed = 412
 
+-- the status of a request for what the member may not do (RFC 9110, "500 Internal Server Error")
+abbrev pub internal_server_error : ℕ
+internal_server_error = 500
+
+-- the status of what is asked of failsafe mode while it is off (RFC 9110, "502 Bad Gateway")
+abbrev pub bad_gateway : ℕ
+bad_gateway = 502
+
 -- the status of a request that can't be carried out now (RFC 9110, "503 Service Unavailable")
 abbrev pub service_unavailable : ℕ
 service_unavailable = 503

@@ -8,7 +8,7 @@ use std::fmt;
 
 /// What an agent answers to a request of an operator, in the words of Patroni's REST API and of its own (Patroni's
 /// documentation of the REST API, under "Switchover and failover endpoints", "Restart endpoint", "Reinitialize endpoint"
-/// and "Config endpoint"). Each is printed in the words beside it.
+/// and "Config endpoint", and "DCS Failsafe Mode"). Each is printed in the words beside it.
 #[derive(Clone, Copy, Debug, PartialEq, Eq)]
 pub enum Text {
     /// `Bad body`
@@ -63,6 +63,10 @@ pub enum Text {
     ReinitializeStarted,
     /// `Configuration was not written`
     ConfigurationNotWritten,
+    /// `Accepted`: a failsafe request is acknowledged
+    Accepted,
+    /// `Refused`: it isn't
+    Refused,
     /// What is at fault in a configuration, as `ConfigFault` is printed: `NotJson`, `BelowMinimum(ttl)`
     BadConfiguration(ConfigFault),
 }
@@ -114,6 +118,8 @@ fn fixed_words(text: &Text) -> &'static str
         Text::IsLeader => "I am the leader",
         Text::ReinitializeStarted => "reinitialize started",
         Text::ConfigurationNotWritten => "Configuration was not written",
+        Text::Accepted => "Accepted",
+        Text::Refused => "Refused",
         Text::SwitchedOver(_) | Text::FailedOver(_) | Text::BadConfiguration(_) => "",
     }
 }

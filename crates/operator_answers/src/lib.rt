@@ -5,4 +5,7 @@ mod answer_text;
 mod status;
 
 pub use answer_text::Text;
-pub use status::{BAD_REQUEST, CONFLICT, NOT_FOUND, OK, PRECONDITION_FAILED, SERVICE_UNAVAILABLE};
+pub use status::{
+    BAD_GATEWAY, BAD_REQUEST, CONFLICT, INTERNAL_SERVER_ERROR, NOT_FOUND, OK, PRECONDITION_FAILED,
+    SERVICE_UNAVAILABLE,
+};

@@ -1,2 +1,3 @@
+pub mod Holds
 mod Passing
 mod WhoIsNamed

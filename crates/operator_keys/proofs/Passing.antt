@@ -21,10 +21,10 @@ nobody-is x e = cc
 pub same-some : {X : Type 0} (x y : X) → Some x ≡ Some y → x ≡ y
 same-some x y e = cc
 
-refused-ok : {A : Type 0} (refused : Refused) (x : A) → ◌≡◌ {A = Result A Refused} (Err refused) (Ok x) → ⊥
+pub refused-ok : {A : Type 0} (refused : Refused) (x : A) → ◌≡◌ {A = Result A Refused} (Err refused) (Ok x) → ⊥
 refused-ok refused x e = cc
 
-same-ok : {A : Type 0} (x y : A) → ◌≡◌ {A = Result A Refused} (Ok x) (Ok y) → x ≡ y
+pub same-ok : {A : Type 0} (x y : A) → ◌≡◌ {A = Result A Refused} (Ok x) (Ok y) → x ≡ y
 same-ok x y e = cc
 
 -- ---- rules that don't apply

@@ -3,6 +3,7 @@ pub mod Bodies
 pub mod Candidates
 pub mod Checks
 pub mod ConfigChecks
+pub mod FailsafeChecks
 pub mod Laws
 pub mod Refusals
 pub mod Rules

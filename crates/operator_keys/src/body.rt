@@ -3,7 +3,7 @@ ghost use Rattle.std.specs.Prelude.{◌≡◌, ◌≢◌, Ok, Err, is_some, IfOk
 ghost use Rattle.serde_json.specs.Find.{get};
 ghost use Rattle.serde_json.specs.View.{view};
 ghost use Rattle.cluster_config.specs.ConfigReading.{json_of};
-ghost use Rattle.operator_keys.specs.Bodies.{text_at, is_text_or_absent, is_request, body_of};
+ghost use Rattle.operator_keys.specs.Bodies.{text_at, is_text_or_absent, is_request, bad_body, body_of};
 ghost use Rattle.operator_keys.specs.Refusals.{with_fault};
 ghost use Rattle.operator_keys.specs.declared.refusal.CheckFault.TheVariants as faults;
 
@@ -19,15 +19,22 @@ pub(crate) fn body_of(alloc: Global, bytes: &[u8]) -> Result<Value, CheckFault>
 {
     match json_of(alloc, bytes)? {
         Some(body) if is_request(&body) => Ok(body),
-        _ => Err(CheckFault::Refused(Refused {
-            status: BAD_REQUEST,
-            text: Text::BadBody,
-        })),
+        _ => Err(CheckFault::Refused(bad_body())),
+    }
+}
+
+/// What a body is refused with that doesn't ask what it is to ask.
+pub(crate) fn bad_body() -> Refused
+    ensures { result ≡ bad_body }
+{
+    Refused {
+        status: BAD_REQUEST,
+        text: Text::BadBody,
     }
 }
 
 /// The JSON value that bytes are. It fails only for want of memory.
-fn json_of(alloc: Global, bytes: &[u8]) -> Result<Option<Value>, AllocError>
+pub(crate) fn json_of(alloc: Global, bytes: &[u8]) -> Result<Option<Value>, AllocError>
     ensures { IfOk result (λ o. option_map view o ≡ json_of bytes.now) }
 {
     match Value::from_slice(alloc, bytes) {

@@ -1,4 +1,4 @@
-//! What a failover key that a check gives comes to. Each is a function without a body whose contract is what is proved.
+//! What a failover key or a hold that a check gives comes to. Each is a function without a body whose contract is what is proved.
 ghost use Rattle.std.specs.Prelude.{ℕ, ◌≡◌, List, Some, None, Ok, true, false, codes, IsSomeAnd};
 ghost use Rattle.std.specs.Option.{option_copied};
 ghost use Rattle.pat_base.specs.declared.member_id.MemberId.{MemberId};
@@ -13,7 +13,9 @@ ghost use Rattle.cluster_view.specs.Snapshots.{SnapshotFacts, leader_in};
 ghost use Rattle.operator_keys.specs.Bodies.{text_at};
 ghost use Rattle.operator_keys.specs.Candidates.{leads, anyone_may_take_over};
 ghost use Rattle.operator_keys.specs.Checks.{switchover_of, failover_of};
-ghost use Rattle.operator_keys.specs.Laws.{MayFollow, IsCalled};
+ghost use Rattle.operator_keys.specs.FailsafeChecks.{failsafe_of};
+ghost use Rattle.operator_keys.specs.Laws.{AsksForHold, MayFollow, IsCalled};
+ghost use Rattle.store_keys.specs.declared.action.OperatorRequest.{OperatorRequest};
 
 /// A switchover that passes its check names the leader, and as candidate, if it names one, another member that may take
 /// over, and that is a standby where the synchronous mode is active. Without a candidate the cluster isn't paused, and
@@ -41,4 +43,10 @@ pub fn keys_name_whom_bodies_name()
     ensures leader { (view : AgentView) (bytes : List ℕ) (body : Data) (key : FailoverKey) (seen : SnapshotFacts) (leader : MemberId) → switchover_of view bytes ≡ Ok key → json_of bytes ≡ Some body → option_copied view.seen ≡ Some seen → key.leader ≡ Some leader → (text : List ℕ) × (text_at (codes "leader") body ≡ Some text) × IsCalled leader text seen }
     ensures candidate { (view : AgentView) (bytes : List ℕ) (body : Data) (key : FailoverKey) (seen : SnapshotFacts) (candidate : MemberId) → switchover_of view bytes ≡ Ok key → json_of bytes ≡ Some body → option_copied view.seen ≡ Some seen → key.candidate ≡ Some candidate → (text : List ℕ) × (text_at (codes "candidate") body ≡ Some text) × IsCalled candidate text seen }
     ensures failover { (view : AgentView) (bytes : List ℕ) (body : Data) (key : FailoverKey) (seen : SnapshotFacts) (candidate : MemberId) → failover_of view bytes ≡ Ok key → json_of bytes ≡ Some body → option_copied view.seen ≡ Some seen → key.candidate ≡ Some candidate → (text : List ℕ) × (text_at (codes "candidate") body ≡ Some text) × IsCalled candidate text seen }
+{}
+
+/// What a failsafe request asks for that passes its check is a hold, by another member and for so many seconds as a lease may last; and
+/// failsafe mode is on.
+pub fn what_a_failsafe_request_asks()
+    ensures { (view : AgentView) (bytes : List ℕ) (request : OperatorRequest) (seen : SnapshotFacts) → failsafe_of view bytes ≡ Ok request → option_copied view.seen ≡ Some seen → AsksForHold view.me seen request }
 {}

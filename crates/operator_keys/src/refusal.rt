@@ -12,7 +12,7 @@ use thiserror::Error;
 #[derive(Clone, Copy, Debug, PartialEq, Eq, Error)]
 #[error("{text}")]
 pub struct Refused {
-    /// 400, 404, 412 or 503.
+    /// 400, 404, 412, 502 or 503.
     pub status: u16,
     /// What stands in the way.
     pub text: Text,

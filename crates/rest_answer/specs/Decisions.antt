@@ -10,6 +10,7 @@ use Rattle.operator_keys.specs.declared.config_checks.ConfigChange.TheVariants a
 use Rattle.operator_keys.specs.declared.refusal.Refused.{Refused}
 use Rattle.operator_keys.specs.Checks.{switchover_on, failover_on}
 use Rattle.operator_keys.specs.ConfigChecks.{configuration_on}
+use Rattle.operator_keys.specs.FailsafeChecks.{failsafe_on}
 use Rattle.operator_keys.specs.Refusals.{unless_refused}
 use Rattle.operator_keys.specs.ServerChecks.{restart_refusal, reinit_refusal}
 use Rattle.operator_answers.specs.Statuses.{not_found}
@@ -34,3 +35,4 @@ change_on view seen asked.Restart body = unless_refused (restart_refusal view) r
 change_on view seen asked.Reinitialize body = unless_refused (reinit_refusal view) requests.Reinit
 change_on view seen asked.PatchConfiguration body = asking_for requests.Configuration (configuration_on seen view.waits changes.Patch body)
 change_on view seen asked.ReplaceConfiguration body = asking_for requests.Configuration (configuration_on seen view.waits changes.Replace body)
+change_on view seen asked.Failsafe body = failsafe_on view.me seen body

@@ -7,7 +7,7 @@ use Rattle.cluster_view.specs.declared.view.AgentView.{AgentView}
 use Rattle.cluster_view.specs.Snapshots.{SnapshotFacts}
 use Rattle.operator_answers.specs.AnswerTexts.{answer_text}
 use Rattle.operator_answers.specs.declared.answer_text.Text.TheVariants.{NoStoreAnswer}
-use Rattle.operator_answers.specs.Statuses.{ok, service_unavailable}
+use Rattle.operator_answers.specs.Statuses.{ok, bad_gateway, service_unavailable}
 use Rattle.rest_pages.specs.Cluster.{cluster_members}
 use Rattle.rest_pages.specs.Configuration.{configuration_text}
 use Rattle.rest_pages.specs.Failsafe.{failsafe_data}
@@ -17,7 +17,6 @@ use Rattle.rest_paths.specs.declared.resource.Page.{Page}
 use Rattle.rest_paths.specs.declared.resource.Page.TheVariants as pages
 use Rattle.rest_message.specs.Replies.{ReplyText}
 use Rattle.rest_answer.specs.Replies.{json_of, status_alone, text_of}
-use Rattle.rest_answer.specs.Statuses.{bad_gateway}
 
 -- the agent has read nothing of the key store
 abbrev pub no_store_answer : ReplyText

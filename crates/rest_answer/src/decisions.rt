@@ -10,8 +10,8 @@ ghost use Rattle.rest_answer.specs.Decisions.{asking_for, change_on};
 use cluster_view::AgentView;
 use operator_answers::{NOT_FOUND, Text};
 use operator_keys::{
-    CheckFault, ConfigChange, Refused, check_configuration, check_failover, check_reinit,
-    check_restart, check_switchover,
+    CheckFault, ConfigChange, Refused, check_configuration, check_failover, check_failsafe,
+    check_reinit, check_restart, check_switchover,
 };
 use rest_paths::Change;
 use std::alloc::Global;
@@ -52,6 +52,7 @@ pub(crate) fn change_on(
         Change::ReplaceConfiguration => {
             configuring(check_configuration(alloc, view, ConfigChange::Replace, body))
         }
+        Change::Failsafe => check_failsafe(alloc, view, body),
     }
 }
 

@@ -18,4 +18,4 @@ pub use laws::{
 };
 pub use refusal::{Refusal, refusal_reply};
 pub use replies::{json_reply, text_reply};
-pub use status::{BAD_GATEWAY, METHOD_NOT_ALLOWED};
+pub use status::METHOD_NOT_ALLOWED;

@@ -4,9 +4,8 @@ ghost use Rattle.rest_answer.specs.Pages.{page_reply, where_seen, no_store_answe
 ghost use Rattle.rest_message.specs.Replies.{reply_text};
 
 use crate::replies::{json_reply, status_reply, text_reply};
-use crate::status::BAD_GATEWAY;
 use cluster_view::{AgentView, Snapshot};
-use operator_answers::{OK, SERVICE_UNAVAILABLE, Text};
+use operator_answers::{BAD_GATEWAY, OK, SERVICE_UNAVAILABLE, Text};
 use rest_message::Reply;
 use rest_pages::{cluster_text, config_text, failsafe_text, history_text, patroni_text};
 use rest_paths::Page;

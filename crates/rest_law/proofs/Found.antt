@@ -93,14 +93,14 @@ standing-machine (Some agent) (Some machine) o is = ap Some (ap (λ (f : Outcome
 standing-machine (Some agent) None o is = absurd (none-some o is)
 standing-machine None machine o is = absurd (none-some o is)
 
-machine-writes : (receives : Bool) (replication : Option Replication) (options : Option MemberOptions) (deadline hold : Option (Option Ticks)) (server : Option ServerFacts) (machine : Machine)
-    → machine_from receives replication options deadline hold server ≡ Some machine → writes machine.server.state ≡ true → writes_now server ≡ true
-machine-writes receives (Some replication) (Some options) (Some deadline) (Some hold) (Some s) machine is writing = ap (λ (m : Machine). writes m.server.state) (same_Some _ machine is) ∙ writing
-machine-writes receives None options deadline hold server machine is writing = absurd (none-some machine is)
-machine-writes receives (Some replication) None deadline hold server machine is writing = absurd (none-some machine is)
-machine-writes receives (Some replication) (Some options) None hold server machine is writing = absurd (none-some machine is)
-machine-writes receives (Some replication) (Some options) (Some deadline) None server machine is writing = absurd (none-some machine is)
-machine-writes receives (Some replication) (Some options) (Some deadline) (Some hold) None machine is writing = absurd (none-some machine is)
+machine-writes : (receives by_failsafe : Bool) (replication : Option Replication) (options : Option MemberOptions) (deadline hold : Option (Option Ticks)) (server : Option ServerFacts) (machine : Machine)
+    → machine_from receives by_failsafe replication options deadline hold server ≡ Some machine → writes machine.server.state ≡ true → writes_now server ≡ true
+machine-writes receives by_failsafe (Some replication) (Some options) (Some deadline) (Some hold) (Some s) machine is writing = ap (λ (m : Machine). writes m.server.state) (same_Some _ machine is) ∙ writing
+machine-writes receives by_failsafe None options deadline hold server machine is writing = absurd (none-some machine is)
+machine-writes receives by_failsafe (Some replication) None deadline hold server machine is writing = absurd (none-some machine is)
+machine-writes receives by_failsafe (Some replication) (Some options) None hold server machine is writing = absurd (none-some machine is)
+machine-writes receives by_failsafe (Some replication) (Some options) (Some deadline) None server machine is writing = absurd (none-some machine is)
+machine-writes receives by_failsafe (Some replication) (Some options) (Some deadline) (Some hold) None machine is writing = absurd (none-some machine is)
 
 -- who is found has a server that accepts writes by its state
 found-writes : (cluster : Cluster) (member : Member) → IsFound cluster member → writes_in cluster.facts.servers member.id.number ≡ true
@@ -110,7 +110,7 @@ found-writes cluster member found =
     let endpoint : Endpoint = found.looks.0 in
     let healthy : health_of_view endpoint view seen (lag_of found.asked.target) ≡ ok = check-status view seen found.asked endpoint found.looks.1 found.reply found.looks.3 found.answers ∙ found.is_ok in
     let runs : is_primary view.state ≡ true = primary-runs endpoint view seen (lag_of found.asked.target) found.looks.2 healthy in
-    machine-writes _ _ _ _ _ (slice_get cluster.facts.servers member.id.number) found.agent.machine
+    machine-writes _ _ _ _ _ _ (slice_get cluster.facts.servers member.id.number) found.agent.machine
     (standing-machine (agent_at cluster.agents member.id.number) (machine_of cluster member) found.agent found.stands) (primary-writes found.agent.machine.server.state runs)
 
 -- a server that accepts writes is one of the servers

@@ -22,11 +22,12 @@ health_ask verbs.Head endpoint = asks.Health endpoint false
 health_ask verbs.Options endpoint = asks.Health endpoint false
 health_ask _ endpoint = asks.NotAllowed
 
--- a page is told by GET; the configuration alone is changed, by PATCH or PUT
+-- a page is told by GET; the configuration is changed, by PATCH or PUT, and POST asks the member to let another one stay primary
 abbrev pub page_ask : Verb → Page → Ask
 page_ask verbs.Get page = asks.Page page
 page_ask verbs.Patch pages.Config = asks.Change changes.PatchConfiguration
 page_ask verbs.Put pages.Config = asks.Change changes.ReplaceConfiguration
+page_ask verbs.Post pages.Failsafe = asks.Change changes.Failsafe
 page_ask _ _ = asks.NotAllowed
 
 -- what an operation changes

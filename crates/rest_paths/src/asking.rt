@@ -66,6 +66,7 @@ fn page_ask(verb: Verb, page: Page) -> Ask
         (Verb::Get, page) => Ask::Page(page),
         (Verb::Patch, Page::Config) => Ask::Change(Change::PatchConfiguration),
         (Verb::Put, Page::Config) => Ask::Change(Change::ReplaceConfiguration),
+        (Verb::Post, Page::Failsafe) => Ask::Change(Change::Failsafe),
         _ => Ask::NotAllowed,
     }
 }

@@ -21,6 +21,9 @@ pub enum Change {
     PatchConfiguration,
     /// `PUT /config`: the content is to take the place of the configuration (there too).
     ReplaceConfiguration,
+    /// `POST /failsafe`: another member, which leads without the key store, is to stay primary, and this one not to take the leader key
+    /// ("DCS Failsafe Mode").
+    Failsafe,
 }
 
 /// What is changed by an operation.

@@ -12,9 +12,10 @@ pub enum Page {
     Cluster,
     /// `/history`: when which timeline began.
     History,
-    /// `/config`: the configuration, the one page that can be changed.
+    /// `/config`: the configuration, which can be changed there.
     Config,
-    /// `/failsafe`: the members that the failsafe key lists (Patroni documentation, "DCS Failsafe Mode").
+    /// `/failsafe`: the members that the failsafe key lists, and where a leader without the key store asks to stay primary (Patroni
+    /// documentation, "DCS Failsafe Mode").
     Failsafe,
 }
 

@@ -142,8 +142,8 @@ module _ (cluster : Cluster) (id : MemberId) (member : Member) (request : Reques
   done-replied : IsDoneAtOnce asked → reply_in id Input ≢ None
   done-replied done none =
       let told = told-at-once (moment_of cluster) Number asked (reconciled (moment_of cluster) (outcome_from its.found.role its.found.knows its.its_machine [])) done in
-      each-replied id member no_message same Later told.0 [] Number ok told.1.0
-      (ap (λ (outs : List Output). reply_in id (input_events Later member no_message (Some (record After { outputs = outs })))) (sym told.1.1)
+      each-replied id member no_message same Later told.before [] Number told.status told.text
+      (ap (λ (outs : List Output). reply_in id (input_events Later member no_message (Some (record After { outputs = outs })))) (sym told.is)
       ∙ (ap (λ (o : Option Outcome). reply_in id (input_events Later member no_message o)) (sym made-so) ∙ none))
 
   input-none : (later : Cluster) → reply_in id (Input ++ Acknowledged Number id later) ≡ None → reply_in id Input ≡ None

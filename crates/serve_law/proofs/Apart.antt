@@ -55,7 +55,7 @@ use Rattle.cluster_model.specs.Limits.{most_in_flight}
 use Rattle.cluster_model.specs.Losing.{is_lacking, loss_if, loss_of, losses_of}
 use Rattle.cluster_model.specs.Messages.{answer_events_by, answer_message, decision_body, decision_events, lost_at_once, output_events, receiver_of, replying_events, send_events, sending_events}
 use Rattle.cluster_model.specs.Next.{acknowledge_events, all_entries, confirm_events, receive_events, receive_events_at_most, receive_events_of}
-use Rattle.cluster_model.specs.Orders.{declared_member, feed_kinds, arming, feeding, following_of, hold_taken, is_same_required, repair_over, replica_start_kinds, require_of, required_names, server_at, stop_kind, stop_kinds, stop_of, upstream_of, wipe_of}
+use Rattle.cluster_model.specs.Orders.{declared_member, failsafe_feeding, feed_kinds, arming, feeding, following_of, hold_taken, is_same_required, repair_over, replica_start_kinds, require_of, required_names, server_at, stop_kind, stop_kinds, stop_of, upstream_of, wipe_of}
 use Rattle.cluster_model.specs.Parts.{each, events_of, for_some}
 use Rattle.cluster_model.specs.State.{Cluster}
 use Rattle.cluster_model.specs.Streaming.{confirm_of, source_of, unconfirmed_end}
@@ -198,6 +198,8 @@ IsSilent _ = Unit {0}
 pub output-apart : (member : Member) (heard : HeardMessage) (cluster : Cluster) (output : Output) → IsSilent output → AllAre IsApart (output_events member heard cluster output)
 output-apart member heard cluster (outputs.Send to sequence body) is = sending-apart cluster member (slice_get cluster.facts.processes member.id.number) (receiver_of cluster.facts.members to) sequence body
 output-apart member heard cluster (outputs.Answer to incarnation sequence answer) is = replying-apart cluster member (receiver_of cluster.facts.members (targets.Member to)) incarnation sequence (bodies.Answer answer)
+output-apart member heard cluster (outputs.FailsafeAnswer to incarnation sequence accepted) is =
+    replying-apart cluster member (receiver_of cluster.facts.members (targets.Member to)) incarnation sequence (bodies.FailsafeAnswer accepted)
 output-apart member heard cluster outputs.Begin is = begins-apart cluster member (server_at cluster member)
 output-apart member heard cluster (outputs.StartReplica leader) is = starts-apart cluster member (declared_member cluster.facts.members leader) (server_at cluster member)
 output-apart member heard cluster (outputs.Stop reason) is = stops-apart cluster member reason (server_at cluster member)
@@ -214,8 +216,10 @@ output-apart member heard cluster (outputs.Repair leader repair) is =
 output-apart member heard cluster (outputs.Require required) is =
     order-apart cluster member (require_of cluster.facts.members member required)
     (λ s. unless-apart (kinds.Replication (replications.RequiredSet (server_of member) required (required_names cluster.facts.members required))) (is_same_required s.required required) tt)
-output-apart member heard cluster (outputs.Armed until) is = all-kinds IsApart cluster (feed_kinds member heard (arming member until heard)) (tt, (tt, tt))
-output-apart member heard cluster (outputs.Fed until) is = all-kinds IsApart cluster (feed_kinds member heard (feeding member until heard)) (tt, (tt, tt))
+output-apart member heard cluster (outputs.Armed until) is = all-kinds IsApart cluster (feed_kinds member heard.sent (arming member until heard)) (tt, (tt, tt))
+output-apart member heard cluster (outputs.Fed until) is = all-kinds IsApart cluster (feed_kinds member heard.sent (feeding member until heard)) (tt, (tt, tt))
+output-apart member heard cluster (outputs.FedByFailsafe until members sequence since) is =
+    all-kinds IsApart cluster (feed_kinds member since (failsafe_feeding member until members sequence)) (tt, (tt, tt))
 output-apart member heard cluster (outputs.HoldTaken until from sequence) is =
     let found = slice_get cluster.facts.members from.number in
     let hold = hold_taken member until heard.incarnation sequence in

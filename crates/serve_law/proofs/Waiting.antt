@@ -65,6 +65,8 @@ from-message cluster message (bodies.Granted request leased) heard e = granted-f
 from-message cluster message (bodies.Refused request key found) heard e = says-so tt e
 from-message cluster message bodies.Ask heard e = granted-from (λ from. heards.Asked from message.message.incarnation message.message.sequence) (λ from. tt) (member_at_end message.message.from) heard e
 from-message cluster message (bodies.Answer answer) heard e = says-so tt e
+from-message cluster message (bodies.FailsafeRequest ttl) heard e = granted-from (λ from. heards.FailsafeAsked from message.message.incarnation message.message.sequence ttl) (λ from. tt) (member_at_end message.message.from) heard e
+from-message cluster message (bodies.FailsafeAnswer accepted) heard e = granted-from (λ from. heards.FailsafeAnswered from message.message.sequence accepted message.sent) (λ from. tt) (member_at_end message.message.from) heard e
 from-message cluster message _ heard e = absurd (none-some _ e)
 
 waits-not : (now : Ticks) (heard : Heard) (o after : Outcome) (waiting : Operating) → IsFromMessage heard → WaitsForHeard now heard o after waiting → ⊥

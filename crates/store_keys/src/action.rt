@@ -1,5 +1,6 @@
-//! What operators ask of an agent.
+//! What operators ask of an agent, and other members by the same interface.
 use crate::{ConfigValue, FailoverKey};
+use pat_base::MemberId;
 
 /// Which of the two requests that end in a failover key was made.
 #[derive(Clone, Copy, PartialEq, Eq)]
@@ -10,7 +11,7 @@ pub enum FailoverKind {
     Failover,
 }
 
-/// What an operator asks of an agent.
+/// What an operator, or another member in the way of one, asks of an agent.
 #[derive(Drop)]
 pub enum OperatorRequest {
     /// A failover key is to be written.
@@ -24,6 +25,12 @@ pub enum OperatorRequest {
     Restart,
     /// The server is to be wiped and copied anew.
     Reinit,
+    /// This other member, which leads without the key store, asks that the agent's own doesn't take the leader key for so many ticks
+    /// (Patroni documentation, "DCS Failsafe Mode").
+    Hold {
+        from: MemberId,
+        ttl: u32,
+    },
 }
 
 /// A request of an operator that passed its checks, and its number in the run.

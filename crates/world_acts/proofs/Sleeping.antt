@@ -26,6 +26,7 @@ use Rattle.cluster_model.specs.Cluster.{agent_after, cluster_after, cluster_over
 use Rattle.cluster_model.specs.Inputs.{agent_at, has_work, may_act, outcome_of, standing_of}
 use Rattle.cluster_model.specs.Messages.{input_events, no_message, wake_events, wake_events_if, wake_events_of}
 use Rattle.cluster_model.specs.Parts.{event_of, for_some}
+use Rattle.cluster_model.specs.FailsafeDeadlines.{failsafe_deadlines_by}
 use Rattle.cluster_model.specs.State.{Cluster}
 use Rattle.cluster_model.proofs.Places.{there}
 use Rattle.world_model.specs.Emits.{Emits}
@@ -87,32 +88,37 @@ sleeps-as before after now member other process work asleep =
     (asleep-same now (slice_get before.facts.processes member.id.number) (standing_of before member) (standing_of after other) (work-same (standing_of before member) (standing_of after other) (work_at before member.id.number) was is (record { 0 = now })) asleep)
 
 -- ---- happenings that rouse nobody
-armed-asleep : (asleep : MemberSet) (cluster : Cluster) (deadlines holds : List (Option Ticks)) → ((n : ℕ) → is_some (slice_get deadlines n) ≡ is_some (slice_get cluster.facts.deadlines n))
-    → ((n : ℕ) → is_some (slice_get holds n) ≡ is_some (slice_get cluster.facts.holds n)) → AreAsleep asleep cluster → AreAsleep asleep (record cluster { facts = record cluster.facts { deadlines = deadlines; holds = holds } })
-armed-asleep asleep cluster deadlines holds same too sleep = record {
+armed-asleep : (asleep : MemberSet) (cluster : Cluster) (deadlines : List (Option Ticks)) (failsafe_deadlines : List Bool) (holds : List (Option Ticks)) → ((n : ℕ) → is_some (slice_get deadlines n) ≡ is_some (slice_get cluster.facts.deadlines n))
+    → ((n : ℕ) → is_some (slice_get holds n) ≡ is_some (slice_get cluster.facts.holds n)) → AreAsleep asleep cluster
+    → AreAsleep asleep (record cluster { facts = record cluster.facts { deadlines = deadlines; holds = holds }; failsafe_deadlines = failsafe_deadlines })
+armed-asleep asleep cluster deadlines failsafe_deadlines holds same too sleep = record {
   each = λ member is. let n = member.id.number in
-      sleeps-as cluster (record cluster { facts = record cluster.facts { deadlines = deadlines; holds = holds } }) cluster.facts.clock member member refl
+      sleeps-as cluster (record cluster { facts = record cluster.facts { deadlines = deadlines; holds = holds }; failsafe_deadlines = failsafe_deadlines }) cluster.facts.clock member member refl
       (work-by (slice_get cluster.options n) (slice_get deadlines n) (slice_get cluster.facts.deadlines n) (slice_get holds n) (slice_get cluster.facts.holds n) (slice_get cluster.facts.servers n) (agent_at cluster.agents n) (same n) (too n))
       (sleep.each member is);
 }
 
-changed-deadline : (asleep : MemberSet) (cluster : Cluster) (k : ℕ) (change : Option Ticks → Option Ticks) → AreAsleep asleep cluster
-    → AreAsleep asleep (record cluster { facts = record cluster.facts { deadlines = with_changed cluster.facts.deadlines k change } })
-changed-deadline asleep cluster k change sleep =
-    armed-asleep asleep cluster (with_changed cluster.facts.deadlines k change) cluster.facts.holds (λ n. changed-there cluster.facts.deadlines k change (slice_get cluster.facts.deadlines k) n) (λ n. refl) sleep
+changed-deadline : (asleep : MemberSet) (cluster : Cluster) (k : ℕ) (change : Option Ticks → Option Ticks) (failsafe_deadlines : List Bool) → AreAsleep asleep cluster
+    → AreAsleep asleep (record cluster { facts = record cluster.facts { deadlines = with_changed cluster.facts.deadlines k change }; failsafe_deadlines = failsafe_deadlines })
+changed-deadline asleep cluster k change failsafe_deadlines sleep =
+    armed-asleep asleep cluster (with_changed cluster.facts.deadlines k change) failsafe_deadlines cluster.facts.holds (λ n. changed-there cluster.facts.deadlines k change (slice_get cluster.facts.deadlines k) n) (λ n. refl) sleep
 
 changed-hold : (asleep : MemberSet) (cluster : Cluster) (k : ℕ) (change : Option Ticks → Option Ticks) → AreAsleep asleep cluster
     → AreAsleep asleep (record cluster { facts = record cluster.facts { holds = with_changed cluster.facts.holds k change } })
 changed-hold asleep cluster k change sleep =
-    armed-asleep asleep cluster cluster.facts.deadlines (with_changed cluster.facts.holds k change) (λ n. refl) (λ n. changed-there cluster.facts.holds k change (slice_get cluster.facts.holds k) n) sleep
+    armed-asleep asleep cluster cluster.facts.deadlines cluster.failsafe_deadlines (with_changed cluster.facts.holds k change) (λ n. refl) (λ n. changed-there cluster.facts.holds k change (slice_get cluster.facts.holds k) n) sleep
 
 asleep-after : (asleep : MemberSet) (cluster : Cluster) (kind : EventKind) → rouses_agents kind ≡ false → AreAsleep asleep cluster → AreAsleep asleep (cluster_after cluster kind)
 asleep-after asleep cluster (kinds.Message (messages.Sent number message)) isnt sleep = record { each = sleep.each }
 asleep-after asleep cluster (kinds.Message (messages.Lost number)) isnt sleep = record { each = sleep.each }
 asleep-after asleep cluster (kinds.Store happening) isnt sleep = record { each = sleep.each }
-asleep-after asleep cluster (kinds.Watchdog (watchdogs.Armed member until answer)) isnt sleep = record { each = (changed-deadline asleep cluster member.id.number (λ before. Some until) sleep).each }
-asleep-after asleep cluster (kinds.Watchdog (watchdogs.Fed member until basis)) isnt sleep = record { each = (changed-deadline asleep cluster member.id.number (λ before. Some until) sleep).each }
-asleep-after asleep cluster (kinds.Watchdog (watchdogs.Disarmed member)) isnt sleep = record { each = (changed-deadline asleep cluster member.id.number (λ before. None) sleep).each }
+asleep-after asleep cluster (kinds.Watchdog (watchdogs.Armed member until answer)) isnt sleep =
+    let failsafe_deadlines = failsafe_deadlines_by cluster.failsafe_deadlines (watchdogs.Armed member until answer) in
+    record { each = (changed-deadline asleep cluster member.id.number (λ before. Some until) failsafe_deadlines sleep).each }
+asleep-after asleep cluster (kinds.Watchdog (watchdogs.Fed member until basis)) isnt sleep =
+    let failsafe_deadlines = failsafe_deadlines_by cluster.failsafe_deadlines (watchdogs.Fed member until basis) in
+    record { each = (changed-deadline asleep cluster member.id.number (λ before. Some until) failsafe_deadlines sleep).each }
+asleep-after asleep cluster (kinds.Watchdog (watchdogs.Disarmed member)) isnt sleep = record { each = (changed-deadline asleep cluster member.id.number (λ before. None) cluster.failsafe_deadlines sleep).each }
 asleep-after asleep cluster (kinds.Watchdog (watchdogs.Measured member since)) isnt sleep = record { each = sleep.each }
 asleep-after asleep cluster (kinds.Watchdog (watchdogs.HoldTaken member until from incarnation sequence)) isnt sleep = record { each = (changed-hold asleep cluster member.id.number (prolonged_to until) sleep).each }
 asleep-after asleep cluster (kinds.Note note) isnt sleep = record { each = sleep.each }

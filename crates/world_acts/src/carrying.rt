@@ -1,12 +1,14 @@
 //! What agents do, carried out.
-ghost use Rattle.std.specs.Prelude.{◌≡◌, ◌≤◌, [], All, OnOk, length, slice_get};
-ghost use Rattle.event_book.specs.declared.message.Body.TheVariants as bodies;
+ghost use Rattle.std.specs.Prelude.{ℕ, ◌≡◌, ◌≤◌, [], All, None, OnOk, length, slice_get};
+ghost use Rattle.event_book.specs.declared.link.LinkEnd.{LinkEnd};
+ghost use Rattle.event_book.specs.Flight.{grant_for};
 ghost use Rattle.agent_model.specs.declared.output.Target.TheVariants as targets;
 ghost use Rattle.agent_model.specs.Outputs.{most_outputs};
 ghost use Rattle.cluster_model.specs.Messages.{output_events, receiver_of, replying_events, sending_events};
 ghost use Rattle.cluster_model.specs.Parts.{each};
 ghost use Rattle.world_model.specs.Emits.{Emits};
 ghost use Rattle.world_model.specs.Room.{HasRoom, output_cost, outputs_cost, sending_cost};
+ghost use Rattle.world_model.specs.Short.{IsShort};
 ghost use Rattle.agent_model.specs.Asked.{AsksShortly, IsAsked};
 
 use crate::repairing::repair_log;
@@ -14,12 +16,13 @@ use crate::servers::{
     begin, follow, require, restart_server, shut_down, start_replica, stop, wipe,
 };
 use crate::telling::{
-    tell_answer, tell_arming, tell_disarming, tell_feeding, tell_hold, tell_note, tell_passing,
+    tell_answer, tell_arming, tell_disarming, tell_failsafe_feeding, tell_feeding, tell_hold,
+    tell_note, tell_passing, tell_staying,
 };
 use agent_model::{Output, Target};
 use cluster_model::HeardMessage;
 use event_book::{Body, Event, LinkEnd, Member, Message};
-use pat_base::{MemberId, PeerAnswer};
+use pat_base::MemberId;
 use std::alloc::AllocError;
 use world_agents::Outputs;
 use world_orders::order_kinds::receiver_of;
@@ -64,7 +67,29 @@ fn carry(
             incarnation,
             sequence,
             answer,
-        } => reply(stage, member, to, incarnation, sequence, answer, events),
+        } => reply(
+            stage,
+            member,
+            to,
+            incarnation,
+            sequence,
+            Body::Answer(answer),
+            events,
+        ),
+        Output::FailsafeAnswer {
+            to,
+            incarnation,
+            sequence,
+            accepted,
+        } => reply(
+            stage,
+            member,
+            to,
+            incarnation,
+            sequence,
+            Body::FailsafeAnswer { yes: accepted },
+            events,
+        ),
         Output::Begin => begin(stage, member, events),
         Output::StartReplica { leader } => start_replica(stage, member, leader, events),
         Output::Stop { reason } => stop(stage, member, reason, events),
@@ -76,6 +101,13 @@ fn carry(
         Output::Require { required } => require(stage, member, required, events),
         Output::Armed { until } => tell_arming(stage, member, until, heard, events),
         Output::Fed { until } => tell_feeding(stage, member, until, heard, events),
+        Output::FedByFailsafe {
+            until,
+            members,
+            sequence,
+            since,
+        } => tell_failsafe_feeding(stage, member, until, members, sequence, since, events),
+        Output::StaysByFailsafe => tell_staying(stage, member, events),
         Output::Disarmed => tell_disarming(stage, member, events),
         Output::ClaimsOutsideSync => tell_passing(stage, member, events),
         Output::Note(note) => tell_note(stage, member, note, events),
@@ -132,11 +164,13 @@ fn reply(
     to: MemberId,
     incarnation: u64,
     sequence: u64,
-    answer: PeerAnswer,
+    body: Body,
     events: &mut Vec<Event>,
 ) -> Result<(), AllocError>
     requires room { HasRoom stage.old sending_cost }
-    ensures { OnOk result (Emits stage.old stage.new events.old.items events.new.items (replying_events stage.old member (receiver_of stage.old.facts.members (targets.Member to)) incarnation sequence (bodies.Answer answer)) sending_cost) }
+    requires short { IsShort body }
+    requires untold { (to : LinkEnd) (revision : ℕ) → grant_for body to revision ≡ None }
+    ensures { OnOk result (Emits stage.old stage.new events.old.items events.new.items (replying_events stage.old member (receiver_of stage.old.facts.members (targets.Member to)) incarnation sequence body) sending_cost) }
 {
     let Some(to) = receiver_of(stage.members(), Target::Member(to)) else {
         return Ok(());
@@ -146,7 +180,7 @@ fn reply(
         to,
         incarnation,
         sequence,
-        body: Body::Answer(answer),
+        body,
     };
     stage.send(message, None, events)
 }

@@ -2,7 +2,7 @@
 ghost use Rattle.std.specs.Prelude.{OnOk, option_map, slice_get};
 ghost use Rattle.cluster_model.specs.Commands.{kinds_of};
 ghost use Rattle.cluster_model.specs.Inputs.{agent_at};
-ghost use Rattle.cluster_model.specs.Orders.{agent_noting, arming, feed_kinds, feeding, hold_taken};
+ghost use Rattle.cluster_model.specs.Orders.{agent_noting, arming, failsafe_feeding, feed_kinds, feeding, hold_taken};
 ghost use Rattle.cluster_model.specs.Parts.{event_of, events_of};
 ghost use Rattle.cluster_model.specs.Requests.{told_kind};
 ghost use Rattle.cluster_model.specs.State.{Cluster};
@@ -12,12 +12,12 @@ ghost use Rattle.world_model.specs.Room.{HasRoom, feeding_cost};
 
 use agent_model::Told;
 use cluster_model::HeardMessage;
-use event_book::{AgentEvent, AgentNote, Event, EventKind, Member, WatchdogEvent};
-use pat_base::{MemberId, Ticks};
+use event_book::{AgentEvent, AgentNote, Event, EventKind, Member, Note, WatchdogEvent};
+use pat_base::{MemberId, MemberSet, Ticks};
 use std::alloc::AllocError;
 use world_agents::requests::told_kind;
 use world_fields::members::member_at;
-use world_orders::order_kinds::{agent_noting, arming, feeding, hold_of_request};
+use world_orders::order_kinds::{agent_noting, arming, failsafe_feeding, feeding, hold_of_request};
 use world_stage::Stage;
 
 /// The watchdog of a member got its first deadline, on the message that was heard.
@@ -29,9 +29,15 @@ pub fn tell_arming(
     events: &mut Vec<Event>,
 ) -> Result<(), AllocError>
     requires { HasRoom stage.old feeding_cost }
-    ensures { OnOk result (Emits stage.old stage.new events.old.items events.new.items (events_of stage.old (feed_kinds member heard (arming member until heard))) feeding_cost) }
+    ensures { OnOk result (Emits stage.old stage.new events.old.items events.new.items (events_of stage.old (feed_kinds member heard.sent (arming member until heard))) feeding_cost) }
 {
-    tell_deadline(stage, member, heard, arming(member, until, heard), events)
+    tell_deadline(
+        stage,
+        member,
+        heard.sent,
+        arming(member, until, heard),
+        events,
+    )
 }
 
 /// The watchdog of a member got a new deadline, on the message that was heard.
@@ -43,27 +49,53 @@ pub fn tell_feeding(
     events: &mut Vec<Event>,
 ) -> Result<(), AllocError>
     requires { HasRoom stage.old feeding_cost }
-    ensures { OnOk result (Emits stage.old stage.new events.old.items events.new.items (events_of stage.old (feed_kinds member heard (feeding member until heard))) feeding_cost) }
+    ensures { OnOk result (Emits stage.old stage.new events.old.items events.new.items (events_of stage.old (feed_kinds member heard.sent (feeding member until heard))) feeding_cost) }
 {
-    tell_deadline(stage, member, heard, feeding(member, until, heard), events)
+    tell_deadline(
+        stage,
+        member,
+        heard.sent,
+        feeding(member, until, heard),
+        events,
+    )
 }
 
-/// The watchdog of a member is armed or fed, on the message that was heard; that counts from its sending.
+/// The watchdog of a member got a new deadline, since these members acknowledged its failsafe request of this number, the first of them at
+/// this moment.
+pub fn tell_failsafe_feeding(
+    stage: &mut Stage,
+    member: Member,
+    until: Ticks,
+    members: MemberSet,
+    sequence: u64,
+    since: Ticks,
+    events: &mut Vec<Event>,
+) -> Result<(), AllocError>
+    requires { HasRoom stage.old feeding_cost }
+    ensures { OnOk result (Emits stage.old stage.new events.old.items events.new.items (events_of stage.old (feed_kinds member since (failsafe_feeding member until members sequence))) feeding_cost) }
+{
+    tell_deadline(
+        stage,
+        member,
+        since,
+        failsafe_feeding(member, until, members, sequence),
+        events,
+    )
+}
+
+/// The watchdog of a member is armed or fed; that counts from this moment.
 fn tell_deadline(
     stage: &mut Stage,
     member: Member,
-    heard: HeardMessage,
+    since: Ticks,
     feed: EventKind,
     events: &mut Vec<Event>,
 ) -> Result<(), AllocError>
     requires room { HasRoom stage.old feeding_cost }
     requires comes { (cluster : Cluster) → MayCome cluster feed }
-    ensures { OnOk result (Emits stage.old stage.new events.old.items events.new.items (events_of stage.old (feed_kinds member heard feed)) feeding_cost) }
+    ensures { OnOk result (Emits stage.old stage.new events.old.items events.new.items (events_of stage.old (feed_kinds member since feed)) feeding_cost) }
 {
-    let measured = WatchdogEvent::Measured {
-        member,
-        since: heard.sent,
-    };
+    let measured = WatchdogEvent::Measured { member, since };
     stage.happen_then(EventKind::Watchdog(measured), Some(feed), events)
 }
 
@@ -91,6 +123,18 @@ pub fn tell_passing(
 {
     let passed = AgentEvent::Passed { agent: member };
     stage.happen(EventKind::Agent(passed), events)
+}
+
+/// A member stays primary without the key store, by the word of all other members.
+pub fn tell_staying(
+    stage: &mut Stage,
+    member: Member,
+    events: &mut Vec<Event>,
+) -> Result<(), AllocError>
+    requires { HasRoom stage.old 1 }
+    ensures { OnOk result (Emits stage.old stage.new events.old.items events.new.items (event_of stage.old (EventKind.Note (Note.StaysByFailsafe member))) 1) }
+{
+    stage.happen(EventKind::Note(Note::StaysByFailsafe { member }), events)
 }
 
 /// The agent of a member notes something.

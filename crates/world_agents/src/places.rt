@@ -2,6 +2,7 @@
 ghost use Rattle.std.specs.Prelude.{ℕ, ◌≡◌, ◌≤◌, ◌<◌, ◌+◌, [], List, Option, Some, None, All, IfSome, IfOk, length, map, option_and_then, option_copied, option_map};
 ghost use Rattle.pat_base.specs.Changes.{with_changed};
 ghost use Rattle.cluster_view.specs.declared.view.AgentView.{AgentView};
+ghost use Rattle.agent_rows.specs.Inputs.{IsSpannedInput};
 ghost use Rattle.agent_model.specs.Agents.{AgentFacts, IsWithin, most_messages, word_of};
 ghost use Rattle.agent_model.specs.Views.{view_of};
 ghost use Rattle.pat_base.specs.Moments.{latest};
@@ -92,6 +93,7 @@ pub fn step_agent(
 )
     requires moment { now.0 ≤ latest }
     requires server { IsWithin machine.old.server }
+    requires span { IsSpannedInput heard }
     requires numbers { All (HasNumbers most_outputs) agents.old.items }
     requires room { most_outputs ≤ outputs.old.spare }
     requires none { outputs.old.outputs ≡ [] }
@@ -114,6 +116,7 @@ fn step_slot(
 )
     requires moment { now.0 ≤ latest }
     requires server { IsWithin machine.old.server }
+    requires span { IsSpannedInput heard }
     requires numbers { HasNumbers most_outputs slot.old }
     requires room { most_outputs ≤ outputs.old.spare }
     requires none { outputs.old.outputs ≡ [] }

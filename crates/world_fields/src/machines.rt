@@ -15,13 +15,14 @@ use pg_model::{Server, ServerStatus};
 /// A machine of these parts. `None` exactly where one of them is absent.
 pub fn machine_from(
     receives: bool,
+    by_failsafe: bool,
     replication: Option<Replication>,
     options: Option<MemberOptions>,
     deadline: Option<Option<Ticks>>,
     hold: Option<Option<Ticks>>,
     server: Option<&Server>,
 ) -> Option<Machine>
-    ensures machine { result ≡ machine_from receives replication options deadline hold (option_map without_spare (option_copied server.entry)) }
+    ensures machine { result ≡ machine_from receives by_failsafe replication options deadline hold (option_map without_spare (option_copied server.entry)) }
     ensures within { IfSome (option_copied server.entry) (λ s. s.timeline < 2 ^ 60) → IfSome result (λ machine. IsWithin machine.server) }
 {
     let replication = replication?;
@@ -33,6 +34,7 @@ pub fn machine_from(
         server: ServerStatus { receives, ..status },
         replication,
         watchdog: watchdog_of(options, deadline),
+        by_failsafe,
         hold,
     })
 }

@@ -1,16 +1,17 @@
 //! Watchdogs and holds: what a happening changes of them, and whose machine is reset.
 ghost use Rattle.std.specs.Prelude.{ℕ, ◌≡◌, ◌<◌, ◌≤◌, false, Some, None, IfSome, option_and_then, option_copied, slice_get};
 ghost use Rattle.pat_base.specs.Changes.{with_changed};
-ghost use Rattle.event_book.specs.Watchdogs.{deadlines_by, holds_by, later_of, prolonged_to};
+ghost use Rattle.event_book.specs.Watchdogs.{deadlines_by, holds_by, is_acknowledged, later_of, prolonged_to};
 ghost use Rattle.leader_key.specs.Watchdog.{is_due_at};
 ghost use Rattle.cluster_model.specs.Commands.{disarm_at_start, disarm_if, disarm_of};
+ghost use Rattle.cluster_model.specs.FailsafeDeadlines.{failsafe_deadlines_by, is_set_by_failsafe};
 ghost use Rattle.cluster_model.specs.State.{Cluster};
 ghost use Rattle.cluster_model.specs.Ticking.{reset_of};
 ghost use Rattle.world_model.specs.Comes.{MayCome};
 ghost use Rattle.world_model.specs.Idle.{NoneResets};
 
 use agent_model::Machine;
-use event_book::{AgentProcess, EventKind, Member, WatchdogEvent};
+use event_book::{AgentProcess, Basis, EventKind, Member, WatchdogEvent};
 use pat_base::Ticks;
 
 /// The deadlines after what happens to a watchdog.
@@ -36,6 +37,47 @@ fn set_deadline(deadlines: &mut Vec<Option<Ticks>>, member: Member, deadline: Op
     let place = member.id.number as usize;
     if place < deadlines.len() {
         deadlines[place] = deadline;
+    }
+}
+
+/// Whose deadlines acknowledgements of other members set last, after what happens to a watchdog.
+pub fn change_failsafe_deadline(failsafe_deadlines: &mut Vec<bool>, happening: &WatchdogEvent)
+    ensures { failsafe_deadlines.new.items ≡ failsafe_deadlines_by failsafe_deadlines.old.items happening.now }
+{
+    match happening {
+        WatchdogEvent::Armed { member, .. } => set_basis(failsafe_deadlines, *member, false),
+        WatchdogEvent::Fed { member, basis, .. } => set_basis(
+            failsafe_deadlines,
+            *member,
+            is_acknowledged(*basis),
+        ),
+        _ => {}
+    }
+}
+
+fn set_basis(failsafe_deadlines: &mut Vec<bool>, member: Member, by_failsafe: bool)
+    ensures { failsafe_deadlines.new.items ≡ with_changed failsafe_deadlines.old.items member.id.number (λ was. by_failsafe) }
+{
+    let place = member.id.number as usize;
+    if place < failsafe_deadlines.len() {
+        failsafe_deadlines[place] = by_failsafe;
+    }
+}
+
+/// Whether acknowledgements let a leader feed its watchdog, and no grant.
+fn is_acknowledged(basis: Basis) -> bool
+    ensures { result ≡ is_acknowledged basis }
+{
+    matches!(basis, Basis::Acknowledgements { .. })
+}
+
+/// Whether acknowledgements set the deadline of a member's watchdog last.
+pub fn is_set_by_failsafe(failsafe_deadlines: &[bool], member: Member) -> bool
+    ensures { result ≡ is_set_by_failsafe (slice_get failsafe_deadlines.now member.id.number) }
+{
+    match failsafe_deadlines.get(member.id.number as usize) {
+        None => false,
+        Some(by_failsafe) => *by_failsafe,
     }
 }
 

@@ -47,6 +47,7 @@ use Rattle.cluster_model.specs.Beginnings.{completed_by, completion_in, completi
 use Rattle.cluster_model.specs.Commands.{kinds_of}
 use Rattle.cluster_model.specs.Inputs.{agent_at, has_work, is_to_wake, may_act, standing, standing_of}
 use Rattle.cluster_model.specs.Limits.{most_rounds}
+use Rattle.cluster_model.specs.FailsafeDeadlines.{is_set_by_failsafe}
 use Rattle.cluster_model.specs.Machines.{machine_from, replication_of, watchdog_of}
 use Rattle.cluster_model.specs.Messages.{message_events, wake_events, wake_events_if, wake_events_of}
 use Rattle.cluster_model.specs.Next.{acknowledge_events, all_entries, next_events, step_events, receive_events, receive_events_at_most, receive_events_of, round_events, rounds_events, scheduled_events}
@@ -330,18 +331,18 @@ no-machine : (agent : Option AgentFacts) → HasWorkFrom (standing agent None) N
 no-machine None = λ now. refl
 no-machine (Some agent) = λ now. refl
 
-work-of : (receives : Bool) (on : ServerFacts → Replication) (options : Option MemberOptions) (deadline hold : Option (Option Ticks)) (s : Option ServerFacts) (agent : Option AgentFacts)
-    → HasWorkFrom (standing agent (machine_from receives (option_map on s) options deadline hold s)) (work_moment options deadline hold s agent)
-work-of receives on None deadline hold None agent = no-machine agent
-work-of receives on None deadline hold (Some s) agent = no-machine agent
-work-of receives on (Some options) None hold None agent = no-machine agent
-work-of receives on (Some options) None hold (Some s) agent = no-machine agent
-work-of receives on (Some options) (Some deadline) None None agent = no-machine agent
-work-of receives on (Some options) (Some deadline) None (Some s) agent = no-machine agent
-work-of receives on (Some options) (Some deadline) (Some hold) None agent = no-machine agent
-work-of receives on (Some options) (Some deadline) (Some hold) (Some s) None = λ now. refl
-work-of receives on (Some options) (Some deadline) (Some hold) (Some s) (Some agent) = λ now.
-    due-at agent.role agent.knows s.state now (record { server = record (status_of s) { receives = receives }; replication = on s; watchdog = watchdog_of options deadline; hold = hold }) refl
+work-of : (receives by_failsafe : Bool) (on : ServerFacts → Replication) (options : Option MemberOptions) (deadline hold : Option (Option Ticks)) (s : Option ServerFacts) (agent : Option AgentFacts)
+    → HasWorkFrom (standing agent (machine_from receives by_failsafe (option_map on s) options deadline hold s)) (work_moment options deadline hold s agent)
+work-of receives by_failsafe on None deadline hold None agent = no-machine agent
+work-of receives by_failsafe on None deadline hold (Some s) agent = no-machine agent
+work-of receives by_failsafe on (Some options) None hold None agent = no-machine agent
+work-of receives by_failsafe on (Some options) None hold (Some s) agent = no-machine agent
+work-of receives by_failsafe on (Some options) (Some deadline) None None agent = no-machine agent
+work-of receives by_failsafe on (Some options) (Some deadline) None (Some s) agent = no-machine agent
+work-of receives by_failsafe on (Some options) (Some deadline) (Some hold) None agent = no-machine agent
+work-of receives by_failsafe on (Some options) (Some deadline) (Some hold) (Some s) None = λ now. refl
+work-of receives by_failsafe on (Some options) (Some deadline) (Some hold) (Some s) (Some agent) = λ now.
+    due-at agent.role agent.knows s.state now (record { server = record (status_of s) { receives = receives }; replication = on s; watchdog = watchdog_of options deadline; by_failsafe = by_failsafe; hold = hold }) refl
 
 -- from when on there is something to do for the agent of a member
 pub work-from : (cluster : Cluster) (member : Member) (found : Option Ticks)
@@ -350,7 +351,7 @@ pub work-from : (cluster : Cluster) (member : Member) (found : Option Ticks)
     → HasWorkFrom (standing_of cluster member) found
 work-from cluster member found is =
     subst (λ (moment : Option Ticks). HasWorkFrom (standing_of cluster member) moment) (sym is)
-    (work-of (is_some (source_of cluster.facts.members cluster.facts.servers cluster.facts.cuts member)) (replication_of cluster.facts.members cluster.facts.servers cluster.facts.cuts member) (slice_get cluster.options member.id.number) (slice_get cluster.facts.deadlines member.id.number) (slice_get cluster.facts.holds member.id.number)
+    (work-of (is_some (source_of cluster.facts.members cluster.facts.servers cluster.facts.cuts member)) (is_set_by_failsafe (slice_get cluster.failsafe_deadlines member.id.number)) (replication_of cluster.facts.members cluster.facts.servers cluster.facts.cuts member) (slice_get cluster.options member.id.number) (slice_get cluster.facts.deadlines member.id.number) (slice_get cluster.facts.holds member.id.number)
     (slice_get cluster.facts.servers member.id.number) (agent_at cluster.agents member.id.number))
 
 same-item : {X : Type 0} (xs : List X) (k place : ℕ) (x y : X) → k ≡ place → slice_get xs place ≡ Some x → slice_get xs k ≡ Some y → x ≡ y

@@ -171,13 +171,13 @@ some-within xs k small = ap is_some (there xs k small).1
 no-true : false ≡ true → ⊥
 no-true e = cc
 
-machine-there : (receives : Bool) (f : ServerFacts → Replication) (options : Option MemberOptions) (deadline hold : Option (Option Ticks)) (s : Option ServerFacts) → is_some options ≡ true → is_some deadline ≡ true → is_some hold ≡ true → is_some s ≡ true
-    → is_some (machine_from receives (option_map f s) options deadline hold s) ≡ true
-machine-there receives f (Some options) (Some deadline) (Some hold) (Some s) a b c d = refl
-machine-there receives f (Some options) (Some deadline) (Some hold) None a b c d = absurd (no-true d)
-machine-there receives f (Some options) (Some deadline) None s a b c d = absurd (no-true c)
-machine-there receives f (Some options) None hold s a b c d = absurd (no-true b)
-machine-there receives f None deadline hold s a b c d = absurd (no-true a)
+machine-there : (receives by_failsafe : Bool) (f : ServerFacts → Replication) (options : Option MemberOptions) (deadline hold : Option (Option Ticks)) (s : Option ServerFacts) → is_some options ≡ true → is_some deadline ≡ true → is_some hold ≡ true → is_some s ≡ true
+    → is_some (machine_from receives by_failsafe (option_map f s) options deadline hold s) ≡ true
+machine-there receives by_failsafe f (Some options) (Some deadline) (Some hold) (Some s) a b c d = refl
+machine-there receives by_failsafe f (Some options) (Some deadline) (Some hold) None a b c d = absurd (no-true d)
+machine-there receives by_failsafe f (Some options) (Some deadline) None s a b c d = absurd (no-true c)
+machine-there receives by_failsafe f (Some options) None hold s a b c d = absurd (no-true b)
+machine-there receives by_failsafe f None deadline hold s a b c d = absurd (no-true a)
 
 standing-there : (agent : Option AgentFacts) (machine : Option Machine) → is_some machine ≡ true → is_some (standing agent machine) ≡ is_some agent
 standing-there None machine is = refl
@@ -197,6 +197,6 @@ unfolding AreAlike
 member-runs cluster member options deadlines holds servers alike =
     let n : ℕ = member.id.number in
     let machine : is_some (machine_of cluster member) ≡ true =
-    machine-there _ (replication_of cluster.facts.members cluster.facts.servers cluster.facts.cuts member) _ _ _ _ (some-within cluster.options n options) (some-within cluster.facts.deadlines n deadlines)
+    machine-there _ _ (replication_of cluster.facts.members cluster.facts.servers cluster.facts.cuts member) _ _ _ _ (some-within cluster.options n options) (some-within cluster.facts.deadlines n deadlines)
     (some-within cluster.facts.holds n holds) (some-within cluster.facts.servers n servers) in
     standing-there (agent_at cluster.agents n) (machine_of cluster member) machine ∙ alike-runs (slice_get cluster.facts.processes n) (slice_get cluster.agents n) (alike n)

@@ -9,9 +9,10 @@ use Rattle.event_book.specs.declared.message.Body.TheVariants as bodies
 use Rattle.event_book.specs.Flight.{Flight, InFlightFacts}
 use Rattle.cluster_view.specs.Snapshots.{IsRead}
 
--- a request asks for leases that the key store can write
+-- a request asks for leases that the key store can write, and a failsafe request for a hold no longer than those
 abbrev pub IsShort : Body → Type 0
 IsShort (bodies.Request txn) = ttl_of txn ≤ 2 ^ 40
+IsShort (bodies.FailsafeRequest ttl) = ttl.0 ≤ 2 ^ 40
 IsShort _ = Unit {0}
 
 -- the entries that an answer carries were read

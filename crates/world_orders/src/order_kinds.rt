@@ -2,7 +2,7 @@
 ghost use Rattle.std.specs.Prelude.{ℕ, ◌≡◌, ◌<◌, ◌+◌, ◌^◌, IfSome, IfOk, Some, None, option_and_then, option_map, slice_get};
 ghost use Rattle.event_book.specs.Members.{server_of};
 ghost use Rattle.cluster_model.specs.Messages.{receiver_of};
-ghost use Rattle.cluster_model.specs.Orders.{agent_noting, arming, barring, declared_member, declared_name, feeding, following_of, hold_taken, is_same_required, require_of, spoken_of, stop_kind, stop_of, upstream_of, wipe_of};
+ghost use Rattle.cluster_model.specs.Orders.{agent_noting, arming, barring, declared_member, declared_name, failsafe_feeding, feeding, following_of, hold_taken, is_same_required, require_of, spoken_of, stop_kind, stop_of, upstream_of, wipe_of};
 ghost use Rattle.cluster_model.specs.State.{Cluster};
 ghost use Rattle.world_model.specs.Comes.{MayCome};
 
@@ -12,7 +12,7 @@ use event_book::{
     AgentNote, Basis, EventKind, LinkEnd, LogEvent, Member, Note, ReplicationEvent, ServerEvent,
     ServerOf, WatchdogEvent,
 };
-use pat_base::{Ineligibility, MemberId, Name, Required, State, Ticks};
+use pat_base::{Ineligibility, MemberId, MemberSet, Name, Required, State, Ticks};
 use pg_cluster::Servers;
 use std::alloc::{AllocError, Global};
 use world_fields::members::member_at;
@@ -182,6 +182,23 @@ pub fn feeding(member: Member, until: Ticks, heard: HeardMessage) -> EventKind
         basis: Basis::Grant {
             answer: heard.number,
         },
+    })
+}
+
+/// A new deadline of a watchdog, since these members acknowledged the failsafe request of this number.
+pub fn failsafe_feeding(
+    member: Member,
+    until: Ticks,
+    members: MemberSet,
+    sequence: u64,
+) -> EventKind
+    ensures kind { result ≡ failsafe_feeding member until members sequence }
+    ensures comes { (cluster : Cluster) → MayCome cluster result }
+{
+    EventKind::Watchdog(WatchdogEvent::Fed {
+        member,
+        until,
+        basis: Basis::Acknowledgements { members, sequence },
     })
 }
 

@@ -49,6 +49,7 @@ reply-without-seen view seen lag body (asks.Change changes.Restart) = refl
 reply-without-seen view seen lag body (asks.Change changes.Reinitialize) = refl
 reply-without-seen view seen lag body (asks.Change changes.PatchConfiguration) = refl
 reply-without-seen view seen lag body (asks.Change changes.ReplaceConfiguration) = refl
+reply-without-seen view seen lag body (asks.Change changes.Failsafe) = refl
 
 -- an agent answers by what it shows
 answered-same : (view : AgentView) (now : Ticks) (o : Outcome) (asked : RequestText) → record view { seen = None } ≡ shown now o → option_copied view.seen ≡ o.knows.seen

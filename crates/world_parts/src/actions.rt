@@ -27,5 +27,9 @@ fn copy_of_request(asked: &OperatorRequest) -> Result<OperatorRequest, AllocErro
         }
         OperatorRequest::Restart => Ok(OperatorRequest::Restart),
         OperatorRequest::Reinit => Ok(OperatorRequest::Reinit),
+        OperatorRequest::Hold { from, ttl } => Ok(OperatorRequest::Hold {
+            from: *from,
+            ttl: *ttl,
+        }),
     }
 }

@@ -10,6 +10,7 @@ ghost use Rattle.event_book.specs.Keys.{keys_after};
 ghost use Rattle.event_book.specs.Links.{cuts_after};
 ghost use Rattle.event_book.specs.Watchdogs.{deadlines_after, holds_after};
 ghost use Rattle.pat_base.specs.Moments.{latest};
+ghost use Rattle.cluster_model.specs.FailsafeDeadlines.{failsafe_deadlines_after};
 ghost use Rattle.world_model.specs.Comes.{IsBare};
 
 use crate::processes::{change_process, reset_process};
@@ -21,7 +22,7 @@ use pat_base::Ticks;
 use std::alloc::AllocError;
 use wal_model::Serials;
 use world_fields::links::CutLinks;
-use world_fields::watchdogs::{change_deadline, change_hold};
+use world_fields::watchdogs::{change_deadline, change_failsafe_deadline, change_hold};
 
 /// The moment after a happening.
 pub fn now_after(now: Ticks, kind: &EventKind) -> Ticks
@@ -61,6 +62,15 @@ pub fn change_deadlines(deadlines: &mut Vec<Option<Ticks>>, kind: &EventKind)
 {
     if let EventKind::Watchdog(happening) = kind {
         change_deadline(deadlines, happening);
+    }
+}
+
+/// Whose deadlines acknowledgements of other members set last, after a happening.
+pub fn change_failsafe_deadlines(failsafe_deadlines: &mut Vec<bool>, kind: &EventKind)
+    ensures { failsafe_deadlines.new.items ≡ failsafe_deadlines_after failsafe_deadlines.old.items kind.now }
+{
+    if let EventKind::Watchdog(happening) = kind {
+        change_failsafe_deadline(failsafe_deadlines, happening);
     }
 }
 

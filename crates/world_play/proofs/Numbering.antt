@@ -54,7 +54,7 @@ use Rattle.cluster_model.specs.Inputs.{agent_at, outcome_of_heard, outputs_of}
 use Rattle.cluster_model.specs.Limits.{most_in_flight}
 use Rattle.cluster_model.specs.Losing.{loss_if}
 use Rattle.cluster_model.specs.Messages.{answer_events_by, answer_message, arrival_events_at, decision_body, decision_events, heard_message, lost_at_once, message_events, message_events_by, output_events, receiver_of, send_events, sending_events, replying_events, server_order_events}
-use Rattle.cluster_model.specs.Orders.{arming, declared_member, feed_kinds, feeding, following_of, hold_taken, is_same_required, replica_start_kinds, require_of, required_names, server_at, stop_kind, stop_kinds, stop_of, upstream_of, repair_over, wipe_of}
+use Rattle.cluster_model.specs.Orders.{arming, declared_member, failsafe_feeding, feed_kinds, feeding, following_of, hold_taken, is_same_required, replica_start_kinds, require_of, required_names, server_at, stop_kind, stop_kinds, stop_of, upstream_of, repair_over, wipe_of}
 use Rattle.rest_answer.specs.Replies.{json_of}
 use Rattle.cluster_model.specs.Requests.{replying, config_text_of, told_kind}
 use Rattle.cluster_model.specs.Parts.{each, events_of, for_some}
@@ -230,6 +230,8 @@ server-order-above last cluster member order all = kinds-above last cluster (opt
 output-above : (last : ℕ) (cluster : Cluster) (member : Member) (heard : HeardMessage) (output : Output) → last ≤ cluster.facts.sent → AllAre (IsAbove last) (output_events member heard cluster output)
 output-above last cluster member heard (outputs.Send to sequence body) low = sending-above last cluster member (slice_get cluster.facts.processes member.id.number) (receiver_of cluster.facts.members to) sequence body low
 output-above last cluster member heard (outputs.Answer to incarnation sequence answer) low = replying-above last cluster member (receiver_of cluster.facts.members (targets.Member to)) incarnation sequence (bodies.Answer answer) low
+output-above last cluster member heard (outputs.FailsafeAnswer to incarnation sequence accepted) low =
+    replying-above last cluster member (receiver_of cluster.facts.members (targets.Member to)) incarnation sequence (bodies.FailsafeAnswer accepted) low
 output-above last cluster member heard outputs.Begin low = begins-above last cluster member (server_at cluster member)
 output-above last cluster member heard (outputs.StartReplica leader) low = starts-above last cluster member (declared_member cluster.facts.members leader) (server_at cluster member)
 output-above last cluster member heard (outputs.Stop reason) low = stops-above last cluster member reason (server_at cluster member)
@@ -248,8 +250,10 @@ output-above last cluster member heard (outputs.Repair leader repair) low =
 output-above last cluster member heard (outputs.Require required) low =
     server-order-above last cluster member (require_of cluster.facts.members member required)
     (λ s. require-above last (kinds.Replication (replications.RequiredSet (server_of member) required (required_names cluster.facts.members required))) (is_same_required s.required required) tt)
-output-above last cluster member heard (outputs.Armed until) low = all-kinds (IsAbove last) cluster (feed_kinds member heard (arming member until heard)) (tt, (tt, tt))
-output-above last cluster member heard (outputs.Fed until) low = all-kinds (IsAbove last) cluster (feed_kinds member heard (feeding member until heard)) (tt, (tt, tt))
+output-above last cluster member heard (outputs.Armed until) low = all-kinds (IsAbove last) cluster (feed_kinds member heard.sent (arming member until heard)) (tt, (tt, tt))
+output-above last cluster member heard (outputs.Fed until) low = all-kinds (IsAbove last) cluster (feed_kinds member heard.sent (feeding member until heard)) (tt, (tt, tt))
+output-above last cluster member heard (outputs.FedByFailsafe until members sequence since) low =
+    all-kinds (IsAbove last) cluster (feed_kinds member since (failsafe_feeding member until members sequence)) (tt, (tt, tt))
 output-above last cluster member heard (outputs.Told request told) low =
     let agent = agent_at cluster.agents member.id.number in
     kinds-above last cluster (told_kind member agent told) (told-above last member agent told)

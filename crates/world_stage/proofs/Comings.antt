@@ -22,6 +22,7 @@ use Rattle.event_book.specs.Servers.{servers_after}
 use Rattle.event_book.specs.Watchdogs.{deadlines_after, holds_after}
 use Rattle.agent_model.specs.Agents.{AgentFacts}
 use Rattle.cluster_model.specs.Cluster.{agent_facts_after, agent_facts_by, agent_facts_by_message, agent_facts_moved, cluster_after}
+use Rattle.cluster_model.specs.FailsafeDeadlines.{failsafe_deadlines_after}
 use Rattle.cluster_model.specs.State.{Cluster}
 use Rattle.world_model.specs.Apart.{agents_apart}
 use Rattle.world_model.specs.Comes.{Counts, IsBare}
@@ -78,8 +79,8 @@ agents-apart cluster (kinds.Message happening) bare = agents-apart-message clust
 agents-apart cluster _ bare = refl
 
 -- a cluster with these fields
-abbrev pub changed : Cluster → ℕ → Keys → List AgentProcess → CutLinks → Flight → ℕ → List ServerFacts → List Bool → List (Option Ticks) → List (Option Ticks) → ℕ → List ℕ → List (Option AgentFacts) → Cluster
-changed cluster clock keys processes cuts flight sent servers frozen deadlines holds commits acknowledged agents = record {
+abbrev pub changed : Cluster → ℕ → Keys → List AgentProcess → CutLinks → Flight → ℕ → List ServerFacts → List Bool → List (Option Ticks) → List Bool → List (Option Ticks) → ℕ → List ℕ → List (Option AgentFacts) → Cluster
+changed cluster clock keys processes cuts flight sent servers frozen deadlines failsafe_deadlines holds commits acknowledged agents = record {
   scope = cluster.scope;
   options = cluster.options;
   facts = record {
@@ -97,16 +98,17 @@ changed cluster clock keys processes cuts flight sent servers frozen deadlines h
     commits = commits;
     acknowledged = acknowledged;
   };
+  failsafe_deadlines = failsafe_deadlines;
   agents = agents;
 }
 
 -- where each field is what a happening leaves of it, the cluster is what that leaves
-pub changed-is : (cluster : Cluster) (kind : EventKind) (clock : ℕ) (keys : Keys) (processes : List AgentProcess) (cuts : CutLinks) (flight : Flight) (sent : ℕ) (servers : List ServerFacts) (frozen : List Bool) (deadlines holds : List (Option Ticks))
+pub changed-is : (cluster : Cluster) (kind : EventKind) (clock : ℕ) (keys : Keys) (processes : List AgentProcess) (cuts : CutLinks) (flight : Flight) (sent : ℕ) (servers : List ServerFacts) (frozen : List Bool) (deadlines : List (Option Ticks)) (failsafe_deadlines : List Bool) (holds : List (Option Ticks))
     (commits : ℕ) (acknowledged : List ℕ) (agents : List (Option AgentFacts)) → IsBare kind → clock ≡ now_after cluster.facts.clock kind → keys ≡ keys_after clock cluster.facts.keys kind → processes ≡ processes_after cluster.facts.processes kind
     → cuts ≡ cuts_after cluster.facts.cuts kind → flight ≡ flight_after cluster.facts.clock cluster.facts.keys cluster.facts.flight kind → sent ≡ sent_after cluster.facts.sent kind → servers ≡ servers_after clock cluster.facts.servers kind
-    → frozen ≡ frozen_after cluster.facts.frozen kind → deadlines ≡ deadlines_after cluster.facts.deadlines kind → holds ≡ holds_after cluster.facts.holds kind → commits ≡ commits_after cluster.facts.commits kind
+    → frozen ≡ frozen_after cluster.facts.frozen kind → deadlines ≡ deadlines_after cluster.facts.deadlines kind → failsafe_deadlines ≡ failsafe_deadlines_after cluster.failsafe_deadlines kind → holds ≡ holds_after cluster.facts.holds kind → commits ≡ commits_after cluster.facts.commits kind
     → acknowledged ≡ acknowledged_after cluster.facts.acknowledged kind → agents ≡ agents_apart cluster.scope cluster.options cluster.facts.members cluster.facts.clock cluster.agents kind
-    → changed cluster clock keys processes cuts flight sent servers frozen deadlines holds commits acknowledged agents ≡ cluster_after cluster kind
-changed-is cluster kind clock keys processes cuts flight sent servers frozen deadlines holds commits acknowledged agents bare clock_is keys_is processes_is cuts_is flight_is sent_is servers_is frozen_is deadlines_is holds_is commits_is acknowledged_is agents_are =
+    → changed cluster clock keys processes cuts flight sent servers frozen deadlines failsafe_deadlines holds commits acknowledged agents ≡ cluster_after cluster kind
+changed-is cluster kind clock keys processes cuts flight sent servers frozen deadlines failsafe_deadlines holds commits acknowledged agents bare clock_is keys_is processes_is cuts_is flight_is sent_is servers_is frozen_is deadlines_is failsafe_is holds_is commits_is acknowledged_is agents_are =
     let agents_so : agents ≡ agent_facts_after cluster kind = agents_are ∙ sym (agents-apart cluster kind bare) in
-    rw (agents_so, acknowledged_is, commits_is, holds_is, deadlines_is, frozen_is, servers_is, sent_is, flight_is, cuts_is, processes_is, keys_is, clock_is) refl
+    rw (agents_so, acknowledged_is, commits_is, holds_is, failsafe_is, deadlines_is, frozen_is, servers_is, sent_is, flight_is, cuts_is, processes_is, keys_is, clock_is) refl

@@ -22,6 +22,7 @@ use Rattle.agent_model.specs.declared.output.Output.{Output}
 use Rattle.agent_model.specs.Agents.{AgentFacts, Outcome}
 use Rattle.cluster_model.specs.Cluster.{agent_after, agent_facts_with}
 use Rattle.cluster_model.specs.Inputs.{agent_at, moment_of, outcome_at, outcome_of, outputs_of}
+use Rattle.cluster_model.specs.FailsafeDeadlines.{is_set_by_failsafe}
 use Rattle.cluster_model.specs.Machines.{machine_from, machine_of, points_of, replication_of}
 use Rattle.cluster_model.specs.State.{Cluster}
 use Rattle.cluster_model.specs.Streaming.{source_of}
@@ -70,21 +71,24 @@ pub heard-outputs : (cluster : Cluster) (member : Member) (heard : Heard) (point
 heard-outputs cluster member heard points machine outputs told is did = did ∙ ap outputs_of (heard-outcome cluster member heard points machine told is)
 
 -- a machine is that of a member where each part of it is
-pub machine-is : (cluster : Cluster) (member : Member) (result : Option Machine) (receives : Bool) (replication : Option Replication) (options : Option MemberOptions) (deadline hold : Option (Option Ticks)) (server : Option ServerFacts)
-    → result ≡ machine_from receives replication options deadline hold server → receives ≡ is_some (source_of cluster.facts.members cluster.facts.servers cluster.facts.cuts member)
+pub machine-is : (cluster : Cluster) (member : Member) (result : Option Machine) (receives by_failsafe : Bool) (replication : Option Replication) (options : Option MemberOptions) (deadline hold : Option (Option Ticks)) (server : Option ServerFacts)
+    → result ≡ machine_from receives by_failsafe replication options deadline hold server → receives ≡ is_some (source_of cluster.facts.members cluster.facts.servers cluster.facts.cuts member)
+    → by_failsafe ≡ is_set_by_failsafe (slice_get cluster.failsafe_deadlines member.id.number)
     → replication ≡ option_map (replication_of cluster.facts.members cluster.facts.servers cluster.facts.cuts member) (slice_get cluster.facts.servers member.id.number)
     → options ≡ slice_get cluster.options member.id.number → deadline ≡ slice_get cluster.facts.deadlines member.id.number
     → hold ≡ slice_get cluster.facts.holds member.id.number → server ≡ slice_get cluster.facts.servers member.id.number → result ≡ machine_of cluster member
-machine-is cluster member result receives replication options deadline hold server is from told said due held there =
+machine-is cluster member result receives by_failsafe replication options deadline hold server is from set told said due held there =
     let place = member.id.number in
     let source = is_some (source_of cluster.facts.members cluster.facts.servers cluster.facts.cuts member) in
     let known = option_map (replication_of cluster.facts.members cluster.facts.servers cluster.facts.cuts member) (slice_get cluster.facts.servers place) in
-    is ∙ ap (λ (r : Bool). machine_from r replication options deadline hold server) from
-    ∙ ap (λ (r : Option Replication). machine_from source r options deadline hold server) told
-    ∙ ap (λ (o : Option MemberOptions). machine_from source known o deadline hold server) said
-    ∙ ap (λ (d : Option (Option Ticks)). machine_from source known (slice_get cluster.options place) d hold server) due
-    ∙ ap (λ (h : Option (Option Ticks)). machine_from source known (slice_get cluster.options place) (slice_get cluster.facts.deadlines place) h server) held
-    ∙ ap (λ (s : Option ServerFacts). machine_from source known (slice_get cluster.options place) (slice_get cluster.facts.deadlines place) (slice_get cluster.facts.holds place) s) there
+    let basis = is_set_by_failsafe (slice_get cluster.failsafe_deadlines place) in
+    is ∙ ap (λ (r : Bool). machine_from r by_failsafe replication options deadline hold server) from
+    ∙ ap (λ (b : Bool). machine_from source b replication options deadline hold server) set
+    ∙ ap (λ (r : Option Replication). machine_from source basis r options deadline hold server) told
+    ∙ ap (λ (o : Option MemberOptions). machine_from source basis known o deadline hold server) said
+    ∙ ap (λ (d : Option (Option Ticks)). machine_from source basis known (slice_get cluster.options place) d hold server) due
+    ∙ ap (λ (h : Option (Option Ticks)). machine_from source basis known (slice_get cluster.options place) (slice_get cluster.facts.deadlines place) h server) held
+    ∙ ap (λ (s : Option ServerFacts). machine_from source basis known (slice_get cluster.options place) (slice_get cluster.facts.deadlines place) (slice_get cluster.facts.holds place) s) there
 
 -- the room of its history has nothing to do with the timeline of a server
 pub unspared : (found : Option ServerFacts) → IfSome (option_map without_spare found) (λ s. s.timeline < 2 ^ 60) → IfSome found (λ s. s.timeline < 2 ^ 60)

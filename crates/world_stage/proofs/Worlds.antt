@@ -22,5 +22,6 @@ seen w = record {
     commits = w.commits;
     acknowledged = w.acknowledged;
   };
+  failsafe_deadlines = w.failsafe_deadlines.items;
   agents = w.agents.items;
 }

@@ -53,6 +53,8 @@ pub struct Stage {
     agents: Vec<Option<Agent>>,
     /// When each watchdog resets its machine, if it is armed.
     deadlines: Vec<Option<Ticks>>,
+    /// Whether acknowledgements of other members set each deadline last.
+    failsafe_deadlines: Vec<bool>,
     /// Until when each member promised not to take the leader key, if it did.
     holds: Vec<Option<Ticks>>,
     cuts: CutLinks,
@@ -99,6 +101,7 @@ impl Model for Stage {
         commits = w.commits;
         acknowledged = w.acknowledged;
       };
+      failsafe_deadlines = w.failsafe_deadlines.items;
       agents = w.agents.items;
     } };
 
@@ -123,6 +126,7 @@ impl Stage {
         let hosts = shared_hosts(alloc, &options, &members)?;
         let processes = processes_of(alloc, count)?;
         let deadlines = Vec::from_elem(alloc, None, count)?;
+        let failsafe_deadlines = Vec::from_elem(alloc, false, count)?;
         let holds = Vec::from_elem(alloc, None, count)?;
         let cuts = CutLinks::none(alloc)?;
         let servers = Servers::new(alloc, count, head.base())?;
@@ -143,6 +147,7 @@ impl Stage {
             processes,
             agents,
             deadlines,
+            failsafe_deadlines,
             holds,
             cuts,
             flight,
@@ -170,6 +175,7 @@ impl Stage {
             processes: _,
             agents,
             deadlines: _,
+            failsafe_deadlines: _,
             holds: _,
             cuts: _,
             flight: _,

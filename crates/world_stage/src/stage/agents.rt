@@ -1,9 +1,10 @@
 //! Agents: how they are woken, hear, and are shown.
-ghost use Rattle.std.specs.Prelude.{◌≡◌, ◌≤◌, ◌*◌, [], Some, OnOk, IfOk, IfSome, option_copied, option_map, slice_get};
+ghost use Rattle.std.specs.Prelude.{◌≡◌, ◌≤◌, ◌^◌, ◌*◌, [], Some, OnOk, IfOk, IfSome, option_copied, option_map, slice_get};
 ghost use Rattle.lease_store.specs.Copied.{items_if};
 ghost use Rattle.cluster_view.specs.Snapshots.{IsRead};
 ghost use Rattle.agent_model.specs.declared.heard.Heard.TheVariants as heards;
 ghost use Rattle.agent_model.specs.Agents.{IsWithin};
+ghost use Rattle.agent_rows.specs.Inputs.{IsSpannedInput};
 ghost use Rattle.agent_model.specs.Outputs.{most_outputs};
 ghost use Rattle.cluster_model.specs.Cluster.{agent_facts_with};
 ghost use Rattle.cluster_model.specs.Hearing.{heard_from, member_at_end, snapshot_at, snapshot_with};
@@ -29,6 +30,7 @@ use store_keys::{Key, KeyEntry, OperatorAction};
 use world_agents::{Agent, Outputs, places};
 use world_fields::machines::{item_at, machine_from};
 use world_fields::members::member_at;
+use world_fields::watchdogs::is_set_by_failsafe;
 use world_fields::writing::write_down;
 use world_flight::flight::InFlight;
 use world_parts::actions::copy_of;
@@ -114,6 +116,7 @@ impl Stage {
     )
         requires room { HasRoom self.old hearing_cost }
         requires spare { most_outputs ≤ outputs.old.spare }
+        requires span { IfSome heard IsSpannedInput }
         requires none { outputs.old.outputs ≡ [] }
         ensures world { self.new ≡ record self.old { agents = agent_facts_with self.old.agents member (outcome_of_heard self.old member heard) } }
         ensures outputs { outputs.new.outputs ≡ outputs_of (outcome_of_heard self.old member heard) }
@@ -128,6 +131,7 @@ impl Stage {
     pub(crate) fn agent_hears(&mut self, member: Member, heard: Heard, outputs: &mut Outputs)
         requires room { HasRoom self.old hearing_cost }
         requires spare { most_outputs ≤ outputs.old.spare }
+        requires span { IsSpannedInput heard }
         requires none { outputs.old.outputs ≡ [] }
         ensures world { self.new ≡ record self.old { agents = agent_facts_with self.old.agents member (outcome_of self.old member heard) } }
         ensures outputs { outputs.new.outputs ≡ outputs_of (outcome_of self.old member heard) }
@@ -153,11 +157,12 @@ impl Stage {
     /// What a message says to an agent. It fails only for want of memory.
     pub(crate) fn heard_from(&self, carried: InFlight) -> Result<Option<Heard>, AllocError>
         requires { IsSent carried }
-        ensures { IfOk result (λ heard. heard ≡ heard_from self.now carried) }
+        ensures heard { IfOk result (λ heard. heard ≡ heard_from self.now carried) }
+        ensures span { IfOk result (λ heard. IfSome heard IsSpannedInput) }
     {
         let InFlight {
             message,
-            sent: _,
+            sent,
             snapshot,
             grant,
         } = carried;
@@ -189,6 +194,8 @@ impl Stage {
                 sequence,
                 answer: *answer,
             })),
+            Body::FailsafeRequest { ttl } => Ok(failsafe_asked_by(message, *ttl)),
+            Body::FailsafeAnswer { yes } => Ok(failsafe_answered_by(message, *yes, sent)),
             _ => Ok(None),
         }
     }
@@ -242,6 +249,7 @@ impl Stage {
         let from = source_of(&self.members, &self.servers, &self.cuts, member);
         machine_from(
             from.is_some(),
+            is_set_by_failsafe(&self.failsafe_deadlines, member),
             replication_of(&self.members, &self.servers, &self.cuts, member),
             item_at(&self.options, place),
             item_at(&self.deadlines, place),
@@ -289,13 +297,43 @@ impl Stage {
 
 /// What an ask says to an agent: the member that asks, if one does.
 fn asked_by(message: &Message) -> Option<Heard>
-    ensures { result ≡ option_map (λ from. heards.Asked from message.now.incarnation message.now.sequence) (member_at_end message.now.from) }
+    ensures heard { result ≡ option_map (λ from. heards.Asked from message.now.incarnation message.now.sequence) (member_at_end message.now.from) }
+    ensures span { IfSome result IsSpannedInput }
 {
     let from = member_at_end(message.from)?;
     Some(Heard::Asked {
         from,
         incarnation: message.incarnation,
         sequence: message.sequence,
+    })
+}
+
+/// What a failsafe request for this span says to an agent: the member that asks, if one does.
+fn failsafe_asked_by(message: &Message, ttl: Ticks) -> Option<Heard>
+    requires short { ttl.0 ≤ 2 ^ 40 }
+    ensures heard { result ≡ option_map (λ from. heards.FailsafeAsked from message.now.incarnation message.now.sequence ttl) (member_at_end message.now.from) }
+    ensures span { IfSome result IsSpannedInput }
+{
+    let from = member_at_end(message.from)?;
+    Some(Heard::FailsafeAsked {
+        from,
+        incarnation: message.incarnation,
+        sequence: message.sequence,
+        ttl,
+    })
+}
+
+/// What the answer to a failsafe request, sent at this moment, says to an agent: the member that answers, if one does.
+fn failsafe_answered_by(message: &Message, accepted: bool, sent: Ticks) -> Option<Heard>
+    ensures heard { result ≡ option_map (λ from. heards.FailsafeAnswered from message.now.sequence accepted sent) (member_at_end message.now.from) }
+    ensures span { IfSome result IsSpannedInput }
+{
+    let from = member_at_end(message.from)?;
+    Some(Heard::FailsafeAnswered {
+        from,
+        sequence: message.sequence,
+        accepted,
+        sent,
     })
 }
 

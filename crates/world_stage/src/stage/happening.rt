@@ -14,8 +14,8 @@ use world_agents::places::change_agents;
 use world_fields::writing::write_down;
 use world_flight::flight::change_flight;
 use world_parts::changes::{
-    change_acknowledged, change_deadlines, change_frozen, change_holds, change_keys, change_links,
-    change_processes, commits_after, now_after, sent_after,
+    change_acknowledged, change_deadlines, change_failsafe_deadlines, change_frozen, change_holds,
+    change_keys, change_links, change_processes, commits_after, now_after, sent_after,
 };
 use world_parts::server_changes::change_servers;
 
@@ -56,6 +56,7 @@ impl Stage {
             kind,
         );
         change_deadlines(&mut self.deadlines, kind);
+        change_failsafe_deadlines(&mut self.failsafe_deadlines, kind);
         change_holds(&mut self.holds, kind);
         change_flight(&mut self.flight, kind);
         change_frozen(&mut self.frozen, kind);

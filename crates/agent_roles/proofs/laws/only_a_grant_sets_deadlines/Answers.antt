@@ -1,4 +1,5 @@
-use Rattle.agent_roles.proofs.Leaving.{operated-leaves, wake-leaves, read-leaves, refusal-leaves, asked-leaves, answered-leaves}
+use Rattle.agent_roles.proofs.Acknowledging.{answer-leaves, operated-leaves, request-leaves, wake-leaves}
+use Rattle.agent_roles.proofs.Leaving.{read-leaves, refusal-leaves, asked-leaves, answered-leaves}
 use Rattle.agent_roles.proofs.laws.only_a_grant_sets_deadlines.Goals as goal
 
 pub returns-clause-wake : goal.returns-clause-wake
@@ -15,6 +16,12 @@ returns-clause-ask c now points from incarnation sequence o = asked-leaves now f
 
 pub returns-clause-answer : goal.returns-clause-answer
 returns-clause-answer c now points sequence answer o = answered-leaves now sequence answer o
+
+pub returns-clause-failsafe_ask : goal.returns-clause-failsafe_ask
+returns-clause-failsafe_ask c now points from incarnation sequence ttl o = request-leaves now from incarnation sequence ttl o
+
+pub returns-clause-failsafe_answer : goal.returns-clause-failsafe_answer
+returns-clause-failsafe_answer c now points from sequence accepted sent o = answer-leaves now from sequence accepted sent o
 
 pub returns-clause-action : goal.returns-clause-action
 returns-clause-action c now points action o = operated-leaves now action o

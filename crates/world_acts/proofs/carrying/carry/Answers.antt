@@ -10,6 +10,9 @@ returns-in-Send c = on_ok_weaker c.write.result (carried _ _ _ _ c.args.member c
 pub returns-in-Answer : goal.returns-in-Answer
 returns-in-Answer c = on_ok_weaker c.reply.result (carried _ _ _ _ c.args.member c.args.heard c.args.output _ sending_cost c.in-Answer.is (omega arith)) c.reply.ensures
 
+pub returns-in-FailsafeAnswer : goal.returns-in-FailsafeAnswer
+returns-in-FailsafeAnswer c = on_ok_weaker c.reply-in-FailsafeAnswer.result (carried _ _ _ _ c.args.member c.args.heard c.args.output _ sending_cost c.in-FailsafeAnswer.is (omega arith)) c.reply-in-FailsafeAnswer.ensures
+
 pub returns-in-Begin : goal.returns-in-Begin
 returns-in-Begin c = on_ok_weaker c.begin.result (carried _ _ _ _ c.args.member c.args.heard c.args.output _ beginning_cost c.in-Begin.is (omega arith)) c.begin.ensures
 
@@ -39,6 +42,12 @@ returns-in-Armed c = on_ok_weaker c.tell_arming.result (carried _ _ _ _ c.args.m
 
 pub returns-in-Fed : goal.returns-in-Fed
 returns-in-Fed c = on_ok_weaker c.tell_feeding.result (carried _ _ _ _ c.args.member c.args.heard c.args.output _ feeding_cost c.in-Fed.is (omega arith)) c.tell_feeding.ensures
+
+pub returns-in-FedByFailsafe : goal.returns-in-FedByFailsafe
+returns-in-FedByFailsafe c = on_ok_weaker c.tell_failsafe_feeding.result (carried _ _ _ _ c.args.member c.args.heard c.args.output _ feeding_cost c.in-FedByFailsafe.is (omega arith)) c.tell_failsafe_feeding.ensures
+
+pub returns-in-StaysByFailsafe : goal.returns-in-StaysByFailsafe
+returns-in-StaysByFailsafe c = on_ok_weaker c.tell_staying.result (carried _ _ _ _ c.args.member c.args.heard c.args.output _ 1 c.in-StaysByFailsafe.is (omega arith)) c.tell_staying.ensures
 
 pub returns-in-Disarmed : goal.returns-in-Disarmed
 returns-in-Disarmed c = on_ok_weaker c.tell_disarming.result (carried _ _ _ _ c.args.member c.args.heard c.args.output _ 1 c.in-Disarmed.is (omega arith)) c.tell_disarming.ensures

@@ -1,17 +1,24 @@
-use Rattle.std.proofs.Common.{◌≡◌, ◌∙◌, Some, ap, sym, subst, rules}
-use Rattle.std.specs.Prelude.{slice_get}
+use Rattle.std.proofs.Common.{◌≡◌, ◌∙◌, Option, Some, arith, ap, sym, subst, rules}
+use Rattle.std.specs.Prelude.{IfSome, slice_get}
 use Rattle.pg_cluster.specs.Servers.{without_spare}
+use Rattle.agent_model.specs.declared.machine.Machine.{Machine}
+use Rattle.agent_model.specs.Agents.{IsWithin}
 use Rattle.cluster_model.specs.Cluster.{agent_facts_with}
 use Rattle.cluster_model.specs.Inputs.{outcome_of, outputs_of}
 use Rattle.cluster_model.specs.Machines.{machine_of, points_from, points_of}
 use Rattle.cluster_model.specs.State.{Cluster}
 use Rattle.world_model.specs.Room.{HasRoom, hearing_cost}
+use Rattle.world_model.proofs.Rooms.{HasRoom-fewer}
 use Rattle.world_stage.proofs.Hearing.{heard-outputs, heard-state, unheard-by}
 use Rattle.world_stage.proofs.Worlds.{seen}
 use Rattle.world_stage.proofs.stage.Stage.agent_hears.Goals as goal
 
 pub returns-in_default-clause-world : goal.returns-in_default-clause-world
 returns-in_default-clause-world c = unheard-by c.args.self.now c.args.member c.args.heard (sym c.machine.ensures.machine ∙ c.in_default.is)
+
+pub step_agent-requires-clause-server : goal.step_agent-requires-clause-server
+step_agent-requires-clause-server c =
+    subst (λ (machine : Option Machine). IfSome machine (λ m. IsWithin m.server)) c.in-Some.is (c.machine.ensures.within (HasRoom-fewer c.args.self.now hearing_cost 1 (omega arith) c.requires.room))
 
 pub step_agent-requires-clause-numbers : goal.step_agent-requires-clause-numbers
 step_agent-requires-clause-numbers c =

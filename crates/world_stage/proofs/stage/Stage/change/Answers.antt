@@ -59,9 +59,9 @@ returns c =
     ∙ ap (λ (members : List Member). agents_apart w.scope w.options.items members w.clock.0 w.agents.items kind) c.deref-2.ensures.value in
     subst
     (λ (b : Cluster). changed before c.now_after-now.result.0 c.change_keys.new.store c.change_processes.new.processes.items c.change_links.new.cuts c.change_flight.new.flight c.sent_after-self-inside.result c.change_servers.new.servers
-    c.change_frozen.new.frozen.items c.change_deadlines.new.deadlines.items c.change_holds.new.holds.items c.commits_after-self-inside.result c.change_acknowledged.new.told c.change_agents.new.agents.items ≡ cluster_after b kind)
+    c.change_frozen.new.frozen.items c.change_deadlines.new.deadlines.items c.change_failsafe_deadlines.new.failsafe_deadlines.items c.change_holds.new.holds.items c.commits_after-self-inside.result c.change_acknowledged.new.told c.change_agents.new.agents.items ≡ cluster_after b kind)
     c.self.view_is
     (changed-is before kind c.now_after-now.result.0 c.change_keys.new.store c.change_processes.new.processes.items c.change_links.new.cuts c.change_flight.new.flight c.sent_after-self-inside.result c.change_servers.new.servers
-    c.change_frozen.new.frozen.items c.change_deadlines.new.deadlines.items c.change_holds.new.holds.items c.commits_after-self-inside.result c.change_acknowledged.new.told c.change_agents.new.agents.items c.requires.comes.bare
+    c.change_frozen.new.frozen.items c.change_deadlines.new.deadlines.items c.change_failsafe_deadlines.new.failsafe_deadlines.items c.change_holds.new.holds.items c.commits_after-self-inside.result c.change_acknowledged.new.told c.change_agents.new.agents.items c.requires.comes.bare
     c.now_after-now.ensures c.change_keys.ensures c.change_processes.ensures c.change_links.ensures (c.change_flight.ensures.flight before.facts.clock before.facts.keys) c.sent_after-self-inside.ensures c.in_ok-change_servers.ensures
-    c.change_frozen.ensures c.change_deadlines.ensures c.change_holds.ensures c.commits_after-self-inside.ensures c.in_ok-change_acknowledged.ensures agents)
+    c.change_frozen.ensures c.change_deadlines.ensures c.change_failsafe_deadlines.ensures c.change_holds.ensures c.commits_after-self-inside.ensures c.in_ok-change_acknowledged.ensures agents)
