@@ -171,23 +171,31 @@ fn answers(alloc: Global, who: &Who) -> Result<(Snapshot, Granted, Snapshot, Sna
     Ok((free, granted, leading, read))
 }
 
+/// The answer to the read of this number.
+fn read_answered(sequence: u64, snapshot: Snapshot) -> Heard
+    ensures { IsSpannedInput result }
+{
+    Heard::ReadAnswered { sequence, snapshot }
+}
+
+/// The answer to the create, which is the second question.
+fn create_granted(granted: Granted, snapshot: Snapshot) -> Heard
+    ensures { IsSpannedInput result }
+{
+    Heard::Granted {
+        sequence: 2,
+        granted,
+        snapshot,
+    }
+}
+
 #[test]
 fn one_member(rt: HostRuntime) -> Result<(), Fail> {
     let who = who(&rt);
     let (free, granted, leading, read) = answers(rt.alloc(), &who)?;
-    let free = Heard::ReadAnswered {
-        sequence: 1,
-        snapshot: free,
-    };
-    let granted = Heard::Granted {
-        sequence: 2,
-        granted,
-        snapshot: leading,
-    };
-    let read = Heard::ReadAnswered {
-        sequence: 3,
-        snapshot: read,
-    };
+    let free = read_answered(1, free);
+    let granted = create_granted(granted, leading);
+    let read = read_answered(3, read);
     let mut place = Workplace::new(rt.alloc())?;
     let mut agent = Agent::start(who, Ticks(0), 1, &mut place.machine);
     place.hears(&rt, &mut agent, Ticks(1), Heard::Wake, &["read"]);
@@ -249,10 +257,7 @@ fn an_acknowledgement(rt: HostRuntime) -> Result<(), Fail> {
 fn a_refusal(rt: HostRuntime) -> Result<(), Fail> {
     let who = who(&rt);
     let (free, _, _, _) = answers(rt.alloc(), &who)?;
-    let free = Heard::ReadAnswered {
-        sequence: 1,
-        snapshot: free,
-    };
+    let free = read_answered(1, free);
     let mut place = Workplace::new(rt.alloc())?;
     let mut agent = Agent::start(who, Ticks(0), 1, &mut place.machine);
     place.hears(&rt, &mut agent, Ticks(1), Heard::Wake, &["read"]);
@@ -293,15 +298,8 @@ fn a_hold(rt: HostRuntime) -> Result<(), Fail> {
 fn a_hold_refused(rt: HostRuntime) -> Result<(), Fail> {
     let who = who(&rt);
     let (free, granted, leading, _) = answers(rt.alloc(), &who)?;
-    let free = Heard::ReadAnswered {
-        sequence: 1,
-        snapshot: free,
-    };
-    let granted = Heard::Granted {
-        sequence: 2,
-        granted,
-        snapshot: leading,
-    };
+    let free = read_answered(1, free);
+    let granted = create_granted(granted, leading);
     let mut place = Workplace::new(rt.alloc())?;
     let mut agent = Agent::begin(who, Ticks(0), 1);
     place.hears(&rt, &mut agent, Ticks(1), Heard::Wake, &["read"]);

@@ -1,6 +1,5 @@
 -- The patch `{}` leaves a configuration as it is.
-use Rattle.std.proofs.Common.{◌≡◌, ℕ, ◌==◌, List, [], ◌∷◌, Bool, true, false, not, cond, codes, Option, Some, None, option_map, find, Result, Ok, lit<, refl, ap, ◌∙◌, arith}
-use Rattle.std.proofs.lemmas.Bool.Decides.{nat_tests}
+use Rattle.std.proofs.Common.{◌≡◌, List, [], ◌∷◌, Bool, true, false, cond, codes, Option, Some, None, option_map, find, Result, Ok, lit<, refl, ap, ◌∙◌}
 use Rattle.std.proofs.lemmas.Str.{is_utf8-from_IsUtf8, IsUtf8-from_ascii}
 use Rattle.std.proofs.lemmas.Str.Ascii.{IsAscii-cons, IsAscii-nil}
 use Rattle.std.specs.Str.{is_utf8}
@@ -28,25 +27,22 @@ was-object (Some (string t)) s e = absurd (err-not-ok faults.NotObject s e)
 was-object (Some (array ds)) s e = absurd (err-not-ok faults.NotObject s e)
 was-object (Some (object ms)) s e = (ms, refl, e)
 
-equal : (n : ℕ) → not (n == n) ≡ false
-equal n = grind (arith, nat_tests)
-
 not-switched : (on : Bool) → is_switched on on ≡ false
 not-switched true = refl
 not-switched false = refl
 
 unchanged : (c : Config) (setting : Setting) → is_changed c c setting ≡ false
 unchanged c settings.FailsafeMode = not-switched c.failsafe_mode
-unchanged c settings.LoopWait = equal c.loop_wait
+unchanged c settings.LoopWait = refl
 unchanged c settings.MaximumLagOnFailover = refl
 unchanged c settings.Pause = refl
 unchanged c settings.UsePgRewind = refl
 unchanged c settings.PrimaryStartTimeout = refl
-unchanged c settings.RetryTimeout = equal c.retry_timeout
+unchanged c settings.RetryTimeout = refl
 unchanged c settings.SynchronousMode = refl
 unchanged c settings.SynchronousModeStrict = refl
 unchanged c settings.SynchronousNodeCount = refl
-unchanged c settings.Ttl = equal c.ttl
+unchanged c settings.Ttl = refl
 
 none-passes : (p : Setting → Bool) → ((setting : Setting) → p setting ≡ false) → (all : List Setting) → find p all ≡ None
 none-passes p fails [] = refl

@@ -1,5 +1,5 @@
 -- Why a JSON value is no configuration: its first fault.
-use Rattle.std.specs.Prelude.{ℕ, ◌+◌, ◌*◌, ◌==◌, Bool, true, false, not, is_some, nat_lt, nat_le, find, Option, Some, None, option_map}
+use Rattle.std.specs.Prelude.{ℕ, ◌+◌, ◌*◌, Bool, true, false, not, is_some, nat_lt, nat_le, find, Option, Some, None, option_map}
 use Rattle.store_keys.specs.declared.config.Config.{Config}
 use Rattle.serde_json.specs.Data.{Data}
 use Rattle.serde_json.specs.Written.{has_float}
@@ -62,12 +62,9 @@ abbrev pub is_switched : Bool → Bool → Bool
 is_switched true next = not next
 is_switched false next = next
 
--- whether a configuration changes a setting of another whose change isn't built
+-- whether a configuration changes a setting of another that is as the first configuration has it for good: the failsafe mode
 abbrev pub is_changed : Config → Config → Setting → Bool
 is_changed present next settings.FailsafeMode = is_switched present.failsafe_mode next.failsafe_mode
-is_changed present next settings.LoopWait = not (present.loop_wait == next.loop_wait)
-is_changed present next settings.RetryTimeout = not (present.retry_timeout == next.retry_timeout)
-is_changed present next settings.Ttl = not (present.ttl == next.ttl)
 is_changed present next _ = false
 
 -- this fault, or else the next

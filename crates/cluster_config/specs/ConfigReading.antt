@@ -57,7 +57,7 @@ judged d = judged_as d (config_in d)
 abbrev pub config_read : List ℕ → Result Settings ConfigFault
 config_read bytes = on_ok (object_of bytes) judged
 
--- a configuration in place of another, unless it changes what can't be changed yet
+-- a configuration in place of another, unless it changes what may not be changed
 abbrev pub in_place_of : Config → Settings → Result Settings ConfigFault
 in_place_of present next = unless_fault (option_map faults.NotBuilt (find (is_changed present next.config) settings_in_order)) next
 

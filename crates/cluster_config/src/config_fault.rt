@@ -29,7 +29,7 @@ pub enum ConfigFault {
     /// A number of no setting isn't a whole number of at most 64 bits.
     #[error("Fraction")]
     Fraction,
-    /// This setting may not be changed, or not yet.
+    /// This setting may not be changed.
     #[error("NotBuilt({0})")]
     NotBuilt(Setting),
     /// Want of memory: nothing is said of the bytes.

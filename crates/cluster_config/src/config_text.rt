@@ -123,7 +123,7 @@ fn judged(alloc: Global, object: &Value) -> Result<ConfigValue, ConfigFault>
     Ok(ConfigValue::new(text, config))
 }
 
-/// A configuration in place of another, unless it changes what can't be changed yet.
+/// A configuration in place of another, unless it changes what may not be changed.
 fn in_place_of(present: Config, next: ConfigValue) -> Result<ConfigValue, ConfigFault>
     ensures answers { result ≡ in_place_of present next }
     ensures next { IfOk result (λ settings. settings ≡ next) }

@@ -96,20 +96,17 @@ fn keeps_times(config: Config) -> bool
     config.loop_wait + 2 * config.retry_timeout <= config.ttl
 }
 
-/// Whether a configuration changes a setting of another whose change isn't built.
+/// Whether a configuration changes a setting of another that is as the first configuration has it for good: the failsafe mode.
 fn is_changed(present: Config, next: Config, setting: Setting) -> bool
     ensures { result ≡ is_changed present next setting }
 {
     match setting {
         Setting::FailsafeMode => present.failsafe_mode != next.failsafe_mode,
-        Setting::LoopWait => present.loop_wait != next.loop_wait,
-        Setting::RetryTimeout => present.retry_timeout != next.retry_timeout,
-        Setting::Ttl => present.ttl != next.ttl,
         _ => false,
     }
 }
 
-/// The first setting that is changed and whose change isn't built.
+/// The first setting that is changed and may not be.
 pub(crate) fn first_changed(present: Config, next: Config) -> Option<Setting>
     ensures { result ≡ find (is_changed present next) settings_in_order }
 {

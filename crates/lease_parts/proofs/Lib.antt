@@ -16,3 +16,4 @@ pub mod Ticks
 pub mod First
 pub mod Fitting
 pub mod StoreArrivals
+pub mod Guarding

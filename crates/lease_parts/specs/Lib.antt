@@ -7,3 +7,4 @@ pub mod Bridged
 pub mod Kept
 pub mod Asides
 pub mod LocalActions
+pub mod Guarding

@@ -4,5 +4,6 @@
 mod laws;
 
 pub use laws::{
-    runs_are_fenced, runs_have_one_writer, runs_name_their_servers, runs_tell_measures,
+    runs_are_fenced, runs_guard_who_acts, runs_have_one_writer, runs_keep_failsafe_mode,
+    runs_name_their_servers, runs_tell_measures,
 };
