@@ -51,8 +51,10 @@ use Rattle.store_keys.specs.declared.txn.Txn.TheVariants as txns
 use Rattle.event_book.specs.declared.message.Body.{Body}
 use Rattle.lease_law.specs.Modes.{IsModeAsked, IsModeSet}
 use Rattle.agent_lease_law.specs.Modes.{AsksMode, HearsMode, IsModeRequested}
-use Rattle.agent_lease_law.proofs.Sending.{MayAskMember, MayAskStore, MayTransact, Grounds, staying, failsafe-asked-may, failsafe-answered-may, IsSilent, silently, MayPut, AllMay, Fronts, before-fronts, got-none, wake-may, got-may, refused-may, granted-may, overdue-none, answered-none, answered-may, asked-may, operated-may, given-up-fronts, looked-fronts, looked-later}
-use Rattle.agent_lease_law.proofs.Sending.Fronts.{Silent, Released}
+use Rattle.agent_lease_law.proofs.MaySend.{MayAskMember, MayAskStore, MayTransact, Grounds, IsSilent, silently, MayPut, AllMay, Fronts, before-fronts, overdue-none}
+use Rattle.agent_lease_law.proofs.StayingSends.{staying, failsafe-asked-may, failsafe-answered-may, wake-may, given-up-fronts}
+use Rattle.agent_lease_law.proofs.Sending.{got-none, got-may, refused-may, granted-may, answered-none, answered-may, asked-may, operated-may, looked-fronts, looked-later}
+use Rattle.agent_lease_law.proofs.MaySend.Fronts.{Silent, Released}
 use Rattle.agent_roles.proofs.Fitting.{before-fits}
 use Rattle.agent_model.specs.Pausing.{may_start_behind, disabling_watchdog, running_without_key}
 

@@ -33,8 +33,9 @@ use Rattle.agent_roles.proofs.Living.{no-way}
 use Rattle.agent_model.proofs.Rows.{HandoverRows, ReplyRows, dropping, granted-any-by, led_on, if-cases, renewed-by, begins-or-claims-by, granted-by}
 use Rattle.agent_model.specs.Pausing.{is_paused}
 use Rattle.store_keys.specs.declared.txn.Expected.{Expected}
-use Rattle.agent_lease_law.proofs.Sending.{Grounds, IsSilent, MayPut, AllMay, silently, silent-armed, silent-fed, IsReleaseOr, Fronts, IsMild, AllMild, handover-mild, checking-mild, before-fronts, postpones-silent, told-fronts, silent-passing, Decides, learned-fronts, granted-none}
-use Rattle.agent_lease_law.proofs.Sending.Fronts.{Silent, Released}
+use Rattle.agent_lease_law.proofs.MaySend.{Grounds, IsSilent, MayPut, AllMay, silently, silent-armed, silent-fed, IsReleaseOr, Fronts, IsMild, AllMild, handover-mild, checking-mild, before-fronts, postpones-silent, told-fronts}
+use Rattle.agent_lease_law.proofs.Sending.{silent-passing, Decides, learned-fronts, granted-none}
+use Rattle.agent_lease_law.proofs.MaySend.Fronts.{Silent, Released}
 
 begins-one : (P Q : Type 0) → (P → Q) → (output : Output) → BeginsOnly P output → BeginsOnly Q output
 begins-one P Q more outputs.Begin e = more e

@@ -64,7 +64,7 @@ use Rattle.agent_model.proofs.Rows.{HandoverRows, ReplyRows, DutyRows, GrantWhen
 use Rattle.agent_roles.proofs.Granting.{Told, both-true}
 use Rattle.agent_roles.proofs.Knowing.{given-up-onward}
 use Rattle.agent_roles.proofs.Living.{no-way}
-use Rattle.agent_roles.proofs.Staying.{before-waits}
+use Rattle.agent_roles.proofs.Staying.{before-leaves, before-waits}
 use Rattle.agent_lease_law.specs.Modes.{KeepsMode, LeavesMode, MayTakeKey, TellsMode}
 use Rattle.agent_lease_law.proofs.Sending.{free-when}
 
@@ -550,7 +550,7 @@ failsafe-answered-goes now from sequence accepted sent mode o = elim (by b.knows
     record {
       waits = counts.1.waits ∙ before-waits now o;
       awaited = λ waited is. counts.1.awaited waited (before-waits now o ∙ is);
-      ask = counts.1.ask ∙ ap (λ (ask : Ask). ask_heard ask from true sent) (before-ask now o);
+      ask = counts.1.ask ∙ ap (λ (ask : Ask). ask_heard ask from true sent) (before-leaves now o).asked;
       keeps = λ keeps. counts.1.keeps (first.keeps keeps);
     },
   )
@@ -566,21 +566,6 @@ failsafe-answered-goes now from sequence accepted sent mode o = elim (by b.knows
     by None is = inl (same-goes mode b)
     by (Some waited) is = if-cases (HearsSo from sequence accepted sent mode b) (awaits_failsafe waited sequence) (accepted_failsafe now waited from accepted sent b.role b) b
         (λ awaits. hears-as now from sequence accepted sent mode waited b.role b is (same-number waited.sequence sequence (both-true (is_staying waited.question) (waited.sequence == sequence) awaits).1)) (λ _. inl (same-goes mode b))
-
-    ended-ask : (why : Why) (held : ℕ) (x : Outcome) → (has_ended why held x).knows.failsafe ≡ x.knows.failsafe
-    ended-ask HandOver held x = refl
-    ended-ask Lost held x = refl
-
-    before-ask : (now : Ticks) (o : Outcome) → (reconciled now o).knows.failsafe ≡ o.knows.failsafe
-    before-ask now o = before-by (λ (x : Outcome). x.knows.failsafe ≡ o.knows.failsafe) now o (record {
-      kept = λ _. refl;
-      leader = λ _ _ _. refl;
-      ending = λ held why _ _. ended-ask why held o;
-      follower = λ _ _. refl;
-      holder = λ _ _ _. refl;
-      ready = λ _ _ _. refl;
-      unleased = λ _ _. refl;
-    })
 
 -- ---- the whole of an input
 pub got-step-goes : (mode : Bool) (now : Ticks) (points : List HistoryPoint) (sequence : ℕ) (snapshot : SnapshotFacts) (o : Outcome) → TellsMode mode snapshot → Goes mode o (read_answered now points sequence snapshot (looked sequence snapshot (reconciled now o)))

@@ -41,7 +41,7 @@ use Rattle.agent_roles.proofs.Knowing.{Onward}
 use Rattle.agent_roles.proofs.Fitting.{ready-ended}
 use Rattle.agent_roles.proofs.Leaving.{acts-before}
 use Rattle.agent_roles.proofs.Living.{no-way}
-use Rattle.agent_lease_law.proofs.Sending.{Grounds, CarriesSetIf, MayTransact, MayAskStore, SendsNew, MayPut, AllMay}
+use Rattle.agent_lease_law.proofs.MaySend.{Grounds, CarriesSetIf, MayTransact, MayAskStore, SendsNew, MayPut, AllMay}
 
 -- what the law sees of an agent that stands in this state, and of one after an input
 abbrev pub was_of : Outcome → AgentSeen

@@ -1,7 +1,6 @@
 -- Each input of the table is lawful, by what is heard.
-use Rattle.std.proofs.Common.{◌≡◌, ◌⊎◌, ℕ, ◌+◌, ◌≤◌, ◌<◌, ◌==◌, ◌&&◌, ◌||◌, not, cond, if◌then◌else◌, Bool, true, false, List, [], ◌∷◌, Option, Some, None, IfSome, All, refl, sym, subst, ap, ◌∙◌, arith, inl, inr}
-use Rattle.std.proofs.lemmas.List.Elements.{All-head, All-nil, All-tail, All-weaker}
-use Rattle.std.specs.Option.{ForSome}
+use Rattle.std.proofs.Common.{◌≡◌, ◌⊎◌, ℕ, ◌+◌, ◌≤◌, ◌<◌, ◌==◌, ◌&&◌, not, if◌then◌else◌, Bool, true, false, List, [], Option, Some, None, All, refl, sym, subst, ap, ◌∙◌, inl, inr}
+use Rattle.std.proofs.lemmas.List.Elements.{All-nil}
 use Rattle.pat_base.specs.declared.member_id.MemberId.{MemberId}
 use Rattle.pat_base.specs.declared.member_set.MemberSet.{MemberSet}
 use Rattle.pat_base.specs.declared.peer_answer.PeerAnswer.{PeerAnswer}
@@ -11,18 +10,17 @@ use Rattle.lease_store.specs.declared.granted.Granted.{Granted}
 use Rattle.store_keys.specs.declared.key.Key.TheVariants as keys
 use Rattle.wal_model.specs.declared.entry.HistoryPoint.{HistoryPoint}
 use Rattle.cluster_view.specs.Snapshots.{SnapshotFacts, entry_in, failsafe_by}
-use Rattle.leader_key.specs.Watchdog.{IsLeaseSpan, WatchdogFacts, greatest_margin, is_armable, timeout_of}
-use Rattle.event_book.specs.Watchdogs.{prolonged_to}
+use Rattle.leader_key.specs.Watchdog.{is_armable, timeout_of}
 use Rattle.store_keys.specs.declared.config.Config.{Config}
 use Rattle.store_keys.specs.declared.value.KeyEntry.{KeyEntry}
-use Rattle.failsafe.specs.Asks.{asked as ask_of, counts, earliest_or, has, heard as ask_heard, is_within, moment_of_all, with_acknowledgement}
+use Rattle.failsafe.specs.Asks.{asked as ask_of}
 use Rattle.failsafe.specs.declared.asks.Ask.{Ask}
 use Rattle.failsafe.specs.Listing.{without_member}
-use Rattle.failsafe.proofs.Members.{differ, has-nobody, has-with, numbers-same, within-has}
+use Rattle.failsafe.proofs.Members.{differ, has-nobody, numbers-same}
 use Rattle.failsafe.proofs.Present.{without-has}
-use Rattle.lease_law.specs.Leases.{LeaderSeen, FailsafeKey, FailsafeRequest, Acknowledgement, Flying}
+use Rattle.lease_law.specs.Leases.{FailsafeKey}
 use Rattle.lease_law.specs.States.{Agent as AgentSeen, FailsafeCheck, Machine as MachineSeen, State}
-use Rattle.lease_law.specs.Inputs.{AgentInput, HeardLeader, HeardFailsafe, HeardYes, IsDeadline, FedKnown, WatchdogMay, SetByGrant, SetByFailsafe, SetAlone, Owns, MayAcknowledge, MayCreate, MayRequestFailsafe, MayTake, ContinuesCheck, BeginsCheck}
+use Rattle.lease_law.specs.Inputs.{AgentInput, HeardFailsafe, FedKnown, WatchdogMay, SetByGrant, SetAlone, Owns, MayCreate, MayRequestFailsafe, ContinuesCheck, BeginsCheck}
 use Rattle.event_book.specs.Functions.{set_members}
 use Rattle.lease_law.proofs.Tools.{some-is, none-some}
 use Rattle.agent_model.specs.declared.heard.Heard.{Heard}
@@ -30,10 +28,8 @@ use Rattle.agent_model.specs.declared.heard.Heard.TheVariants.{Wake, ReadAnswere
 use Rattle.agent_model.specs.declared.knowledge.FailsafeRead.{FailsafeRead}
 use Rattle.agent_model.specs.declared.output.Output.TheVariants as outputs
 use Rattle.agent_model.specs.FailsafeKeys.{failsafe_compared, failsafe_expected, failsafe_read_by, failsafe_read_of_entry}
-use Rattle.agent_model.specs.StayingPrimary.{accepted_failsafe, awaits_failsafe, failsafe_answered, failsafe_answered_for, failsafe_asked, is_staying, others_known, span_after, unacknowledged_as}
-use Rattle.agent_model.specs.Acting.{lease_span, waiting_no_more}
-use Rattle.agent_model.specs.Outputs.{has_one, with_output}
-use Rattle.agent_model.specs.Pausing.{is_paused}
+use Rattle.agent_model.specs.StayingPrimary.{is_staying, others_known}
+use Rattle.agent_model.specs.Acting.{lease_span}
 use Rattle.agent_model.specs.Peers.{awaits_others}
 use Rattle.agent_model.specs.Snapshots.{read_noted}
 use Rattle.agent_model.specs.declared.knowledge.Knowledge.{Knowledge}
@@ -41,17 +37,16 @@ use Rattle.agent_model.specs.declared.knowledge.PendingQuestion.{PendingQuestion
 use Rattle.agent_model.specs.declared.machine.Machine.{Machine}
 use Rattle.agent_model.specs.declared.output.Output.{Output}
 use Rattle.agent_model.specs.declared.who.Who.{Who}
-use Rattle.agent_model.specs.Agents.{RoleFacts, Follower, Holder, Ready, Leader, Ending, Unleased, EndsAlone, IsSoundAgent, Outcome, outcome_from, is_leader, is_ready}
+use Rattle.agent_model.specs.Agents.{RoleFacts, EndsAlone, IsSoundAgent, Outcome, outcome_from, is_ready}
 use Rattle.agent_model.specs.Reconciling.{reconciled}
 use Rattle.agent_model.specs.Decisions.{asks_lease, is_lease_of}
 use Rattle.agent_lease_law.specs.Modes.{KeepsMode, MayTakeKey}
-use Rattle.agent_lease_law.specs.Lawful.{CanFeed, HearsRequest, HearsYes, is_yes, request_heard, request_in, request_taken, StandsIn, HearsAnswer, TellsLease, HearsGrant, IsInputOf, MayPromote, IsLawfulAnd, IsLawfulFrom}
-use Rattle.agent_roles.specs.Powers.{AcknowledgesOperated, BringsNothing, DeadlineMay, LeavesMachine, IsAwaitedLease, IsFedByFailsafe, StaysAlone, StaysByWord, GrantMay, leads, lease_of}
+use Rattle.agent_lease_law.specs.Lawful.{CanFeed, StandsIn, HearsAnswer, TellsLease, HearsGrant, IsInputOf, MayPromote, IsLawfulAnd, IsLawfulFrom}
+use Rattle.agent_roles.specs.Powers.{AcknowledgesOperated, BringsNothing, DeadlineMay, LeavesMachine, IsAwaitedLease, StaysAlone, GrantMay, leads, lease_of}
 use Rattle.agent_roles.specs.Powers.DeadlineMay.{Kept as DeadlineKept, Removed as DeadlineRemoved, Undone as DeadlineUndone}
-use Rattle.agent_roles.proofs.Leaving.WatchdogStays.{Same}
-use Rattle.agent_roles.proofs.Acknowledging.{answer-leaves, operated-leaves, request-leaves, wake-leaves}
+use Rattle.agent_roles.proofs.Acknowledging.{operated-leaves, wake-leaves}
 use Rattle.agent_roles.specs.Powers.GrantMay.{Nothing, Leads, Rests, Begins}
-use Rattle.agent_roles.specs.Seen.{check_seen, failsafe_entry_seen, failsafe_listed, failsafe_read_seen, hold_seen, leader_seen_if, moment_seen, failsafe_seen_if}
+use Rattle.agent_roles.specs.Seen.{check_seen, failsafe_entry_seen, failsafe_listed, failsafe_read_seen}
 use Rattle.agent_model.specs.Peers.{asked, answered}
 use Rattle.agent_model.specs.Snapshots.{read_answered}
 use Rattle.store_keys.specs.declared.action.OperatorAction.{OperatorAction}
@@ -61,105 +56,24 @@ use Rattle.agent_model.specs.Fits.{Fits}
 use Rattle.agent_model.specs.Operators.{given_up, looked, operated}
 use Rattle.agent_model.specs.Table.{step, granted_any, refused_any}
 use Rattle.agent_model.specs.Wake.{overdue, turned, woken}
-use Rattle.agent_roles.proofs.Bringing.{holding-brings, staying-brings, acting-brings, any-refused-brings, operated-brings, ready-leads, brings-then, before-brings, overdue-brings, turn-brings, wake-brings, got-brings, answer-brings, read-brings, refusal-brings, asked-brings, answered-brings}
+use Rattle.agent_roles.proofs.Bringing.{acting-brings, any-refused-brings, operated-brings, ready-leads, brings-then, before-brings, overdue-brings, turn-brings, wake-brings, got-brings, answer-brings, read-brings, refusal-brings, asked-brings, answered-brings}
 use Rattle.agent_roles.proofs.Fitting.{before-fits, ready-same}
 use Rattle.agent_roles.proofs.Granting.{both-true, awaited-lease, any-granted-may as grant-may}
-use Rattle.agent_roles.proofs.Knowing.{step-onward, told-pause, any-granted-onward, any-refused-onward, looked-onward, operated-onward, IsAlone, alone-of, Onward, before-onward, wake-onward, got-onward, answered-onward, asked-onward, onward-then}
-use Rattle.agent_lease_law.proofs.Checking.{Begins as BeginsToStay, Counts, Goes, answered-step-goes, asked-step-goes, failsafe-answered-goes, failsafe-asked-step-goes, free-takes, got-step-goes, granted-step-goes, operated-step-goes, refused-step-goes, wake-goes}
+use Rattle.agent_roles.proofs.Knowing.{told-pause, any-granted-onward, any-refused-onward, looked-onward, operated-onward, IsAlone, alone-of, Onward, before-onward, wake-onward, got-onward, answered-onward, asked-onward, onward-then}
+use Rattle.agent_lease_law.proofs.Checking.{Begins as BeginsToStay, Goes, answered-step-goes, asked-step-goes, free-takes, got-step-goes, granted-step-goes, operated-step-goes, refused-step-goes, wake-goes}
 use Rattle.agent_lease_law.proofs.Lawful.{AreLawfulGrounds, lease-only, ready-left, takes-nothing, watchdog-left, was_of, acts-seen, seen-acts, watchdog-kept, watchdog-leaves, parted-by, lawful-of}
-use Rattle.agent_lease_law.proofs.LawfulGrants.{deadline-of, fed-deadline, heard-leader, heard-failsafe, hears-grant, fed-of, entry-known, armable-before, new-deadline, free-of}
-use Rattle.agent_roles.proofs.Leaving.{given-up-fits, Stays, acts-before, behind, stays, told-fits, leaves-then, before-leaves, read-leaves, refusal-leaves, asked-leaves, answered-leaves}
+use Rattle.agent_lease_law.proofs.LawfulGrants.{heard-leader, heard-failsafe, hears-grant, fed-of, entry-known, armable-before, new-deadline, free-of}
+use Rattle.agent_roles.proofs.Leaving.{given-up-fits, acts-before, stays, told-fits, leaves-then, before-leaves, read-leaves, refusal-leaves, asked-leaves, answered-leaves}
 use Rattle.agent_roles.proofs.Living.{no-way}
 use Rattle.agent_roles.proofs.Staying.{before-waits, stays-unpaused}
-use Rattle.agent_model.proofs.Rows.{failsafe-asked-by, if-cases, wake-by, looked-by}
-use Rattle.agent_lease_law.proofs.Behind.{BeginsOn, nobody-begins, grant-begins, begins-weaker}
+use Rattle.agent_model.proofs.Rows.{wake-by, looked-by}
+use Rattle.agent_lease_law.proofs.Behind.{BeginsOn, grant-begins, begins-weaker}
 use Rattle.agent_lease_law.proofs.Behind.BeginsOn.{WasReady, OnLease}
-use Rattle.agent_lease_law.proofs.Sending.Fronts.{Silent, Released}
-use Rattle.agent_lease_law.proofs.Sending.{AsksToStay, CreatesOnRead, Fronts, Grounds, IsReleaseOr, before-fronts, failsafe-answered-may, failsafe-asked-may, staying, operated-may, IsSilent, AllMay, Decides, wake-may, got-may, refused-may, granted-may as granted-sends, asked-may, answered-may}
-
--- the grounds of an input that hears no grant, and acknowledges nothing: a create may expect what the law lets it
-abbrev Ungranted : State → ℕ → AgentInput → Outcome → Grounds
-Ungranted s m input o = record { gives = λ revision. ⊥; creates = λ expected. MayCreate s m input.heard (was_of o) expected; requests = λ sequence ttl. ⊥; acknowledges = λ to run sequence. ⊥; configures = λ config. Unit {0}; feeds = λ members number. Unit {0} }
-
--- such grounds are lawful
-ungranted-lawful : (s : State) (m : ℕ) (input : AgentInput) (o after : Outcome) → AreLawfulGrounds s m input (Ungranted s m input o) o after
-ungranted-lawful s m input o after = record { owns = λ revision e. absurd e; creates = λ expected may. may; requests = λ sequence ttl e. absurd e; acknowledges = λ to run sequence _ e. absurd e }
-
--- ---- acknowledgements that are waited for
-some-check : FailsafeCheck → Option FailsafeCheck
-some-check check = Some check
-
--- they are of what is waited for
-pub record ChecksWaited (ask : Ask) (waited : Option PendingQuestion) (check : FailsafeCheck) : Type 0 where
-  pub one : PendingQuestion
-  pub is : waited ≡ Some one
-  pub staying : is_staying one.question ≡ true
-  pub check_is : check ≡ (record { sequence = one.sequence; ttl = one.ttl.0; sent = one.sent.0; members = set_members ask.members; yes = set_members ask.acknowledged })
-
-checks-waited : (ask : Ask) (waited : Option PendingQuestion) (check : FailsafeCheck) → check_seen ask waited ≡ Some check → ChecksWaited ask waited check
-checks-waited ask None check e = absurd (none-some check e)
-checks-waited ask (Some one) check e = by (is_staying one.question) refl e
-  where
-    by : (test : Bool) → is_staying one.question ≡ test
-        → (if test then Some (record { sequence = one.sequence; ttl = one.ttl.0; sent = one.sent.0; members = set_members ask.members; yes = set_members ask.acknowledged }) else None) ≡ Some check → ChecksWaited ask (Some one) check
-    by true staying e = record { one = one; is = refl; staying = staying; check_is = sym (some-is _ check e) }
-    by false staying e = absurd (none-some check e)
-
-seen-check : (ask : Ask) (waited : PendingQuestion) → is_staying waited.question ≡ true → check_seen ask (Some waited) ≡ Some (record { sequence = waited.sequence; ttl = waited.ttl.0; sent = waited.sent.0; members = set_members ask.members; yes = set_members ask.acknowledged })
-seen-check ask waited staying = rw staying refl
-
--- an input that goes on waiting for the same ones
-goes-check : (s : State) (m : ℕ) (mode : Bool) (o after : Outcome) → Goes mode o after → (check : FailsafeCheck) → check_seen after.knows.failsafe after.knows.waited ≡ Some check → ContinuesCheck s m (was_of o) check ⊎ BeginsCheck s m (was_of o) (was_of after) check
-goes-check s m mode o after goes check e =
-    let waits = checks-waited after.knows.failsafe after.knows.waited check e in
-    let was = goes.check waits.one waits.is waits.staying in
-    let before-it : FailsafeCheck = record { sequence = waits.one.sequence; ttl = waits.one.ttl.0; sent = waits.one.sent.0; members = set_members o.knows.failsafe.members; yes = set_members o.knows.failsafe.acknowledged } in
-    let same : check ≡ before-it = waits.check_is ∙ ap (λ (ask : Ask). let one : FailsafeCheck = record { sequence = waits.one.sequence; ttl = waits.one.ttl.0; sent = waits.one.sent.0; members = set_members ask.members; yes = set_members ask.acknowledged } in one) was.1 in
-    inl (record {
-      before = before-it;
-      is = ap (λ (w : Option PendingQuestion). check_seen o.knows.failsafe w) was.0 ∙ seen-check o.knows.failsafe waits.one waits.staying;
-      sequence = ap (λ (x : FailsafeCheck). x.sequence) same;
-      ttl = ap (λ (x : FailsafeCheck). x.ttl) same;
-      sent = ap (λ (x : FailsafeCheck). x.sent) same;
-      members = ap (λ (x : FailsafeCheck). x.members) same;
-      yes = λ p said. inl (sym (ap (λ (x : FailsafeCheck). x.yes p) same) ∙ said);
-    })
-
--- an input that hears no grant is lawful, by what it does to the watchdog
-lawful-with : (s : State) (m runs : ℕ) (input : AgentInput) (now : Ticks) (told : Option SnapshotFacts) (G : Grounds) (o after : Outcome) → StandsIn s m runs now o → IsInputOf s m runs o after input → Onward told o after → WatchdogMay s m input (was_of o) (was_of after) → BringsNothing o after
-    → (is_ready after.role ≡ true → (live after.machine.server.state ≡ false) × (after.machine.by_failsafe ≡ false)) → KeepsMode s.declared.failsafe after.knows → AllMay G o after → AreLawfulGrounds s m input G o after → ((revision : ℕ) → G.gives revision → ⊥)
-    → ((request : FailsafeRequest) → input.takes ≡ Some request → MayTake s input request)
-    → ((check : FailsafeCheck) → check_seen after.knows.failsafe after.knows.waited ≡ Some check → ContinuesCheck s m (was_of o) check ⊎ BeginsCheck s m (was_of o) (was_of after) check)
-    → ((key : FailsafeKey) → failsafe_seen_if told ≡ Some key → HeardFailsafe s input.heard key) → ((seen : LeaderSeen) → leader_seen_if told ≡ Some seen → HeardLeader s input.heard seen)
-    → IsLawfulAnd s m after input
-lawful-with s m runs input now told G o after stands is onward watchdog brings ready mode sends grounds none takes check failsafe leader = record {
-  lawful = lawful-of s m runs input now told G o after stands is (record {
-    onward = onward;
-    watchdog = watchdog;
-    parted = λ e. (ready e).0;
-    ready = λ e. (ready e).1;
-    mode = mode;
-    sends = sends;
-    grounds = grounds;
-    takes = takes;
-    check = check;
-    leads_by = λ e. inl (brings.leads e);
-    lease = λ revision e. inl (brings.lease revision e);
-    failsafe = failsafe;
-    leader = leader;
-  });
-  begins = nobody-begins (MayPromote s m input) G o after none (λ outs lives. inl (seen-acts (s.members m) runs o stands.member (inl lives))) sends;
-}
-
--- one that hears no grant and no failsafe request, nor an answer to one, and feeds nothing
-without-grant : (s : State) (m runs : ℕ) (input : AgentInput) (now : Ticks) (told : Option SnapshotFacts) (o after : Outcome) → StandsIn s m runs now o → IsInputOf s m runs o after input → Onward told o after → LeavesMachine o after → BringsNothing o after
-    → (is_ready after.role ≡ true → live after.machine.server.state ≡ false) → Goes s.declared.failsafe o after → AllMay (Ungranted s m input o) o after
-    → ((key : FailsafeKey) → failsafe_seen_if told ≡ Some key → HeardFailsafe s input.heard key) → ((seen : LeaderSeen) → leader_seen_if told ≡ Some seen → HeardLeader s input.heard seen)
-    → IsLawfulAnd s m after input
-without-grant s m runs input now told o after stands is onward leaves brings parted goes sends failsafe leader =
-    lawful-with s m runs input now told (Ungranted s m input o) o after stands is onward (watchdog-leaves s m runs input now o after stands is leaves brings) brings
-    (λ e. (parted e, ready-left s m runs now o after stands brings leaves.basis e)) (goes.keeps stands.mode) sends (ungranted-lawful s m input o after) (λ revision e. e)
-    (takes-nothing s m runs input (Ungranted s m input o) o after is (λ to run sequence e. e) sends) (goes-check s m s.declared.failsafe o after goes) failsafe leader
+use Rattle.agent_lease_law.proofs.MaySend.{Grounds, IsSilent, AllMay}
+use Rattle.agent_lease_law.proofs.StayingSends.{AsksToStay, staying, wake-may}
+use Rattle.agent_lease_law.proofs.Sending.{CreatesOnRead, operated-may, Decides, got-may, refused-may, granted-may as granted-sends, asked-may, answered-may}
+use Rattle.agent_lease_law.proofs.LawfulWaits.{Ungranted, ungranted-lawful, checks-waited, seen-check, goes-check, lawful-with, without-grant, AsksLeases, span-of, later-deadline, settings-span, leader-leads, leader-unready, failsafe-deadline, failsafe-basis}
+use Rattle.agent_lease_law.proofs.LawfulFailsafe.{failsafe-asked-lawful, failsafe-answered-lawful}
 
 -- ---- what a create expects
 -- who may take the key may create as it compares
@@ -198,13 +112,6 @@ awaited-before sequence grant o b waits who awaited = record {
   decision = awaited.decision;
   mine = subst (λ (w : Who). is_lease_of w.me grant ≡ true) who awaited.mine;
 }
-
--- what an agent waits for asks for the span of a lease
-abbrev pub AsksLeases : Knowledge → Type 0
-AsksLeases knows = ForSome knows.waited (λ waited. IsLeaseSpan waited.ttl.0)
-
-span-of : (knows : Knowledge) (waited : PendingQuestion) → AsksLeases knows → knows.waited ≡ Some waited → IsLeaseSpan waited.ttl.0
-span-of knows waited asks is = asks waited is
 
 -- a revision that the grant gives which is waited for, or that of the agent's lease
 abbrev Gives : ℕ → Granted → Outcome → ℕ → Type 0
@@ -299,37 +206,6 @@ leads-brought s m runs sequence input now grant snapshot o after sound stands he
     }
 leads-brought s m runs sequence input now grant snapshot o after sound stands hears is (Rests paused later rested lease free) goes =
     absurd (no-way (sym (stays-unpaused now snapshot o stands.unpaused hears.answer.unpaused) ∙ paused))
-
--- ---- deadlines by acknowledgements
-later-deadline : (margin : Option Ticks) (n ttl : ℕ) → IsLeaseSpan ttl → IfSome margin (λ at_most. at_most.0 ≤ greatest_margin) → n < n + timeout_of margin ttl
-later-deadline None n ttl span has = omega (arith, span.least)
-later-deadline (Some margin) n ttl span has = omega (arith, span.least, has)
-
-settings-span : (settings : Config) → IsLeaseSpan (lease_span settings).0
-settings-span settings = record { least = omega (arith, settings.ttl_range); greatest = omega (arith, settings.ttl_range) }
-
-leader-leads : (role : RoleFacts) → is_leader role ≡ true → leads role ≡ true
-leader-leads (Leader held) e = refl
-leader-leads Follower e = absurd (no-way e)
-leader-leads (Holder held) e = absurd (no-way e)
-leader-leads (Ready held) e = absurd (no-way e)
-leader-leads (Ending held why) e = absurd (no-way e)
-leader-leads Unleased e = absurd (no-way e)
-
-leader-unready : (role : RoleFacts) → is_leader role ≡ true → is_ready role ≡ true → ⊥
-leader-unready (Leader held) e ready = no-way ready
-leader-unready Follower e ready = no-way ready
-leader-unready (Holder held) e ready = no-way ready
-leader-unready (Ready held) e ready = no-way e
-leader-unready (Ending held why) e ready = no-way ready
-leader-unready Unleased e ready = no-way ready
-
--- what a feed on acknowledgements leaves of the deadline
-failsafe-deadline : (now ttl : Ticks) (o after : Outcome) → CanFeed o.machine → IsFedByFailsafe now ttl o after → moment_seen after.machine.watchdog.deadline ≡ Some (now.0 + timeout_of o.machine.watchdog.margin ttl.0)
-failsafe-deadline now ttl o after can fed = ap (λ (w : WatchdogFacts). moment_seen w.deadline) fed.fed ∙ fed-deadline now.0 ttl.0 o.machine.watchdog can.armable
-
-failsafe-basis : (now ttl : Ticks) (o after : Outcome) → CanFeed o.machine → IsFedByFailsafe now ttl o after → after.machine.by_failsafe ≡ true
-failsafe-basis now ttl o after can fed = fed.basis ∙ ap (λ (b : Bool). b || o.machine.by_failsafe) can.armable
 
 others-none : (known : MemberSet) (me : MemberId) → (without_member known me).bits ≡ 0 → (p : ℕ) → set_members known p ≡ true → p ≡ me.number
 others-none known me nobody p e = by (p == me.number) refl
@@ -533,283 +409,6 @@ grant-lawful s m runs input now sequence grant snapshot o sound alone silent sta
       begins = begins-weaker (BeginsOn now sequence grant b) (MayPromote s m input) (may-promote s m runs sequence input now grant snapshot o sound stands hears) [] after.outputs
           (grant-begins now sequence grant snapshot o alone (stays-unpaused now snapshot o stands.unpaused hears.answer.unpaused) (λ decides. armable-before o b (before-leaves now o) (hears.lease (awaited-by sequence grant now o decides)).feeds.armable) silent);
     }
-
--- ---- a failsafe request
-acknowledges-taken : (s : State) (m runs : ℕ) (input : AgentInput) (now : Ticks) (from : MemberId) (incarnation sequence : ℕ) (ttl : Ticks) (o after : Outcome) → StandsIn s m runs now o → IsInputOf s m runs o after input → HearsRequest s input.heard from incarnation sequence ttl → has_one is_yes after.outputs ≡ true
-    → MayAcknowledge m input (record { member = from.number; incarnation = incarnation; sequence = sequence; by = m })
-acknowledges-taken s m runs input now from incarnation sequence ttl o after stands is hears says = record {
-  by = refl;
-  failsafe_request = record { member = from.number; incarnation = incarnation; sequence = sequence; ttl = ttl.0; sent = hears.sent };
-  takes = is.takes ∙ (ap (λ (b : Bool). request_taken b (request_heard s.flight input.heard)) says ∙ (ap (λ (h : Option ℕ). request_heard s.flight h) hears.heard_is ∙ ap (λ (f : Option Flying). request_in f) hears.is));
-  member = refl;
-  incarnation = refl;
-  sequence = refl;
-}
-
-taken-request : (s : State) (m runs : ℕ) (input : AgentInput) (from : MemberId) (incarnation sequence : ℕ) (ttl : Ticks) (o after : Outcome) → IsInputOf s m runs o after input → (hears : HearsRequest s input.heard from incarnation sequence ttl) → (says : Bool) → has_one is_yes after.outputs ≡ says → (request : FailsafeRequest) → input.takes ≡ Some request
-    → (says ≡ true) × (request ≡ (record { member = from.number; incarnation = incarnation; sequence = sequence; ttl = ttl.0; sent = hears.sent }))
-taken-request s m runs input from incarnation sequence ttl o after is hears true says request takes =
-    (refl, some-is request _ (sym takes ∙ (is.takes ∙ (ap (λ (b : Bool). request_taken b (request_heard s.flight input.heard)) says ∙ (ap (λ (h : Option ℕ). request_heard s.flight h) hears.heard_is ∙ ap (λ (f : Option Flying). request_in f) hears.is)))))
-taken-request s m runs input from incarnation sequence ttl o after is hears false says request takes =
-    absurd (none-some request (sym (is.takes ∙ ap (λ (b : Bool). request_taken b (request_heard s.flight input.heard)) says) ∙ takes))
-
-holds-for : (now ttl : Ticks) (hold : Option Ticks) → now.0 + ttl.0 ≤ hold_seen (prolonged_to (span_after now ttl) hold)
-holds-for now ttl None = omega arith
-holds-for now ttl (Some before-it) = omega arith
-
--- a member that answers a failsafe request either left its machine so, and says no, or holds
-record AnswersRequest (now ttl : Ticks) (o after : Outcome) : Type 0 where
-  deadline : DeadlineMay o after
-  basis : after.machine.by_failsafe ≡ o.machine.by_failsafe
-  held : has_one is_yes after.outputs ≡ true → now.0 + ttl.0 ≤ hold_seen after.machine.hold
-
-no-yes-before : (outs : List Output) → All (λ (output : Output). is_yes output ≡ false) outs → (output : Output) → has_one is_yes (with_output output outs) ≡ is_yes output
-no-yes-before [] all output = or-false (is_yes output)
-  where
-    or-false : (b : Bool) → b || false ≡ b
-    or-false true = refl
-    or-false false = refl
-no-yes-before (one ∷ outs) all output = rw (All-head (λ (x : Output). is_yes x ≡ false) one outs all) (no-yes-before outs (All-tail (λ (x : Output). is_yes x ≡ false) one outs all) output)
-
-front-no : (o b : Outcome) → Fronts o b → All (λ (output : Output). is_yes output ≡ false) b.outputs
-front-no o b (Silent all) = All-weaker IsSilent (λ (output : Output). is_yes output ≡ false) silent-no b.outputs all
-  where
-    silent-no : (output : Output) → IsSilent output → is_yes output ≡ false
-    silent-no (outputs.FailsafeAnswer to run sequence accepted) e = absurd e
-    silent-no _ e = refl
-front-no o b (Released revision held alone role ended counted all) = All-weaker (IsReleaseOr (o.knows.sequence + 1) revision) (λ (output : Output). is_yes output ≡ false) release-no b.outputs all
-  where
-    silent-no : (output : Output) → IsSilent output → is_yes output ≡ false
-    silent-no (outputs.FailsafeAnswer to run sequence accepted) e = absurd e
-    silent-no _ e = refl
-
-    release-no : (output : Output) → IsReleaseOr (o.knows.sequence + 1) revision output → is_yes output ≡ false
-    release-no output (inl silent) = silent-no output silent
-    release-no output (inr is) = ap is_yes is
-
-request-answers : (now : Ticks) (from : MemberId) (incarnation sequence : ℕ) (ttl : Ticks) (o : Outcome) → IsAlone o → All IsSilent o.outputs → AnswersRequest now ttl o (failsafe_asked now from incarnation sequence ttl (reconciled now o))
-request-answers now from incarnation sequence ttl o alone silent = let b : Outcome = reconciled now o in
-    elim (request-leaves now from incarnation sequence ttl o) [
-      | inl leaves ↦ record { deadline = leaves.deadline; basis = leaves.basis; held = held-so }
-      | inr holds ↦ record { deadline = holds.deadline; basis = holds.basis; held = held-so }
-    ]
-  where
-    before-it : All (λ (output : Output). is_yes output ≡ false) (reconciled now o).outputs
-    before-it = front-no o (reconciled now o) (before-fronts now o alone silent)
-
-    held-so : has_one is_yes (failsafe_asked now from incarnation sequence ttl (reconciled now o)).outputs ≡ true → now.0 + ttl.0 ≤ hold_seen (failsafe_asked now from incarnation sequence ttl (reconciled now o)).machine.hold
-    held-so = failsafe-asked-by (λ (x : Outcome). has_one is_yes x.outputs ≡ true → now.0 + ttl.0 ≤ hold_seen x.machine.hold) now from incarnation sequence ttl (reconciled now o)
-        (λ _ _. holds-for now ttl (reconciled now o).machine.hold)
-        (λ e. absurd (no-way (sym (no-yes-before (reconciled now o).outputs before-it (outputs.FailsafeAnswer from incarnation sequence false)) ∙ e)))
-
--- this member's yes to that request
-abbrev yes-to : ℕ → MemberId → ℕ → ℕ → Acknowledgement
-yes-to m to run sequence = record { member = to.number; incarnation = run; sequence = sequence; by = m }
-
-failsafe-asked-lawful : (s : State) (m runs : ℕ) (input : AgentInput) (now : Ticks) (from : MemberId) (incarnation sequence : ℕ) (ttl : Ticks) (o : Outcome) → IsAlone o → All IsSilent o.outputs → StandsIn s m runs now o → HearsRequest s input.heard from incarnation sequence ttl
-    → IsInputOf s m runs o (failsafe_asked now from incarnation sequence ttl (reconciled now o)) input → IsLawfulAnd s m (failsafe_asked now from incarnation sequence ttl (reconciled now o)) input
-failsafe-asked-lawful s m runs input now from incarnation sequence ttl o alone silent stands hears is = by (has_one is_yes after.outputs) refl
-  where
-    b : Outcome
-    b = reconciled now o
-
-    after : Outcome
-    after = failsafe_asked now from incarnation sequence ttl b
-
-    answers : AnswersRequest now ttl o after
-    answers = request-answers now from incarnation sequence ttl o alone silent
-
-    brings : BringsNothing o after
-    brings = brings-then o b after (before-brings now o) (holding-brings now from incarnation sequence ttl b)
-
-    goes : Goes s.declared.failsafe o after
-    goes = failsafe-asked-step-goes s.declared.failsafe now from incarnation sequence ttl o
-
-    by : (says : Bool) → has_one is_yes after.outputs ≡ says → IsLawfulAnd s m after input
-    by says e = lawful-with s m runs input now None G o after stands is (step-onward now [] (FailsafeAsked from incarnation sequence ttl) o) (watchdog-left s m runs input now o after stands is answers.deadline answers.basis brings) brings
-        (λ ready. (parted-by b after (before-fits now o) (holding-brings now from incarnation sequence ttl b) ready, ready-left s m runs now o after stands brings answers.basis ready)) (goes.keeps stands.mode) sends grounds (λ revision none. none) takes
-        (goes-check s m s.declared.failsafe o after goes) (λ key none. absurd (none-some _ none)) (λ seen none. absurd (none-some _ none))
-      where
-        G : Grounds
-        G = record { gives = λ revision. ⊥; creates = λ expected. ⊥; requests = λ number span. ⊥; acknowledges = λ to run number. yes-to m to run number ≡ yes-to m from incarnation sequence; configures = λ config. Unit {0}; feeds = λ members number. Unit {0} }
-
-        sends : AllMay G o after
-        sends = failsafe-asked-may G now from incarnation sequence ttl o refl alone silent
-
-        grounds : AreLawfulGrounds s m input G o after
-        grounds = record {
-          owns = λ revision none. absurd none;
-          creates = λ expected none. absurd none;
-          requests = λ number span none. absurd none;
-          acknowledges = λ to run number said same. subst (λ (said : Acknowledgement). MayAcknowledge m input said) (sym same) (acknowledges-taken s m runs input now from incarnation sequence ttl o after stands is hears said);
-        }
-
-        takes : (request : FailsafeRequest) → input.takes ≡ Some request → MayTake s input request
-        takes request taken =
-            let it = taken-request s m runs input from incarnation sequence ttl o after is hears says e request taken in
-            let held : now.0 + ttl.0 ≤ hold_seen after.machine.hold = answers.held (e ∙ it.0) in
-            let hold : input.machine.hold ≡ hold_seen after.machine.hold = ap (λ (x : MachineSeen). x.hold) is.machine in
-            subst (λ (r : FailsafeRequest). MayTake s input r) (sym it.1) (record { number = hears.number; is = hears.is; lasts = omega (arith, held, hold, stands.clock) })
-
--- ---- an answer to a failsafe request
-all-within : (ask : Ask) (since : Ticks) → moment_of_all ask ≡ Some since → is_within ask.members ask.acknowledged ≡ true
-all-within ask since e = by (is_within ask.members ask.acknowledged) refl e
-  where
-    by : (test : Bool) → is_within ask.members ask.acknowledged ≡ test → (if test then Some (earliest_or ask.made ask.earliest) else None) ≡ Some since → is_within ask.members ask.acknowledged ≡ true
-    by true is e = is
-    by false is e = absurd (none-some since e)
-
-heard-members : (ask : Ask) (from : MemberId) (sent : Ticks) → (ask_heard ask from true sent).members ≡ ask.members
-heard-members ask from sent = if-cases (λ (x : Ask). x.members ≡ ask.members) (counts ask from true) (with_acknowledgement ask from sent) ask (λ _. refl) (λ _. refl)
-
-heard-has : (ask : Ask) (from : MemberId) (sent : Ticks) (p : ℕ) → set_members (ask_heard ask from true sent).acknowledged p ≡ true → (set_members ask.acknowledged p ≡ true) ⊎ (from.number ≡ p)
-heard-has ask from sent p = if-cases (λ (x : Ask). set_members x.acknowledged p ≡ true → (set_members ask.acknowledged p ≡ true) ⊎ (from.number ≡ p)) (counts ask from true) (with_acknowledgement ask from sent) ask
-    (λ _ e. elim (either (has ask.acknowledged p) (from.number == p) (sym (has-with ask.acknowledged from p) ∙ e)) [ inl before ↦ inl before | inr same ↦ inr (numbers-same from.number p same) ]) (λ _ e. inl e)
-  where
-    either : (a b : Bool) → a || b ≡ true → (a ≡ true) ⊎ (b ≡ true)
-    either true b e = inl refl
-    either false b e = inr e
-
--- the acknowledgement that is heard
-heard-yes : (s : State) (m : ℕ) (heard : Option ℕ) (now : Ticks) (from : MemberId) (sequence number p : ℕ) (o : Outcome) → HearsYes s m heard now from sequence o → number ≡ sequence → from.number ≡ p → HeardYes s m o.knows.incarnation number p
-heard-yes s m heard now from sequence number p o hears same by = record { number = hears.number; said = record { member = m; incarnation = o.knows.incarnation; sequence = sequence; by = from.number }; is = hears.is; member = refl; run_is = refl; sequence_is = sym same; by = by }
-
--- a leader that counts one more yes
-counts-check : (s : State) (m : ℕ) (mode : Bool) (now : Ticks) (heard : Option ℕ) (from : MemberId) (sequence : ℕ) (sent : Ticks) (o after : Outcome) → HearsYes s m heard now from sequence o → Counts from sequence sent mode o after → (check : FailsafeCheck) → check_seen after.knows.failsafe after.knows.waited ≡ Some check
-    → ContinuesCheck s m (was_of o) check ⊎ BeginsCheck s m (was_of o) (was_of after) check
-counts-check s m mode now heard from sequence sent o after hears said check e =
-    let waits = checks-waited after.knows.failsafe after.knows.waited check e in
-    let was : o.knows.waited ≡ Some waits.one = sym said.waits ∙ waits.is in
-    let before-it : FailsafeCheck = record { sequence = waits.one.sequence; ttl = waits.one.ttl.0; sent = waits.one.sent.0; members = set_members o.knows.failsafe.members; yes = set_members o.knows.failsafe.acknowledged } in
-    inl (record {
-      before = before-it;
-      is = ap (λ (w : Option PendingQuestion). check_seen o.knows.failsafe w) was ∙ seen-check o.knows.failsafe waits.one waits.staying;
-      sequence = ap (λ (x : FailsafeCheck). x.sequence) waits.check_is;
-      ttl = ap (λ (x : FailsafeCheck). x.ttl) waits.check_is;
-      sent = ap (λ (x : FailsafeCheck). x.sent) waits.check_is;
-      members = ap (λ (x : FailsafeCheck). x.members) waits.check_is ∙ ap (λ (set : MemberSet). set_members set) (ap (λ (x : Ask). x.members) said.ask ∙ heard-members o.knows.failsafe from sent);
-      yes = λ p acked. elim (heard-has o.knows.failsafe from sent p (sym (ap (λ (x : FailsafeCheck). x.yes p) waits.check_is ∙ ap (λ (x : Ask). set_members x.acknowledged p) said.ask) ∙ acked)) [
-        | inl before ↦ inl before
-        | inr it ↦ inr (heard-yes s m heard now from sequence waits.one.sequence p o hears (said.awaited waits.one was) it)
-      ];
-    })
-
--- a leader stays primary, since all acknowledged
-word-watchdog : (s : State) (m runs : ℕ) (input : AgentInput) (now : Ticks) (from : MemberId) (sequence : ℕ) (sent : Ticks) (o after : Outcome) → AsksLeases o.knows → StandsIn s m runs now o → IsInputOf s m runs o after input → HearsYes s m input.heard now from sequence o → BringsNothing o after
-    → (word : StaysByWord now from sent o after) → word.waited.sequence ≡ sequence → WatchdogMay s m input (was_of o) (was_of after)
-word-watchdog s m runs input now from sequence sent o after sound stands is hears brings word number =
-    let one : PendingQuestion = word.waited in
-    let span : IsLeaseSpan one.ttl.0 = sound one word.is in
-    let until : ℕ = now.0 + timeout_of o.machine.watchdog.margin one.ttl.0 in
-    let check : FailsafeCheck = record { sequence = one.sequence; ttl = one.ttl.0; sent = one.sent.0; members = set_members o.knows.failsafe.members; yes = set_members o.knows.failsafe.acknowledged } in
-    SetByFailsafe until (is.feeds ∙ word.fed.told hears.feeds.armable)
-    (ap (λ (x : MachineSeen). x.deadline) is.machine ∙ failsafe-deadline now one.ttl o after hears.feeds word.fed)
-    (ap (λ (x : MachineSeen). x.by_failsafe) is.machine ∙ failsafe-basis now one.ttl o after hears.feeds word.fed)
-    (λ acts. seen-acts (s.members m) runs o stands.member (acts-before o after brings (acts-seen input.machine runs after is.machine acts)))
-    (record {
-      failsafe_check = check;
-      is = ap (λ (w : Option PendingQuestion). check_seen o.knows.failsafe w) word.is ∙ seen-check o.knows.failsafe one word.staying;
-      later = subst (λ (n : ℕ). n < until) (sym stands.clock) (later-deadline o.machine.watchdog.margin now.0 one.ttl.0 span hears.feeds.margin);
-      deadline_is = subst (λ (margin : Option ℕ). IsDeadline margin s.clock one.ttl.0 one.sent.0 until) (sym stands.margin) (deadline-of o.machine.watchdog.margin now one s.clock one.ttl.0 one.sent.0 stands.clock refl refl span hears.feeds.margin (hears.young one word.is));
-      yes = λ p asked. elim (heard-has o.knows.failsafe from sent p (within-has (ask_heard o.knows.failsafe from true sent).members (ask_heard o.knows.failsafe from true sent).acknowledged (all-within (ask_heard o.knows.failsafe from true sent) word.since word.all) p
-          (ap (λ (set : MemberSet). set_members set p) (heard-members o.knows.failsafe from sent) ∙ asked))) [
-            | inl before ↦ inl before
-            | inr it ↦ inr (heard-yes s m input.heard now from sequence one.sequence p o hears number it)
-          ];
-    })
-
--- a refusal leaves the machine so
-refused-stays : (now : Ticks) (from : MemberId) (sequence : ℕ) (sent : Ticks) (b : Outcome) → Stays b (failsafe_answered now from sequence false sent b)
-refused-stays now from sequence sent b = by b.knows.waited
-  where
-    quiet : Stays b (waiting_no_more b)
-    quiet = record { watchdog = Same refl; basis = refl; hold = refl }
-
-    by-role : (role : RoleFacts) → Stays b (unacknowledged_as now role (waiting_no_more b))
-    by-role (Leader held) = record { watchdog = Same refl; basis = refl; hold = refl }
-    by-role Follower = quiet
-    by-role (Holder held) = quiet
-    by-role (Ready held) = quiet
-    by-role (Ending held why) = quiet
-    by-role Unleased = quiet
-
-    accepted : (waited : PendingQuestion) (role : RoleFacts) → Stays b (accepted_failsafe now waited from false sent role b)
-    accepted waited (Leader held) = if-cases (Stays b) (is_paused b.knows) (waiting_no_more b) (unacknowledged_as now b.role (waiting_no_more b)) (λ _. quiet) (λ _. by-role b.role)
-    accepted waited Follower = quiet
-    accepted waited (Holder held) = quiet
-    accepted waited (Ready held) = quiet
-    accepted waited (Ending held why) = quiet
-    accepted waited Unleased = quiet
-
-    by : (waited : Option PendingQuestion) → Stays b (failsafe_answered_for now from sequence false sent waited b)
-    by None = stays
-    by (Some waited) = if-cases (Stays b) (awaits_failsafe waited sequence) (accepted_failsafe now waited from false sent b.role b) b (λ _. accepted waited b.role) (λ _. stays)
-
--- an answer leaves the machine so, or it is a yes to what is waited for, the last one
-abbrev WordFor : Ticks → MemberId → ℕ → Ticks → Outcome → Outcome → Type 0
-WordFor now from sequence sent o after = (word : StaysByWord now from sent o after) × (word.waited.sequence ≡ sequence)
-
-answer-does : (now : Ticks) (from : MemberId) (sequence : ℕ) (accepted : Bool) (sent : Ticks) (o : Outcome) → LeavesMachine o (failsafe_answered now from sequence accepted sent (reconciled now o)) ⊎ ((accepted ≡ true) × WordFor now from sequence sent o (failsafe_answered now from sequence accepted sent (reconciled now o)))
-answer-does now from sequence false sent o = let b : Outcome = reconciled now o in inl (behind o b (failsafe_answered now from sequence false sent b) (before-leaves now o) (refused-stays now from sequence sent b) (staying-brings now from sequence false sent b))
-answer-does now from sequence true sent o = elim (answer-leaves now from sequence true sent o) [
-  | inl leaves ↦ inl leaves
-  | inr word ↦ by word (awaits_failsafe word.waited sequence) refl
-]
-  where
-    b : Outcome
-    b = reconciled now o
-
-    after : Outcome
-    after = failsafe_answered now from sequence true sent b
-
-    other : (waited : PendingQuestion) → b.knows.waited ≡ Some waited → awaits_failsafe waited sequence ≡ false → after ≡ b
-    other waited is test = ap (λ (w : Option PendingQuestion). failsafe_answered_for now from sequence true sent w b) is ∙ ap (λ (t : Bool). cond t (accepted_failsafe now waited from true sent b.role b) b) test
-
-    by : (word : StaysByWord now from sent o after) (test : Bool) → awaits_failsafe word.waited sequence ≡ test → LeavesMachine o after ⊎ ((true ≡ true) × WordFor now from sequence sent o after)
-    by word true test = inr (refl, (word, numbers-same word.waited.sequence sequence (both-true (is_staying word.waited.question) (word.waited.sequence == sequence) test).1))
-    by word false test = inl (subst (λ (x : Outcome). LeavesMachine o x) (sym (other word.waited (before-waits now o ∙ word.is) test)) (before-leaves now o))
-
-failsafe-answered-lawful : (s : State) (m runs : ℕ) (input : AgentInput) (now : Ticks) (from : MemberId) (sequence : ℕ) (accepted : Bool) (sent : Ticks) (o : Outcome) → AsksLeases o.knows → IsAlone o → All IsSilent o.outputs → StandsIn s m runs now o → (accepted ≡ true → HearsYes s m input.heard now from sequence o)
-    → IsInputOf s m runs o (failsafe_answered now from sequence accepted sent (reconciled now o)) input → IsLawfulAnd s m (failsafe_answered now from sequence accepted sent (reconciled now o)) input
-failsafe-answered-lawful s m runs input now from sequence accepted sent o sound alone silent stands hears is =
-    lawful-with s m runs input now None G o after stands is (step-onward now [] (FailsafeAnswered from sequence accepted sent) o) watchdog brings ready mode sends (ungranted-lawful s m input o after) (λ revision e. e)
-    (takes-nothing s m runs input G o after is (λ to run number e. e) sends) check (λ key e. absurd (none-some _ e)) (λ seen e. absurd (none-some _ e))
-  where
-    b : Outcome
-    b = reconciled now o
-
-    after : Outcome
-    after = failsafe_answered now from sequence accepted sent b
-
-    G : Grounds
-    G = Ungranted s m input o
-
-    brings : BringsNothing o after
-    brings = brings-then o b after (before-brings now o) (staying-brings now from sequence accepted sent b)
-
-    sends : AllMay G o after
-    sends = failsafe-answered-may G now from sequence accepted sent o (λ waited is _. tt) alone silent
-
-    watchdog : WatchdogMay s m input (was_of o) (was_of after)
-    watchdog = elim (answer-does now from sequence accepted sent o) [
-      | inl leaves ↦ watchdog-leaves s m runs input now o after stands is leaves brings
-      | inr does ↦ word-watchdog s m runs input now from sequence sent o after sound stands is (hears does.0) brings does.1.0 does.1.1
-    ]
-
-    ready : is_ready after.role ≡ true → (live after.machine.server.state ≡ false) × (after.machine.by_failsafe ≡ false)
-    ready e = (
-      parted-by b after (before-fits now o) (staying-brings now from sequence accepted sent b) e,
-      elim (answer-does now from sequence accepted sent o) [ inl leaves ↦ ready-left s m runs now o after stands brings leaves.basis e | inr does ↦ absurd (leader-unready after.role does.1.0.fed.leads e) ],
-    )
-
-    mode : KeepsMode s.declared.failsafe after.knows
-    mode = elim (failsafe-answered-goes now from sequence accepted sent s.declared.failsafe o) [ inl goes ↦ goes.keeps stands.mode | inr said ↦ said.1.keeps stands.mode ]
-
-    check : (check : FailsafeCheck) → check_seen after.knows.failsafe after.knows.waited ≡ Some check → ContinuesCheck s m (was_of o) check ⊎ BeginsCheck s m (was_of o) (was_of after) check
-    check one e = elim (failsafe-answered-goes now from sequence accepted sent s.declared.failsafe o) [
-      | inl goes ↦ goes-check s m s.declared.failsafe o after goes one e
-      | inr said ↦ counts-check s m s.declared.failsafe now input.heard from sequence sent o after (hears said.0) said.1 one e
-    ]
 
 step-lawful : (now : Ticks) (points : List HistoryPoint) (heard : Heard) (o : Outcome) → AsksLeases o.knows → IsAlone o → All IsSilent o.outputs → IsLawfulFrom now heard o (step now points heard o)
 step-lawful now points Wake o sound alone silent s m runs input stands hears is = wake-lawful s m runs input now o alone silent stands hears is

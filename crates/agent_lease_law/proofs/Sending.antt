@@ -1,8 +1,7 @@
--- What an input sends.
-use Rattle.std.proofs.Common.{◌≡◌, ◌⊎◌, ℕ, ◌+◌, ◌≤◌, ◌<◌, ◌==◌, ◌&&◌, nat_le, not, if◌then◌else◌, Bool, true, false, List, [], Option, Some, None, All, refl, sym, subst, ap, ◌∙◌, arith, inl, inr, zero, suc}
+-- What each row of the agent sends.
+use Rattle.std.proofs.Common.{◌≡◌, ℕ, ◌+◌, ◌≤◌, ◌==◌, ◌&&◌, not, if◌then◌else◌, Bool, true, false, List, [], Option, Some, None, All, refl, sym, subst, ap, ◌∙◌, arith, inl, inr}
 use Rattle.std.proofs.lemmas.List.Elements.{All-push, All-weaker}
 use Rattle.std.proofs.lemmas.Bool.Decides.{nat_tests}
-use Rattle.pat_base.specs.MemberId.{member_of}
 use Rattle.pat_base.specs.declared.ineligibility.Ineligibility.{Ineligibility}
 use Rattle.pat_base.specs.declared.member_id.MemberId.{MemberId}
 use Rattle.pat_base.specs.declared.member_set.MemberSet.{MemberSet}
@@ -19,13 +18,8 @@ use Rattle.cluster_view.specs.Snapshots.{SnapshotFacts, leader_in}
 use Rattle.event_book.specs.declared.agent_note.AgentNote.TheVariants as agent_notes
 use Rattle.event_book.specs.declared.message.Body.{Body}
 use Rattle.event_book.specs.declared.message.Body.TheVariants as bodies
-use Rattle.event_book.specs.declared.reason.Reason.{Reason}
-use Rattle.event_book.specs.declared.reason.Reason.TheVariants.{FailsafeNotAcknowledged, StoreOutOfReach, LeaderKeyLost, StartTooLong, WatchdogNotArmed}
+use Rattle.event_book.specs.declared.reason.Reason.TheVariants.{LeaderKeyLost, StartTooLong, WatchdogNotArmed}
 use Rattle.event_book.specs.Functions.{set_members}
-use Rattle.failsafe.specs.Asks.{counts, has, asked as ask_of, heard as ask_heard, with_acknowledgement}
-use Rattle.failsafe.specs.declared.asks.Ask.{Ask}
-use Rattle.agent_model.specs.declared.knowledge.Question.{Question}
-use Rattle.agent_model.specs.declared.knowledge.Question.TheVariants.{Reading, ComparingPositions, Creating, Renewing, Claiming, Syncing, FindingCandidate, StayingPrimary}
 use Rattle.lease_law.specs.Leases.{LeaderSeen}
 use Rattle.agent_model.specs.declared.output.Repair.{Repair}
 use Rattle.agent_model.specs.Repairs.{repair_of, repairing}
@@ -34,26 +28,23 @@ use Rattle.agent_model.specs.declared.knowledge.PendingQuestion.{PendingQuestion
 use Rattle.agent_model.specs.declared.output.Output.{Output}
 use Rattle.agent_model.specs.declared.output.Output.TheVariants as outputs
 use Rattle.agent_model.specs.declared.output.Target.TheVariants as targets
-use Rattle.agent_model.specs.declared.why.Why.{Why}
 use Rattle.agent_model.specs.declared.who.Who.{Who}
-use Rattle.agent_model.specs.declared.why.Why.TheVariants.{HandOver, Lost}
-use Rattle.agent_model.specs.Acting.{armed, fed_until, disarmed, deadline_after, lease_span, arming, ending_server, requiring, touching, starting_replica, following_server, is_refusing, waiting_no_more, shutting_down}
+use Rattle.agent_model.specs.declared.why.Why.TheVariants.{HandOver}
+use Rattle.agent_model.specs.Acting.{deadline_after, lease_span, arming, ending_server, requiring, touching, starting_replica, following_server, is_refusing, waiting_no_more, shutting_down}
 use Rattle.agent_model.specs.Agents.{RoleFacts, Follower, Holder, Ready, Leader, Ending, Unleased, Outcome, is_leader}
-use Rattle.agent_lease_law.specs.Asking.{awaits_stay}
 use Rattle.agent_model.specs.FailsafeKeys.{failsafe_compared, is_fed_by_failsafe, set_carried, set_in}
-use Rattle.agent_model.specs.StayingPrimary.{answering_failsafe, asking_to_stay, counting, failsafe_answered, failsafe_asked, fed_by_failsafe, holding_for, is_staying, leader_unacknowledged, others_known, requesting_first, requesting_one, span_after, stays, stays_alone, unacknowledged, unacknowledged_as}
-use Rattle.agent_model.specs.Reconciling.{has_ended, reconciled}
+use Rattle.agent_model.specs.StayingPrimary.{holding_for, span_after}
+use Rattle.agent_model.specs.Reconciling.{reconciled}
 use Rattle.agent_model.specs.Claiming.{begins, claims, begins_or_claims, passing, postpones}
 use Rattle.agent_model.specs.Decisions.{confirming, is_decision, is_lease_of, leader_renewed, takes_over, unleased_renewed, may_take, gives_back, arms, takes_key, granted, refused}
 use Rattle.agent_model.specs.Fits.{Fits}
 use Rattle.agent_model.specs.Outputs.{with_output}
 use Rattle.agent_model.specs.Planning.{writing_sync, noting}
-use Rattle.agent_roles.specs.Powers.{Acts, lease_of}
 use Rattle.agent_model.specs.Synchronous.{unnamed}
-use Rattle.agent_roles.specs.Seen.{lease_asked, leader_entry_seen, leader_seen_if}
+use Rattle.agent_roles.specs.Seen.{leader_entry_seen}
 use Rattle.agent_model.specs.Snapshots.{known_with, renewing, follows, leader_loses_key, unleased_loses_key, read_noted, read_answered, follow_row, asks_as_unleased, led_by_another}
-use Rattle.agent_model.specs.HandingOver.{asking_whom, checking, hands_over}
-use Rattle.agent_model.specs.Operators.{answering, config_revision, given_up, learned, looked, operated, operating, restarting, telling, unnumbered, wiping}
+use Rattle.agent_model.specs.HandingOver.{checking, hands_over}
+use Rattle.agent_model.specs.Operators.{config_revision, learned, looked, operated, operating, restarting, telling, unnumbered, wiping}
 use Rattle.agent_model.specs.Table.{granted_any, refused_any}
 use Rattle.agent_model.specs.declared.operating.Told.{Told as Tells}
 use Rattle.store_keys.specs.declared.action.OperatorAction.{OperatorAction}
@@ -68,534 +59,19 @@ use Rattle.operator_answers.specs.declared.answer_text.Text.TheVariants as texts
 use Rattle.pg_model.specs.Running.{is_primary}
 use Rattle.pg_model.specs.declared.status.ServerStatus.{ServerStatus}
 use Rattle.agent_model.specs.Racing.{bar_of, barred, can_start, finds_free, free_key, judged, asking_others, races_unless, starts_alone, unheard}
-use Rattle.agent_model.specs.Answers.{all_answered, is_other, asking_one, asking_first}
-use Rattle.pat_base.specs.declared.member_id.TheConstants.{MOST_MEMBERS}
+use Rattle.agent_model.specs.Answers.{all_answered}
 use Rattle.agent_model.specs.Peers.{asked, awaits_others, keeping, answered}
-use Rattle.agent_model.specs.Wake.{leader_out_of_reach, reading, turn_noted, unleased_out_of_reach, overdue, overdue_for, turned, unanswered, woken}
 use Rattle.agent_roles.proofs.Granting.{Told, both-true}
 use Rattle.lease_law.proofs.Tools.{none-some, some-is}
-use Rattle.agent_roles.proofs.Knowing.{IsAlone, before-onward, given-up-onward, known-listed}
-use Rattle.agent_roles.proofs.Staying.{before-waits}
+use Rattle.agent_roles.proofs.Knowing.{IsAlone, before-onward, known-listed}
+use Rattle.agent_roles.proofs.Staying.{before-leaves, before-waits}
 use Rattle.agent_roles.proofs.Fitting.{ended-for}
 use Rattle.agent_roles.proofs.Leaving.{rests-by, told-fits}
 use Rattle.agent_roles.proofs.Living.{no-way, primary-live, restart-live, wipe-live}
-use Rattle.agent_model.proofs.Rows.{asked-to-hold-by, HandoverRows, ReplyRows, dropping, looked-by, given-up-by, granted-any-by, refused-any-by, WritesSync, led_on, if-cases, renewed-by, passing-by, begins-or-claims-by, before-by, overdue-when, turn-by, wake-by, got-by, refused-by, follow-by, repaired-by, granted-by, judged-by, answered-when, failsafe-asked-by, failsafe-answered-by, DutyRows, duties-of, leading_in_pause, takes-in-pause-by}
-use Rattle.agent_model.specs.Pausing.{is_paused, may_start_behind, disabling_told, disabling_watchdog, running_without_key}
-
--- an output that sends nothing but an answer of how far the server is, takes no hold, feeds no watchdog on acknowledgements, and by which no server comes
--- to accept writes
-abbrev pub IsSilent : Output → Type 0
-IsSilent (outputs.Send to sequence body) = ⊥
-IsSilent (outputs.FailsafeAnswer to incarnation sequence accepted) = ⊥
-IsSilent (outputs.HoldTaken until from sequence) = ⊥
-IsSilent (outputs.FedByFailsafe until members sequence since) = ⊥
-IsSilent outputs.Begin = ⊥
-IsSilent (outputs.Restart as_primary) = ⊥
-IsSilent _ = Unit {0}
-
--- on what grounds an input sends: which revisions it is granted, what a create may expect of the failsafe key, which failsafe requests it may send,
--- which it may acknowledge, which configurations an operator has it ask for, and on whose acknowledgements of which request it may feed its watchdog
-pub record Grounds : Type 1 where
-  pub gives : ℕ → Type 0
-  pub creates : Option Expected → Type 0
-  pub requests : ℕ → Ticks → Type 0
-  pub acknowledges : MemberId → ℕ → ℕ → Type 0
-  pub configures : ConfigValue → Type 0
-  pub feeds : MemberSet → ℕ → Type 0
-
--- a renewal may write this set into the failsafe key: failsafe mode is on, and the agent leads over a live server. Its deadline is by no acknowledgements,
--- and it knows the members of the set
-pub record CarriesSet (after : Outcome) (set : MemberSet) : Type 0 where
-  pub mode : after.knows.settings.failsafe_mode ≡ true
-  pub live : live after.machine.server.state ≡ true
-  pub by_grant : is_fed_by_failsafe after.machine ≡ false
-  pub known : (p : ℕ) → set_members set p ≡ true → set_members after.knows.known p ≡ true
-
--- so it may, if it writes one
-abbrev pub CarriesSetIf : Outcome → Option MemberSet → Type 0
-CarriesSetIf after None = Unit {0}
-CarriesSetIf after (Some set) = CarriesSet after set
-
--- a request that an input may send under this number
-abbrev pub MayTransact : Grounds → Outcome → Outcome → ℕ → Txn → Type 0
-MayTransact G o after sequence (txns.Create info ttl failsafe sync) = G.creates failsafe
-MayTransact G o after sequence (txns.Renew revision info ttl status row failsafe) = (leader_seen_if after.knows.seen ≡ Some (record { holder = after.knows.who.me.number; revision = revision })) × (lease_asked after.knows.waited ≡ Some sequence) × CarriesSetIf after failsafe
-MayTransact G o after sequence (txns.Release revision) = (Acts after → ⊥) × ((lease_of o.role ≡ Some revision) ⊎ G.gives revision)
-MayTransact G o after sequence (txns.SetConfig revision config) = G.configures config
-MayTransact G o after sequence _ = Unit {0}
-
--- a question that it may send under this number
-abbrev pub MayAskStore : Grounds → Outcome → Outcome → ℕ → Body → Type 0
-MayAskStore G o after sequence bodies.Read = Unit {0}
-MayAskStore G o after sequence (bodies.Request txn) = MayTransact G o after sequence txn
-MayAskStore G o after sequence _ = ⊥
-
--- it sends it under a new number
-pub record SendsNew (G : Grounds) (o after : Outcome) (sequence : ℕ) (body : Body) : Type 0 where
-  pub later : o.knows.sequence < sequence
-  pub counted : sequence ≤ after.knows.sequence
-  pub asks : MayAskStore G o after sequence body
-
--- a question that it may send to another member under this number
-abbrev pub MayAskMember : Grounds → ℕ → Body → Type 0
-MayAskMember G sequence bodies.Ask = Unit {0}
-MayAskMember G sequence (bodies.FailsafeRequest ttl) = G.requests sequence ttl
-MayAskMember G sequence _ = ⊥
-
--- an output of an input
-abbrev pub MayPut : Grounds → Outcome → Outcome → Output → Type 0
-MayPut G o after (outputs.Send targets.Store sequence body) = SendsNew G o after sequence body
-MayPut G o after (outputs.Send (targets.Member member) sequence body) = (o.knows.sequence < sequence) × (sequence ≤ after.knows.sequence) × MayAskMember G sequence body
-MayPut G o after (outputs.FailsafeAnswer to incarnation sequence accepted) = accepted ≡ true → G.acknowledges to incarnation sequence
-MayPut G o after (outputs.FedByFailsafe until members sequence since) = G.feeds members sequence
-MayPut G o after (outputs.HoldTaken until from sequence) = ((sequence ≡ 0) × (from ≡ o.knows.who.me)) ⊎ ((run : ℕ) × G.acknowledges from run sequence)
-MayPut G o after outputs.Begin = (revision : ℕ) × G.gives revision
-MayPut G o after (outputs.Restart as_primary) = as_primary ≡ true → live o.machine.server.state ≡ true
-MayPut G o after _ = Unit {0}
-
-abbrev pub AllMay : Grounds → Outcome → Outcome → Type 0
-AllMay G o after = All (MayPut G o after) after.outputs
-
-silent-may : (G : Grounds) (o after : Outcome) (output : Output) → IsSilent output → MayPut G o after output
-silent-may G o after (outputs.Send to sequence body) e = absurd e
-silent-may G o after outputs.Begin e = absurd e
-silent-may G o after (outputs.FailsafeAnswer to incarnation sequence accepted) e = absurd e
-silent-may G o after (outputs.HoldTaken until from sequence) e = absurd e
-silent-may G o after (outputs.FedByFailsafe until members sequence since) e = absurd e
-silent-may G o after (outputs.Restart as_primary) e = absurd e
-silent-may G o after _ e = tt
-
--- outputs before that were silent
-front : (G : Grounds) (o after : Outcome) (outs : List Output) → All IsSilent outs → All (MayPut G o after) outs
-front G o after outs silent = All-weaker IsSilent (MayPut G o after) (silent-may G o after) outs silent
-
-push : (G : Grounds) (o after : Outcome) (outs : List Output) (output : Output) → All (MayPut G o after) outs → MayPut G o after output → All (MayPut G o after) (with_output output outs)
-push G o after outs output all may = All-push (MayPut G o after) outs output all may
-
-pub silently : (outs : List Output) (output : Output) → All IsSilent outs → IsSilent output → All IsSilent (with_output output outs)
-silently outs output all silent = All-push IsSilent outs output all silent
-
-silent-disarmed : (deadline : Option Ticks) (outs : List Output) → All IsSilent outs → All IsSilent (disarmed deadline outs)
-silent-disarmed None outs all = all
-silent-disarmed (Some deadline) outs all = silently outs outputs.Disarmed all tt
-
-pub silent-armed : (deadline : Option Ticks) (outs : List Output) → All IsSilent outs → All IsSilent (armed deadline outs)
-silent-armed None outs all = all
-silent-armed (Some deadline) outs all = silently outs (outputs.Armed deadline) all tt
-
-pub silent-fed : (deadline : Option Ticks) (outs : List Output) → All IsSilent outs → All IsSilent (fed_until deadline outs)
-silent-fed None outs all = all
-silent-fed (Some deadline) outs all = silently outs (outputs.Fed deadline) all tt
-
-silent-disabled : (renews : Bool) (deadline : Option Ticks) (outs : List Output) → All IsSilent outs → All IsSilent (disabling_told renews deadline outs)
-silent-disabled renews None outs all = all
-silent-disabled true (Some deadline) outs all = silently (with_output outputs.Disarmed outs) (outputs.Note agent_notes.DisablesWatchdog) (silently outs outputs.Disarmed all tt) tt
-silent-disabled false (Some deadline) outs all = silently outs outputs.Disarmed all tt
-
--- the release of this revision under this number, or a silent output
-abbrev pub IsReleaseOr : ℕ → ℕ → Output → Type 0
-IsReleaseOr sequence revision output = IsSilent output ⊎ (output ≡ outputs.Send targets.Store sequence (bodies.Request (txns.Release revision)))
-
--- what comes before an input sends nothing; or the lease is released of an agent whose server has ended, and that waits for nothing
-pub data Fronts (o after : Outcome) : Type 0 where
-  Silent : (all : All IsSilent after.outputs) → Fronts o after
-  Released : (revision : ℕ) → (held : lease_of o.role ≡ Some revision) → (alone : after.knows.waited ≡ None) → (role : after.role ≡ Follower) → (ended : live after.machine.server.state ≡ false)
-      → (counted : o.knows.sequence + 1 ≤ after.knows.sequence) → (all : All (IsReleaseOr (o.knows.sequence + 1) revision) after.outputs) → Fronts o after
-
--- a request that needs no more than its number, and K of what a create expects: it tells of the member, asks for a free leader key, or is of a failover
-abbrev pub IsPlain : (Option Expected → Type 0) → Txn → Type 0
-IsPlain K (txns.Create info ttl failsafe sync) = K failsafe
-IsPlain K (txns.Touch info ttl) = Unit {0}
-IsPlain K (txns.SetFailover failover ttl) = Unit {0}
-IsPlain K (txns.DropFailover revision) = Unit {0}
-IsPlain K _ = ⊥
-
--- so does a question
-abbrev pub IsPlainBody : (Option Expected → Type 0) → Body → Type 0
-IsPlainBody K bodies.Read = Unit {0}
-IsPlainBody K (bodies.Request txn) = IsPlain K txn
-IsPlainBody K _ = ⊥
-
--- a question of how far a server is
-abbrev pub IsPositionAsk : Body → Type 0
-IsPositionAsk bodies.Ask = Unit {0}
-IsPositionAsk _ = ⊥
-
--- an output that is silent, or sends such a question, or asks another member, under a number between these
-abbrev pub IsMild : (Option Expected → Type 0) → ℕ → ℕ → Output → Type 0
-IsMild K low high (outputs.Send targets.Store sequence body) = (low < sequence) × (sequence ≤ high) × IsPlainBody K body
-IsMild K low high (outputs.Send (targets.Member member) sequence body) = (low < sequence) × (sequence ≤ high) × IsPositionAsk body
-IsMild K low high (outputs.FailsafeAnswer to incarnation sequence accepted) = ⊥
-IsMild K low high (outputs.HoldTaken until from sequence) = ⊥
-IsMild K low high (outputs.FedByFailsafe until members sequence since) = ⊥
-IsMild K low high outputs.Begin = ⊥
-IsMild K low high (outputs.Restart as_primary) = ⊥
-IsMild K low high _ = Unit {0}
-
-abbrev pub AllMild : (Option Expected → Type 0) → ℕ → Outcome → Type 0
-AllMild K low o = All (IsMild K low o.knows.sequence) o.outputs
-
-plain-may : (G : Grounds) (o after : Outcome) (sequence : ℕ) (txn : Txn) → IsPlain G.creates txn → MayTransact G o after sequence txn
-plain-may G o after sequence (txns.Create info ttl failsafe sync) e = e
-plain-may G o after sequence (txns.Touch info ttl) e = tt
-plain-may G o after sequence (txns.SetFailover failover ttl) e = tt
-plain-may G o after sequence (txns.DropFailover revision) e = tt
-plain-may G o after sequence _ e = absurd e
-
-plain-asks : (G : Grounds) (o after : Outcome) (sequence : ℕ) (body : Body) → IsPlainBody G.creates body → MayAskStore G o after sequence body
-plain-asks G o after sequence bodies.Read e = tt
-plain-asks G o after sequence (bodies.Request txn) e = plain-may G o after sequence txn e
-plain-asks G o after sequence _ e = absurd e
-
-position-asks : (G : Grounds) (sequence : ℕ) (body : Body) → IsPositionAsk body → MayAskMember G sequence body
-position-asks G sequence bodies.Ask e = tt
-position-asks G sequence _ e = absurd e
-
-mild-may : (G : Grounds) (o after : Outcome) (output : Output) → IsMild G.creates o.knows.sequence after.knows.sequence output → MayPut G o after output
-mild-may G o after (outputs.Send targets.Store sequence body) e = record { later = e.0; counted = e.1; asks = plain-asks G o after sequence body e.2 }
-mild-may G o after (outputs.Send (targets.Member member) sequence body) e = (e.0, e.1, position-asks G sequence body e.2)
-mild-may G o after (outputs.FailsafeAnswer to incarnation sequence accepted) e = absurd e
-mild-may G o after (outputs.HoldTaken until from sequence) e = absurd e
-mild-may G o after (outputs.FedByFailsafe until members sequence since) e = absurd e
-mild-may G o after outputs.Begin e = absurd e
-mild-may G o after (outputs.Restart as_primary) e = absurd e
-mild-may G o after _ e = tt
-
-mild-all : (G : Grounds) (o after : Outcome) → AllMild G.creates o.knows.sequence after → AllMay G o after
-mild-all G o after all = All-weaker (IsMild G.creates o.knows.sequence after.knows.sequence) (MayPut G o after) (mild-may G o after) after.outputs all
-
-silent-mild : (K : Option Expected → Type 0) (low high : ℕ) (output : Output) → IsSilent output → IsMild K low high output
-silent-mild K low high (outputs.Send to sequence body) e = absurd e
-silent-mild K low high (outputs.FailsafeAnswer to incarnation sequence accepted) e = absurd e
-silent-mild K low high (outputs.HoldTaken until from sequence) e = absurd e
-silent-mild K low high (outputs.FedByFailsafe until members sequence since) e = absurd e
-silent-mild K low high outputs.Begin e = absurd e
-silent-mild K low high (outputs.Restart as_primary) e = e
-silent-mild K low high _ e = tt
-
-mild-front : (K : Option Expected → Type 0) (low high : ℕ) (outs : List Output) → All IsSilent outs → All (IsMild K low high) outs
-mild-front K low high outs silent = All-weaker IsSilent (IsMild K low high) (silent-mild K low high) outs silent
-
-up-to : (a b c : ℕ) → a ≤ b → b ≤ c → a ≤ c
-up-to a b c first second = omega (arith, first, second)
-
-more-mild : (K : Option Expected → Type 0) (low high more : ℕ) → high ≤ more → (output : Output) → IsMild K low high output → IsMild K low more output
-more-mild K low high more less (outputs.Send targets.Store sequence body) e = (e.0, up-to sequence high more e.1 less, e.2)
-more-mild K low high more less (outputs.Send (targets.Member member) sequence body) e = (e.0, up-to sequence high more e.1 less, e.2)
-more-mild K low high more less (outputs.FailsafeAnswer to incarnation sequence accepted) e = e
-more-mild K low high more less (outputs.HoldTaken until from sequence) e = e
-more-mild K low high more less (outputs.FedByFailsafe until members sequence since) e = e
-more-mild K low high more less outputs.Begin e = e
-more-mild K low high more less (outputs.Restart as_primary) e = e
-more-mild K low high more less _ e = tt
-
--- a race that is judged asks for the leader key, or tells of the member
-judged-mild : (K : Option Expected → Type 0) (low : ℕ) (now : Ticks) (o : Outcome) → K (failsafe_compared o.knows) → low ≤ o.knows.sequence → All IsSilent o.outputs → AllMild K low (judged now o)
-judged-mild K low now o may less silent =
-    let high : ℕ = o.knows.sequence + 1 in
-    let later : low < high = omega (arith, less) in
-    judged-by (AllMild K low) now o
-    (All-push (IsMild K low high) o.outputs _ (mild-front K low high o.outputs silent) (later, omega arith, may))
-    (λ bar. All-push (IsMild K low high) (with_output (outputs.Note (agent_notes.DoesNotRace bar)) o.outputs) _ (mild-front K low high (with_output (outputs.Note (agent_notes.DoesNotRace bar)) o.outputs) (silently o.outputs (outputs.Note (agent_notes.DoesNotRace bar)) silent tt)) (later, omega arith, tt))
-
--- so do the asks
-ask-mild : (K : Option Expected → Type 0) (low high : ℕ) (who : Who) (sequence : ℕ) (member : Option MemberId) (outs : List Output) → low < sequence → sequence ≤ high → All (IsMild K low high) outs → All (IsMild K low high) (asking_one who sequence member outs)
-ask-mild K low high who sequence None outs later less all = all
-ask-mild K low high who sequence (Some member) outs later less all =
-    if-cases (λ (l : List Output). All (IsMild K low high) l) (is_other who member) (with_output (outputs.Send (targets.Member member) sequence bodies.Ask) outs) outs
-    (λ _. All-push (IsMild K low high) outs (outputs.Send (targets.Member member) sequence bodies.Ask) all (later, less, tt)) (λ _. all)
-
-asks-mild : (K : Option Expected → Type 0) (low high : ℕ) (who : Who) (sequence count : ℕ) (outs : List Output) → low < sequence → sequence ≤ high → All (IsMild K low high) outs → All (IsMild K low high) (asking_first who sequence count outs)
-asks-mild K low high who sequence zero outs later less all = all
-asks-mild K low high who sequence (suc count) outs later less all = ask-mild K low high who sequence (member_of count) (asking_first who sequence count outs) later less (asks-mild K low high who sequence count outs later less all)
-
-others-mild : (K : Option Expected → Type 0) (low : ℕ) (now : Ticks) (o : Outcome) → low ≤ o.knows.sequence → All IsSilent o.outputs → AllMild K low (asking_others now o)
-others-mild K low now o less silent = let high : ℕ = o.knows.sequence + 1 in
-    asks-mild K low high o.knows.who high MOST_MEMBERS o.outputs (omega (arith, less)) (omega arith) (mild-front K low high o.outputs silent)
-
--- a handover that is judged asks that the failover key be removed, or ends the server
-pub handover-mild : (K : Option Expected → Type 0) (low : ℕ) (now : Ticks) (held : ℕ) (o : Outcome) → low ≤ o.knows.sequence → All IsSilent o.outputs → HandoverRows (AllMild K low) now held o
-handover-mild K low now held o less silent = let out : ℕ = o.knows.sequence in record {
-  kept = mild-front K low out o.outputs silent;
-  clears = λ compared. All-push (IsMild K low (out + 1)) o.outputs _ (mild-front K low (out + 1) o.outputs silent) (omega (arith, less), omega arith, tt);
-  hands = λ candidate. mild-front K low out (with_output outputs.ShutDown (with_output (outputs.Note (agent_notes.HandsOver candidate)) o.outputs))
-      (silently (with_output (outputs.Note (agent_notes.HandsOver candidate)) o.outputs) outputs.ShutDown (silently o.outputs (outputs.Note (agent_notes.HandsOver candidate)) silent tt) tt);
-}
-
--- so does who asks for whom it may hand over to
-whom-mild : (K : Option Expected → Type 0) (low high : ℕ) (who : Who) (candidate : Option MemberId) (sequence : ℕ) (outs : List Output) → low < sequence → sequence ≤ high → All (IsMild K low high) outs → All (IsMild K low high) (asking_whom who candidate sequence outs)
-whom-mild K low high who None sequence outs later less all = asks-mild K low high who sequence MOST_MEMBERS outs later less all
-whom-mild K low high who (Some candidate) sequence outs later less all = ask-mild K low high who sequence (Some candidate) outs later less all
-
-pub checking-mild : (K : Option Expected → Type 0) (low : ℕ) (now : Ticks) (candidate : Option MemberId) (o : Outcome) → low ≤ o.knows.sequence → All IsSilent o.outputs → AllMild K low (checking now candidate o)
-checking-mild K low now candidate o less silent = let high : ℕ = o.knows.sequence + 1 in
-    whom-mild K low high o.knows.who candidate high o.outputs (omega (arith, less)) (omega arith) (mild-front K low high o.outputs silent)
-
-ended-fronts : (why : Why) (held : ℕ) (o : Outcome) → o.role ≡ Ending held why → live o.machine.server.state ≡ false → IsAlone o → All IsSilent o.outputs → Fronts o (has_ended why held o)
-ended-fronts HandOver held o is ended alone silent = Released held (rw is refl) (alone (rw is refl)) refl ended (omega arith)
-    (All-push (IsReleaseOr (o.knows.sequence + 1) held) (disarmed o.machine.watchdog.deadline o.outputs) (outputs.Send targets.Store (o.knows.sequence + 1) (bodies.Request (txns.Release held)))
-    (All-weaker IsSilent (IsReleaseOr (o.knows.sequence + 1) held) (λ output e. inl e) (disarmed o.machine.watchdog.deadline o.outputs) (silent-disarmed o.machine.watchdog.deadline o.outputs silent)) (inr refl))
-ended-fronts Lost held o is ended alone silent = Silent (silent-disarmed o.machine.watchdog.deadline o.outputs silent)
-
-pub before-fronts : (now : Ticks) (o : Outcome) → IsAlone o → All IsSilent o.outputs → Fronts o (reconciled now o)
-before-fronts now o alone silent = let rest : All IsSilent (disarmed o.machine.watchdog.deadline o.outputs) = silent-disarmed o.machine.watchdog.deadline o.outputs silent in
-    before-by (Fronts o) now o (record {
-      kept = λ _. Silent silent;
-      leader = λ held _ _. Silent rest;
-      ending = λ held why is ended. ended-fronts why held o is ended alone silent;
-      follower = λ _ _. Silent silent;
-      holder = λ held _ _. Silent silent;
-      ready = λ held _ _. Silent rest;
-      unleased = λ _ _. Silent rest;
-    })
-
-release-may : (G : Grounds) (o after : Outcome) (revision : ℕ) → lease_of o.role ≡ Some revision → after.role ≡ Follower → live after.machine.server.state ≡ false → o.knows.sequence + 1 ≤ after.knows.sequence
-    → (output : Output) → IsReleaseOr (o.knows.sequence + 1) revision output → MayPut G o after output
-release-may G o after revision held role ended counted output (inl silent) = silent-may G o after output silent
-release-may G o after revision held role ended counted output (inr is) =
-    subst (λ (y : Output). MayPut G o after y) (sym is) (record { later = omega arith; counted = counted; asks = (rests-by after ended (rw role refl), inl held) })
-
-released : (G : Grounds) (o after : Outcome) (revision : ℕ) (outs : List Output) → lease_of o.role ≡ Some revision → after.role ≡ Follower → live after.machine.server.state ≡ false → o.knows.sequence + 1 ≤ after.knows.sequence
-    → All (IsReleaseOr (o.knows.sequence + 1) revision) outs → All (MayPut G o after) outs
-released G o after revision outs held role ended counted all = All-weaker (IsReleaseOr (o.knows.sequence + 1) revision) (MayPut G o after) (release-may G o after revision held role ended counted) outs all
-
-fronts-may : (G : Grounds) (o after : Outcome) → Fronts o after → AllMay G o after
-fronts-may G o after (Silent all) = front G o after after.outputs all
-fronts-may G o after (Released revision held alone role ended counted all) = released G o after revision after.outputs held role ended counted all
-
-pub before-may : (G : Grounds) (now : Ticks) (o : Outcome) → IsAlone o → All IsSilent o.outputs → AllMay G o (reconciled now o)
-before-may G now o alone silent = fronts-may G o (reconciled now o) (before-fronts now o alone silent)
-
--- a promotion that is postponed sends nothing
-pub postpones-silent : (held : ℕ) (o : Outcome) → All IsSilent o.outputs → All IsSilent (postpones held o).outputs
-postpones-silent held o silent = silently (disarmed o.machine.watchdog.deadline o.outputs) (outputs.Note agent_notes.PostponesPromotion) (silent-disarmed o.machine.watchdog.deadline o.outputs silent) tt
-
--- a read is sent under the next number
-reads-new : (G : Grounds) (now : Ticks) (o b : Outcome) → o.knows.sequence ≤ b.knows.sequence → SendsNew G o (reading now (record b { knows = turn_noted now b.knows })) (b.knows.sequence + 1) bodies.Read
-reads-new G now o b later = record { later = omega (arith, later); counted = omega arith; asks = tt }
-
-turn-mild : (G : Grounds) (now : Ticks) (o b : Outcome) → o.knows.sequence ≤ b.knows.sequence → AllMild G.creates o.knows.sequence b → AllMay G o (turned now b)
-turn-mild G now o b later mild = let noted : Outcome = record b { knows = turn_noted now b.knows } in let low : ℕ = o.knows.sequence in let high : ℕ = b.knows.sequence in let K : Option Expected → Type 0 = G.creates in
-    turn-by (AllMay G o) now b (record {
-      kept = mild-all G o b mild;
-      quiet = mild-all G o noted mild;
-      reads = λ _. push G o (reading now noted) b.outputs (outputs.Send targets.Store (high + 1) bodies.Read)
-          (All-weaker (IsMild K low (high + 1)) (MayPut G o (reading now noted)) (mild-may G o (reading now noted)) b.outputs
-          (All-weaker (IsMild K low high) (IsMild K low (high + 1)) (more-mild K low high (high + 1) (omega arith)) b.outputs mild)) (reads-new G now o b later);
-    })
-
-turn-released : (G : Grounds) (now : Ticks) (o b : Outcome) (revision : ℕ) → lease_of o.role ≡ Some revision → b.role ≡ Follower → live b.machine.server.state ≡ false → o.knows.sequence + 1 ≤ b.knows.sequence
-    → All (IsReleaseOr (o.knows.sequence + 1) revision) b.outputs → AllMay G o (turned now b)
-turn-released G now o b revision held role ended counted all = let noted : Outcome = record b { knows = turn_noted now b.knows } in
-    turn-by (AllMay G o) now b (record {
-      kept = released G o b revision b.outputs held role ended counted all;
-      quiet = released G o noted revision b.outputs held role ended counted all;
-      reads = λ _. push G o (reading now noted) b.outputs (outputs.Send targets.Store (b.knows.sequence + 1) bodies.Read)
-          (released G o (reading now noted) revision b.outputs held role ended (omega (arith, counted)) all) (reads-new G now o b (omega (arith, counted)));
-    })
-
-pub overdue-none : (now : Ticks) (o : Outcome) → o.knows.waited ≡ None → overdue now o ≡ o
-overdue-none now o is = rw is refl
-
-judged-later : (now : Ticks) (o : Outcome) → o.knows.sequence ≤ (judged now o).knows.sequence
-judged-later now o = judged-by (λ (x : Outcome). o.knows.sequence ≤ x.knows.sequence) now o (omega arith) (λ bar. omega arith)
-
--- the agent waits for the acknowledgements of its failsafe request of this number, for leases of this span, which it sends now
-pub record AsksToStay (now : Ticks) (o : Outcome) (sequence : ℕ) (ttl : Ticks) : Type 0 where
-  pub waited : PendingQuestion
-  pub is : o.knows.waited ≡ Some waited
-  pub staying : is_staying waited.question ≡ true
-  pub sequence_is : waited.sequence ≡ sequence
-  pub ttl_is : waited.ttl ≡ ttl
-  pub sent : waited.sent ≡ now
-
--- grounds on which an input may send the failsafe requests besides that it waits for after it
-abbrev pub staying : Ticks → Outcome → Grounds → Grounds
-staying now after G = record { gives = G.gives; creates = G.creates; requests = AsksToStay now after; acknowledges = G.acknowledges; configures = G.configures; feeds = G.feeds }
-
--- the requests to all that are asked
-request-may : (G : Grounds) (o after : Outcome) (members : MemberSet) (sequence : ℕ) (ttl : Ticks) (member : Option MemberId) (outs : List Output) → o.knows.sequence < sequence → sequence ≤ after.knows.sequence → G.requests sequence ttl → All (MayPut G o after) outs → All (MayPut G o after) (requesting_one members sequence ttl member outs)
-request-may G o after members sequence ttl None outs later counted may all = all
-request-may G o after members sequence ttl (Some member) outs later counted may all =
-    if-cases (λ (l : List Output). All (MayPut G o after) l) (has members member.number) (with_output (outputs.Send (targets.Member member) sequence (bodies.FailsafeRequest ttl)) outs) outs
-    (λ _. push G o after outs (outputs.Send (targets.Member member) sequence (bodies.FailsafeRequest ttl)) all (later, counted, may)) (λ _. all)
-
-requests-may : (G : Grounds) (o after : Outcome) (members : MemberSet) (sequence : ℕ) (ttl : Ticks) (count : ℕ) (outs : List Output) → o.knows.sequence < sequence → sequence ≤ after.knows.sequence → G.requests sequence ttl → All (MayPut G o after) outs → All (MayPut G o after) (requesting_first members sequence ttl count outs)
-requests-may G o after members sequence ttl zero outs later counted may all = all
-requests-may G o after members sequence ttl (suc count) outs later counted may all =
-    request-may G o after members sequence ttl (member_of count) (requesting_first members sequence ttl count outs) later counted may (requests-may G o after members sequence ttl count outs later counted may all)
-
-seeks-may : (G : Grounds) (now : Ticks) (o b : Outcome) (members : MemberSet) → o.knows.sequence ≤ b.knows.sequence → All IsSilent b.outputs → AllMay (staying now (asking_to_stay now members b) G) o (asking_to_stay now members b)
-seeks-may G now o b members later silent =
-    let after : Outcome = asking_to_stay now members b in
-    let all : Grounds = staying now after G in
-    requests-may all o after members (b.knows.sequence + 1) (lease_span b.knows.settings) MOST_MEMBERS b.outputs (omega (arith, later)) (omega arith)
-    (record { waited = _; is = refl; staying = refl; sequence_is = refl; ttl_is = refl; sent = refl }) (front all o after b.outputs silent)
-
--- an output that is silent, or feeds the watchdog on the acknowledgements of these members
-abbrev IsSteady : MemberSet → ℕ → Output → Type 0
-IsSteady members sequence output = IsSilent output ⊎ ((until : Ticks) × ((since : Ticks) × (output ≡ outputs.FedByFailsafe until members sequence since)))
-
-steady-may : (G : Grounds) (o after : Outcome) (members : MemberSet) (sequence : ℕ) → G.feeds members sequence → (output : Output) → IsSteady members sequence output → MayPut G o after output
-steady-may G o after members sequence may output (inl silent) = silent-may G o after output silent
-steady-may G o after members sequence may output (inr fed) = subst (λ (x : Output). MayPut G o after x) (sym fed.1.1) may
-
--- who stays primary
-stays-steady : (now ttl : Ticks) (sequence : ℕ) (since : Ticks) (o : Outcome) → All IsSilent o.outputs → All (IsSteady o.knows.failsafe.members sequence) (stays now ttl sequence since o).outputs
-stays-steady now ttl sequence since o silent =
-    All-push Steady (fed_by_failsafe (deadline_after now ttl o.machine.watchdog) o.knows.failsafe.members sequence since o.outputs) outputs.StaysByFailsafe (fed-steady (deadline_after now ttl o.machine.watchdog)) (inl tt)
-  where
-    Steady : Output → Type 0
-    Steady output = IsSteady o.knows.failsafe.members sequence output
-
-    before-it : All Steady o.outputs
-    before-it = All-weaker IsSilent Steady (λ output e. inl e) o.outputs silent
-
-    fed-steady : (deadline : Option Ticks) → All Steady (fed_by_failsafe deadline o.knows.failsafe.members sequence since o.outputs)
-    fed-steady None = before-it
-    fed-steady (Some until) = All-push Steady o.outputs (outputs.FedByFailsafe until o.knows.failsafe.members sequence since) before-it (inr (until, (since, refl)))
-
-steady-all : (G : Grounds) (o after x : Outcome) (members : MemberSet) (sequence : ℕ) → G.feeds members sequence → All (IsSteady members sequence) x.outputs → All (MayPut G o after) x.outputs
-steady-all G o after x members sequence may all = All-weaker (IsSteady members sequence) (MayPut G o after) (steady-may G o after members sequence may) x.outputs all
-
-turn-steady : (G : Grounds) (now : Ticks) (o x : Outcome) (members : MemberSet) (sequence : ℕ) → o.knows.sequence ≤ x.knows.sequence → G.feeds members sequence → All (IsSteady members sequence) x.outputs → AllMay G o (turned now x)
-turn-steady G now o x members sequence later may all = let noted : Outcome = record x { knows = turn_noted now x.knows } in
-    turn-by (AllMay G o) now x (record {
-      kept = steady-all G o x x members sequence may all;
-      quiet = steady-all G o noted x members sequence may all;
-      reads = λ _. push G o (reading now noted) x.outputs (outputs.Send targets.Store (x.knows.sequence + 1) bodies.Read) (steady-all G o (reading now noted) x members sequence may all) (reads-new G now o x later);
-    })
-
--- a deadline that has passed, and then a turn
-abbrev Turns : Grounds → Ticks → Outcome → Outcome → Type 0
-Turns G now o x = AllMay (staying now (turned now x) G) o (turned now x)
-
-mild-turns : (G : Grounds) (now : Ticks) (o x : Outcome) → o.knows.sequence ≤ x.knows.sequence → AllMild G.creates o.knows.sequence x → Turns G now o x
-mild-turns G now o x later mild = turn-mild (staying now (turned now x) G) now o x later mild
-
-overdue-asking : (G : Grounds) (now : Ticks) (o b : Outcome) → (awaits_others b.knows.waited ≡ true → G.creates (failsafe_compared b.knows)) → ((others_known b.knows).bits == 0 ≡ true → G.feeds (others_known b.knows) b.knows.sequence) → o.knows.sequence ≤ b.knows.sequence → All IsSilent b.outputs → Turns G now o (overdue now b)
-overdue-asking G now o b creates feeds later silent = let low : ℕ = o.knows.sequence in let out : ℕ = b.knows.sequence in let K : Option Expected → Type 0 = G.creates in
-    let stopped : (reason : Reason) → All (IsMild K low out) (with_output (outputs.Stop reason) b.outputs) = λ reason. mild-front K low out (with_output (outputs.Stop reason) b.outputs) (silently b.outputs (outputs.Stop reason) silent tt) in
-    let mild : All (IsMild K low out) b.outputs = mild-front K low out b.outputs silent in
-    overdue-when (Turns G now o) now b (record {
-      kept = mild-turns G now o b later mild;
-      quiet = mild-turns G now o (waiting_no_more b) later mild;
-      leader = λ held _ _. mild-turns G now o (leader_out_of_reach now held (waiting_no_more b)) later (stopped StoreOutOfReach);
-      seeks = λ held _ _ _. seeks-may G now o (waiting_no_more b) (others_known b.knows) later silent;
-      alone = λ held _ _ _ nobody. let x : Outcome = stays_alone now (others_known b.knows) (waiting_no_more b) in
-          turn-steady (staying now (turned now x) G) now o x (others_known b.knows) b.knows.sequence later (feeds nobody)
-          (stays-steady now (lease_span b.knows.settings) b.knows.sequence now (record (waiting_no_more b) { knows = record (waiting_no_more b).knows { failsafe = ask_of (others_known b.knows) now } }) silent);
-      silent = λ held _ _. mild-turns G now o (leader_unacknowledged now held (waiting_no_more b)) later (stopped FailsafeNotAcknowledged);
-      unleased = λ _ _. mild-turns G now o (unleased_out_of_reach now (waiting_no_more b)) later (stopped StoreOutOfReach);
-      judges = λ awaits _. mild-turns G now o (judged now b) (up-to low out (judged now b).knows.sequence later (judged-later now b)) (judged-mild K low now b (creates awaits) later silent);
-      ready = λ held _. mild-turns G now o (postpones held (waiting_no_more b)) later (mild-front K low out (postpones held (waiting_no_more b)).outputs (postpones-silent held (waiting_no_more b) silent));
-      checks = λ held _. let rows : HandoverRows (AllMild K low) now held b = handover-mild K low now held b later silent in record {
-        kept = mild-turns G now o (waiting_no_more b) later rows.kept;
-        clears = λ compared. mild-turns G now o (dropping compared (waiting_no_more b)) (up-to low out (out + 1) later (omega arith)) (rows.clears compared);
-        hands = λ candidate. mild-turns G now o (hands_over now held candidate (waiting_no_more b)) later (rows.hands candidate);
-      };
-    })
-
--- one who waits for acknowledgements in vain ends its server, and feeds nothing
-overdue-staying : (G : Grounds) (now : Ticks) (o b : Outcome) → awaits_stay b.knows.waited ≡ true → o.knows.sequence ≤ b.knows.sequence → All IsSilent b.outputs → Turns G now o (overdue now b)
-overdue-staying G now o b awaits later silent = by b.knows.waited awaits
-  where
-    K : Option Expected → Type 0
-    K expected = G.creates expected
-
-    mild : All (IsMild G.creates o.knows.sequence b.knows.sequence) b.outputs
-    mild = mild-front G.creates o.knows.sequence b.knows.sequence b.outputs silent
-
-    ends : (role : RoleFacts) → Turns G now o (unacknowledged_as now role (waiting_no_more b))
-    ends (Leader held) = mild-turns G now o (leader_unacknowledged now held (waiting_no_more b)) later (mild-front G.creates o.knows.sequence b.knows.sequence (with_output (outputs.Stop FailsafeNotAcknowledged) b.outputs) (silently b.outputs (outputs.Stop FailsafeNotAcknowledged) silent tt))
-    ends Follower = mild-turns G now o (waiting_no_more b) later mild
-    ends (Holder held) = mild-turns G now o (waiting_no_more b) later mild
-    ends (Ready held) = mild-turns G now o (waiting_no_more b) later mild
-    ends (Ending held why) = mild-turns G now o (waiting_no_more b) later mild
-    ends Unleased = mild-turns G now o (waiting_no_more b) later mild
-
-    silent-one : Turns G now o (unacknowledged now b)
-    silent-one = if-cases (Turns G now o) (is_paused b.knows) (waiting_no_more b) (unacknowledged_as now b.role (waiting_no_more b)) (λ _. mild-turns G now o (waiting_no_more b) later mild) (λ _. ends b.role)
-
-    late : (question : Question) → is_staying question ≡ true → Turns G now o (unanswered now question b)
-    late StayingPrimary e = silent-one
-    late Reading e = absurd (no-way e)
-    late Renewing e = absurd (no-way e)
-    late Creating e = absurd (no-way e)
-    late Claiming e = absurd (no-way e)
-    late (Syncing settling) e = absurd (no-way e)
-    late ComparingPositions e = absurd (no-way e)
-    late FindingCandidate e = absurd (no-way e)
-
-    by : (waited : Option PendingQuestion) → awaits_stay waited ≡ true → Turns G now o (overdue_for now waited b)
-    by None e = absurd (no-way e)
-    by (Some one) e = if-cases (Turns G now o) (nat_le one.until.0 now.0) (unanswered now one.question b) b (λ _. late one.question e) (λ _. mild-turns G now o b later mild)
-
--- who waits for none may stay with nobody to ask
-overdue-turns : (G : Grounds) (now : Ticks) (o b : Outcome) → (awaits_others b.knows.waited ≡ true → G.creates (failsafe_compared b.knows)) → (awaits_stay b.knows.waited ≡ false → (others_known b.knows).bits == 0 ≡ true → G.feeds (others_known b.knows) b.knows.sequence) → o.knows.sequence ≤ b.knows.sequence → All IsSilent b.outputs → Turns G now o (overdue now b)
-overdue-turns G now o b creates feeds later silent = by (awaits_stay b.knows.waited) refl
-  where
-    by : (test : Bool) → awaits_stay b.knows.waited ≡ test → Turns G now o (overdue now b)
-    by true e = overdue-staying G now o b e later silent
-    by false e = overdue-asking G now o b creates (feeds e) later silent
-
-turn-fronts : (G : Grounds) (now : Ticks) (o b : Outcome) → (awaits_others b.knows.waited ≡ true → G.creates (failsafe_compared b.knows)) → (awaits_stay b.knows.waited ≡ false → (others_known b.knows).bits == 0 ≡ true → G.feeds (others_known b.knows) b.knows.sequence) → o.knows.sequence ≤ b.knows.sequence → Fronts o b → Turns G now o (overdue now b)
-turn-fronts G now o b creates feeds later (Silent all) = overdue-turns G now o b creates feeds later all
-turn-fronts G now o b creates feeds later (Released revision held alone role ended counted all) =
-    subst (Turns G now o) (sym (overdue-none now b alone)) (turn-released (staying now (turned now b) G) now o b revision held role ended counted all)
-
--- what an operator is answered is silent
-pub told-fronts : (o b : Outcome) → Fronts o b → ReplyRows (Fronts o) b
-told-fronts o b fronts = record { kept = fronts; answers = λ request told. answers-front request told fronts }
-  where
-    answers-front : (request : ℕ) (told : Tells) → Fronts o b → Fronts o (answering request told b)
-    answers-front request told (Silent all) = Silent (silently b.outputs (outputs.Told request told) all tt)
-    answers-front request told (Released revision held alone role ended counted all) =
-        Released revision held alone role ended counted (All-push (IsReleaseOr (o.knows.sequence + 1) revision) b.outputs (outputs.Told request told) all (inl tt))
-
-pub given-up-fronts : (now : Ticks) (o : Outcome) → IsAlone o → All IsSilent o.outputs → Fronts o (given_up now (reconciled now o))
-given-up-fronts now o alone silent = given-up-by (Fronts o) now (reconciled now o) (told-fronts o (reconciled now o) (before-fronts now o alone silent))
-
--- what precedes a wake leaves what is waited for, and what a create expects
-given-up-waits : (now : Ticks) (o : Outcome) → (given_up now (reconciled now o)).knows.waited ≡ o.knows.waited
-given-up-waits now o = given-up-by (λ (x : Outcome). x.knows.waited ≡ o.knows.waited) now (reconciled now o) (record { kept = before-waits now o; answers = λ request told. before-waits now o })
-
-abbrev ComparesAs : Outcome → Outcome → Type 0
-ComparesAs o x = failsafe_compared x.knows ≡ failsafe_compared o.knows
-
-pub before-compares : (now : Ticks) (o : Outcome) → ComparesAs o (reconciled now o)
-before-compares now o = before-by (ComparesAs o) now o (record {
-  kept = λ _. refl;
-  leader = λ _ _ _. refl;
-  ending = λ held why _ _. ended-compares why held o;
-  follower = λ _ _. refl;
-  holder = λ _ _ _. refl;
-  ready = λ _ _ _. refl;
-  unleased = λ _ _. refl;
-})
-  where
-    ended-compares : (why : Why) (held : ℕ) (x : Outcome) → ComparesAs x (has_ended why held x)
-    ended-compares HandOver held x = refl
-    ended-compares Lost held x = refl
-
-given-up-compares : (now : Ticks) (o : Outcome) → ComparesAs o (given_up now (reconciled now o))
-given-up-compares now o = given-up-by (ComparesAs o) now (reconciled now o) (record { kept = before-compares now o; answers = λ request told. before-compares now o })
-
--- who compares positions may create as it compares
-abbrev pub CreatesAsCompared : Grounds → Outcome → Type 0
-CreatesAsCompared G o = awaits_others o.knows.waited ≡ true → G.creates (failsafe_compared o.knows)
-
-creates-behind : (G : Grounds) (o b : Outcome) → b.knows.waited ≡ o.knows.waited → ComparesAs o b → CreatesAsCompared G o → CreatesAsCompared G b
-creates-behind G o b waits same creates awaits = subst G.creates (sym same) (creates (ap (λ (w : Option PendingQuestion). awaits_others w) (sym waits) ∙ awaits))
-
-pub wake-may : (G : Grounds) (now : Ticks) (o : Outcome) → CreatesAsCompared G o → (awaits_stay o.knows.waited ≡ false → (members : MemberSet) (sequence : ℕ) → members.bits == 0 ≡ true → G.feeds members sequence) → IsAlone o → All IsSilent o.outputs → AllMay (staying now (woken now o) G) o (woken now o)
-wake-may G now o creates feeds alone silent = let b : Outcome = given_up now (reconciled now o) in
-    wake-by (λ (x : Outcome). AllMay (staying now x G) o x) now o (fronts-may (staying now (reconciled now o) G) o (reconciled now o) (before-fronts now o alone silent))
-    (turn-fronts G now o b (creates-behind G o b (given-up-waits now o) (given-up-compares now o) creates) (λ e. feeds (ap (λ (w : Option PendingQuestion). awaits_stay w) (sym (given-up-waits now o)) ∙ e) (others_known b.knows) b.knows.sequence) (given-up-onward None now o).last (given-up-fronts now o alone silent))
-
--- a question is sent under the next number
-sends : (G : Grounds) (o after : Outcome) (b : ℕ) (body : Body) → o.knows.sequence ≤ b → after.knows.sequence ≡ b + 1 → MayAskStore G o after (b + 1) body → SendsNew G o after (b + 1) body
-sends G o after b body later counted asks = record { later = omega (arith, later); counted = omega (arith, counted); asks = asks }
+use Rattle.agent_model.proofs.Rows.{asked-to-hold-by, HandoverRows, dropping, looked-by, granted-any-by, refused-any-by, WritesSync, led_on, if-cases, renewed-by, passing-by, begins-or-claims-by, got-by, refused-by, follow-by, repaired-by, granted-by, answered-when, DutyRows, duties-of, leading_in_pause, takes-in-pause-by}
+use Rattle.agent_model.specs.Pausing.{is_paused, may_start_behind, disabling_watchdog, running_without_key}
+use Rattle.agent_lease_law.proofs.MaySend.{IsSilent, Grounds, CarriesSet, CarriesSetIf, MayTransact, MayAskStore, MayPut, AllMay, front, push, silently, silent-armed, silent-fed, silent-disabled, IsReleaseOr, Fronts, IsMild, AllMild, mild-all, mild-front, judged-mild, others-mild, handover-mild, checking-mild, before-fronts, released, fronts-may, postpones-silent, told-fronts, before-compares, CreatesAsCompared, creates-behind, sends, told-may, front-of}
+use Rattle.agent_lease_law.proofs.MaySend.Fronts.{Silent, Released}
 
 seen_at : ℕ → ℕ → Option LeaderSeen
 seen_at revision holder = Some (record { holder = holder; revision = revision })
@@ -751,10 +227,6 @@ refused-fronts G now sequence o b (Silent all) = front G o (refused now sequence
 refused-fronts G now sequence o b (Released revision held alone role ended counted all) =
     subst (λ (z : Outcome). AllMay G o z) (sym (refused-none now sequence b alone)) (released G o b revision b.outputs held role ended counted all)
 
--- who is answered sends nothing more
-told-may : (G : Grounds) (o b : Outcome) → Fronts o b → ReplyRows (AllMay G o) b
-told-may G o b fronts = let rows : ReplyRows (Fronts o) b = told-fronts o b fronts in record { kept = fronts-may G o b fronts; answers = λ request told. fronts-may G o (answering request told b) (rows.answers request told) }
-
 pub refused-may : (G : Grounds) (now : Ticks) (sequence : ℕ) (o : Outcome) → IsAlone o → All IsSilent o.outputs → AllMay G o (refused_any now sequence (reconciled now o))
 refused-may G now sequence o alone silent = let fronts : Fronts o (reconciled now o) = before-fronts now o alone silent in
     refused-any-by (AllMay G o) now sequence (reconciled now o) (told-may G o (reconciled now o) fronts) (refused-fronts G now sequence o (reconciled now o) fronts)
@@ -780,70 +252,6 @@ answered-fronts G now sequence answer o b creates later (Released revision held 
 pub answered-may : (G : Grounds) (now : Ticks) (sequence : ℕ) (answer : PeerAnswer) (o : Outcome) → CreatesAsCompared G o → IsAlone o → o.knows.sequence ≤ (reconciled now o).knows.sequence → All IsSilent o.outputs → AllMay G o (answered now sequence answer (reconciled now o))
 answered-may G now sequence answer o creates alone later silent =
     answered-fronts G now sequence answer o (reconciled now o) (creates-behind G o (reconciled now o) (before-waits now o) (before-compares now o) creates) later (before-fronts now o alone silent)
-
--- a question may be put behind what precedes an input, and so may the orders of an operator
-not-live : (x y : Bool) → (x ≡ true → y ≡ true) → y ≡ false → x ≡ false
-not-live true y lives ended = absurd (no-way (sym ended ∙ lives refl))
-not-live false y lives _ = refl
-
-front-of : (G : Grounds) (o b after : Outcome) → Fronts o b → b.knows.sequence ≤ after.knows.sequence → after.role ≡ b.role → (live after.machine.server.state ≡ true → live b.machine.server.state ≡ true) → All (MayPut G o after) b.outputs
-front-of G o b after (Silent all) later same lives = front G o after b.outputs all
-front-of G o b after (Released revision held alone role ended counted all) later same lives =
-    released G o after revision b.outputs held (same ∙ role) (not-live (live after.machine.server.state) (live b.machine.server.state) lives ended) (omega (arith, counted, later)) all
-
--- a failsafe request is answered, and nothing else is sent; with a yes a hold is taken
-pub failsafe-asked-may : (G : Grounds) (now : Ticks) (from : MemberId) (incarnation sequence : ℕ) (ttl : Ticks) (o : Outcome) → G.acknowledges from incarnation sequence → IsAlone o → All IsSilent o.outputs → AllMay G o (failsafe_asked now from incarnation sequence ttl (reconciled now o))
-failsafe-asked-may G now from incarnation sequence ttl o may alone silent = let b : Outcome = reconciled now o in
-    let fronts : Fronts o b = before-fronts now o alone silent in
-    let held : Outcome = holding_for now from sequence ttl b in
-    failsafe-asked-by (AllMay G o) now from incarnation sequence ttl b
-    (λ _. let after : Outcome = answering_failsafe from incarnation sequence true held in
-    push G o after held.outputs (outputs.FailsafeAnswer from incarnation sequence true)
-    (push G o after b.outputs (outputs.HoldTaken (span_after now ttl) from sequence) (front-of G o b after fronts (omega arith) refl (λ e. e)) (inr (incarnation, may))) (λ _. may))
-    (let after : Outcome = answering_failsafe from incarnation sequence false b in
-    push G o after b.outputs (outputs.FailsafeAnswer from incarnation sequence false) (front-of G o b after fronts (omega arith) refl (λ e. e)) (λ e. absurd (no-way e)))
-
--- an acknowledgement that is heard sends nothing
-failsafe-answered-none : (now : Ticks) (from : MemberId) (sequence : ℕ) (accepted : Bool) (sent : Ticks) (o : Outcome) → o.knows.waited ≡ None → failsafe_answered now from sequence accepted sent o ≡ o
-failsafe-answered-none now from sequence accepted sent o is = rw is refl
-
-failsafe-answered-all : (G : Grounds) (now : Ticks) (from : MemberId) (sequence : ℕ) (accepted : Bool) (sent : Ticks) (o b : Outcome) → ((waited : PendingQuestion) → b.knows.waited ≡ Some waited → is_staying waited.question ≡ true → G.feeds b.knows.failsafe.members waited.sequence) → All IsSilent b.outputs → AllMay G o (failsafe_answered now from sequence accepted sent b)
-failsafe-answered-all G now from sequence accepted sent o b feeds silent = failsafe-answered-by (AllMay G o) now from sequence accepted sent b (record {
-  kept = front G o b b.outputs silent;
-  quiet = front G o (waiting_no_more b) b.outputs silent;
-  counts = λ held _. front G o (counting from sent b) b.outputs silent;
-  stays = λ held _ waited is staying since _. let x : Outcome = stays now waited.ttl waited.sequence since (counting from sent b) in
-      steady-all G o x x (counting from sent b).knows.failsafe.members waited.sequence (subst (λ (members : MemberSet). G.feeds members waited.sequence) (sym (heard-same b.knows.failsafe)) (feeds waited is staying)) (stays-steady now waited.ttl waited.sequence since (counting from sent b) silent);
-  fails = λ held _ _. let ended : Outcome = leader_unacknowledged now held (waiting_no_more b) in front G o ended ended.outputs (silently b.outputs (outputs.Stop FailsafeNotAcknowledged) silent tt);
-})
-  where
-    heard-same : (ask : Ask) → (ask_heard ask from true sent).members ≡ ask.members
-    heard-same ask = if-cases (λ (x : Ask). x.members ≡ ask.members) (counts ask from true) (with_acknowledgement ask from sent) ask (λ _. refl) (λ _. refl)
-
-failsafe-answered-fronts : (G : Grounds) (now : Ticks) (from : MemberId) (sequence : ℕ) (accepted : Bool) (sent : Ticks) (o b : Outcome) → ((waited : PendingQuestion) → b.knows.waited ≡ Some waited → is_staying waited.question ≡ true → G.feeds b.knows.failsafe.members waited.sequence) → Fronts o b → AllMay G o (failsafe_answered now from sequence accepted sent b)
-failsafe-answered-fronts G now from sequence accepted sent o b feeds (Silent all) = failsafe-answered-all G now from sequence accepted sent o b feeds all
-failsafe-answered-fronts G now from sequence accepted sent o b feeds (Released revision held alone role ended counted all) =
-    subst (λ (z : Outcome). AllMay G o z) (sym (failsafe-answered-none now from sequence accepted sent b alone)) (released G o b revision b.outputs held role ended counted all)
-
--- what precedes an input leaves whom it asked
-before-asked : (now : Ticks) (o : Outcome) → (reconciled now o).knows.failsafe ≡ o.knows.failsafe
-before-asked now o = before-by (λ (x : Outcome). x.knows.failsafe ≡ o.knows.failsafe) now o (record {
-  kept = λ _. refl;
-  leader = λ _ _ _. refl;
-  ending = λ held why _ _. ended-asked why held o;
-  follower = λ _ _. refl;
-  holder = λ _ _ _. refl;
-  ready = λ _ _ _. refl;
-  unleased = λ _ _. refl;
-})
-  where
-    ended-asked : (why : Why) (held : ℕ) (x : Outcome) → (has_ended why held x).knows.failsafe ≡ x.knows.failsafe
-    ended-asked HandOver held x = refl
-    ended-asked Lost held x = refl
-
-pub failsafe-answered-may : (G : Grounds) (now : Ticks) (from : MemberId) (sequence : ℕ) (accepted : Bool) (sent : Ticks) (o : Outcome) → ((waited : PendingQuestion) → o.knows.waited ≡ Some waited → is_staying waited.question ≡ true → G.feeds o.knows.failsafe.members waited.sequence) → IsAlone o → All IsSilent o.outputs → AllMay G o (failsafe_answered now from sequence accepted sent (reconciled now o))
-failsafe-answered-may G now from sequence accepted sent o feeds alone silent =
-    failsafe-answered-fronts G now from sequence accepted sent o (reconciled now o) (λ waited is staying. subst (λ (ask : Ask). G.feeds ask.members waited.sequence) (sym (before-asked now o)) (feeds waited (sym (before-waits now o) ∙ is) staying)) (before-fronts now o alone silent)
 
 -- an answer to another member is silent: the key store isn't asked
 asked-fronts : (from : MemberId) (incarnation sequence : ℕ) (o b : Outcome) → Fronts o b → Fronts o (asked from incarnation sequence b)
@@ -1035,22 +443,6 @@ acts-may G now request o b fronts who later primary asked configures = by asked 
     by requests.Restart configures = restarts (tolds.Text ok texts.Restarted)
     by requests.Reinit configures = wipes (tolds.Text ok texts.ReinitializeStarted)
 
--- what precedes an input leaves the server
-before-server : (now : Ticks) (o : Outcome) → (reconciled now o).machine.server ≡ o.machine.server
-before-server now o = before-by (λ (x : Outcome). x.machine.server ≡ o.machine.server) now o (record {
-  kept = λ _. refl;
-  leader = λ _ _ _. refl;
-  ending = λ held why _ _. ended-server why held o;
-  follower = λ _ _. refl;
-  holder = λ _ _ _. refl;
-  ready = λ _ _ _. refl;
-  unleased = λ _ _. refl;
-})
-  where
-    ended-server : (why : Why) (held : ℕ) (x : Outcome) → (has_ended why held x).machine.server ≡ x.machine.server
-    ended-server HandOver held x = refl
-    ended-server Lost held x = refl
-
 pub operated-may : (G : Grounds) (now : Ticks) (action : OperatorAction) (o : Outcome) → ((config : ConfigValue) → action.asked ≡ requests.Configuration config → G.configures config) → IsAlone o → All IsSilent o.outputs → AllMay G o (operated now action.request action.asked (reconciled now o))
 operated-may G now action o configures alone silent = let b : Outcome = reconciled now o in
-    acts-may G now action.request o b (before-fronts now o alone silent) (before-onward None now o).who (before-onward None now o).last (λ e. subst (λ (s : ServerStatus). live s.state ≡ true) (before-server now o) (primary-live b.machine.server.state e)) action.asked configures
+    acts-may G now action.request o b (before-fronts now o alone silent) (before-onward None now o).who (before-onward None now o).last (λ e. subst (λ (s : ServerStatus). live s.state ≡ true) (before-leaves now o).server (primary-live b.machine.server.state e)) action.asked configures

@@ -19,21 +19,30 @@ use Rattle.agent_model.specs.Pausing.{is_paused}
 use Rattle.cluster_view.specs.KeyValues.{config_in}
 use Rattle.store_keys.specs.declared.config.Config.{Config}
 
--- what comes before an input leaves what is waited for
-ended-waits : (why : Why) (held : ℕ) (o : Outcome) → (has_ended why held o).knows.waited ≡ o.knows.waited
-ended-waits HandOver held o = refl
-ended-waits Lost held o = refl
+-- what is waited for, whom the agent asked whether it may stay primary, and its server stay as they are
+pub record LeavesAsked (o after : Outcome) : Type 0 where
+  pub waited : after.knows.waited ≡ o.knows.waited
+  pub asked : after.knows.failsafe ≡ o.knows.failsafe
+  pub server : after.machine.server ≡ o.machine.server
+
+ended-leaves : (why : Why) (held : ℕ) (o : Outcome) → LeavesAsked o (has_ended why held o)
+ended-leaves HandOver held o = record { waited = refl; asked = refl; server = refl; }
+ended-leaves Lost held o = record { waited = refl; asked = refl; server = refl; }
+
+-- so does what comes before an input
+pub before-leaves : (now : Ticks) (o : Outcome) → LeavesAsked o (reconciled now o)
+before-leaves now o = before-by (LeavesAsked o) now o (record {
+  kept = λ _. record { waited = refl; asked = refl; server = refl; };
+  leader = λ _ _ _. record { waited = refl; asked = refl; server = refl; };
+  ending = λ held why _ _. ended-leaves why held o;
+  follower = λ _ _. record { waited = refl; asked = refl; server = refl; };
+  holder = λ _ _ _. record { waited = refl; asked = refl; server = refl; };
+  ready = λ _ _ _. record { waited = refl; asked = refl; server = refl; };
+  unleased = λ _ _. record { waited = refl; asked = refl; server = refl; };
+})
 
 pub before-waits : (now : Ticks) (o : Outcome) → (reconciled now o).knows.waited ≡ o.knows.waited
-before-waits now o = before-by (λ (x : Outcome). x.knows.waited ≡ o.knows.waited) now o (record {
-  kept = λ _. refl;
-  leader = λ _ _ _. refl;
-  ending = λ held why _ _. ended-waits why held o;
-  follower = λ _ _. refl;
-  holder = λ _ _ _. refl;
-  ready = λ _ _ _. refl;
-  unleased = λ _ _. refl;
-})
+before-waits now o = (before-leaves now o).waited
 
 -- an agent that reads of no pause behind what precedes an input isn't paused after it
 pub stays-unpaused : (now : Ticks) (snapshot : SnapshotFacts) (o : Outcome) → is_paused o.knows ≡ false → (config_in snapshot).pause ≡ false → is_paused (informed snapshot (reconciled now o).knows) ≡ false
