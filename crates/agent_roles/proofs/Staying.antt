@@ -26,19 +26,19 @@ pub record LeavesAsked (o after : Outcome) : Type 0 where
   pub server : after.machine.server ≡ o.machine.server
 
 ended-leaves : (why : Why) (held : ℕ) (o : Outcome) → LeavesAsked o (has_ended why held o)
-ended-leaves HandOver held o = record { waited = refl; asked = refl; server = refl; }
-ended-leaves Lost held o = record { waited = refl; asked = refl; server = refl; }
+ended-leaves HandOver held o = record { waited = refl; asked = refl; server = refl }
+ended-leaves Lost held o = record { waited = refl; asked = refl; server = refl }
 
 -- so does what comes before an input
 pub before-leaves : (now : Ticks) (o : Outcome) → LeavesAsked o (reconciled now o)
 before-leaves now o = before-by (LeavesAsked o) now o (record {
-  kept = λ _. record { waited = refl; asked = refl; server = refl; };
-  leader = λ _ _ _. record { waited = refl; asked = refl; server = refl; };
+  kept = λ _. record { waited = refl; asked = refl; server = refl };
+  leader = λ _ _ _. record { waited = refl; asked = refl; server = refl };
   ending = λ held why _ _. ended-leaves why held o;
-  follower = λ _ _. record { waited = refl; asked = refl; server = refl; };
-  holder = λ _ _ _. record { waited = refl; asked = refl; server = refl; };
-  ready = λ _ _ _. record { waited = refl; asked = refl; server = refl; };
-  unleased = λ _ _. record { waited = refl; asked = refl; server = refl; };
+  follower = λ _ _. record { waited = refl; asked = refl; server = refl };
+  holder = λ _ _ _. record { waited = refl; asked = refl; server = refl };
+  ready = λ _ _ _. record { waited = refl; asked = refl; server = refl };
+  unleased = λ _ _. record { waited = refl; asked = refl; server = refl };
 })
 
 pub before-waits : (now : Ticks) (o : Outcome) → (reconciled now o).knows.waited ≡ o.knows.waited

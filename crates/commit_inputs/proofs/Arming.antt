@@ -55,7 +55,7 @@ module _ (head : HeadText) (book : List Event) (cluster : Cluster) (good : Commi
 
   in-time : MeetsPremises head (book ++ Events head book cluster good a) → (S.members M).live ≡ false → is_ready_role a.agent.role ≡ false → is_ready_role (After head book cluster good a).role ≡ true → ArmsInTime Lease M a.number
   in-time meets down unready ready =
-      arms-in-time head book cluster good.lease a.member a.agent a.machine (found-of cluster a.member a.machine a.machine_is) a.here a.heard a.number a.message a.opening a.opening_is a.numbered a.low a.acts (calm head book cluster good a)
+      arms-in-time head book cluster good.lease a.member a.agent a.machine (found-of cluster a.member a.machine a.machine_is) a.here a.heard a.number a.message a.opening a.opening_is a.numbered a.low a.well a.acts (calm head book cluster good a)
       meets.hands_off.watched (a.hears_lease meets.hands_off.watched) meets (inr ready) (rested down unready)
 
   revision-by : (works : (m : ℕ) → works_of head m ≡ true) (heard : Heard) (revision : ℕ) (fed : Fed Lease M a.number) → Hears Lease M a.number (moment_of cluster) heard (Before head book cluster good a) → ArmsOn (moment_of cluster) heard (Before head book cluster good a) revision → fed.grant.revision ≡ revision

@@ -31,6 +31,7 @@ use Rattle.agent_model.specs.declared.output.Output.TheVariants as outputs
 use Rattle.agent_model.specs.declared.output.Target.TheVariants as targets
 use Rattle.agent_model.specs.Agents.{AgentFacts, Outcome, outcome_from}
 use Rattle.agent_commit_law.specs.Committing.{AsksInSynchronousMode, FollowsSynchronousMode}
+use Rattle.agent_lease_law.specs.Modes.{AsksMode}
 use Rattle.agent_model.specs.Decisions.{asks_sync}
 use Rattle.agent_model.specs.Table.{step}
 use Rattle.cluster_model.specs.declared.heard_message.HeardMessage.{HeardMessage}
@@ -51,8 +52,10 @@ use Rattle.lease_book.proofs.Flights.{asked-new, asked-there, none-requested, re
 use Rattle.commit_actions.specs.Flights.{SyncRequest}
 use Rattle.commit_actions.specs.Past.{Past, Query, SyncQuery, claim_request, past_after, past_over, publish_request, query_sent}
 use Rattle.run_promise.specs.Members.{member_count}
-use Rattle.lease_inputs.specs.InputEvents.{IsMessageOf, Asks, AsksPeer, AnswersPeer, IsOfInput}
+use Rattle.lease_inputs.specs.Hearing.{IsHeardWell}
+use Rattle.lease_inputs.specs.InputEvents.{IsMessageOf, Asks, AsksPeer, AnswersPeer, AnswersRequest, IsOfInput}
 use Rattle.agent_questions.specs.Questions.{AsksAnew, AsksFor, IsPutBy, IsPutByBody, SendsBetween, WaitsOn, Same, Nothing, New}
+use Rattle.lease_parts.specs.Declaring.{declared_of}
 use Rattle.lease_parts.specs.Waiting.{IsAgentSound}
 use Rattle.lease_inputs.proofs.InputKept.{agents-are, anew, mine, numbers, small}
 use Rattle.lease_inputs.proofs.InputKinds.{IsOpening}
@@ -165,6 +168,13 @@ agents-synchronous count member clock now agent outcome named later asked after 
     by n one false same e = other-synchronous member clock now agent outcome named later asked after questions anew sound n one (ne-from n member.id.number same) (old.each n one e)
 
 -- ---- what the events of an input ask
+-- what members say to one another is no question to the key store
+unasked-peer : (named : lease_past.Past) (by m incarnation sequence : ℕ) (body : Body) (q : Asked) → lease_past.peer_in_flight_of named by m incarnation sequence body ≡ Some (Requested q) → ⊥
+unasked-peer named by m incarnation sequence (bodies.FailsafeRequest ttl) q e = cc
+unasked-peer named by m incarnation sequence (bodies.FailsafeAnswer true) q e = cc
+unasked-peer named by m incarnation sequence (bodies.FailsafeAnswer false) q e = none-requested q e
+unasked-peer named by m incarnation sequence _ q e = none-requested q e
+
 module _ (member : Member) (incarnation heard : ℕ) (outs : List Output) (Q : Output → Type 0)
     (within : (sequence : ℕ) (body : Body) → Q (outputs.Send targets.Store sequence body) → Contains outs (outputs.Send targets.Store sequence body)) where
   abbrev Mine : EventKind → Type 0
@@ -190,8 +200,11 @@ module _ (member : Member) (incarnation heard : ℕ) (outs : List Output) (Q : O
   message-new named message q query (Asks is) asks e =
       question-new named is.sequence is.body q query (within is.sequence is.body is.from) (asks ∙ ap (λ (x : Message). query_sent x.from x.incarnation x.sequence x.body) is.is)
       (ap (λ (x : Message). lease_past.flying_of named x.from x.to x.incarnation x.sequence x.body) (sym is.is) ∙ e)
-  message-new named message q query (AsksPeer peer id sequence is from) asks e = absurd (none-requested q (ap (λ (x : Message). lease_past.flying_of named x.from x.to x.incarnation x.sequence x.body) (sym is) ∙ e))
+  message-new named message q query (AsksPeer peer id sequence body puts is from) asks e =
+      absurd (unasked-peer named member.id.number peer.id.number incarnation sequence body q (ap (λ (x : Message). lease_past.flying_of named x.from x.to x.incarnation x.sequence x.body) (sym is) ∙ e))
   message-new named message q query (AnswersPeer peer id sender sequence answer is from) asks e = absurd (none-requested q (ap (λ (x : Message). lease_past.flying_of named x.from x.to x.incarnation x.sequence x.body) (sym is) ∙ e))
+  message-new named message q query (AnswersRequest peer id sender sequence accepted at is from) asks e =
+      absurd (unasked-peer named member.id.number peer.id.number sender sequence (bodies.FailsafeAnswer accepted) q (ap (λ (x : Message). lease_past.flying_of named x.from x.to x.incarnation x.sequence x.body) (sym is) ∙ e))
 
   asked-one : (named : lease_past.Past) (past : Past) (kind : EventKind) (last : ℕ) → Mine kind → IsNumberedAbove last kind → AreLow named.asked last
       → (i : ℕ) (q : Asked) → (lease_past.past_after named kind).asked i ≡ Some q → OldOrNew member incarnation named.clock outs named.asked past.asked i q ((past_after past kind).asked i)
@@ -253,7 +266,8 @@ module _ (member : Member) (incarnation heard : ℕ) (outs : List Output) (Q : O
 -- ---- an input of an agent in a run
 module _ (head : HeadText) (book : List Event) (cluster : Cluster) (good : CommitsBridged head book cluster) (member : Member) (agent : AgentFacts) (machine : Machine) (found : IsFound cluster member machine)
     (here : slice_get cluster.agents member.id.number ≡ Some (Some agent)) (heard : Heard) (hn : Option ℕ) (message : HeardMessage) (opening : EventKind) (opens : IsOpening hn opening)
-    (numbered : (n : ℕ) → hn ≡ Some n → (message.number ≡ n) × (n ≤ cluster.facts.sent)) (low : message.number ≤ cluster.facts.sent) where
+    (numbered : (n : ℕ) → hn ≡ Some n → (message.number ≡ n) × (n ≤ cluster.facts.sent)) (low : message.number ≤ cluster.facts.sent)
+    (well : IsHeardWell (declared_of head).failsafe cluster.facts.members (lease_past.past_of book).flight member heard hn message) where
   abbrev After : Outcome
   After = step (moment_of cluster) (points_of cluster member) heard (outcome_from agent.role agent.knows machine [])
 
@@ -273,14 +287,14 @@ module _ (head : HeadText) (book : List Event) (cluster : Cluster) (good : Commi
   pub agents-behind : agent_facts_after cluster opening ≡ with_changed cluster.agents member.id.number (agent_after (Some After)) → AsksInSynchronousMode After.knows
       → AreAgentsSynchronous (member_count head) (lease_past.past_over Named Events).asked (past_over P Events).asked (cluster_over cluster Events).agents
   agents-behind acts on =
-      let new = anew head book cluster good.lease member agent machine found here heard hn message opening opens numbered low in
-      let Q : Output → Type 0 = λ out. Contains After.outputs out × SendsBetween agent.knows.sequence After.knows.sequence out in
+      let new = anew head book cluster good.lease member agent machine found here heard hn message opening opens numbered low well in
+      let Q : Output → Type 0 = λ out. Contains After.outputs out × (SendsBetween agent.knows.sequence After.knows.sequence out × AsksMode (declared_of head).failsafe out) in
       subst (AreAgentsSynchronous (member_count head) (lease_past.past_over Named Events).asked (past_over P Events).asked)
-      (sym (agents-are head book cluster good.lease member agent machine found here heard hn message opening opens numbered low acts))
+      (sym (agents-are head book cluster good.lease member agent machine found here heard hn message opening opens numbered low well acts))
       (agents-synchronous (member_count head) member Named.clock (moment_of cluster) agent After Named.asked (lease_past.past_over Named Events).asked P.asked (past_over P Events).asked cluster.agents here
-      (small head book cluster good.lease member agent machine found here heard hn message opening opens numbered low)
+      (small head book cluster good.lease member agent machine found here heard hn message opening opens numbered low well)
       (asked-behind member agent.knows.incarnation message.number After.outputs Q (λ sequence body is. is.0) Named P cluster.facts hn (record { tick = record { 0 = First.facts.clock }; kind = opening })
       (each (output_events member message) First After.outputs) good.lease.matched.flight opens
-      (mine head book cluster good.lease member agent machine found here heard hn message opening opens numbered low)
-      (numbers head book cluster good.lease member agent machine found here heard hn message opening opens numbered low))
+      (mine head book cluster good.lease member agent machine found here heard hn message opening opens numbered low well)
+      (numbers head book cluster good.lease member agent machine found here heard hn message opening opens numbered low well))
       new (good.lease.matched.waiting.agents member.id.number agent here) on good.fits.agents)

@@ -1,5 +1,5 @@
 -- All that an input of an agent brings is allowed actions: the law's input with what it covers, and what comes behind.
-use Rattle.std.proofs.Common.{ℕ, ◌≡◌, ◌≤◌, List, [], ◌∷◌, ◌++◌, append_assoc, append-nil, Option, Some, None, option_and_then, slice_get, All, refl, sym, ap, ◌∙◌, subst}
+use Rattle.std.proofs.Common.{ℕ, ◌≡◌, ◌≤◌, false, List, [], ◌∷◌, ◌++◌, append_assoc, append-nil, Option, Some, None, option_and_then, slice_get, All, refl, sym, ap, ◌∙◌, subst}
 use Rattle.std.proofs.lemmas.List.Elements.{All-append, All-cons, All-head, All-nil, All-tail, All-weaker}
 use Rattle.pat_base.specs.declared.server_state.Required.{Required}
 use Rattle.pg_model.specs.Facts.{ServerFacts}
@@ -8,7 +8,8 @@ use Rattle.script_model.specs.Script.{HeadText}
 use Rattle.agent_model.specs.declared.machine.Machine.{Machine}
 use Rattle.agent_model.specs.declared.output.Output.{Output}
 use Rattle.agent_model.specs.declared.output.Output.TheVariants as outputs
-use Rattle.agent_commit_law.specs.Committing.{GrowsByConnected, IsCovered, IsLawfulAs, IsSent, StandsAlone, requests_of}
+use Rattle.agent_commit_law.specs.Committing.{GrowsByConnected, IsCovered, IsLawfulAs, IsSent, StandsAlone, is_carrying, requests_of}
+use Rattle.agent_model.specs.Outputs.{has_one}
 use Rattle.agent_outputs.specs.Orders.{IsOfTable, machine_after_outputs}
 use Rattle.agent_commit_law.proofs.CommitQuiet.{IsUnasking, alone-unasking, asks-none, carries-none, covered as covered-quiet, unasking}
 use Rattle.cluster_model.specs.Cluster.{cluster_over}

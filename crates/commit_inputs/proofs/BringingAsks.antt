@@ -1,5 +1,6 @@
 -- An input whose last output asks the key store: the law's input covers all up to that question, which may be lost at once.
-use Rattle.std.proofs.Common.{ℕ, ◌≡◌, ◌≤◌, ◌<◌, ◌+◌, nat_le, Bool, true, false, List, [], ◌∷◌, ◌++◌, append_assoc, length, Option, Some, None, option_map, slice_get, All, refl, sym, ap, ◌∙◌, subst, arith}
+use Rattle.std.proofs.Common.{ℕ, ◌≡◌, ◌≤◌, ◌<◌, ◌+◌, ◌&&◌, ◌||◌, nat_le, Bool, true, false, List, [], ◌∷◌, ◌++◌, append_assoc, length, Option, Some, None, option_map, slice_get, All, refl, sym, ap, ◌∙◌, subst, arith}
+use Rattle.std.proofs.Math.Bool.{or-false}
 use Rattle.std.proofs.lemmas.List.Elements.{All-head, All-push, All-tail, All-weaker}
 use Rattle.std.specs.List.{cons_option}
 use Rattle.pat_base.specs.declared.lsn.Lsn.{Lsn}
@@ -26,7 +27,7 @@ use Rattle.script_model.specs.Script.{HeadText}
 use Rattle.agent_model.specs.declared.output.Output.{Output}
 use Rattle.agent_model.specs.declared.output.Output.TheVariants as outputs
 use Rattle.agent_model.specs.declared.output.Target.TheVariants as targets
-use Rattle.agent_commit_law.specs.Committing.{IsSent, IsSynchronousBody, IsSynchronousOutput, IsSynchronousTxn, KnowsBelow, is_claim_outside_sync, request_in, request_of_body, requests_of}
+use Rattle.agent_commit_law.specs.Committing.{IsSent, IsSynchronousBody, IsSynchronousOutput, IsSynchronousTxn, KnowsBelow, is_carrying, is_claim_outside_sync, request_in, request_of_body, requests_of}
 use Rattle.agent_model.specs.Agents.{AgentFacts}
 use Rattle.agent_outputs.specs.Orders.{IsOfTable}
 use Rattle.agent_commit_law.proofs.CommitQuiet.{asks-last, IsUnasking, uncarried}
@@ -48,12 +49,13 @@ use Rattle.commit_actions.specs.Flights.{Flying, Requested, SyncRequest}
 use Rattle.commit_actions.specs.Functions.{forget}
 use Rattle.commit_actions.specs.Inputs.{IsGivenByLease, Sending}
 use Rattle.commit_actions.specs.States.{Reaches}
-use Rattle.commit_actions.specs.Past.{position_of, publish_request, LeaseQuery, CarryQuery, OtherQuery, Past, Query, Setup, SyncQuery, confirmers_of, past_after, past_over, query_in_flight_of, query_of, request_in_flight_of, was_live_by_message, was_live_by_txn}
+use Rattle.commit_actions.specs.Past.{position_of, publish_request, LeaseQuery, CarryQuery, OtherQuery, Past, Query, Setup, SyncQuery, confirmers_of, is_holder, past_after, past_over, query_in_flight_of, query_of, request_in_flight_of, was_live_by_message, was_live_by_txn}
 use Rattle.commit_book.proofs.Fronts.{past-append}
 use Rattle.commit_servers.specs.Acting.{Fits}
 use Rattle.commit_servers.specs.Matching.{live_in}
 use Rattle.commit_servers.proofs.Beginning.{fits-aside}
 use Rattle.lease_parts.specs.Bridged.{KnowsItself}
+use Rattle.lease_parts.specs.Declaring.{declared_of}
 use Rattle.run_promise.specs.Members.{member_count}
 use Rattle.run_promise.proofs.Upholding.{over-append}
 use Rattle.commit_book.specs.Changes.{AllLeaveOrder}
@@ -94,20 +96,16 @@ carries_in body = is_carrying (outputs.Send targets.Store 0 body)
 
 live-renew : (was : Bool) (leader : Option LeaderKey) (m revision : ℕ) (info : MemberInfo) (ttl : Ticks) (status : Option Lsn) (row : Option HistoryRow) (failsafe : Option MemberSet)
     → was_live_by_txn was leader m (txns.Renew revision info ttl status row failsafe) ≡ (was || (carries_in (bodies.Request (txns.Renew revision info ttl status row failsafe)) && is_holder leader m))
-live-renew was leader m revision info ttl status row None = or-none was
+live-renew was leader m revision info ttl status row None = sym (or-false was)
 live-renew was leader m revision info ttl status row (Some members) = refl
-
-or-none : (b : Bool) → b ≡ b || false
-or-none true = refl
-or-none false = refl
 
 live-txn : (was : Bool) (leader : Option LeaderKey) (m : ℕ) (txn : Txn) → was_live_by_txn was leader m txn ≡ (was || (carries_in (bodies.Request txn) && is_holder leader m))
 live-txn was leader m (txns.Renew revision info ttl status row failsafe) = live-renew was leader m revision info ttl status row failsafe
-live-txn was leader m _ = or-none was
+live-txn was leader m _ = sym (or-false was)
 
 live-body : (was : Bool) (leader : Option LeaderKey) (by : Member) (body : Body) → was_live_by_message was leader (ends.Member by) body ≡ (was || (carries_in body && is_holder leader by.id.number))
 live-body was leader by (bodies.Request txn) = live-txn was leader by.id.number txn
-live-body was leader by _ = or-none was
+live-body was leader by _ = sym (or-false was)
 
 -- under whatever number, behind outputs that ask for none
 carries-last : (front : List Output) (sequence : ℕ) (body : Body) → All (IsUnasking false) front → has_one is_carrying (front ++ outputs.Send targets.Store sequence body ∷ []) ≡ carries_in body
@@ -192,7 +190,7 @@ module _ (head : HeadText) (book : List Event) (cluster : Cluster) (good : Commi
   Covered = Upto ++ Asked
 
   -- ---- its events
-  knows : KnowsItself M (slice_get cluster.facts.processes M) a.agent
+  knows : KnowsItself (declared_of head).failsafe M (slice_get cluster.facts.processes M) a.agent
   knows = good.lease.matched.agents M a.agent a.here
 
   asks-is : Part head book cluster good a Reached Question ≡ Asked ++ Lost

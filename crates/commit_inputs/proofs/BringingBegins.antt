@@ -16,7 +16,7 @@ use Rattle.agent_model.specs.declared.output.Output.TheVariants as outputs
 use Rattle.agent_model.specs.Acting.{status_begun}
 use Rattle.pg_model.specs.Status.{status_primary_started, status_started, status_starting}
 use Rattle.agent_model.specs.Claiming.{can_begin_on_claim}
-use Rattle.agent_commit_law.specs.Committing.{IsCovered, IsSent, is_begin, live_shown, requests_of}
+use Rattle.agent_commit_law.specs.Committing.{IsCovered, IsSent, is_begin, is_carrying, live_shown, requests_of}
 use Rattle.agent_outputs.specs.Orders.{IsOfTable, machine_after_output, machine_after_outputs}
 use Rattle.agent_model.specs.Outputs.{has_one}
 use Rattle.agent_commit_law.proofs.CommitRows.{begins-data}
@@ -183,7 +183,7 @@ module _ (head : HeadText) (book : List Event) (cluster : Cluster) (good : Commi
       ap (λ (c : Cluster). live_in c.facts.servers M) (sym (over-append cluster Covered Begun))
       ∙ ap (λ (l : List Event). live_in (cluster_over cluster l).facts.servers M) (sym whole-events)
       ∙ live-same (slice_get (cluster_over cluster (Events head book cluster good a)).facts.servers M)
-      ∙ (resembles-later head book cluster good.lease a.member a.agent a.machine (found-of cluster a.member a.machine a.machine_is) a.here a.heard a.number a.message a.opening a.opening_is a.numbered a.low a.acts).lives
+      ∙ (resembles-later head book cluster good.lease a.member a.agent a.machine (found-of cluster a.member a.machine a.machine_is) a.here a.heard a.number a.message a.opening a.opening_is a.numbered a.low a.well a.acts).lives
       ∙ lives-after
 
   ahead : IsLiveAhead (Ahead head book cluster good a) Ready.facts.servers M

@@ -1,5 +1,5 @@
 -- Each input of an agent upholds commits: whoever is woken, whatever an operator asks of one, and whatever message comes to one.
-use Rattle.std.proofs.Common.{ℕ, ◌≡◌, ◌≤◌, ◌++◌, List, [], Option, Some, None, option_map, slice_get, true, refl, sym, ap, ◌∙◌, subst, arith, inl, inr}
+use Rattle.std.proofs.Common.{ℕ, ◌≡◌, ◌≤◌, ◌++◌, Bool, List, [], Option, Some, None, option_map, slice_get, true, refl, sym, ap, ◌∙◌, subst, arith, inl, inr}
 use Rattle.std.proofs.Math.Path.{fun_ext}
 use Rattle.event_book.specs.declared.event.AgentEvent.{AgentEvent}
 use Rattle.event_book.specs.declared.event.AgentEvent.TheVariants as agents
@@ -22,6 +22,7 @@ use Rattle.lease_store.specs.declared.granted.Granted.{Granted}
 use Rattle.agent_model.specs.Agents.{AgentFacts, Outcome, outcome_from}
 use Rattle.agent_commit_law.specs.Committing.{HearsBelow, HearsSynchronousMode, HearsToCommit}
 use Rattle.agent_lease_law.specs.Lawful.{Hears}
+use Rattle.agent_lease_law.specs.Modes.{IsModeRequested}
 use Rattle.cluster_model.specs.declared.delivery.Delivery.TheVariants as deliveries
 use Rattle.cluster_model.specs.Cluster.{agent_facts_by, agent_facts_with, cluster_after}
 use Rattle.cluster_model.specs.Deliveries.{delivery_of}
@@ -30,6 +31,7 @@ use Rattle.cluster_model.specs.Inputs.{agent_at, moment_of, outcome_at, outcome_
 use Rattle.cluster_model.specs.Machines.{machine_of, points_of}
 use Rattle.cluster_model.specs.Messages.{hear_events, heard_message, input_events, no_message, operate_events, wake_events_of}
 use Rattle.cluster_model.specs.Parts.{event_of}
+use Rattle.cluster_model.specs.Requests.{action_of}
 use Rattle.cluster_model.specs.State.{Cluster}
 use Rattle.lease_law.specs.Past as lease_past
 use Rattle.lease_law.proofs.Tools.{none-some, some-is}
@@ -46,8 +48,9 @@ use Rattle.run_promise.specs.Parts.{InputsUphold}
 use Rattle.run_promise.specs.Promise.{Upholds}
 use Rattle.lease_parts.specs.Volatile as run_volatile
 use Rattle.lease_parts.specs.Waiting.{IsAnswer}
-use Rattle.lease_inputs.proofs.EveryInput.{acted, agent-here, kept-hearing, kept-operated, kept-wake, sender, same-run, the-outcome, unchanged}
-use Rattle.lease_inputs.proofs.InputHears.{hears-by, peers-hear}
+use Rattle.lease_inputs.specs.Hearing.{IsHeardWell}
+use Rattle.lease_inputs.proofs.EveryInput.{acted, agent-here, answered-run, kept-hearing, kept-operated, kept-wake, mode-asked, operated-well, sender, same-run, the-outcome, unchanged, wake-well}
+use Rattle.lease_inputs.proofs.InputHears.{heard-well, hears-by, peers-hear}
 use Rattle.lease_inputs.proofs.InputKinds.{IsOpening}
 use Rattle.lease_inputs.proofs.InputSeen.{IsFound, can-feed, found-of}
 use Rattle.run_promise.proofs.Members.{numbered}
@@ -109,6 +112,7 @@ record IsByItself (head : HeadText) (book : List Event) (cluster : Cluster) (mem
   below : HearsBelow (member_count head) heard
   hears_lease : ((m : ℕ) → works_of head m ≡ true) → (agent : AgentFacts) (machine : Machine) → IsFound cluster member machine
       → Hears (lease_past.state_of (declared_of head) (lease_past.past_of book) (run_volatile.volatile_of cluster)) member.id.number None (moment_of cluster) heard (outcome_from agent.role agent.knows machine [])
+  well : IsHeardWell (declared_of head).failsafe cluster.facts.members (lease_past.past_of book).flight member heard None no_message
   may : MayAnswer head book cluster heard
 
 module _ (head : HeadText) (few : member_count head ≤ MOST_MEMBERS) (book : List Event) (cluster : Cluster) (member : Member) (good : CommitsBridged head book cluster) where
@@ -143,21 +147,42 @@ module _ (head : HeadText) (few : member_count head ≤ MOST_MEMBERS) (book : Li
       hears_lease = λ works. itself.hears_lease works agent machine (found-of cluster member machine m);
       numbered = λ n e. absurd (none-some n e);
       low = from-none cluster.facts.sent;
+      well = itself.well;
     }) itself.may kept
 
     upheld-itself : IsKept head book cluster (event_of cluster Opening ++ input_events (cluster_after cluster Opening) member no_message (outcome_of cluster member heard))
         → Upholds (kept_commits head) book cluster (event_of cluster Opening ++ input_events (cluster_after cluster Opening) member no_message (outcome_of cluster member heard))
     upheld-itself = itself-by (agent_at cluster.agents member.id.number) (machine_of cluster member) refl refl
 
-  pub upheld-wake : Upholds (kept_commits head) book cluster (wake_events_of cluster member)
-  upheld-wake =
-      upheld-itself heards.Wake (agents.Woken member) (record { opens = refl; idle = tt; acts = refl; hears = λ agent machine input. tt; on = tt; below = tt; hears_lease = λ works agent machine found. can-feed head (lease_past.past_of book) cluster member machine good.lease.matched found (works member.id.number); may = tt })
-      (kept-wake head book cluster member good.lease)
+  pub upheld-wake : IsDeclared head member → Upholds (kept_commits head) book cluster (wake_events_of cluster member)
+  upheld-wake declared =
+      upheld-itself heards.Wake (agents.Woken member) (record {
+        opens = refl;
+        idle = tt;
+        acts = refl;
+        hears = λ agent machine input. tt;
+        on = tt;
+        below = tt;
+        hears_lease = λ works agent machine found. can-feed head (lease_past.past_of book) cluster member machine good.lease.matched found (works member.id.number);
+        well = wake-well head (lease_past.past_of book) cluster member good.lease.matched declared;
+        may = tt;
+      })
+      (kept-wake head book cluster member declared good.lease)
 
-  pub upheld-operated : (action : OperatorAction) → Upholds (kept_commits head) book cluster (operate_events cluster member action)
-  upheld-operated action =
-      upheld-itself (heards.Operated action) (agents.Operated member action) (record { opens = refl; idle = tt; acts = refl; hears = λ agent machine input. tt; on = tt; below = tt; hears_lease = λ works agent machine found. tt; may = tt })
-      (kept-operated head book cluster member action good.lease)
+  pub upheld-operated : (action : OperatorAction) → IsDeclared head member → IsModeRequested (declared_of head).failsafe action.asked → Upholds (kept_commits head) book cluster (operate_events cluster member action)
+  upheld-operated action declared mode =
+      upheld-itself (heards.Operated action) (agents.Operated member action) (record {
+        opens = refl;
+        idle = tt;
+        acts = refl;
+        hears = λ agent machine input. tt;
+        on = tt;
+        below = tt;
+        hears_lease = λ works agent machine found. tt;
+        well = operated-well head (lease_past.past_of book) cluster member action good.lease.matched declared mode;
+        may = tt;
+      })
+      (kept-operated head book cluster member action declared mode good.lease)
 
 -- ---- a message comes to an agent
 module _ (head : HeadText) (few : member_count head ≤ MOST_MEMBERS) (book : List Event) (cluster : Cluster) (number : ℕ) (message : InFlightFacts) (member : Member) (good : CommitsBridged head book cluster)
@@ -184,9 +209,10 @@ module _ (head : HeadText) (few : member_count head ≤ MOST_MEMBERS) (book : Li
   hears-lease-by : ((m : ℕ) → works_of head m ≡ true) → (agent : AgentFacts) (machine : Machine) → IsFound cluster member machine → slice_get cluster.agents member.id.number ≡ Some (Some agent) → (heard : Heard) → heard_from cluster message ≡ Some heard
       → Hears (lease_past.state_of (declared_of head) (lease_past.past_of book) (run_volatile.volatile_of cluster)) member.id.number (Some number) (moment_of cluster) heard (outcome_from agent.role agent.knows machine [])
   hears-lease-by works agent machine machine_found here heard h = elim (sender head book cluster number message member good.lease found to open_is) [
-    | inl store ↦ hears-by head (lease_past.past_of book) cluster good.lease.matched (declared_of head) (run_volatile.volatile_of cluster) member agent machine machine_found here (works member.id.number)
+    | inl store ↦ hears-by head (lease_past.past_of book) cluster good.lease.matched (run_volatile.volatile_of cluster) member agent machine machine_found here (works member.id.number)
         number message found store.0 to (run-same agent here store.1) (moment_of cluster) message.message.body refl store.1 heard h
-    | inr peer ↦ peers-hear _ member.id.number (Some number) (moment_of cluster) (outcome_from agent.role agent.knows machine []) cluster message message.message.body peer heard h
+    | inr peer ↦ peers-hear head (lease_past.past_of book) cluster good.lease.matched (run_volatile.volatile_of cluster) member agent machine machine_found (works member.id.number)
+        number message found to (λ answers. answered-run head book cluster number message member good.lease found to open_is answers agent here) (moment_of cluster) message.message.body refl peer heard h
   ]
 
   -- a member that asks is one that may be answered
@@ -254,6 +280,7 @@ module _ (head : HeadText) (few : member_count head ≤ MOST_MEMBERS) (book : Li
         hears_lease = λ works. hears-lease-by works agent machine (found-of cluster member machine m) here heard h;
         numbered = λ n e. let same : number ≡ n = some-is number n e in (same, subst (λ (k : ℕ). k ≤ cluster.facts.sent) same flown);
         low = flown;
+        well = heard-well head (lease_past.past_of book) cluster good.lease.matched member number message found to heard h;
       }) (may-answer heard h) kept
 
   heard-by : (heard : Option Heard) → heard_from cluster message ≡ heard
@@ -268,7 +295,8 @@ module _ (head : HeadText) (few : member_count head ≤ MOST_MEMBERS) (book : Li
 -- all of them do
 pub inputs-uphold : (head : HeadText) → member_count head ≤ MOST_MEMBERS → InputsUphold (IsDeclared head) (kept_commits head)
 inputs-uphold head few = record {
-  wakes = λ book cluster member process good declared found acts. upheld-wake head few book cluster member good;
-  operates = λ book cluster member process action good declared found acts. upheld-operated head few book cluster member good action;
+  wakes = λ book cluster member process good declared found acts. upheld-wake head few book cluster member good declared;
+  operates = λ book cluster member process o request asked good declared found acts stands answers.
+      upheld-operated head few book cluster member good (action_of o asked) declared (mode-asked head (lease_past.past_of book) cluster member o request asked good.lease.matched stands answers);
   hears = λ book cluster number message member good found to opened. upheld-hearing head few book cluster number message member good found to opened;
 }

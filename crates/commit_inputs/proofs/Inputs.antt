@@ -1,5 +1,7 @@
 -- An input of an agent in synchronous mode: the law's input that stands for it is allowed, and shown by the events that it covers.
-use Rattle.std.proofs.Common.{ℕ, ◌≡◌, ◌≢◌, ◌<◌, ◌≤◌, Bool, true, false, if◌then◌else◌, List, [], ◌∷◌, Option, Some, None, option_map, slice_get, All, refl, sym, ap, ◌∙◌, subst, inl, inr, append-nil}
+use Rattle.std.proofs.Common.{ℕ, ◌≡◌, ◌≢◌, ◌<◌, ◌≤◌, ◌⊎◌, ◌==◌, ◌&&◌, ◌||◌, Bool, true, false, if◌then◌else◌, List, [], ◌∷◌, Option, Some, None, option_map, slice_get, All, refl, sym, ap, ◌∙◌, subst, inl, inr, append-nil}
+use Rattle.std.proofs.Math.Bool.{or-false}
+use Rattle.std.proofs.lemmas.Bool.{eqb-true}
 use Rattle.std.proofs.lemmas.Option.{slice_get_within}
 use Rattle.pat_base.specs.Changes.{with_changed}
 use Rattle.pat_base.specs.declared.ticks.Ticks.{Ticks}
@@ -32,6 +34,7 @@ use Rattle.cluster_model.specs.Machines.{machine_of, points_of}
 use Rattle.cluster_model.specs.Messages.{output_events}
 use Rattle.cluster_model.specs.Parts.{each}
 use Rattle.cluster_model.specs.State.{Cluster}
+use Rattle.lease_law.specs.Leases.{LeaderKey}
 use Rattle.lease_law.specs.Past as lease_past
 use Rattle.lease_law.proofs.Tools.{none-some, put-all}
 use Rattle.commit_actions.specs.Actions.{Input, send}
@@ -48,6 +51,7 @@ use Rattle.commit_servers.specs.Matching.{live_in}
 use Rattle.lease_parts.specs.Declaring.{declared_of, works_of}
 use Rattle.run_promise.specs.Members.{member_count}
 use Rattle.lease_parts.specs.Volatile as run_volatile
+use Rattle.lease_inputs.specs.Hearing.{IsHeardWell}
 use Rattle.lease_inputs.proofs.InputKinds.{IsOpening}
 use Rattle.cluster_model.proofs.Places.{get-elsewhere, get-here}
 use Rattle.commit_parts.specs.Bridged.{CommitsBridged}
@@ -137,6 +141,8 @@ pub record Acting (head : HeadText) (book : List Event) (cluster : Cluster) : Ty
   -- the number of the message is none of those to come
   pub numbered : (n : ℕ) → number ≡ Some n → (message.number ≡ n) × (n ≤ cluster.facts.sent)
   pub low : message.number ≤ cluster.facts.sent
+  -- the member is one of the cluster, a failsafe request that it hears is the message, and failsafe mode is told as it is declared
+  pub well : IsHeardWell (declared_of head).failsafe cluster.facts.members (lease_past.past_of book).flight member heard number message
 
 calm-on : (heard : Heard) → HearsSynchronousMode heard → tells_pause (told_by heard) ≡ false
 calm-on (heards.ReadAnswered sequence snapshot) on = on.unpaused
@@ -219,20 +225,16 @@ module _ (head : HeadText) (book : List Event) (cluster : Cluster) (good : Commi
   abbrev pub WasLive : Bool
   WasLive = P.holder_was_live || (has_one is_carrying After.outputs && is_holder P.leader M)
 
-  or-none : (b : Bool) → b || false ≡ b
-  or-none true = refl
-  or-none false = refl
-
   pub still-live : has_one is_carrying After.outputs ≡ false → P.holder_was_live ≡ WasLive
-  still-live none = sym (ap (λ (carries : Bool). P.holder_was_live || (carries && is_holder P.leader M)) none ∙ or-none P.holder_was_live)
+  still-live none = sym (ap (λ (carries : Bool). P.holder_was_live || (carries && is_holder P.leader M)) none ∙ or-false P.holder_was_live)
 
   holder-asks : (carries : Bool) (leader : Option LeaderKey) → has_one is_carrying After.outputs ≡ carries → P.leader ≡ leader → ((P.holder_was_live || (carries && is_holder leader M)) ≡ S.holder_was_live) ⊎ HolderAsks S M After
-  holder-asks false leader carries is = inl (or-none P.holder_was_live)
-  holder-asks true None carries is = inl (or-none P.holder_was_live)
+  holder-asks false leader carries is = inl (or-false P.holder_was_live)
+  holder-asks true None carries is = inl (or-false P.holder_was_live)
   holder-asks true (Some key) carries is = by (key.holder == M) refl
     where
       by : (holds : Bool) → key.holder == M ≡ holds → ((P.holder_was_live || holds) ≡ S.holder_was_live) ⊎ HolderAsks S M After
-      by false holds = inl (or-none P.holder_was_live)
+      by false holds = inl (or-false P.holder_was_live)
       by true holds = inr (record { revision = key.revision; leader = ap leader_revision is; holder = ap key_holder is ∙ eqb-true key.holder M holds; carries = carries })
 
   asks-or-not : (WasLive ≡ S.holder_was_live) ⊎ HolderAsks S M After

@@ -1,5 +1,5 @@
 -- What an agent that acts brings upholds commits.
-use Rattle.std.proofs.Common.{ℕ, ◌≡◌, ◌≤◌, ◌++◌, List, [], ◌∷◌, Option, Some, All, Contains, option_map, slice_get, refl, sym, ap, ◌∙◌, subst, arith, false, append_assoc, true, inl, inr}
+use Rattle.std.proofs.Common.{ℕ, ◌≡◌, ◌≤◌, ◌++◌, List, [], ◌∷◌, Option, Some, All, Contains, option_map, slice_get, refl, sym, ap, ◌∙◌, subst, arith, false, append_assoc, Bool, true, inl, inr}
 use Rattle.std.proofs.lemmas.List.Elements.{All-append, All-cons, All-contains, All-nil, All-weaker, All-push}
 use Rattle.event_book.specs.declared.event.AgentEvent.TheVariants as agents
 use Rattle.event_book.specs.declared.event.Event.{Event}
@@ -55,8 +55,11 @@ use Rattle.commit_book.specs.Flights.{AreCausal}
 use Rattle.commit_book.proofs.Groups.{own-causal}
 use Rattle.commit_servers.proofs.Kept.{keeps-now}
 use Rattle.lease_parts.specs.Bridged.{KnowsItself}
+use Rattle.lease_parts.specs.Declaring.{declared_of}
 use Rattle.run_promise.specs.Members.{member_count}
-use Rattle.lease_inputs.specs.InputEvents.{AnswersPeer, Asks, AsksPeer, IsMessageOf, IsOfInput}
+use Rattle.agent_lease_law.specs.Modes.{AsksMode}
+use Rattle.agent_roles.specs.Asks.{IsAsk}
+use Rattle.lease_inputs.specs.InputEvents.{AnswersPeer, AnswersRequest, Asks, AsksPeer, IsMessageOf, IsOfInput}
 use Rattle.lease_parts.specs.Kept.{IsKept}
 use Rattle.lease_parts.specs.Machines.{run_now}
 use Rattle.run_promise.specs.Promise.{Upholds}
@@ -216,18 +219,18 @@ module _ (head : HeadText) (book : List Event) (cluster : Cluster) (good : Commi
   Behind = state_behind head book cluster All_
 
   abbrev Q : Output → Type 0
-  Q out = Contains Outs out × SendsBetween a.agent.knows.sequence (After head book cluster good a).knows.sequence out
+  Q out = Contains Outs out × (SendsBetween a.agent.knows.sequence (After head book cluster good a).knows.sequence out × AsksMode (declared_of head).failsafe out)
 
   abbrev Rest : List Event
   Rest = each (Part head book cluster good a) (First head book cluster good a) Outs
 
   all-mine : AllAre (IsOfInput a.member a.agent.knows.incarnation a.message.number Q) Rest
-  all-mine = mine head book cluster good.lease a.member a.agent a.machine (found-of cluster a.member a.machine a.machine_is) a.here a.heard a.number a.message a.opening a.opening_is a.numbered a.low
+  all-mine = mine head book cluster good.lease a.member a.agent a.machine (found-of cluster a.member a.machine a.machine_is) a.here a.heard a.number a.message a.opening a.opening_is a.numbered a.low a.well
 
   causal : AreCausal P cluster.facts All_
   causal = own-causal P cluster.facts All_
       (opening-from a.number a.opening a.opening_is, all-more (IsOfInput a.member a.agent.knows.incarnation a.message.number Q) IsOfMembers Rest (mine-from a.member a.agent.knows.incarnation a.message.number Q) all-mine)
-      (numbers head book cluster good.lease a.member a.agent a.machine (found-of cluster a.member a.machine a.machine_is) a.here a.heard a.number a.message a.opening a.opening_is a.numbered a.low)
+      (numbers head book cluster good.lease a.member a.agent a.machine (found-of cluster a.member a.machine a.machine_is) a.here a.heard a.number a.message a.opening a.opening_is a.numbered a.low a.well)
 
   -- ---- what is asked
   below : KnowsBelow (member_count head) a.heard (Before head book cluster good a)
@@ -237,11 +240,11 @@ module _ (head : HeadText) (book : List Event) (cluster : Cluster) (good : Commi
   sent-on out among = All-contains (IsSynchronousOutput (member_count head) strict_quorum) Outs out ((stays-on head book cluster good a).sends (member_count head) below) among
 
   acted : Later.agents ≡ with_changed cluster.agents M (agent_after (Some (After head book cluster good a)))
-  acted = agents-are head book cluster good.lease a.member a.agent a.machine (found-of cluster a.member a.machine a.machine_is) a.here a.heard a.number a.message a.opening a.opening_is a.numbered a.low a.acts
+  acted = agents-are head book cluster good.lease a.member a.agent a.machine (found-of cluster a.member a.machine a.machine_is) a.here a.heard a.number a.message a.opening a.opening_is a.numbered a.low a.well a.acts
 
   runs-behind : (past_over P All_).runs M ≡ a.agent.knows.incarnation
   runs-behind =
-      let knows : KnowsItself M (slice_get cluster.facts.processes M) a.agent = good.lease.matched.agents M a.agent a.here in
+      let knows : KnowsItself (declared_of head).failsafe M (slice_get cluster.facts.processes M) a.agent = good.lease.matched.agents M a.agent a.here in
       ap (λ (runs : ℕ → ℕ). runs M) (runs-stay a.member a.agent.knows.incarnation a.message.number Q (past_after P a.opening) Rest all-mine ∙ opening-runs a.number P a.opening a.opening_is)
       ∙ runs-now head book cluster good M ∙ ap run_now knows.is ∙ sym knows.incarnation
 
@@ -254,11 +257,17 @@ module _ (head : HeadText) (book : List Event) (cluster : Cluster) (good : Commi
     sequence_old = λ agent is in_run. subst (λ (x : Agent). sequence ≤ x.last) (some-is _ agent (sym agent-behind ∙ is)) counted;
   }
 
+  peer-on : (sequence : ℕ) (body : Body) → IsAsk body → sequence ≤ (After head book cluster good a).knows.sequence → IsSynchronousBody (member_count head) strict_quorum body × IsAskNumbered Behind (ends.Member a.member) a.agent.knows.incarnation sequence body
+  peer-on sequence bodies.Ask ask counted = (tt, ask-numbered sequence counted)
+  peer-on sequence (bodies.FailsafeRequest ttl) ask counted = (tt, tt)
+  peer-on sequence _ ask counted = absurd ask
+
   message-on : (message : Message) → IsMessageOf a.member a.agent.knows.incarnation Q message → IsSynchronousBody (member_count head) strict_quorum message.body × IsAskNumbered Behind message.from message.incarnation message.sequence message.body
   message-on message (Asks question) = subst (λ (x : Message). IsSynchronousBody (member_count head) strict_quorum x.body × IsAskNumbered Behind x.from x.incarnation x.sequence x.body) (sym question.is)
-      (sent-on (outputs.Send targets.Store question.sequence question.body) question.from.0, question-numbered Behind a.member a.agent.knows.incarnation question.sequence question.body question.from.1.2)
-  message-on message (AsksPeer peer id sequence is from) = subst (λ (x : Message). IsSynchronousBody (member_count head) strict_quorum x.body × IsAskNumbered Behind x.from x.incarnation x.sequence x.body) (sym is) (tt, ask-numbered sequence from.1.1)
+      (sent-on (outputs.Send targets.Store question.sequence question.body) question.from.0, question-numbered Behind a.member a.agent.knows.incarnation question.sequence question.body question.from.1.0.2)
+  message-on message (AsksPeer peer id sequence body asks is from) = subst (λ (x : Message). IsSynchronousBody (member_count head) strict_quorum x.body × IsAskNumbered Behind x.from x.incarnation x.sequence x.body) (sym is) (peer-on sequence body asks from.1.0.1)
   message-on message (AnswersPeer peer id asked sequence answer is from) = subst (λ (x : Message). IsSynchronousBody (member_count head) strict_quorum x.body × IsAskNumbered Behind x.from x.incarnation x.sequence x.body) (sym is) (tt, tt)
+  message-on message (AnswersRequest peer id asked sequence accepted at is from) = subst (λ (x : Message). IsSynchronousBody (member_count head) strict_quorum x.body × IsAskNumbered Behind x.from x.incarnation x.sequence x.body) (sym is) (tt, tt)
 
   kind-on : (kind : EventKind) → IsOfInput a.member a.agent.knows.incarnation a.message.number Q kind → AsksSynchronously Behind (member_count head) strict_quorum kind
   kind-on (kinds.Message (Sent number message)) is = message-on message is
@@ -287,7 +296,7 @@ module _ (head : HeadText) (book : List Event) (cluster : Cluster) (good : Commi
   -- ---- it upholds them
   upheld-by-moves : IsKept head book cluster All_ → AllInOrder P cluster All_ → Moves (setup_of head) P cluster All_ → Upholds (kept_commits head) book cluster All_
   upheld-by-moves kept ordered moves = upheld-moves head book cluster All_ good moves kept causal asks ordered
-      (agents-behind head book cluster good a.member a.agent a.machine (found-of cluster a.member a.machine a.machine_is) a.here a.heard a.number a.message a.opening a.opening_is a.numbered a.low a.acts (stays-on head book cluster good a).asks)
+      (agents-behind head book cluster good a.member a.agent a.machine (found-of cluster a.member a.machine a.machine_is) a.here a.heard a.number a.message a.opening a.opening_is a.numbered a.low a.well a.acts (stays-on head book cluster good a).asks)
 
   alone-quietly : (outs : List Output) → All StandsAlone outs → All AsksQuietly outs
   alone-quietly outs alone = All-weaker (IsUnasking false) AsksQuietly unasking-quietly outs (All-weaker StandsAlone (IsUnasking false) alone-unasking outs alone)

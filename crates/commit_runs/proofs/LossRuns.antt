@@ -4,6 +4,7 @@ use Rattle.std.proofs.lemmas.List.{length-replicate}
 use Rattle.pat_base.specs.declared.server_state.State.{State}
 use Rattle.pat_base.specs.declared.server_state.State.TheVariants as states
 use Rattle.pat_base.specs.ServerState.{live}
+use Rattle.store_keys.specs.declared.action.OperatorAction.{OperatorAction}
 use Rattle.pg_model.specs.Facts.{ServerFacts, is_creating, is_down, is_replica, is_up, fresh}
 use Rattle.pg_model.specs.Running.{is_primary, stopped}
 use Rattle.cluster_model.specs.declared.step.Step.{Step}
@@ -39,7 +40,7 @@ use Rattle.cluster_model.specs.Next.{run_events}
 use Rattle.cluster_model.specs.Orders.{declared_member, following_of, hold_taken, is_same_required, repair_over, replica_start_kinds, require_of, server_at, stop_kind, stop_kinds, stop_of, upstream_of, wipe_of}
 use Rattle.cluster_model.specs.Parts.{event_of, events_of}
 use Rattle.cluster_model.specs.Starting.{cluster_of}
-use Rattle.cluster_model.specs.Requests.{told_kind}
+use Rattle.cluster_model.specs.Requests.{action_of, told_kind}
 use Rattle.cluster_model.specs.State.{Cluster}
 use Rattle.event_book.specs.Kinds.{AllAre}
 use Rattle.commit_servers.specs.Happening.{MayFollow}
@@ -135,6 +136,8 @@ module _ (head : HeadText) where
       upheld-loseless head book cluster _ good (sending-none cluster member (slice_get cluster.facts.processes member.id.number) (receiver_of cluster.facts.members to) sequence body)
   upholds-output member heard (outputs.Answer to incarnation sequence answer) book cluster good =
       upheld-loseless head book cluster _ good (replying-none cluster member (receiver_of cluster.facts.members (targets.Member to)) incarnation sequence (bodies.Answer answer))
+  upholds-output member heard (outputs.FailsafeAnswer to incarnation sequence accepted) book cluster good =
+      upheld-loseless head book cluster _ good (replying-none cluster member (receiver_of cluster.facts.members (targets.Member to)) incarnation sequence (bodies.FailsafeAnswer accepted))
   upholds-output member heard outputs.Begin book cluster good =
       upheld-for_some (losses_told head) (composable head) book cluster (server_at cluster member) _ good (λ s is. begins-upheld book cluster member s (beginning_of s) good is)
   upholds-output member heard (outputs.StartReplica leader) book cluster good =
@@ -159,6 +162,7 @@ module _ (head : HeadText) where
       upheld-loseless head book cluster _ good (order-none cluster member (require_of cluster.facts.members member required) (λ s. holds-cond (is_same_required s.required required) None _ tt tt))
   upholds-output member heard (outputs.Armed until) book cluster good = upheld-loseless head book cluster _ good (tt, (tt, tt))
   upholds-output member heard (outputs.Fed until) book cluster good = upheld-loseless head book cluster _ good (tt, (tt, tt))
+  upholds-output member heard (outputs.FedByFailsafe until members sequence since) book cluster good = upheld-loseless head book cluster _ good (tt, (tt, tt))
   upholds-output member heard (outputs.Told request told) book cluster good =
       let agent = agent_at cluster.agents member.id.number in
       upheld-loseless head book cluster _ good (none-if cluster (told_kind member agent told) (told-holds LosesNone member agent told (λ reply. tt)))
@@ -181,7 +185,8 @@ module _ (head : HeadText) where
     inputs = record {
       wakes = λ book cluster member process good is found acts. input-upheld book cluster (kinds.Agent (Woken member)) member no_message (outcome_of cluster member Wake) good tt;
       hears = λ book cluster number message member good found to through. input-upheld book cluster (kinds.Message (Delivered number)) member (heard_message number message) (outcome_of_heard cluster member (heard_from cluster message)) good tt;
-      operates = λ book cluster member process action good is found acts. input-upheld book cluster (kinds.Agent (Operated member action)) member no_message (outcome_of cluster member (HearsOperator action)) good tt;
+      operates = λ book cluster member process o request asked good is found acts stands answers.
+          let action : OperatorAction = action_of o asked in input-upheld book cluster (kinds.Agent (Operated member action)) member no_message (outcome_of cluster member (HearsOperator action)) good tt;
     };
     arrivals = λ book cluster number message good found to. upheld-arrival head book cluster number message good;
     losses = λ number book cluster good. upheld-loseless head book cluster _ good (tt, tt);

@@ -1,11 +1,14 @@
 -- Each input of an agent keeps the law: whoever is woken, whatever message comes to one, and whatever an operator asks of one.
-use Rattle.std.proofs.Common.{[], inr, inl, ◌⊎◌, ℕ, ◌≡◌, ◌≤◌, ◌++◌, ◌==◌, ◌&&◌, ◌||◌, not, Bool, true, false, cond, List, slice_get, slice_set, Option, Some, None, option_and_then, refl, ◌∙◌, ap, sym, subst, arith}
+use Rattle.std.proofs.Common.{inr, inl, ◌⊎◌, ℕ, ◌≡◌, ◌≤◌, ◌++◌, ◌==◌, ◌&&◌, ◌||◌, not, Bool, true, false, cond, List, slice_get, slice_set, Option, Some, None, option_and_then, refl, ◌∙◌, ap, sym, subst, arith}
 use Rattle.std.proofs.lemmas.List.{set-get_or}
 use Rattle.std.proofs.lemmas.Option.{get_or_from_slice_get}
 use Rattle.pat_base.specs.Changes.{changed_at, with_changed}
 use Rattle.pat_base.specs.declared.member_id.MemberId.{MemberId}
 use Rattle.pat_base.specs.declared.ticks.Ticks.{Ticks}
 use Rattle.store_keys.specs.declared.action.OperatorAction.{OperatorAction}
+use Rattle.store_keys.specs.declared.action.OperatorRequest.{OperatorRequest}
+use Rattle.rest_message.specs.Requests.{RequestText}
+use Rattle.rest_answer.specs.Answers.{Acts}
 use Rattle.pg_model.specs.Facts.{ServerFacts}
 use Rattle.event_book.specs.declared.agent_process.AgentProcess.{AgentProcess}
 use Rattle.event_book.specs.declared.event.AgentEvent.{AgentEvent}
@@ -25,14 +28,15 @@ use Rattle.event_book.specs.Links.{is_cut}
 use Rattle.agent_model.specs.declared.heard.Heard.{Heard}
 use Rattle.agent_model.specs.declared.heard.Heard.TheVariants.{FailsafeAsked, Operated, Wake}
 use Rattle.agent_model.specs.declared.machine.Machine.{Machine}
-use Rattle.agent_model.specs.Agents.{AgentFacts, Outcome, outcome_from}
+use Rattle.agent_model.specs.Agents.{AgentFacts, Outcome}
 use Rattle.agent_lease_law.specs.Lawful.{CanFeed, Hears}
 use Rattle.script_model.specs.Script.{HeadText}
 use Rattle.cluster_model.specs.declared.delivery.Delivery.TheVariants as deliveries
 use Rattle.cluster_model.specs.Cluster.{agent_after, agent_facts_reached, agent_facts_reached_at, agent_facts_with, cluster_after}
 use Rattle.cluster_model.specs.Deliveries.{delivery_of, delivery_to, delivery_to_agent, is_answer, is_stale, link_of_message}
 use Rattle.cluster_model.specs.Hearing.{heard_from}
-use Rattle.cluster_model.specs.Inputs.{agent_at, moment_of, outcome_at, outcome_of, outcome_of_heard}
+use Rattle.cluster_model.specs.Inputs.{agent_at, moment_of, outcome_at, outcome_of, outcome_of_heard, standing, standing_of}
+use Rattle.cluster_model.specs.Requests.{action_of, answer_at}
 use Rattle.cluster_model.specs.Machines.{machine_of, points_of}
 use Rattle.cluster_model.specs.Messages.{hear_events, heard_message, input_events, no_message, operate_events, wake_events_of}
 use Rattle.cluster_model.specs.Parts.{event_of}
@@ -43,7 +47,7 @@ use Rattle.lease_law.specs.Past.{Past, VolatileState, first_past, past_of, state
 use Rattle.lease_law.specs.States.{State}
 use Rattle.lease_law.proofs.Showing.{past-append}
 use Rattle.lease_law.proofs.Tools.{both, eq-from, none-some, some-is}
-use Rattle.lease_parts.specs.Bridged.{Bridged, IsMatched}
+use Rattle.lease_parts.specs.Bridged.{Bridged, IsMatched, SeesMode}
 use Rattle.lease_parts.specs.Declaring.{declared_of}
 use Rattle.run_promise.specs.Members.{declared_members, member_count, IsDeclared}
 use Rattle.lease_parts.specs.Machines.{deadline_in, hold_in, live_in, run_in}
@@ -53,10 +57,12 @@ use Rattle.lease_parts.specs.Volatile.{agent_now, volatile_of}
 use Rattle.lease_parts.specs.Waiting.{IsAddressed, IsAnswer, IsPeerBody}
 use Rattle.lease_parts.proofs.Actions.{action-kept, machines-kept}
 use Rattle.agent_roles.proofs.Knowing.{tells_pause, told_by}
-use Rattle.lease_inputs.proofs.InputHears.{calm-from, unpaused-told, hears-by, peers-hear}
+use Rattle.lease_inputs.specs.Hearing.{IsHeardWell}
+use Rattle.lease_inputs.proofs.InputHears.{calm-from, unpaused-told, heard-well, hears-by, peers-hear}
+use Rattle.lease_inputs.proofs.ModeRequests.{asked-mode}
 use Rattle.agent_lease_law.specs.Asking.{HearsFailsafe}
-use Rattle.agent_lease_law.specs.Modes.{HearsMode, IsModeRequested}
-use Rattle.lease_inputs.proofs.InputKept.{IsBegun, begun-by, input-kept, input-kept-unasked, opening-addressed, opening-mode}
+use Rattle.agent_lease_law.specs.Modes.{IsModeRequested}
+use Rattle.lease_inputs.proofs.InputKept.{IsBegun, begun-by, input-kept, opening-addressed, opening-mode}
 use Rattle.lease_inputs.proofs.InputKinds.{IsOpening, opening-hands_off, opening-members}
 use Rattle.lease_inputs.proofs.InputSeen.{can-feed, found-of}
 use Rattle.lease_parts.proofs.SameMachine.{machine-same}
@@ -124,7 +130,7 @@ from-none n = omega arith
 module _ (head : HeadText) (book : List Event) (cluster : Cluster) (member : Member) (good : Bridged head book cluster) (heard : Heard) (happening : AgentEvent) (opens : IsOpening None (kinds.Agent happening))
     (acts : (cluster_after cluster (kinds.Agent happening)).agents ≡ agent_facts_with cluster.agents member (outcome_of cluster member heard))
     (hears : (s : State) (m : ℕ) (now : Ticks) (o : Outcome) → CanFeed o.machine → Hears s m None now heard o) (calm : tells_pause (told_by heard) ≡ false)
-    (mine-there : slice_get cluster.facts.members member.id.number ≡ Some member) (told : HearsMode (declared_of head).failsafe heard) (none : (from : MemberId) (run sequence : ℕ) → HearsFailsafe heard from run sequence → ⊥) where
+    (well : IsHeardWell (declared_of head).failsafe cluster.facts.members (past_of book).flight member heard None no_message) where
   unheard : outcome_of cluster member heard ≡ None → IsKept head book cluster (event_of cluster (kinds.Agent happening))
   unheard silent = idle-called head book cluster member heard happening opens acts good silent
 
@@ -134,9 +140,9 @@ module _ (head : HeadText) (book : List Event) (cluster : Cluster) (member : Mem
   called-by (Some agent) None a m = unheard (the-outcome cluster member heard (Some agent) None a m)
   called-by (Some agent) (Some machine) a m =
       let found = found-of cluster member machine m in
-      input-kept-unasked head book cluster good member agent machine found (agent-here cluster member agent a) heard None no_message (kinds.Agent happening) opens
-      (λ n e. absurd (none-some n e)) (from-none cluster.facts.sent) mine-there told (λ from run sequence is. absurd (none from run sequence is))
-      (acts ∙ ap (λ (o : Option Outcome). agent_facts_with cluster.agents member o) (the-outcome cluster member heard (Some agent) (Some machine) a m)) calm none (λ works. hears _ _ _ _ (can-feed head (past_of book) cluster member machine good.matched found (works member.id.number)))
+      input-kept head book cluster good member agent machine found (agent-here cluster member agent a) heard None no_message (kinds.Agent happening) opens
+      (λ n e. absurd (none-some n e)) (from-none cluster.facts.sent) well
+      (acts ∙ ap (λ (o : Option Outcome). agent_facts_with cluster.agents member o) (the-outcome cluster member heard (Some agent) (Some machine) a m)) calm (λ works. hears _ _ _ _ (can-feed head (past_of book) cluster member machine good.matched found (works member.id.number)))
 
   kept-called : IsKept head book cluster (event_of cluster (kinds.Agent happening) ++ input_events (cluster_after cluster (kinds.Agent happening)) member no_message (outcome_of cluster member heard))
   kept-called = called-by (agent_at cluster.agents member.id.number) (machine_of cluster member) refl refl
@@ -151,17 +157,42 @@ wake-asks from run sequence is = by is.0 is.1
     by : (ttl : Ticks) → Wake ≡ FailsafeAsked from run sequence ttl → ⊥
     by ttl e = cc
 
+pub wake-well : (head : HeadText) (past : Past) (cluster : Cluster) (member : Member) → IsMatched head past cluster → IsDeclared head member
+    → IsHeardWell (declared_of head).failsafe cluster.facts.members past.flight member Wake None no_message
+wake-well head past cluster member matched declared = record { stands = stands-declared head past cluster member matched declared; told = tt; asked = λ from run sequence is. absurd (wake-asks from run sequence is) }
+
 operated-asks : (action : OperatorAction) (from : MemberId) (run sequence : ℕ) → HearsFailsafe (Operated action) from run sequence → ⊥
 operated-asks action from run sequence is = by is.0 is.1
   where
     by : (ttl : Ticks) → Operated action ≡ FailsafeAsked from run sequence ttl → ⊥
     by ttl e = cc
 
+pub operated-well : (head : HeadText) (past : Past) (cluster : Cluster) (member : Member) (action : OperatorAction) → IsMatched head past cluster → IsDeclared head member → IsModeRequested (declared_of head).failsafe action.asked
+    → IsHeardWell (declared_of head).failsafe cluster.facts.members past.flight member (Operated action) None no_message
+operated-well head past cluster member action matched declared mode =
+    record { stands = stands-declared head past cluster member matched declared; told = mode; asked = λ from run sequence is. absurd (operated-asks action from run sequence is) }
+
 pub kept-wake : (head : HeadText) (book : List Event) (cluster : Cluster) (member : Member) → IsDeclared head member → Bridged head book cluster → IsKept head book cluster (wake_events_of cluster member)
-kept-wake head book cluster member declared good = kept-called head book cluster member good Wake (agents.Woken member) refl refl (λ s m now o feeds. feeds) refl (stands-declared head (past_of book) cluster member good.matched declared) tt wake-asks
+kept-wake head book cluster member declared good =
+    kept-called head book cluster member good Wake (agents.Woken member) refl refl (λ s m now o feeds. feeds) refl (wake-well head (past_of book) cluster member good.matched declared)
+
+-- an agent does what a request asks that it answers so: that changes failsafe mode for none
+standing-agent : (agent : Option AgentFacts) (machine : Option Machine) (o : Outcome) → standing agent machine ≡ Some o → (found : AgentFacts) × ((agent ≡ Some found) × (found.knows ≡ o.knows))
+standing-agent None None o e = absurd (none-some o e)
+standing-agent None (Some machine) o e = absurd (none-some o e)
+standing-agent (Some agent) None o e = absurd (none-some o e)
+standing-agent (Some agent) (Some machine) o e = (agent, (refl, ap (λ (x : Outcome). x.knows) (some-is _ o e)))
+
+pub mode-asked : (head : HeadText) (past : Past) (cluster : Cluster) (member : Member) (o : Outcome) (request : RequestText) (asked : OperatorRequest) → IsMatched head past cluster → standing_of cluster member ≡ Some o
+    → answer_at (moment_of cluster) o request ≡ Acts asked → IsModeRequested (declared_of head).failsafe asked
+mode-asked head past cluster member o request asked matched stands answers =
+    let there = standing-agent (agent_at cluster.agents member.id.number) (machine_of cluster member) o stands in
+    asked-mode (declared_of head).failsafe (moment_of cluster) o request asked
+    (subst (SeesMode (declared_of head).failsafe) there.1.1 (matched.agents member.id.number there.0 (agent-here cluster member there.0 there.1.0)).sees) answers
 
 pub kept-operated : (head : HeadText) (book : List Event) (cluster : Cluster) (member : Member) (action : OperatorAction) → IsDeclared head member → IsModeRequested (declared_of head).failsafe action.asked → Bridged head book cluster → IsKept head book cluster (operate_events cluster member action)
-kept-operated head book cluster member action declared mode good = kept-called head book cluster member good (Operated action) (agents.Operated member action) refl refl (λ s m now o feeds. tt) refl (stands-declared head (past_of book) cluster member good.matched declared) mode (operated-asks action)
+kept-operated head book cluster member action declared mode good =
+    kept-called head book cluster member good (Operated action) (agents.Operated member action) refl refl (λ s m now o feeds. tt) refl (operated-well head (past_of book) cluster member action good.matched declared mode)
 
 -- ---- what stands in the way of a message
 or-second : (a b : Bool) → (a || b) ≡ false → b ≡ false
@@ -254,7 +285,7 @@ module _ (head : HeadText) (book : List Event) (cluster : Cluster) (number : ℕ
       let machine_found = found-of cluster member machine m in
       let flown = good.matched.flight.flown number message found in
       input-kept head book cluster good member agent machine machine_found here heard (Some number) (heard_message number message) Arrived refl
-      (λ n e. let same : number ≡ n = some-is number n e in (same, subst (λ (k : ℕ). k ≤ cluster.facts.sent) same flown)) flown
+      (λ n e. let same : number ≡ n = some-is number n e in (same, subst (λ (k : ℕ). k ≤ cluster.facts.sent) same flown)) flown (heard-well head (past_of book) cluster good.matched member number message found to heard h)
       (acted ∙ ap (λ (o : Option Outcome). agent_facts_with cluster.agents member o) (ap (outcome_of_heard cluster member) h ∙ the-outcome cluster member heard (Some agent) (Some machine) a m))
       (calm-from cluster message (unpaused-told cluster number message good.matched.unpaused found) heard h)
       (λ works. elim sender [
@@ -277,5 +308,6 @@ pub inputs-keep : (head : HeadText) → InputsUphold (IsDeclared head) (one_writ
 inputs-keep head = record {
   wakes = λ book cluster member process good declared found acts. kept-wake head book cluster member declared good;
   hears = λ book cluster number message member good found to opened. kept-hearing head book cluster number message member good found to opened;
-  operates = λ book cluster member process action good declared found acts. kept-operated head book cluster member action good;
+  operates = λ book cluster member process o request asked good declared found acts stands answers.
+      kept-operated head book cluster member (action_of o asked) declared (mode-asked head (past_of book) cluster member o request asked good.matched stands answers) good;
 }

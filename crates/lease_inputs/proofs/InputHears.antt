@@ -29,14 +29,15 @@ use Rattle.agent_model.specs.declared.knowledge.PendingQuestion.{PendingQuestion
 use Rattle.agent_model.specs.declared.machine.Machine.{Machine}
 use Rattle.agent_model.specs.Agents.{AgentFacts, Outcome, outcome_from}
 use Rattle.agent_model.specs.Decisions.{asks_lease, is_decision, is_lease_of}
-use Rattle.agent_lease_law.specs.Lawful.{HearsAnswer, HearsGrant, HearsRequest, HearsYes, Hears}
-use Rattle.agent_lease_law.specs.Modes.{TellsMode}
+use Rattle.agent_lease_law.specs.Lawful.{HearsAnswer, HearsGrant, HearsYes, Hears, request_in}
+use Rattle.agent_lease_law.specs.Modes.{HearsMode, TellsMode}
 use Rattle.lease_law.specs.Modes.{IsModeHeld, IsModeIn, IsModeTold, IsModeValue, TellMode}
 use Rattle.agent_roles.specs.Seen.{leader_entry_seen, failsafe_entry_seen}
 use Rattle.agent_roles.proofs.Knowing.{tells_pause, told_by}
 use Rattle.pat_base.specs.declared.member_id.MemberId.{MemberId}
 use Rattle.cluster_model.specs.Deliveries.{is_answer}
 use Rattle.cluster_model.specs.Hearing.{member_at_end, heard_from, heard_in, snapshot_in}
+use Rattle.cluster_model.specs.Messages.{heard_message}
 use Rattle.cluster_model.specs.State.{Cluster}
 use Rattle.lease_law.specs.Leases.{Acknowledged}
 use Rattle.lease_law.specs.Outcomes.{seen_of}
@@ -49,7 +50,8 @@ use Rattle.lease_book.specs.Groups.{grant_if}
 use Rattle.lease_book.proofs.Hearing.{heard-acknowledgement, heard-failsafe_request, heard-snapshot, heard-granted}
 use Rattle.lease_parts.specs.Bridged.{IsMatched}
 use Rattle.lease_parts.specs.Declaring.{declared_of, works_of}
-use Rattle.lease_parts.specs.Waiting.{IsAnswer, IsPeerBody}
+use Rattle.lease_parts.specs.Waiting.{IsAnswer, IsKnownEnd, IsPeerBody}
+use Rattle.lease_inputs.specs.Hearing.{IsHeardWell, IsRequestHeard}
 use Rattle.lease_inputs.proofs.InputSeen.{IsFound, can-feed, is-young}
 
 -- ---- the keys of a snapshot, as agents and as the law see them
@@ -324,3 +326,94 @@ module _ (head : HeadText) (past : Past) (cluster : Cluster) (matched : IsMatche
   peers-hear (bodies.FailsafeRequest ttl) body is heard e = request-by ttl body carried.message.from refl heard e
   peers-hear (bodies.FailsafeAnswer accepted) body is heard e = answer-by accepted body carried.message.from refl heard e
   peers-hear _ body is heard e = absurd is
+
+-- ---- what failsafe mode is by what is heard, and of whom a failsafe request comes
+mode-granted : (mode : Bool) (cluster : Cluster) (carried : InFlightFacts) (grant : Option Granted) (heard : Heard) → IsModeIn mode carried.snapshot
+    → option_map (λ given. heards.Granted carried.message.sequence given (snapshot_in cluster carried)) grant ≡ Some heard → HearsMode mode heard
+mode-granted mode cluster carried None heard is e = absurd (none-some heard e)
+mode-granted mode cluster carried (Some grant) heard is e = subst (HearsMode mode) (some-is _ heard e) (mode-told mode cluster carried is)
+
+mode-from : (mode : Bool) (from : Option MemberId) (says : MemberId → Heard) (heard : Heard) → ((by : MemberId) → HearsMode mode (says by)) → option_map says from ≡ Some heard → HearsMode mode heard
+mode-from mode None says heard all e = absurd (none-some heard e)
+mode-from mode (Some by) says heard all e = subst (HearsMode mode) (some-is (says by) heard e) (all by)
+
+mode-in : (mode : Bool) (cluster : Cluster) (carried : InFlightFacts) (body : Body) (heard : Heard) → IsModeTold mode body carried.snapshot → heard_in cluster carried body ≡ Some heard → HearsMode mode heard
+mode-in mode cluster carried bodies.Snapshot heard is e = subst (HearsMode mode) (some-is _ heard e) (mode-told mode cluster carried is)
+mode-in mode cluster carried (bodies.Granted request leased) heard is e = mode-granted mode cluster carried carried.grant heard is e
+mode-in mode cluster carried (bodies.Refused request key found) heard is e = subst (HearsMode mode) (some-is _ heard e) tt
+mode-in mode cluster carried bodies.Ask heard is e = mode-from mode (member_at_end carried.message.from) (λ by. heards.Asked by carried.message.incarnation carried.message.sequence) heard (λ by. tt) e
+mode-in mode cluster carried (bodies.Answer answer) heard is e = subst (HearsMode mode) (some-is _ heard e) tt
+mode-in mode cluster carried (bodies.FailsafeRequest ttl) heard is e =
+    mode-from mode (member_at_end carried.message.from) (λ by. heards.FailsafeAsked by carried.message.incarnation carried.message.sequence ttl) heard (λ by. tt) e
+mode-in mode cluster carried (bodies.FailsafeAnswer accepted) heard is e =
+    mode-from mode (member_at_end carried.message.from) (λ by. heards.FailsafeAnswered by carried.message.sequence accepted carried.sent) heard (λ by. tt) e
+mode-in mode cluster carried _ heard is e = absurd (none-some heard e)
+
+module _ (head : HeadText) (past : Past) (cluster : Cluster) (matched : IsMatched head past cluster) (member : Member)
+    (number : ℕ) (carried : InFlightFacts) (there : in_flight cluster.facts.flight number ≡ Some carried) (to : carried.message.to ≡ ends.Member member) where
+  abbrev IsHeardOf : MemberId → ℕ → ℕ → Type 0
+  IsHeardOf from run sequence = IsRequestHeard cluster.facts.members past.flight (Some number) (heard_message number carried) from run sequence
+
+  request-of : (ttl : Ticks) → carried.message.body ≡ bodies.FailsafeRequest ttl → (by : Member) → carried.message.from ≡ ends.Member by → IsHeardOf by.id carried.message.incarnation carried.message.sequence
+  request-of ttl body by from = record {
+    peer = by;
+    there = subst (IsKnownEnd cluster.facts.members) from (matched.failsafe.between number carried there).0;
+    incarnation = refl;
+    counted = (matched.waiting.carried number carried there).numbered (ap (λ (b : Body). is_answer b) body);
+    ttl = ttl.0;
+    sent = carried.sent.0;
+    is = ap request_in (heard-failsafe_request past cluster.facts number carried by member carried.message.incarnation carried.message.sequence ttl matched.flight there
+        (message-is carried.message (ends.Member by) (ends.Member member) (bodies.FailsafeRequest ttl) from to body));
+  }
+
+  request-from : (ttl : Ticks) → carried.message.body ≡ bodies.FailsafeRequest ttl → (end : LinkEnd) → carried.message.from ≡ end → (from : MemberId) (run sequence : ℕ) (span : Ticks)
+      → option_map (λ by. heards.FailsafeAsked by carried.message.incarnation carried.message.sequence ttl) (member_at_end end) ≡ Some (heards.FailsafeAsked from run sequence span) → IsHeardOf from run sequence
+  request-from ttl body ends.Store is from run sequence span e = absurd (none-some _ e)
+  request-from ttl body (ends.Member by) is from run sequence span e =
+      let same = asked-is by.id from carried.message.incarnation run carried.message.sequence sequence ttl span (some-is _ _ e) in
+      subst (λ (f : MemberId). IsHeardOf f run sequence) same.0
+      (subst (λ (r : ℕ). IsHeardOf by.id r sequence) same.1 (subst (λ (n : ℕ). IsHeardOf by.id carried.message.incarnation n) same.2 (request-of ttl body by is)))
+    where
+      asked-is : (a b : MemberId) (i j m n : ℕ) (s t : Ticks) → heards.FailsafeAsked a i m s ≡ heards.FailsafeAsked b j n t → (a ≡ b) × (i ≡ j) × (m ≡ n)
+      asked-is a b i j m n s t e = (cc, cc, cc)
+
+  request-in : (body : Body) → carried.message.body ≡ body → (from : MemberId) (run sequence : ℕ) (span : Ticks) → heard_in cluster carried body ≡ Some (heards.FailsafeAsked from run sequence span) → IsHeardOf from run sequence
+  request-in (bodies.FailsafeRequest ttl) is from run sequence span e = request-from ttl is carried.message.from refl from run sequence span e
+  request-in body is from run sequence span e = absurd (else-heard body refl from run sequence span e)
+    where
+      asks : Body → Bool
+      asks (bodies.FailsafeRequest ttl) = true
+      asks _ = false
+
+      is_asked : Heard → Bool
+      is_asked (heards.FailsafeAsked from run sequence ttl) = true
+      is_asked _ = false
+
+      heard-not : (heard : Heard) (from : MemberId) (run sequence : ℕ) (span : Ticks) → is_asked heard ≡ false → Some heard ≡ Some (heards.FailsafeAsked from run sequence span) → ⊥
+      heard-not heard from run sequence span off e = both (sym off ∙ ap is_asked (some-is heard _ e))
+
+      from-not : (end : Option MemberId) (says : MemberId → Heard) (from : MemberId) (run sequence : ℕ) (span : Ticks) → ((by : MemberId) → is_asked (says by) ≡ false) → option_map says end ≡ Some (heards.FailsafeAsked from run sequence span) → ⊥
+      from-not None says from run sequence span all e = none-some _ e
+      from-not (Some by) says from run sequence span all e = heard-not (says by) from run sequence span (all by) e
+
+      else-granted : (grant : Option Granted) (from : MemberId) (run sequence : ℕ) (span : Ticks) → option_map (λ given. heards.Granted carried.message.sequence given (snapshot_in cluster carried)) grant ≡ Some (heards.FailsafeAsked from run sequence span) → ⊥
+      else-granted None from run sequence span e = none-some _ e
+      else-granted (Some grant) from run sequence span e = heard-not _ from run sequence span refl e
+
+      else-heard : (body : Body) → asks body ≡ false → (from : MemberId) (run sequence : ℕ) (span : Ticks) → heard_in cluster carried body ≡ Some (heards.FailsafeAsked from run sequence span) → ⊥
+      else-heard bodies.Snapshot off from run sequence span e = heard-not _ from run sequence span refl e
+      else-heard (bodies.Refused request key found) off from run sequence span e = heard-not _ from run sequence span refl e
+      else-heard bodies.Ask off from run sequence span e = from-not (member_at_end carried.message.from) (λ by. heards.Asked by carried.message.incarnation carried.message.sequence) from run sequence span (λ by. refl) e
+      else-heard (bodies.Answer answer) off from run sequence span e = heard-not _ from run sequence span refl e
+      else-heard (bodies.FailsafeAnswer accepted) off from run sequence span e = from-not (member_at_end carried.message.from) (λ by. heards.FailsafeAnswered by carried.message.sequence accepted carried.sent) from run sequence span (λ by. refl) e
+      else-heard (bodies.FailsafeRequest ttl) off from run sequence span e = both (sym off)
+      else-heard (bodies.Granted request leased) off from run sequence span e = else-granted carried.grant from run sequence span e
+      else-heard _ off from run sequence span e = none-some _ e
+
+  -- so what is heard by a message is told well
+  pub heard-well : (heard : Heard) → heard_from cluster carried ≡ Some heard → IsHeardWell (declared_of head).failsafe cluster.facts.members past.flight member heard (Some number) (heard_message number carried)
+  heard-well heard e = record {
+    stands = subst (IsKnownEnd cluster.facts.members) to (matched.failsafe.between number carried there).1;
+    told = mode-in (declared_of head).failsafe cluster carried carried.message.body heard (mode-flight (declared_of head).failsafe number cluster.facts.flight carried matched.failsafe.told.flight there) e;
+    asked = λ from run sequence is. request-in carried.message.body refl from run sequence is.0 (e ∙ ap Some is.1);
+  }

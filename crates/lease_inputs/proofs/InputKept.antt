@@ -3,7 +3,7 @@ use Rattle.event_book.specs.Flight.{sent_after}
 use Rattle.lease_book.specs.Waiting.{IsLastRun}
 use Rattle.event_book.specs.Writers.{BeginsKind}
 use Rattle.std.proofs.lemmas.Option.{slice_get_within}
-use Rattle.std.proofs.Common.{◌≡◌, ◌≢◌, ◌⊎◌, ◌++◌, ◌||◌, ◌≤◌, ◌<◌, ℕ, Bool, true, false, if◌then◌else◌, List, [], ◌∷◌, Option, Some, None, All, Contains, length, slice_get, refl, sym, subst, ap, ◌∙◌, arith, inl, inr}
+use Rattle.std.proofs.Common.{◌≡◌, ◌≢◌, ◌⊎◌, ◌++◌, ◌≤◌, ◌<◌, ℕ, Bool, true, false, if◌then◌else◌, List, [], ◌∷◌, Option, Some, None, All, Contains, length, slice_get, refl, sym, subst, ap, ◌∙◌, arith, inl, inr}
 use Rattle.std.proofs.lemmas.List.Elements.{All-contains_itself}
 use Rattle.std.proofs.Math.Path.{fun_ext}
 use Rattle.std.proofs.lemmas.Bool.{false_from_ne_true, cases_eq}
@@ -33,11 +33,11 @@ use Rattle.agent_roles.specs.Seen.{agent_seen as role_seen, check_seen}
 use Rattle.lease_law.specs.States.{FailsafeCheck, is_ready as ready_seen}
 use Rattle.agent_model.specs.Agents.{RoleFacts, Follower, Holder, Ready, Leader, Ending, Unleased, is_ready, AgentFacts, Outcome, outcome_from, EndsAlone}
 use Rattle.agent_lease_law.specs.Lawful.{StandsIn, Hears, IsSentBy, AsksStore, AsksMember, SaysYes, IsInputOf, MayPromote, IsLawfulAnd, is_yes, request_heard, request_taken}
-use Rattle.agent_lease_law.specs.Modes.{AsksMode, HearsMode, KeepsMode}
+use Rattle.agent_lease_law.specs.Modes.{AsksMode, KeepsMode}
 use Rattle.agent_lease_law.proofs.Asking.{input-asks-from, mode-asked-from}
 use Rattle.agent_lease_law.proofs.Checking.{mode-kept}
-use Rattle.agent_lease_law.specs.Asking.{HearsFailsafe, StandsOn}
-use Rattle.std.proofs.lemmas.List.Elements.{All-contains, All-head, All-tail, All-weaker}
+use Rattle.agent_lease_law.specs.Asking.{StandsOn}
+use Rattle.std.proofs.lemmas.List.Elements.{All-weaker}
 use Rattle.cluster_model.specs.FailsafeDeadlines.{is_set_by_failsafe}
 use Rattle.cluster_model.proofs.Places.{there}
 use Rattle.agent_roles.specs.Asks.{IsAsk}
@@ -61,7 +61,7 @@ use Rattle.cluster_model.specs.Messages.{output_events}
 use Rattle.cluster_model.specs.Parts.{each}
 use Rattle.cluster_model.specs.State.{Cluster}
 use Rattle.lease_law.specs.Leases.{FailsafeRequest, Grant, Question, Requested}
-use Rattle.event_book.specs.Premises.{Taking, IsOnTime, taken_after, IsTimely}
+use Rattle.event_book.specs.Premises.{IsOnTime, IsTimely}
 use Rattle.lease_law.specs.Actions.{Input}
 use Rattle.lease_law.specs.Books.{IsShown}
 use Rattle.lease_law.specs.Claims.{BeginsBehind, MayBeginBehind, ShowsIt, IsArmedIn}
@@ -84,7 +84,7 @@ use Rattle.lease_book.specs.Sending.{SendsOnly}
 use Rattle.lease_book.proofs.Groups.{own-causal}
 use Rattle.lease_book.proofs.Sends.{old-or-sent, heard-gone}
 use Rattle.cluster_model.proofs.Lists.{all-more}
-use Rattle.lease_parts.specs.Bridged.{Bridged, IsMatched, KnowThemselves, KnowsItself}
+use Rattle.lease_parts.specs.Bridged.{Bridged, IsMatched, KnowThemselves, KnowsItself, SeesMode}
 use Rattle.lease_parts.specs.Declaring.{declared_of, works_of}
 use Rattle.run_promise.specs.Members.{declared_members, member_count}
 use Rattle.lease_inputs.specs.InputEvents.{IsMessageOf, Asks, AsksPeer, AnswersPeer, AnswersRequest, IsOfInput, RunsAmong}
@@ -96,10 +96,13 @@ use Rattle.lease_parts.specs.Waiting.{IsAddressed, IsPeerBody, AreAgentsSound}
 use Rattle.lease_parts.specs.Volatile.{agent_now, volatile_of}
 use Rattle.lease_parts.proofs.Actions.{action-kept, machine-is}
 use Rattle.lease_parts.proofs.Fitting.{Fits, IsFitting, SendsAddressed, fits-of, fits-over, matched-from}
-use Rattle.lease_inputs.proofs.InputKinds.{IsOpening, opening-own, opening-taken, opening-sends, opening-from, opening-above, opening-members, opening-hands_off, opening-moments, mine-own, mine-taken, mine-from, mine-hands_off, mine-members, mine-sends, asked-over}
+use Rattle.lease_inputs.proofs.InputKinds.{IsOpening, opening-clock, opening-own, opening-taken, opening-sends, opening-from, opening-above, opening-members, opening-hands_off, opening-moments, mine-own, mine-from, mine-hands_off, mine-members, mine-sends, asked-over}
 use Rattle.lease_inputs.proofs.InputMachines.{IsHeldFor, Mirrors, Resembles, mirrored}
 use Rattle.lease_inputs.proofs.InputOutputs.{GoesBetween, each-basis, each-begins, each-between, each-fed, FedIn, IsFedAs, each-resembles, each-numbered, armed-more, moments-all}
 use Rattle.lease_inputs.proofs.InputSeen.{IsFound, margin-of, seen-of}
+use Rattle.lease_inputs.proofs.InputHolds.{each-taken, input-taken, taken_by_outputs}
+use Rattle.lease_inputs.proofs.SeenModes.{step-sees}
+use Rattle.lease_inputs.specs.Hearing.{IsHeardWell}
 use Rattle.lease_inputs.proofs.InputStays.{Stays, each-mine, item-here, stays-over}
 use Rattle.lease_inputs.proofs.InputWaiting.{agents-after, knows-after, runs-after}
 use Rattle.cluster_model.proofs.Places.{get-elsewhere, length-changed}
@@ -182,10 +185,6 @@ both-are : (P R : EventKind → Type 0) (events : List Event) → AllAre P event
 both-are P R [] p r = tt
 both-are P R (event ∷ events) p r = ((p.0, r.0), both-are P R events p.1 r.1)
 
-taken-over : (past : Past) (events : List Event) → AllAre (λ kind. (clock : ℕ) (taken : List Taking) → taken_after clock taken kind ≡ taken) events → (past_over past events).taken ≡ past.taken
-taken-over past [] all = refl
-taken-over past (event ∷ events) all = taken-over (past_after past event.kind) events all.1 ∙ all.0 past.clock past.taken
-
 -- the premises say that watchdogs work
 pub kept-if-works : (head : HeadText) (book : List Event) (cluster : Cluster) (events : List Event) → (((m : ℕ) → works_of head m ≡ true) → IsKept head book cluster events) → IsKept head book cluster events
 kept-if-works head book cluster events kept = record {
@@ -242,19 +241,6 @@ check-is ask (Some one) failsafe_check e = by (is_staying one.question) refl e
     }
     by false stay same = absurd (none-some failsafe_check same)
 
--- where no failsafe request is heard, none is acknowledged
-no-yes : (heard : Heard) (knows : Knowledge) → ((from : MemberId) (run sequence : ℕ) → HearsFailsafe heard from run sequence → ⊥) → (outs : List Output) → All (StandsOn heard knows) outs → has_one is_yes outs ≡ false
-no-yes heard knows none [] stands = refl
-no-yes heard knows none (output ∷ outs) stands = neither (is_yes output) (has_one is_yes outs) (one output (All-head (StandsOn heard knows) output outs stands)) (no-yes heard knows none outs (All-tail (StandsOn heard knows) output outs stands))
-  where
-    one : (output : Output) → StandsOn heard knows output → is_yes output ≡ false
-    one (outputs.FailsafeAnswer to run sequence true) is = absurd (none to run sequence (is refl))
-    one (outputs.FailsafeAnswer to run sequence false) is = refl
-    one _ is = refl
-
-    neither : (b c : Bool) → b ≡ false → c ≡ false → (b || c) ≡ false
-    neither b c e f = ap (λ (x : Bool). x || c) e ∙ f
-
 -- what is in an input's outputs
 both-all : (P Q : Output → Type 0) (outs : List Output) → All P outs → All Q outs → All (λ out. P out × Q out) outs
 both-all P Q outs p q = λ k d h. (p k d h, q k d h)
@@ -263,8 +249,7 @@ both-all P Q outs p q = λ k d h. (p k d h, q k d h)
 module _ (head : HeadText) (book : List Event) (cluster : Cluster) (good : Bridged head book cluster) (member : Member) (agent : AgentFacts) (machine : Machine) (found : IsFound cluster member machine)
     (here : slice_get cluster.agents member.id.number ≡ Some (Some agent)) (heard : Heard) (hn : Option ℕ) (message : HeardMessage) (opening : EventKind) (opens : IsOpening hn opening)
     (numbered : (n : ℕ) → hn ≡ Some n → (message.number ≡ n) × (n ≤ cluster.facts.sent)) (low : message.number ≤ cluster.facts.sent)
-    (mine-there : slice_get cluster.facts.members member.id.number ≡ Some member) (told : HearsMode (declared_of head).failsafe heard)
-    (peers : (from : MemberId) (run sequence : ℕ) → HearsFailsafe heard from run sequence → (peer : Member) × (slice_get cluster.facts.members from.number ≡ Some peer)) where
+    (well : IsHeardWell (declared_of head).failsafe cluster.facts.members (past_of book).flight member heard hn message) where
   abbrev M : ℕ
   M = member.id.number
 
@@ -330,7 +315,7 @@ module _ (head : HeadText) (book : List Event) (cluster : Cluster) (good : Bridg
   }
 
   modes : All (AsksMode Mode) After.outputs
-  modes = mode-asked-from Now (points_of cluster member) heard agent.role agent.knows machine (good.matched.waiting.agents M agent here).ends Mode told
+  modes = mode-asked-from Now (points_of cluster member) heard agent.role agent.knows machine (good.matched.waiting.agents M agent here).ends Mode well.told
 
   pub mine : AllAre (IsOfInput member agent.knows.incarnation message.number Q) Rest
   mine = each-mine member agent.knows.incarnation message.number Q First message refl runs After.outputs table
@@ -371,8 +356,8 @@ module _ (head : HeadText) (book : List Event) (cluster : Cluster) (good : Bridg
 
   known : (output : Output) → StandsOn heard agent.knows output → IsHeldFor cluster.facts.members output
   known (outputs.HoldTaken until from sequence) stands = elim stands [
-    | inl mine ↦ (member, ap (λ (id : MemberId). slice_get cluster.facts.members id.number) mine.1 ∙ ap (slice_get cluster.facts.members) knows-it.me ∙ mine-there)
-    | inr asked ↦ peers from asked.0 sequence asked.1
+    | inl mine ↦ (member, ap (λ (id : MemberId). slice_get cluster.facts.members id.number) mine.1 ∙ ap (slice_get cluster.facts.members) knows-it.me ∙ well.stands)
+    | inr asked ↦ let request = well.asked from asked.0 sequence asked.1 in (request.peer, request.there)
   ]
   known _ stands = tt
 
@@ -385,7 +370,7 @@ module _ (head : HeadText) (book : List Event) (cluster : Cluster) (good : Bridg
   between : AllAre (GoesBetween (declared_members head)) Rest
   between =
       subst (λ (l : List Member). AllAre (GoesBetween l) Rest) (begun.members ∙ good.matched.members)
-      (each-between member agent.knows.incarnation message First After.outputs (ap (λ (l : List Member). slice_get l M) begun.members ∙ mine-there) runs table)
+      (each-between member agent.knows.incarnation message First After.outputs (ap (λ (l : List Member). slice_get l M) begun.members ∙ well.stands) runs table)
 
   pub small : M < member_count head
   small = subst (λ (n : ℕ). M < n) good.matched.agents_sized (slice_get_within cluster.agents M (Some agent) here)
@@ -471,14 +456,17 @@ module _ (head : HeadText) (book : List Event) (cluster : Cluster) (good : Bridg
     ])
 
     keeps : KeepsMode Mode After.knows
-    keeps = mode-kept Now (points_of cluster member) heard Before Mode told knows-it.keeps
+    keeps = mode-kept Now (points_of cluster member) heard Before Mode well.told knows-it.keeps
+
+    sees : SeesMode Mode After.knows
+    sees = step-sees Mode Now (points_of cluster member) heard Before well.told knows-it.sees
 
     matched-over : IsMatched head (past_over Told Events) Later
     matched-over = matched-from head (past_over Told Events) Later fits
         (ap (λ (l : List (Option AgentFacts)). length l) (agents-are acts) ∙ length-changed cluster.agents M (agent_after (Some After)) ∙ good.matched.agents_sized)
         (subst (λ (p : List AgentProcess). KnowThemselves Mode p Later.agents) (sym (processes-are acts))
         (subst (KnowThemselves Mode cluster.facts.processes) (sym (agents-are acts))
-        (knows-after Mode M agent After cluster.facts.processes cluster.agents here anew.who anew.incarnation keeps unpaused good.matched.agents)))
+        (knows-after Mode M agent After cluster.facts.processes cluster.agents here anew.who anew.incarnation keeps sees unpaused good.matched.agents)))
         (λ n. subst (λ (p : List AgentProcess). IsLastRun (past_over Told Events).asked n (run_in p n)) (sym (processes-are acts))
         (runs-after M Told.clock agent.knows.incarnation After.outputs Told.asked (past_over Told Events).asked cluster.facts.processes run-is questions good.matched.waiting.runs n))
         (subst (AreAgentsSound (past_over Told Events).asked) (sym (agents-are acts))
@@ -637,20 +625,11 @@ module _ (head : HeadText) (book : List Event) (cluster : Cluster) (good : Bridg
 
     -- ---- the action
     -- the holds that the book has taken behind it are as the law has them
-    abbrev pub IsTakenSo : Type 0
-    IsTakenSo = (past_over Told Events).taken ≡ taken_by M Told.clock Takes Told.taken
-
-    -- so it is where it takes no hold but under number 0, and acknowledges nothing
-    pub none-taken : Takes ≡ None → ((until : Ticks) (id : MemberId) (sequence : ℕ) → Q (outputs.HoldTaken until id sequence) → sequence ≡ 0) → IsTakenSo
-    none-taken nothing none =
-        taken-over Told Events (all-events (λ kind. (clock : ℕ) (taken : List Taking) → taken_after clock taken kind ≡ taken) (λ clock taken. opening-taken clock taken hn opening opens) (λ kind is clock taken. mine-taken member agent.knows.incarnation message.number Q none clock taken kind is))
-        ∙ ap (λ (o : Option FailsafeRequest). taken_by M Told.clock o Told.taken) (sym nothing)
-
-    -- an input that hears no failsafe request takes none
-    pub unasked : ((from : MemberId) (run sequence : ℕ) → HearsFailsafe heard from run sequence → ⊥) → IsTakenSo
-    unasked none = none-taken
-        (ap (λ (b : Bool). request_taken b (request_heard S.flight hn)) (no-yes heard agent.knows none After.outputs stands-all))
-        (λ until id sequence is. elim (All-contains (StandsOn heard agent.knows) After.outputs (outputs.HoldTaken until id sequence) stands-all is.0) [ inl mine ↦ mine.0 | inr asked ↦ absurd (none id asked.0 sequence asked.1) ])
+    taken-so : (past_over Told Events).taken ≡ taken_by M Told.clock Takes Told.taken
+    taken-so =
+        each-taken member agent.knows.incarnation message Told.clock (past_after Told opening) First After.outputs runs table held (opening-clock hn opening opens Told)
+        ∙ ap (taken_by_outputs member agent.knows.incarnation message Told.clock After.outputs) (opening-taken Told.clock Told.taken hn opening opens)
+        ∙ input-taken member agent.knows.incarnation message cluster.facts.members S.flight hn Told.clock Now (points_of cluster member) Before (good.matched.waiting.agents M agent here).ends refl Told.taken heard well.asked stands-all
 
     volatile-put : (n : ℕ) → volatile_of Later n ≡ put_at (volatile_of cluster) M (volatile_of Later M) n
     volatile-put = by
@@ -666,26 +645,22 @@ module _ (head : HeadText) (book : List Event) (cluster : Cluster) (good : Bridg
           | inr other ↦ other-way n other ∙ sym (put-there (volatile_of cluster) M (volatile_of Later M) n other)
         ]
 
-    shown : IsTakenSo → IsShown (declared_of head) book (volatile_of cluster) (record { action = Input M Theirs; events = Events; volatile_states = volatile_of Later })
-    shown taken = subst (λ (v : ℕ → VolatileState). IsShown (declared_of head) book (volatile_of cluster) (record { action = Input M Theirs; events = Events; volatile_states = v })) (sym (fun_ext volatile-put))
+    shown : IsShown (declared_of head) book (volatile_of cluster) (record { action = Input M Theirs; events = Events; volatile_states = volatile_of Later })
+    shown = subst (λ (v : ℕ → VolatileState). IsShown (declared_of head) book (volatile_of cluster) (record { action = Input M Theirs; events = Events; volatile_states = v })) (sym (fun_ext volatile-put))
         (input-shown-of (declared_of head) book (volatile_of cluster) M (volatile_of Later M) hn (has_one is_feeding After.outputs) Takes Events
-        (all-events (IsOwn M) (opening-own M hn opening opens) (mine-own member agent.knows.incarnation message.number Q)) taken)
+        (all-events (IsOwn M) (opening-own M hn opening opens) (mine-own member agent.knows.incarnation message.number Q)) taken-so)
 
-    pub input-kept : (((m : ℕ) → works_of head m ≡ true) → Hears S M hn Now heard Before) → IsTakenSo → IsKept head book cluster Events
-    input-kept hears taken = kept-if-works head book cluster Events (λ works.
+    pub input-kept : (((m : ℕ) → works_of head m ≡ true) → Hears S M hn Now heard Before) → IsKept head book cluster Events
+    input-kept hears = kept-if-works head book cluster Events (λ works.
         let sound = good.matched.waiting.agents M agent here in
         let lawful = input-lawful-from Now (points_of cluster member) heard agent.role agent.knows machine (λ waited is. (sound.waits waited is).span) sound.ends
         S M (run_in cluster.facts.processes M) Theirs stands (hears works) is-input in
         action-kept head book cluster Events (Input M Theirs) good (begins-all lawful) (λ meets. record {
           lawful = lawful.lawful;
           shows = shows-if (has_one is_feeding After.outputs) refl;
-          shown = shown taken;
+          shown = shown;
           matched = matched;
         }))
-
-    -- so is one that hears no failsafe request
-    pub input-kept-unasked : ((from : MemberId) (run sequence : ℕ) → HearsFailsafe heard from run sequence → ⊥) → (((m : ℕ) → works_of head m ≡ true) → Hears S M hn Now heard Before) → IsKept head book cluster Events
-    input-kept-unasked none hears = input-kept hears (unasked none)
 
     -- ---- who comes to act
     fed-in-time : MeetsPremises head (book ++ Events) → Theirs.feeds ≡ true → Theirs.machine.by_failsafe ≡ false → (grant : Grant) → HeardGrant S M hn grant → IsOnTime (S.declared.margin M) S.clock grant.moment

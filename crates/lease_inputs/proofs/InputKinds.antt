@@ -56,6 +56,12 @@ opening-taken clock taken heard (kinds.Agent (agents.Operated by action)) is = r
 opening-taken clock taken heard (kinds.Message (Delivered number)) is = refl
 opening-taken clock taken heard _ is = absurd is
 
+pub opening-clock : (heard : Option ℕ) (kind : EventKind) → IsOpening heard kind → (past : Past) → (past_after past kind).clock ≡ past.clock
+opening-clock heard (kinds.Agent (agents.Woken by)) is past = refl
+opening-clock heard (kinds.Agent (agents.Operated by action)) is past = refl
+opening-clock heard (kinds.Message (Delivered number)) is past = refl
+opening-clock heard _ is past = absurd is
+
 pub opening-sends : (P : Flying → Type 0) (clock : ℕ) (heard : Option ℕ) (kind : EventKind) → IsOpening heard kind → SendsOnly P clock kind
 opening-sends P clock heard (kinds.Agent (agents.Woken by)) is = tt
 opening-sends P clock heard (kinds.Agent (agents.Operated by action)) is = tt

@@ -163,7 +163,7 @@ module _ (member : Member) (incarnation : ℕ) (message : HeardMessage) where
   pub stays-output : (cluster : Cluster) (output : Output) → Runs cluster.facts → IsOfTable output → Stays member.id.number cluster (Later cluster output)
   stays-output cluster output runs table = stays-over member incarnation message.number Any cluster (Brings cluster output) (output-mine member incarnation message.number Any cluster message refl runs output table tt)
 
-  runs-later : (cluster : Cluster) (output : Output) → Runs cluster.facts → IsOfTable output → Runs (Later cluster output).facts
+  pub runs-later : (cluster : Cluster) (output : Output) → Runs cluster.facts → IsOfTable output → Runs (Later cluster output).facts
   runs-later cluster output runs table = runs-over member incarnation message.number Any cluster (Later cluster output) (stays-output cluster output runs table) runs
 
   -- ---- numbers
@@ -288,7 +288,7 @@ module _ (member : Member) (incarnation : ℕ) (message : HeardMessage) where
       subst (λ (c : Cluster). Resembles c member.id.number (machine_after_outputs now (machine_after_output now machine output) more)) (sym (over-append cluster (Brings cluster output) (each (output_events member message) next more)))
       (then (subst (λ (n : ℕ). let t : Ticks = record { 0 = n } in Mirrors next member.id.number (machine_after_output t machine output)) clock made))
 
-  held-later : (cluster : Cluster) (output : Output) → Runs cluster.facts → IsOfTable output → (more : List Output) → All (IsHeldFor cluster.facts.members) more → All (IsHeldFor (Later cluster output).facts.members) more
+  pub held-later : (cluster : Cluster) (output : Output) → Runs cluster.facts → IsOfTable output → (more : List Output) → All (IsHeldFor cluster.facts.members) more → All (IsHeldFor (Later cluster output).facts.members) more
   held-later cluster output runs table more held = subst (λ (l : List Member). All (IsHeldFor l) more) (sym (stays-output cluster output runs table).members) held
 
   repairs-none : (output : Output) (later : List Output) → EndsRepairing output later → RepairsNone output ⊎ ((leader : MemberId) × ((repair : Repair) × ((output ≡ outputs.Repair leader repair) × (later ≡ []))))

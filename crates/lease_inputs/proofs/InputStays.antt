@@ -1,5 +1,5 @@
 -- What an input of an agent leaves as it was, beside its member's machine.
-use Rattle.std.proofs.Common.{◌≡◌, ◌≢◌, ℕ, List, [], ◌∷◌, Some, All, slice_get, option_map, refl, sym, subst, ap, ◌∙◌, Option, Some, None}
+use Rattle.std.proofs.Common.{◌≡◌, ◌≢◌, ℕ, List, [], ◌∷◌, Some, All, slice_get, option_map, refl, sym, ap, ◌∙◌, Option, Some, None}
 use Rattle.std.proofs.lemmas.List.Elements.{All-head, All-tail}
 use Rattle.pat_base.specs.Changes.{with_changed}
 use Rattle.pg_model.specs.Facts.{ServerFacts}

@@ -21,7 +21,7 @@ use Rattle.lease_law.specs.Leases.{Query, Read, Question, FailsafeRequest, Ackno
 use Rattle.lease_law.specs.Past.{lease_span, query_of}
 use Rattle.lease_law.proofs.Tools.{eq-from, ne-from, none-some, some-is}
 use Rattle.lease_book.specs.Waiting.{IsLastAsked, IsLastRun}
-use Rattle.lease_parts.specs.Bridged.{KnowsItself, KnowThemselves}
+use Rattle.lease_parts.specs.Bridged.{KnowsItself, KnowThemselves, SeesMode}
 use Rattle.lease_parts.specs.Machines.{run_in}
 use Rattle.agent_questions.specs.Questions.{span_asked, SendsBetween, AsksFor, WaitsOn, Same, Nothing, New, AsksAnew}
 use Rattle.lease_parts.specs.Waiting.{IsAwaited, IsAgentSound, AreAgentsSound}
@@ -174,8 +174,8 @@ runs-after m clock incarnation outs asked after processes in-run questions old n
 
 -- agents know themselves
 pub knows-after : (mode : Bool) (m : ℕ) (agent : AgentFacts) (outcome : Outcome) (processes : List AgentProcess) (agents : List (Option AgentFacts)) → slice_get agents m ≡ Some (Some agent)
-    → outcome.knows.who ≡ agent.knows.who → outcome.knows.incarnation ≡ agent.knows.incarnation → KeepsMode mode outcome.knows → is_paused outcome.knows ≡ false → KnowThemselves mode processes agents → KnowThemselves mode processes (with_changed agents m (agent_after (Some outcome)))
-knows-after mode m agent outcome processes agents here who incarnation keeps unpaused old n one is =
+    → outcome.knows.who ≡ agent.knows.who → outcome.knows.incarnation ≡ agent.knows.incarnation → KeepsMode mode outcome.knows → SeesMode mode outcome.knows → is_paused outcome.knows ≡ false → KnowThemselves mode processes agents → KnowThemselves mode processes (with_changed agents m (agent_after (Some outcome)))
+knows-after mode m agent outcome processes agents here who incarnation keeps sees unpaused old n one is =
     by (n == m) refl (sym (get-changed agents m n (agent_after (Some outcome))) ∙ is)
   where
     by : (same : Bool) → (n == m) ≡ same → cond same (option_map (agent_after (Some outcome)) (slice_get agents n)) (slice_get agents n) ≡ Some (Some one) → KnowsItself mode n (slice_get processes n) one
@@ -189,6 +189,7 @@ knows-after mode m agent outcome processes agents here who incarnation keeps unp
           incarnation = incarnation ∙ was.incarnation;
           me = ap (λ w. w.me.number) who ∙ was.me;
           keeps = keeps;
+          sees = sees;
           unpaused = unpaused;
         }))
     by false same e = old n one e

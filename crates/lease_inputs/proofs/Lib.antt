@@ -6,5 +6,8 @@ pub mod InputStays
 pub mod InputWaiting
 pub mod InputSeen
 pub mod InputHears
+pub mod InputHolds
+pub mod SeenModes
+pub mod ModeRequests
 pub mod InputKept
 pub mod EveryInput

@@ -1,1 +1,2 @@
 pub mod InputEvents
+pub mod Hearing

@@ -32,10 +32,10 @@ use Rattle.lease_book.proofs.Flights.{flight-by}
 use Rattle.lease_parts.specs.Asides.{IsAside, IsAsideIn}
 use Rattle.lease_law.specs.Modes.{LeavesMode}
 use Rattle.agent_lease_law.specs.Modes.{KeepsMode}
-use Rattle.lease_parts.specs.Bridged.{KnowsItself, KnowThemselves, IsMatched}
+use Rattle.lease_parts.specs.Bridged.{KnowsItself, KnowThemselves, IsMatched, SeesMode}
 use Rattle.lease_parts.specs.Declaring.{declared_of}
 use Rattle.lease_parts.proofs.Fitting.{failsafe-by}
-use Rattle.lease_parts.proofs.Fresh.{fresh-keeps}
+use Rattle.lease_parts.proofs.Fresh.{fresh-keeps, fresh-sees}
 use Rattle.run_promise.specs.Members.{member_count}
 use Rattle.lease_parts.specs.Machines.{run_in}
 use Rattle.lease_parts.proofs.Machines.{machines-by, sized-by}
@@ -118,6 +118,7 @@ suspended-knows mode m to true process agent old = record {
   incarnation = old.incarnation;
   me = old.me;
   keeps = old.keeps;
+  sees = old.sees;
   unpaused = old.unpaused;
 }
 suspended-knows mode m to false process agent old = old
@@ -195,6 +196,7 @@ started-knows mode count cluster member incarnation sized is old =
       incarnation = ap (λ (a : AgentFacts). a.knows.incarnation) (sym one);
       me = ap (λ (a : AgentFacts). a.knows.who.me.number) (sym one) ∙ sym here;
       keeps = subst (λ (a : AgentFacts). KeepsMode mode a.knows) one (fresh-keeps mode _ _ _);
+      sees = subst (λ (a : AgentFacts). SeesMode mode a.knows) one (fresh-sees mode);
       unpaused = ap (λ (a : AgentFacts). is_paused a.knows) (sym one);
     }) old
 

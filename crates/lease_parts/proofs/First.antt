@@ -24,7 +24,7 @@ use Rattle.lease_law.proofs.Starting.{good-start}
 use Rattle.lease_law.proofs.Tools.{none-some, some-is}
 use Rattle.lease_law.proofs.Unpaused.{pauses-first}
 use Rattle.lease_book.proofs.Flights.{flight-first}
-use Rattle.lease_parts.specs.Bridged.{Bridged, KnowsItself, KnowThemselves}
+use Rattle.lease_parts.specs.Bridged.{Bridged, KnowsItself, KnowThemselves, SeesMode}
 use Rattle.lease_parts.specs.Declaring.{declared_of}
 use Rattle.run_promise.specs.Members.{declared_members, member_count}
 use Rattle.lease_parts.specs.Machines.{IsSameEverywhere, deadline_now, hold_now, live_now, run_in}
@@ -32,7 +32,7 @@ use Rattle.lease_parts.specs.Volatile.{agent_now, volatile_of}
 use Rattle.agent_lease_law.specs.Modes.{KeepsMode}
 use Rattle.cluster_model.specs.FailsafeDeadlines.{is_set_by_failsafe}
 use Rattle.lease_law.proofs.Modes.{mode-first}
-use Rattle.lease_parts.proofs.Fresh.{fresh-keeps, fresh-seen}
+use Rattle.lease_parts.proofs.Fresh.{fresh-keeps, fresh-seen, fresh-sees}
 use Rattle.run_promise.proofs.Members.{counted, numbered}
 use Rattle.lease_parts.proofs.Waiting.{waiting-first}
 use Rattle.agent_model.specs.Pausing.{is_paused}
@@ -97,6 +97,7 @@ knows-first mode scope options members count m (Some member) agent is small numb
       incarnation = ap (λ (a : AgentFacts). a.knows.incarnation) (sym same);
       me = ap (λ (a : AgentFacts). a.knows.who.me.number) (sym same) ∙ number member is;
       keeps = subst (λ (a : AgentFacts). KeepsMode mode a.knows) same (fresh-keeps mode _ _ _);
+      sees = subst (λ (a : AgentFacts). SeesMode mode a.knows) same (fresh-sees mode);
       unpaused = ap (λ (a : AgentFacts). is_paused a.knows) (sym same);
     }
 

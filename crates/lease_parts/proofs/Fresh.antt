@@ -1,12 +1,15 @@
 -- What the law sees of an agent that starts.
-use Rattle.std.proofs.Common.{ℕ, ◌≡◌, ◌==◌, Bool, true, false, ap}
+use Rattle.std.proofs.Common.{ℕ, ◌≡◌, ◌==◌, Bool, true, false, None, ap}
+use Rattle.std.specs.Option.{ForSome}
 use Rattle.std.proofs.Math.Path.{fun_ext}
 use Rattle.std.proofs.lemmas.Nat.Bits.{bit_at-zero}
 use Rattle.std.specs.Int.{bit_at}
 use Rattle.agent_model.specs.declared.who.Who.{Who}
-use Rattle.agent_lease_law.specs.Modes.{KeepsMode}
+use Rattle.cluster_view.specs.Snapshots.{SnapshotFacts}
+use Rattle.agent_lease_law.specs.Modes.{KeepsMode, TellsMode}
 use Rattle.cluster_model.specs.Inputs.{starting_agent}
 use Rattle.lease_law.specs.States.{Agent, fresh_agent}
+use Rattle.lease_law.proofs.Tools.{none-some}
 use Rattle.lease_parts.specs.AgentSeen.{agent_seen}
 
 -- of failsafe mode it takes nothing to be on
@@ -15,6 +18,10 @@ fresh-keeps mode who now incarnation = record { settings = λ e. absurd (not-so 
   where
     not-so : false ≡ true → ⊥
     not-so e = cc
+
+-- and it has no snapshot
+pub fresh-sees : (mode : Bool) → ForSome {T = SnapshotFacts} None (TellsMode mode)
+fresh-sees mode snapshot e = absurd (none-some snapshot e)
 
 -- it knows nothing
 pub fresh-seen : (who : Who) (now incarnation : ℕ) → agent_seen (starting_agent who now incarnation) ≡ fresh_agent incarnation

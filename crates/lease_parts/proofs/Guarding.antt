@@ -1,7 +1,8 @@
 -- Who acts is guarded, between two actions.
-use Rattle.std.proofs.Common.{ℕ, ◌≡◌, ◌≤◌, ◌<◌, Bool, true, false, List, Option, Some, None, refl, sym, subst, ◌∙◌, inl, inr}
+use Rattle.std.proofs.Common.{ℕ, ◌≡◌, ◌≤◌, ◌<◌, Bool, true, false, List, Option, Some, None, slice_get, refl, sym, subst, ◌∙◌, inl, inr}
 use Rattle.script_model.specs.Script.{HeadText}
 use Rattle.event_book.specs.declared.event.Event.{Event}
+use Rattle.cluster_model.specs.FailsafeDeadlines.{is_set_by_failsafe}
 use Rattle.cluster_model.specs.State.{Cluster}
 use Rattle.lease_law.specs.Leases.{FailsafeKey}
 use Rattle.lease_law.specs.Past.{Past, machine_of, past_of}
@@ -27,14 +28,15 @@ guarded-in head past cluster m matched off guarded = record {
   later = subst (λ (clock : ℕ). clock < guarded.until) matched.store.clock guarded.later;
   cover = elim guarded.cover [
     | inl by_grant ↦ inl (basis ∙ by_grant.0, keyed by_grant.1)
-    | inr by_word ↦ inr (basis ∙ by_word.0, (mode-on (declared_of head).failsafe past.failsafe by_word.1.f off by_word.1.is, held by_word.1))
+    | inr by_word ↦ inr (basis ∙ by_word.0, mode-on (declared_of head).failsafe past.failsafe by_word.1.f off by_word.1.is, held by_word.1)
   ];
 }
   where
+    basis : is_set_by_failsafe (slice_get cluster.failsafe_deadlines m) ≡ past.by_failsafe m
     basis = sym (matched.failsafe.bases m)
 
     keyed : Covers past.leader m guarded.until → HasKeyUntil cluster.facts m guarded.until
-    keyed key = record { key = key.found_key; is = sym matched.store.leader ∙ key.key_is; holder = key.holder; lasts = key.lasts; }
+    keyed key = record { key = key.found_key; is = sym matched.store.leader ∙ key.key_is; holder = key.holder; lasts = key.lasts }
 
     held : HoldsCover past.failsafe past.leader past.flight (λ p. machine_of past (volatile_of cluster p) p) m guarded.until → HaveHoldsUntil cluster.facts m guarded.until
     held word = record {

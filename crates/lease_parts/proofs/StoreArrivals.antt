@@ -39,7 +39,7 @@ use Rattle.lease_book.proofs.Groups.{granted-causal, read-causal, refused-causal
 use Rattle.lease_law.specs.Modes.{IsModeAsked, IsModeSet}
 use Rattle.lease_parts.specs.Bridged.{Bridged, IsMatched, KnowThemselves}
 use Rattle.lease_parts.specs.Declaring.{declared_of}
-use Rattle.run_promise.specs.Members.{declared_members, member_count}
+use Rattle.run_promise.specs.Members.{declared_members}
 use Rattle.lease_parts.specs.Kept.{IsKept}
 use Rattle.lease_parts.specs.Machines.{live_in, run_in}
 use Rattle.lease_parts.specs.Volatile.{agent_now, volatile_of}

@@ -1,5 +1,6 @@
 -- What a run's book and cluster keep between two actions.
 use Rattle.std.specs.Prelude.{ℕ, ◌≡◌, Bool, true, false, List, Option, Some, length, slice_get}
+use Rattle.std.specs.Option.{ForSome}
 use Rattle.script_model.specs.Script.{HeadText}
 use Rattle.lease_book.specs.Flights.{IsSameFlight}
 use Rattle.event_book.specs.declared.agent_process.AgentProcess.{AgentProcess}
@@ -7,7 +8,8 @@ use Rattle.event_book.specs.declared.event.Event.{Event}
 use Rattle.agent_model.specs.Agents.{AgentFacts}
 use Rattle.agent_model.specs.Pausing.{is_paused}
 use Rattle.cluster_model.specs.Starting.{options_of}
-use Rattle.agent_lease_law.specs.Modes.{KeepsMode}
+use Rattle.agent_lease_law.specs.Modes.{KeepsMode, TellsMode}
+use Rattle.agent_model.specs.declared.knowledge.Knowledge.{Knowledge}
 use Rattle.cluster_model.specs.FailsafeDeadlines.{is_set_by_failsafe}
 use Rattle.cluster_model.specs.State.{Cluster}
 use Rattle.lease_law.specs.Carried.{IsCarried}
@@ -22,6 +24,10 @@ use Rattle.lease_parts.specs.Volatile.{volatile_of}
 use Rattle.event_book.specs.declared.member.Member.{Member}
 use Rattle.lease_parts.specs.Waiting.{AgentsAreSound, AreBetweenMembers}
 
+-- the newest snapshot of an agent, if it has one, has failsafe mode so
+abbrev pub SeesMode : Bool → Knowledge → Type 0
+SeesMode mode knows = ForSome knows.seen (TellsMode mode)
+
 -- the agent of the member of this number knows that number, and the run of its process, which runs; and it read of failsafe mode as it is declared, and of
 -- no pause
 pub record KnowsItself (mode : Bool) (m : ℕ) (process : Option AgentProcess) (agent : AgentFacts) : Type 0 where
@@ -31,6 +37,7 @@ pub record KnowsItself (mode : Bool) (m : ℕ) (process : Option AgentProcess) (
   pub incarnation : agent.knows.incarnation ≡ found.incarnation
   pub me : agent.knows.who.me.number ≡ m
   pub keeps : KeepsMode mode agent.knows
+  pub sees : SeesMode mode agent.knows
   pub unpaused : is_paused agent.knows ≡ false
 
 -- each agent that is there does

@@ -1,6 +1,7 @@
 -- Each run names who begins.
 use Rattle.std.proofs.Common.{ℕ, ◌≡◌, ◌≤◌, ◌++◌, List, [], length, slice_get, Option, Some, None, option_map, refl, ◌∙◌, ap, sym, subst}
 use Rattle.pat_base.specs.declared.member_id.TheConstants.{MOST_MEMBERS}
+use Rattle.store_keys.specs.declared.action.OperatorAction.{OperatorAction}
 use Rattle.cluster_model.specs.declared.step.Step.{Step}
 use Rattle.script_model.specs.Script.{HeadText, IsHead, names_of}
 use Rattle.event_book.specs.declared.agent_process.AgentProcess.{AgentProcess}
@@ -31,6 +32,7 @@ use Rattle.cluster_model.specs.Messages.{agent_message, heard_message, input_eve
 use Rattle.cluster_model.specs.Next.{run_events}
 use Rattle.cluster_model.specs.Orders.{hold_taken}
 use Rattle.cluster_model.specs.Parts.{event_of}
+use Rattle.cluster_model.specs.Requests.{action_of}
 use Rattle.cluster_model.specs.Starting.{cluster_of}
 use Rattle.cluster_model.specs.State.{Cluster}
 use Rattle.cluster_model.proofs.Founds.{holds-mapped}
@@ -40,7 +42,7 @@ use Rattle.run_promise.specs.Members.{declared_members, IsDeclared}
 use Rattle.lease_parts.specs.Machines.{run_in, run_now}
 use Rattle.run_promise.specs.Parts.{PartsUphold}
 use Rattle.run_promise.specs.Promise.{Upholds, UpholdsAlways}
-use Rattle.run_promise.proofs.Members.{declared-at, declared-named, few-names, declared-in}
+use Rattle.run_promise.proofs.Members.{declared-at, declared-named, few-names, declared-in, numbered}
 use Rattle.run_promise.proofs.Upholding.{upheld-then, upholds-all}
 use Rattle.run_promise.proofs.Walking.{upholds-run}
 use Rattle.lease_inputs.specs.InputEvents.{IsOfInput}
@@ -96,6 +98,9 @@ module _ (head : HeadText) (few : length (names_of head) ≤ MOST_MEMBERS) where
     output-own heard (outputs.Answer to incarnation sequence answer) cluster members =
         replying-own cluster (receiver_of cluster.facts.members (targets.Member to)) incarnation sequence (bodies.Answer answer)
         (receiver-declared cluster.facts.members members (targets.Member to))
+    output-own heard (outputs.FailsafeAnswer to incarnation sequence accepted) cluster members =
+        replying-own cluster (receiver_of cluster.facts.members (targets.Member to)) incarnation sequence (bodies.FailsafeAnswer accepted)
+        (receiver-declared cluster.facts.members members (targets.Member to))
     output-own heard (outputs.HoldTaken until from sequence) cluster members =
         let found = slice_get cluster.facts.members from.number in
         let hold = hold_taken member until heard.incarnation sequence in
@@ -103,7 +108,10 @@ module _ (head : HeadText) (few : length (names_of head) ≤ MOST_MEMBERS) where
     output-own heard output cluster members =
         let incarnation = run_in cluster.facts.processes member.id.number in
         all-more (IsOfInput member incarnation heard.number sends_none) Own (output_events member heard cluster output) (mine-own incarnation heard.number)
-        (output-mine member incarnation heard.number sends_none cluster heard refl (λ process found. sym (ap run_now found)) output tt tt)
+        (output-mine member incarnation heard.number sends_none cluster heard refl (record {
+          process = λ process found. sym (ap run_now found);
+          numbered = λ n peer found. numbered head few n peer (ap (λ (ms : List Member). slice_get ms n) (sym members) ∙ found);
+        }) output tt tt)
 
     upholds-output : (heard : HeardMessage) (output : Output) → UpholdsAlways (names_told head) (λ cluster. output_events member heard cluster output)
     upholds-output heard output book cluster good =
@@ -128,7 +136,7 @@ module _ (head : HeadText) (few : length (names_of head) ≤ MOST_MEMBERS) where
       hears = λ book cluster number message member good found to through.
           upheld-input member (subst (IsDeclaredEnd head) to (good.flight.ends number message found).1) book cluster (kinds.Message (Delivered number))
           (heard_message number message) (outcome_of_heard cluster member (heard_from cluster message)) good tt;
-      operates = λ book cluster member process action good is found acts.
+      operates = λ book cluster member process o request asked good is found acts stands answers. let action : OperatorAction = action_of o asked in
           upheld-input member is book cluster (kinds.Agent (Operated member action)) no_message (outcome_of cluster member (HearsOperator action)) good tt;
     };
     arrivals = λ book cluster number message good found to. upheld-arrival head few book cluster number message good found;

@@ -55,17 +55,17 @@ module _ (IsOne : Member → Type 0) (promise : Promise) (composable : IsComposa
       (λ acts. parts.inputs.wakes book cluster member process good is found acts) (λ rests. upheld-none promise composable book cluster good))
 
   -- a request to the agent of a member, which may be replied to at once
-  upheld-answered : (member : Member) (process : AgentProcess) (o : Outcome) (answer : Answered) → IsOne member → (book : List Event) (cluster : Cluster) → promise.between book cluster
-      → slice_get cluster.facts.processes member.id.number ≡ Some process → may_act process ≡ true → Upholds promise book cluster (answered_events cluster member o answer)
-  upheld-answered member process o (Acts asked) is book cluster good found acts = parts.inputs.operates book cluster member process (action_of o asked) good is found acts
-  upheld-answered member process o (Replies reply) is book cluster good found acts = parts.notes (notes.Answered member reply.status reply.json reply.body) book cluster good
+  upheld-answered : (member : Member) (process : AgentProcess) (o : Outcome) (request : RequestText) (answer : Answered) → IsOne member → (book : List Event) (cluster : Cluster) → promise.between book cluster
+      → slice_get cluster.facts.processes member.id.number ≡ Some process → may_act process ≡ true → standing_of cluster member ≡ Some o → answer_at (moment_of cluster) o request ≡ answer → Upholds promise book cluster (answered_events cluster member o answer)
+  upheld-answered member process o request (Acts asked) is book cluster good found acts stands answers = parts.inputs.operates book cluster member process o request asked good is found acts stands answers
+  upheld-answered member process o request (Replies reply) is book cluster good found acts stands answers = parts.notes (notes.Answered member reply.status reply.json reply.body) book cluster good
 
   upheld-request : (asker : Asker) (request : RequestText) (member : Member) → IsOne member → UpholdsAlways promise (λ cluster. request_events cluster asker request member)
   upheld-request asker request member is book cluster good =
       upheld-for_some promise composable book cluster (slice_get cluster.facts.processes member.id.number) (request_events_if cluster asker request member) good
       (λ process found. upheld-if promise composable book cluster (may_act process) (for_some (standing_of cluster member) (request_events_of cluster request member)) (event_of cluster (kinds.Note (silence asker member)))
       (λ acts. upheld-for_some promise composable book cluster (standing_of cluster member) (request_events_of cluster request member) good
-      (λ o stands. upheld-answered member process o (answer_at (moment_of cluster) o request) is book cluster good found acts))
+      (λ o stands. upheld-answered member process o request (answer_at (moment_of cluster) o request) is book cluster good found acts stands refl))
       (λ rests. parts.notes (silence asker member) book cluster good))
 
   -- what a connection brings
