@@ -31,7 +31,7 @@ use Rattle.agent_model.specs.Answers.{is_other, asking_one, asking_first}
 use Rattle.pat_base.specs.declared.member_id.TheConstants.{MOST_MEMBERS}
 use Rattle.agent_model.specs.Reconciling.{has_ended, reconciled}
 use Rattle.agent_model.specs.Claiming.{begins, begins_or_claims, passing, postpones}
-use Rattle.agent_model.specs.Decisions.{leader_renewed, takes_over, unleased_renewed, may_take, gives_back, arms, takes_key, granted, refused}
+use Rattle.agent_model.specs.Decisions.{cannot_arm, leader_renewed, takes_over, unleased_renewed, may_take, gives_back, arms, takes_key, granted, refused}
 use Rattle.agent_answers.specs.OperatorAnswers.{told_by, told_in}
 use Rattle.agent_model.specs.Outputs.{with_output}
 use Rattle.agent_model.specs.Peers.{keeping, answered}
@@ -44,7 +44,7 @@ use Rattle.agent_answers.specs.Replies.{RepliesTo}
 use Rattle.agent_model.specs.Snapshots.{follow_row, follows, read_noted, read_answered, informed, led_by_another}
 use Rattle.agent_model.specs.Table.{step}
 use Rattle.agent_model.specs.Wake.{overdue, turned, woken}
-use Rattle.agent_model.proofs.Rows.{HandoverRows, ReplyRows, ActRows, looked-by, given-up-by, granted-any-by, refused-any-by, operated-by, led_on, if-cases, renewed-by, passing-by, begins-or-claims-by, before-by, overdue-by, turn-by, wake-by, got-by, refused-by, follow-by, repaired-by, free-by, granted-by, judged-by, answered-by, DutyRows, duties-of, leading_in_pause, takes-in-pause-by, failsafe-answered-by, failsafe-asked-by}
+use Rattle.agent_model.proofs.Rows.{HandoverRows, ReplyRows, ActRows, looked-by, given-up-by, granted-any-by, refused-any-by, operated-by, kept_on, led_on, if-cases, judges-start-by, renewed-by, passing-by, begins-or-claims-by, before-by, overdue-by, turn-by, wake-by, got-by, refused-by, follow-by, repaired-by, free-by, granted-by, judged-by, answered-by, DutyRows, duties-of, leading_in_pause, takes-in-pause-by, failsafe-answered-by, failsafe-asked-by}
 use Rattle.agent_model.specs.Pausing.{may_start_behind, disabling_told, disabling_watchdog}
 
 -- an output that answers neither a member nor an operator
@@ -246,9 +246,12 @@ begins-quiet f now revision o all = said _ outputs.Begin tt (said o.outputs _ tt
 passing-quiet : (f o : Outcome) → Quiet f o → Quiet f (passing o)
 passing-quiet f o all = passing-by (λ (outs : List Output). Says f outs o.knows.operating) o all (said o.outputs outputs.ClaimsOutsideSync tt all)
 
+cannot-quiet : (f : Outcome) (revision : ℕ) (o : Outcome) → Quiet f o → Quiet f (cannot_arm revision o)
+cannot-quiet f revision o all = said _ _ tt (said o.outputs (outputs.Note agent_notes.CannotArm) tt all)
+
 arms-quiet : (f : Outcome) (now ttl : Ticks) (revision : ℕ) (o : Outcome) → Quiet f o → Quiet f (arms now ttl revision o)
-arms-quiet f now ttl revision o all = if-cases (Quiet f) (is_refusing o.machine.watchdog.mode o.machine.watchdog.works) _ (begins_or_claims now revision (arming now ttl o))
-    (λ _. said _ _ tt (said o.outputs (outputs.Note agent_notes.CannotArm) tt all)) (λ _. begins-or-claims-by (Quiet f) now revision (arming now ttl o) (begins-quiet f now revision (arming now ttl o) (armed-quiet f (deadline_after now ttl o.machine.watchdog) o.outputs all))
+arms-quiet f now ttl revision o all = if-cases (Quiet f) (is_refusing o.machine.watchdog.mode o.machine.watchdog.works) (cannot_arm revision o) (begins_or_claims now revision (arming now ttl o))
+    (λ _. cannot-quiet f revision o all) (λ _. begins-or-claims-by (Quiet f) now revision (arming now ttl o) (begins-quiet f now revision (arming now ttl o) (armed-quiet f (deadline_after now ttl o.machine.watchdog) o.outputs all))
     (said _ _ tt (passing-quiet f (arming now ttl o) (armed-quiet f (deadline_after now ttl o.machine.watchdog) o.outputs all))))
 
 takes-quiet : (f : Outcome) (now ttl : Ticks) (revision : ℕ) (o : Outcome) → Quiet f o → Quiet f (takes_key now ttl revision o)
@@ -261,6 +264,10 @@ granted-quiet f now sequence grant snapshot o all = let told : Outcome = record 
       leader = λ _ _. renewed-quiet f now waited.ttl grant.revision told all;
       unleased = λ _. unleased-quiet f now waited.ttl grant.revision told all;
       takes = λ _. takes-quiet f now waited.ttl grant.revision told all;
+      keeps_late = λ _ _. let kept : Outcome = kept_on grant.revision told in judges-start-by (Quiet f) now grant.revision kept (said o.outputs _ tt all) (duty-quiet f now grant.revision kept all);
+      ends_late = λ _. said o.outputs _ tt all;
+      refuses_late = λ _. cannot-quiet f grant.revision told all;
+      returns_late = λ _. said o.outputs _ tt all;
       leads_in_pause = λ renews _ _ _. let led : Outcome = leading_in_pause renews grant.revision told in duties-of (Quiet f) now grant.revision led (duty-quiet f now grant.revision led (disabled-quiet f renews o.machine.watchdog.deadline o.outputs all));
       unleased_in_pause = λ renews _ _. disabled-quiet f renews o.machine.watchdog.deadline o.outputs all;
       takes_in_pause = λ renews _ _. let rest : Outcome = disabling_watchdog renews told in let rested : Quiet f rest = disabled-quiet f renews o.machine.watchdog.deadline o.outputs all in
@@ -283,7 +290,8 @@ failsafe-quiet f now from sequence accepted sent o all = failsafe-answered-by (Q
   kept = all;
   quiet = all;
   counts = λ _ _. all;
-  stays = λ _ _ waited _ _ since _. stays-quiet f now waited.ttl waited.sequence since (counting from sent o) all;
+  counts_late = λ _ _ _. all;
+  stays = λ _ _ waited _ _ since _ _. stays-quiet f now waited.ttl waited.sequence since (counting from sent o) all;
   fails = λ _ _ _. said o.outputs _ tt all;
 })
 

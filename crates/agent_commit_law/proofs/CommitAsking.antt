@@ -263,7 +263,8 @@ stay-answered-asks now from sequence accepted sent o on = failsafe-answered-by (
   kept = on;
   quiet = (λ waited is-it. absurd (none-some waited is-it));
   counts = λ _ _. on;
-  stays = λ _ _ _ _ _ _ _. (λ waited is-it. absurd (none-some waited is-it));
+  counts_late = λ _ _ _. (λ waited is-it. absurd (none-some waited is-it));
+  stays = λ _ _ _ _ _ _ _ _. (λ waited is-it. absurd (none-some waited is-it));
   fails = λ _ _ _. (λ waited is-it. absurd (none-some waited is-it));
 })
 

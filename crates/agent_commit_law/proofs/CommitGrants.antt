@@ -25,7 +25,6 @@ use Rattle.agent_model.specs.declared.machine.Replication.{Replication}
 use Rattle.agent_model.specs.declared.output.Output.{Output}
 use Rattle.agent_model.specs.declared.output.Output.TheVariants as outputs
 use Rattle.agent_model.specs.declared.output.Target.TheVariants as targets
-use Rattle.agent_model.specs.Acting.{deadline_after}
 use Rattle.agent_model.specs.Agents.{RoleFacts, Ready, Leader, Outcome, is_ready, is_leader}
 use Rattle.agent_commit_law.specs.Committing.{StandsToCommit, IsAwaitedWrite, HearsLease, HearsWrite, GrowsByConnected, IsLawfulAs}
 use Rattle.agent_commit_law.proofs.CommitShown.{IsShown}
@@ -34,13 +33,12 @@ use Rattle.agent_roles.specs.Powers.{IsAwaitedLease}
 use Rattle.agent_model.specs.Synchronous.{sync_read_in, expected_of}
 use Rattle.agent_commit_law.proofs.CommitGrounds.{IsBehind, lease_granted_as, write_granted_as, hears-lease, hears-write, leads-live, IsLedBy, compared-as, has-confirmed, confirmed-any}
 use Rattle.agent_commit_law.proofs.CommitIdling.{Idle, idle-then, waits-nothing, waits-new}
+use Rattle.agent_commit_law.proofs.CommitLeaders.{WatchdogAfter, led_by}
 use Rattle.agent_commit_law.proofs.CommitLawful.{was_of, lawful-as, keeps-turn, keeps-live, keeps-server, keeps-ready, keeps-noted, sends-nothing, sends-one, idle-lawful}
-use Rattle.agent_commit_law.proofs.CommitQuiet.{Stands, IsUnasking, asks-none, asks-unbegun, quiet-fed, last-request, last-unbegun, unasking}
+use Rattle.agent_commit_law.proofs.CommitQuiet.{Stands, IsUnasking, asks-none, asks-unbegun, last-request, last-unbegun, unasking}
 use Rattle.agent_commit_law.proofs.CommitTools.{IsWithin, HasReached, covers-required}
-use Rattle.agent_roles.proofs.Granting.{Told}
 use Rattle.agent_roles.proofs.Knowing.{Onward}
 use Rattle.agent_roles.proofs.Living.{no-way}
-use Rattle.agent_model.proofs.Rows.{led_on}
 
 -- what a granted request is heard on, with what stands after what comes before it
 pub record Ground (s : State) (m quorum : ℕ) (o b : Outcome) : Type 0 where
@@ -131,14 +129,14 @@ settles-lawful now sequence grant snapshot s m input o b x ground awaited hears 
 
 -- a leader that asks for standbys that are required, and are published already or have confirmed the noted position, of which no fewer may lack a
 -- commit than before
-pub publishes-lawful : {quorum : ℕ} (now ttl : Ticks) (sequence : ℕ) (grant : Granted) (snapshot : SnapshotFacts) (s : State) (m : ℕ) (input : AgentInput) (o b : Outcome) → Ground s m quorum o b → Leased s m sequence grant snapshot input o → (led : IsLedBy s m quorum snapshot o) → is_leader b.role ≡ true → (settling : Settling) (set : MemberSet)
+pub publishes-lawful : {quorum : ℕ} (now : Ticks) (sequence : ℕ) (grant : Granted) (snapshot : SnapshotFacts) (s : State) (m : ℕ) (input : AgentInput) (o b : Outcome) (w : WatchdogAfter b) → Ground s m quorum o b → Leased s m sequence grant snapshot input o → (led : IsLedBy s m quorum snapshot o) → is_leader b.role ≡ true → (settling : Settling) (set : MemberSet)
     → IsWithin (set_members set) (set_members (required_members o.machine.replication.required)) → ((n : ℕ) → set_members set n ≡ true → (set_members (published_in snapshot) n ≡ true) ⊎ HasReached o.machine.replication.confirmed_positions (noted_position o.knows.noted) n)
     → led.key.quorum ≤ quorum_written (txns.SetSync grant.revision (expected_of (sync_read_in snapshot)) set)
-    → Lawful quorum now sequence grant snapshot s m input o (naming now grant.revision settling set (led_on now ttl grant.revision (Told snapshot b)))
-publishes-lawful now ttl sequence grant snapshot s m input o b ground leased led leads settling set required each fewer onward is =
-    let fed : Outcome = led_on now ttl grant.revision (Told snapshot b) in
+    → Lawful quorum now sequence grant snapshot s m input o (naming now grant.revision settling set (led_by b w grant.revision snapshot))
+publishes-lawful now sequence grant snapshot s m input o b w ground leased led leads settling set required each fewer onward is =
+    let fed : Outcome = led_by b w grant.revision snapshot in
     let x : Outcome = naming now grant.revision settling set fed in
-    let fed-quiet : All (Stands true) fed.outputs = quiet-fed true (deadline_after now ttl b.machine.watchdog) b.outputs (ground.behind.idle.quiet true (λ _ _. refl) ground.quiet) in
+    let fed-quiet : All (Stands true) fed.outputs = w.quiet true (ground.behind.idle.quiet true (λ _ _. refl) ground.quiet) in
     let txn : Txn = txns.SetSync grant.revision (expected_of (sync_read_in snapshot)) set in
     let output : Output = outputs.Send targets.Store (b.knows.sequence + 1) (bodies.Request txn) in
     let request : SyncRequest = publish_request m o.knows.incarnation (b.knows.sequence + 1) grant.revision (expected_of (sync_read_in snapshot)) set in

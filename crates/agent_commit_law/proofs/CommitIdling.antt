@@ -382,7 +382,8 @@ stay-answered-idle told now from sequence accepted sent o = let w : Outcome = wa
       kept = same-idle told o;
       quiet = quiet-idle told o;
       counts = λ _ _. stays told o c refl refl refl refl (waits-same o c refl) (λ leads h q. q);
-      stays = λ _ _ waited _ _ since _. let x : Outcome = stays_primary now waited.ttl waited.sequence since c in
+      counts_late = λ _ _ _. let x : Outcome = waiting_no_more c in stays told o x refl refl refl refl (waits-nothing o x refl) (λ leads h q. q);
+      stays = λ _ _ waited _ _ since _ _. let x : Outcome = stays_primary now waited.ttl waited.sequence since c in
           stays told o x refl refl refl refl (waits-nothing o x refl) (λ leads h q. staying-quiet leads (deadline_after now waited.ttl o.machine.watchdog) c.knows.failsafe.members waited.sequence since o.outputs q);
       fails = λ held _ _. falls told o (leader_unacknowledged now held w) refl refl refl refl refl (waits-nothing o (leader_unacknowledged now held w) refl) (λ leads h q. quietly leads o.outputs (outputs.Stop FailsafeNotAcknowledged) q tt);
     })

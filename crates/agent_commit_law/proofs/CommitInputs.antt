@@ -51,7 +51,7 @@ use Rattle.agent_model.specs.Fits.{Fits}
 use Rattle.agent_model.specs.Reconciling.{reconciled, has_ended}
 use Rattle.agent_model.specs.Claiming.{begins, can_begin_on_claim, claims, passing, postpones}
 use Rattle.agent_commit_law.specs.Committing.{sync_seen, committer_seen, ArmsOn, DoesAs, IsSynchronousSnapshot, HearsSynchronousMode, HearsToCommit, KnowsBelow, AsksInSynchronousMode, FollowsSynchronousMode, requests_of, is_begin, is_carrying, IsOneAtMost, IsCovered, IsSynchronousTxn, IsSynchronousBody, IsSynchronousOutput, HasForm, Ordered, NoMore, Asks, ClaimsOutsideSync, Requires, StaysInSynchronousMode, CommitsFrom}
-use Rattle.agent_model.specs.Decisions.{takes_over, gives_back, granted}
+use Rattle.agent_model.specs.Decisions.{cannot_arm, takes_over, gives_back, granted}
 use Rattle.agent_model.specs.HandingOver.{checking, hands_over}
 use Rattle.agent_model.specs.Operators.{grants_operator, looked, operated, operator_granted}
 use Rattle.agent_model.specs.Outputs.{has_one, with_output}
@@ -66,17 +66,18 @@ use Rattle.agent_model.specs.Table.{granted_any, refused_any, step}
 use Rattle.agent_model.specs.Wake.{woken}
 use Rattle.agent_commit_law.proofs.CommitAsking.{before-asks, wake-asks-behind, looked-asks, got-asks, any-refused-asks, operator-granted-asks, operated-asks, answered-asks, stay-answered-asks, stay-asked-asks, leases-on}
 use Rattle.agent_commit_law.proofs.CommitIdling.{follow-idle, free-idle, Idle, idle-then, before-idle, wake-idle, looked-idle, got-idle, any-refused-idle, operator-granted-idle, operated-idle, answered-idle, asked-idle, stay-answered-idle, stay-asked-idle, quiet-of, postpones-idle, failover-idle}
+use Rattle.agent_commit_law.proofs.CommitLeaders.{WatchdogAfter, as-it-was, fed-by, led_by}
 use Rattle.agent_commit_law.proofs.CommitLawful.{idle-lawful}
 use Rattle.agent_commit_law.proofs.CommitShown.{shown}
-use Rattle.agent_commit_law.proofs.CommitQuiet.{IsUnasking, carried-last, carried-leads, Stands, plain, all-armed, all-disarmed, all-fed, covered, keeps-mode, last-one, last-unbegun, passing-unasked, quiet-fed, quiet-one, quiet-unbegun, quietly, unasked, unasking}
+use Rattle.agent_commit_law.proofs.CommitQuiet.{IsUnasking, carried-last, carried-leads, Stands, plain, all-armed, all-disarmed, covered, keeps-mode, last-one, last-unbegun, passing-unasked, quiet-one, quiet-unbegun, quietly, unasked, unasking}
 use Rattle.agent_commit_law.proofs.CommitRows.{grant-commits, led-idle}
 use Rattle.agent_commit_law.proofs.CommitGrounds.{IsBehind, before-behind}
 use Rattle.agent_commit_law.proofs.CommitTools.{both-first, confirmed-reached, no-members, within-set}
-use Rattle.agent_commit_law.proofs.CommitSteps.{confirmed_at, wanted_at, required_at, PlanSteps, LeaseSteps, WriteSteps, granted-steps}
+use Rattle.agent_commit_law.proofs.CommitSteps.{confirmed_at, wanted_at, required_at, PlanSteps, LedSteps, LeaseSteps, WriteSteps, granted-steps}
 use Rattle.agent_roles.proofs.Granting.{Told}
 use Rattle.agent_roles.proofs.Living.{no-way}
 use Rattle.agent_roles.proofs.Knowing.{Onward, before-onward, wake-onward, looked-onward, got-onward, any-granted-onward, any-refused-onward, operated-onward, answered-onward, asked-onward, holding-onward, staying-onward, onward-then}
-use Rattle.agent_model.proofs.Rows.{FailoverRows, dropping, before-by, got-by, if-cases, looked-by, led_on, passing-by}
+use Rattle.agent_model.proofs.Rows.{FailoverRows, dropping, before-by, got-by, if-cases, looked-by, passing-by}
 use Rattle.agent_model.specs.Pausing.{is_paused}
 use Rattle.agent_roles.proofs.Staying.{stays-unpaused}
 
@@ -167,39 +168,39 @@ module _ (quorum : ℕ) (now : Ticks) (sequence : ℕ) (grant : Granted) (snapsh
   rests-quiet x asks still = quiet-stays quorum Hears o x asks still
 
   -- a leader that asks for a write of the sync key
-  names-stays : (ttl : Ticks) (settling : Settling) (set : MemberSet) → ((on : Bool) → FollowsSynchronousMode on (Syncing settling)) → ((count : ℕ) → KnowsBelow count Hears o → (n : ℕ) → set_members set n ≡ true → n < count)
-      → Stays (naming now grant.revision settling set (led_on now ttl grant.revision (Told snapshot b)))
-  names-stays ttl settling set follows below =
-      let fed : Outcome = led_on now ttl grant.revision (Told snapshot b) in
+  names-stays : (w : WatchdogAfter b) (settling : Settling) (set : MemberSet) → ((on : Bool) → FollowsSynchronousMode on (Syncing settling)) → ((count : ℕ) → KnowsBelow count Hears o → (n : ℕ) → set_members set n ≡ true → n < count)
+      → Stays (naming now grant.revision settling set (led_by b w grant.revision snapshot))
+  names-stays w settling set follows below =
+      let fed : Outcome = led_by b w grant.revision snapshot in
       let x : Outcome = naming now grant.revision settling set fed in
       asks-stays quorum Hears o x fed.outputs (b.knows.sequence + 1) (bodies.Request (txns.SetSync grant.revision (expected_of (sync_read_in snapshot)) set))
-      (asks-this x.knows _ refl (follows b.knows.turn_settings.synchronous_mode)) refl refl (all-fed IsCovered b.outputs all (deadline_after now ttl b.machine.watchdog) (λ until. tt)) (λ count knows. (below count knows, none-written (txns.SetSync grant.revision (expected_of (sync_read_in snapshot)) set) quorum))
+      (asks-this x.knows _ refl (follows b.knows.turn_settings.synchronous_mode)) refl refl (w.covered all) (λ count knows. (below count knows, none-written (txns.SetSync grant.revision (expected_of (sync_read_in snapshot)) set) quorum))
 
   nobody-below : (count n : ℕ) → set_members nobody n ≡ true → n < count
   nobody-below count n is = absurd (not-false (set_members nobody n) (no-members nobody refl n) is)
 
-  plan-stays : (ttl : Ticks) → PlanSteps Stays now grant.revision snapshot (led_on now ttl grant.revision (Told snapshot b))
-  plan-stays ttl =
-      let fed : Outcome = led_on now ttl grant.revision (Told snapshot b) in
-      let still : All IsCovered fed.outputs = all-fed IsCovered b.outputs all (deadline_after now ttl b.machine.watchdog) (λ until. tt) in
+  plan-stays : (w : WatchdogAfter b) → PlanSteps Stays now grant.revision snapshot (led_by b w grant.revision snapshot)
+  plan-stays w =
+      let fed : Outcome = led_by b w grant.revision snapshot in
+      let still : All IsCovered fed.outputs = w.covered all in
       let published : MemberSet = published_in snapshot in let wanted : MemberSet = wanted_at now snapshot fed in record {
         kept = rests-quiet fed (rest fed.knows refl) (covered false fed.outputs still);
-        mark = λ _. names-stays ttl (NamesStandbys nobody) nobody (λ on. tt) (λ count _. nobody-below count);
-        withdraws = names-stays ttl (NamesStandbys (both published wanted)) (both published wanted) (λ on. tt) (λ count below n is. below.published n (both-first published wanted n is));
+        mark = λ _. names-stays w (NamesStandbys nobody) nobody (λ on. tt) (λ count _. nobody-below count);
+        withdraws = names-stays w (NamesStandbys (both published wanted)) (both published wanted) (λ on. tt) (λ count below n is. below.published n (both-first published wanted n is));
         adds = requires-stays quorum Hears o (noting fed) (requireds.All (either (required_at fed) wanted)) refl still;
-        publishes = λ _ confirmed. names-stays ttl settlings.KeepsList wanted (λ on. tt) (λ count below n is.
+        publishes = λ _ confirmed. names-stays w settlings.KeepsList wanted (λ on. tt) (λ count below n is.
             let reached = confirmed-reached (leader_view now fed.knows fed.machine) n (within-set wanted (confirmed_at now fed) confirmed n is) in
             below.connected n reached.end (subst (λ (r : Replication). slice_get r.confirmed_positions n ≡ Some (Some reached.end)) behind.replication reached.is));
         drops = λ _. requires-stays quorum Hears o fed (waiting_for fed.knows.settings (either published wanted)) refl still;
       }
 
   -- what it does under a failover key
-  failover-stays : (ttl : Ticks) → is_leader b.role ≡ true → FailoverRows Stays now grant.revision (led_on now ttl grant.revision (Told snapshot b))
-  failover-stays ttl leads =
-      let fed : Outcome = led_on now ttl grant.revision (Told snapshot b) in
+  failover-stays : (watch : WatchdogAfter b) → is_leader b.role ≡ true → FailoverRows Stays now grant.revision (led_by b watch grant.revision snapshot)
+  failover-stays watch leads =
+      let fed : Outcome = led_by b watch grant.revision snapshot in
       let u : Outcome = unheard fed in
       let w : Outcome = waiting_no_more u in
-      let idle : FailoverRows (Idle None b) now grant.revision fed = failover-idle None now grant.revision b fed (led-idle now ttl grant.revision snapshot b leads) (omega arith) in
+      let idle : FailoverRows (Idle None b) now grant.revision fed = failover-idle None now grant.revision b fed (led-idle grant.revision snapshot b watch leads) (omega arith) in
       let still : (x : Outcome) → Idle None b x → AsksInSynchronousMode x.knows → Stays x = λ x after asks. rests-quiet x asks (quiet-of false after quiet) in
       record {
         kept = still fed idle.kept (rest fed.knows refl);
@@ -212,24 +213,30 @@ module _ (quorum : ℕ) (now : Ticks) (sequence : ℕ) (grant : Granted) (snapsh
         };
       }
 
+  led-stays : (w : WatchdogAfter b) → is_leader b.role ≡ true → LedSteps Stays now grant.revision snapshot (led_by b w grant.revision snapshot)
+  led-stays w leads =
+      let led : Outcome = led_by b w grant.revision snapshot in
+      let ended : Outcome = record (ending_server now StartTooLong led) { role = Ending grant.revision HandOver } in record {
+        ends = rests-quiet ended (rest ended.knows refl) (quietly false led.outputs (outputs.Stop StartTooLong) (w.quiet false quiet) tt);
+        plans = plan-stays w;
+        fails_over = failover-stays w leads;
+      }
+
   lease-stays : (ttl : Ticks) → LeaseSteps Stays now ttl grant.revision snapshot b
   lease-stays ttl =
       let told : Outcome = Told snapshot b in
       let revision : ℕ = grant.revision in
-      let fed : Outcome = led_on now ttl revision told in
       let arm : Outcome = arming now ttl told in
       let armed : All IsCovered arm.outputs = all-armed IsCovered b.outputs all (deadline_after now ttl b.machine.watchdog) (λ until. tt) in
-      let ended : Outcome = record (ending_server now StartTooLong fed) { role = Ending revision HandOver } in
       let stopped : Outcome = ending_server now WatchdogNotArmed told in
       let over : Outcome = takes_over now revision arm in
       let back : Outcome = gives_back revision told in
-      let refused-it : Outcome = gives_back revision (record told { outputs = with_output (outputs.Note agent_notes.CannotArm) b.outputs }) in
+      let refused-it : Outcome = cannot_arm revision told in
       let claimed : Outcome = claims now revision (passing arm) in
       let read : Expected = expected_of b.knows.turn_sync in record {
         other = rests-quiet told (rest told.knows refl) quiet;
-        ends = rests-quiet ended (rest ended.knows refl) (quietly false fed.outputs (outputs.Stop StartTooLong) (quiet-fed false (deadline_after now ttl b.machine.watchdog) b.outputs quiet) tt);
-        plans = λ held _. plan-stays ttl;
-        fails_over = λ held is. failover-stays ttl (rw is refl);
+        leads = λ held is. led-stays (fed-by now ttl b) (rw is refl);
+        keeps = λ held is. led-stays (as-it-was b) (rw is refl);
         stops = λ _. rests-quiet stopped (rest stopped.knows refl) (quietly false b.outputs (outputs.Stop WatchdogNotArmed) quiet tt);
         takes_over = λ _. rests-quiet over (rest over.knows refl) (covered false arm.outputs armed);
         returns = rests-quiet back (rest back.knows refl) (quietly false b.outputs _ quiet tt);

@@ -47,7 +47,7 @@ use Rattle.agent_model.specs.Reconciling.{reconciled}
 use Rattle.agent_model.specs.Claiming.{begins, claims, passing, postpones, can_begin_on_claim, told_passing}
 use Rattle.agent_commit_law.specs.Committing.{sync_seen, StandsToCommit, IsAwaitedWrite, IsAskedBy, HearsWrite, HearsGranted, IsSynchronousSnapshot, FollowsSynchronousMode, AsksInSynchronousMode, ListsMember, is_claim_outside_sync, IsLawfulAs}
 use Rattle.agent_commit_law.proofs.CommitShown.{IsShown}
-use Rattle.agent_model.specs.Decisions.{confirming, takes_over, gives_back, may_create, granted}
+use Rattle.agent_model.specs.Decisions.{cannot_arm, confirming, takes_over, gives_back, may_create, granted}
 use Rattle.agent_model.specs.HandingOver.{checking, hands_over}
 use Rattle.agent_model.specs.Outputs.{has_one, with_output}
 use Rattle.agent_model.specs.Planning.{leader_view, noting}
@@ -58,16 +58,17 @@ use Rattle.agent_commit_law.proofs.CommitAsking.{before-asks, leases-on}
 use Rattle.agent_commit_law.proofs.CommitGrants.{Ground, Lawful, rests, Leased, unready, changes-lawful, settles-lawful, publishes-lawful}
 use Rattle.agent_commit_law.proofs.CommitGrounds.{IsBehind, before-behind, before-unready, lease-before, write-before, lease_granted_as, write_granted_as, hears-lease, hears-write, leads-live, IsLedBy, key-covers, led-by, led-covers, written, compared-as, wins-named, noted-end, none-lacks}
 use Rattle.agent_commit_law.proofs.CommitIdling.{Idle, idle-then, waits-nothing, waits-new, stays, falls, same-idle, quiet-idle, postpones-idle, failover-idle}
+use Rattle.agent_commit_law.proofs.CommitLeaders.{WatchdogAfter, as-it-was, fed-by, led_by}
 use Rattle.agent_commit_law.proofs.CommitLawful.{lawful-as, keeps-turn, keeps-server, keeps-ready, sends-nothing, sends-one}
 use Rattle.agent_commit_law.proofs.CommitGrowing.{narrows-grows, required-needs, wanted-connected}
-use Rattle.agent_commit_law.proofs.CommitQuiet.{Stands, IsUnasking, asks-last, quietly, quiet-armed, quiet-fed, quiet-none, quiet-unbegun, last-unbegun, passing-unasked, unasked}
-use Rattle.agent_commit_law.proofs.CommitSteps.{IsForeign, wanted_at, confirmed_at, required_at, PlanSteps, LeaseSteps, WriteSteps, granted-steps}
+use Rattle.agent_commit_law.proofs.CommitQuiet.{Stands, IsUnasking, asks-last, quietly, quiet-armed, quiet-none, quiet-unbegun, last-unbegun, passing-unasked, unasked}
+use Rattle.agent_commit_law.proofs.CommitSteps.{IsForeign, wanted_at, confirmed_at, required_at, PlanSteps, LedSteps, LeaseSteps, WriteSteps, granted-steps}
 use Rattle.agent_commit_law.proofs.CommitTools.{IsWithin, HasReached, within-set, both-first, either-first, either-one, either-within, unnamed-confirmers, waiting-covers, waiting-narrows, confirmed-reached}
 use Rattle.agent_roles.proofs.Fitting.{ended-for}
 use Rattle.agent_roles.proofs.Granting.{Told, one-before, one-last}
 use Rattle.agent_roles.proofs.Knowing.{before-onward, granted-onward, onward-then}
 use Rattle.agent_roles.proofs.Living.{no-way}
-use Rattle.agent_model.proofs.Rows.{FailoverRows, dropping, led_on}
+use Rattle.agent_model.proofs.Rows.{FailoverRows, dropping}
 use Rattle.agent_model.specs.Pausing.{is_paused}
 use Rattle.agent_roles.proofs.Staying.{stays-unpaused}
 
@@ -174,15 +175,15 @@ withdrawn-lawful now sequence grant snapshot s m input o b ground awaited hears 
     }) (waiting-covers s.member_count hears.key.quorum hears.key.standbys (Told snapshot b).knows.settings set (λ n e. sym (asked n) ∙ e)) (narrows-grows o (s.members m).required (confirmers_in required) narrows)
 
 -- a renewed leader without a step
-pub led-idle : (now ttl : Ticks) (revision : ℕ) (snapshot : SnapshotFacts) (b : Outcome) → is_leader b.role ≡ true → Idle None b (led_on now ttl revision (Told snapshot b))
-led-idle now ttl revision snapshot b leads = record {
+pub led-idle : (revision : ℕ) (snapshot : SnapshotFacts) (b : Outcome) (w : WatchdogAfter b) → is_leader b.role ≡ true → Idle None b (led_by b w revision snapshot)
+led-idle revision snapshot b w leads = record {
   required = refl;
   ready = λ e. absurd (no-way e);
   leads = λ _. leads;
   noted = refl;
   turn = inl refl;
-  waits = waits-nothing b (led_on now ttl revision (Told snapshot b)) refl;
-  quiet = λ leads h q. quiet-fed leads (deadline_after now ttl b.machine.watchdog) b.outputs q;
+  waits = waits-nothing b (led_by b w revision snapshot) refl;
+  quiet = λ leads h q. w.quiet leads q;
 }
 
 told-idle : (snapshot : SnapshotFacts) (b : Outcome) → Idle None b (Told snapshot b)
@@ -201,12 +202,12 @@ none-above : (few more : ℕ) → few ≤ strict_quorum → few ≤ more
 none-above few more none = omega (arith, none)
 
 -- a leader's step with its standbys
-plan-lawful : (now ttl : Ticks) (sequence : ℕ) (grant : Granted) (snapshot : SnapshotFacts) (s : State) (m : ℕ) (input : AgentInput) (o b : Outcome) → Ground s m strict_quorum o b → Leased s m sequence grant snapshot input o → is_leader b.role ≡ true
-    → PlanSteps (Lawful strict_quorum now sequence grant snapshot s m input o) now grant.revision snapshot (led_on now ttl grant.revision (Told snapshot b))
-plan-lawful now ttl sequence grant snapshot s m input o b ground leased leads =
+plan-lawful : (now : Ticks) (sequence : ℕ) (grant : Granted) (snapshot : SnapshotFacts) (s : State) (m : ℕ) (input : AgentInput) (o b : Outcome) (w : WatchdogAfter b) → Ground s m strict_quorum o b → Leased s m sequence grant snapshot input o → is_leader b.role ≡ true
+    → PlanSteps (Lawful strict_quorum now sequence grant snapshot s m input o) now grant.revision snapshot (led_by b w grant.revision snapshot)
+plan-lawful now sequence grant snapshot s m input o b w ground leased leads =
     let behind : IsBehind o b = ground.behind in
-    let fed : Outcome = led_on now ttl grant.revision (Told snapshot b) in
-    let quiet : All (Stands true) fed.outputs = quiet-fed true (deadline_after now ttl b.machine.watchdog) b.outputs (behind.idle.quiet true (λ _ _. refl) ground.quiet) in
+    let fed : Outcome = led_by b w grant.revision snapshot in
+    let quiet : All (Stands true) fed.outputs = w.quiet true (behind.idle.quiet true (λ _ _. refl) ground.quiet) in
     let lives : (s.members m).live ≡ true = leads-live s m o b ground.stands behind leads in
     let led : IsLedBy s m strict_quorum snapshot o = led-by s m sequence grant snapshot input o ground.sound ground.stands leased.hears leased.awaited lives in
     let covers : IsWithin (set_members (published_in snapshot)) (set_members (required_at o)) = led-covers s m snapshot o ground.sound ground.stands lives led in
@@ -216,9 +217,9 @@ plan-lawful now ttl sequence grant snapshot s m input o b ground leased leads =
     let required : ℕ → Bool = set_members (required_at o) in
     let within : is_within wanted (required_at b) ≡ true → IsWithin (set_members wanted) required = λ e. subst (IsWithin (set_members wanted)) (required-before o b behind) (within-set wanted (required_at b) e) in
     record {
-      kept = rests now sequence grant snapshot s m input o b fed ground (led-idle now ttl grant.revision snapshot b leads);
+      kept = rests now sequence grant snapshot s m input o b fed ground (led-idle grant.revision snapshot b w leads);
       mark = λ foreign. absurd (led.named (subst (λ (w : Who). IsForeign w.me.number (sync_in snapshot)) behind.who foreign));
-      withdraws = publishes-lawful now ttl sequence grant snapshot s m input o b ground leased led leads (NamesStandbys (both published wanted)) (both published wanted)
+      withdraws = publishes-lawful now sequence grant snapshot s m input o b w ground leased led leads (NamesStandbys (both published wanted)) (both published wanted)
           (λ n e. covers n (both-first published wanted n e)) (λ n e. inl (both-first published wanted n e)) (fewer _);
       adds = let set : MemberSet = either (required_at b) wanted in
           changes-lawful now sequence grant snapshot s m input o b (requiring (requireds.All set) (noting fed)) ground leased led leads (record {
@@ -232,7 +233,7 @@ plan-lawful now ttl sequence grant snapshot s m input o b ground leased leads =
             | inl before-it ↦ inl (subst (λ (confirmers : Confirmers). ListsMember confirmers n) (sym ground.stands.required) (required-needs o.machine.replication.required n (subst (λ (f : ℕ → Bool). f n ≡ true) (required-before o b behind) before-it)))
             | inr new ↦ let there = wanted-connected (leader_view now fed.knows fed.machine) snapshot n new in inr (there.0, subst (λ (r : Replication). slice_get r.confirmed_positions n ≡ Some (Some there.0)) behind.replication there.1)
           ]);
-      publishes = λ covered confirmed. publishes-lawful now ttl sequence grant snapshot s m input o b ground leased led leads KeepsList wanted (within covered)
+      publishes = λ covered confirmed. publishes-lawful now sequence grant snapshot s m input o b w ground leased led leads KeepsList wanted (within covered)
           (λ n e. inr (reached-before o b n behind (confirmed-reached (leader_view now fed.knows fed.machine) n (within-set wanted (confirmed_at now fed) confirmed n e)))) (fewer _);
       drops = λ covered. let set : MemberSet = either published wanted in let list : Required = waiting_for fed.knows.settings set in
           let narrows : Narrows (s.members m).required (confirmers_in list) =
@@ -247,13 +248,13 @@ plan-lawful now ttl sequence grant snapshot s m input o b ground leased leads =
     }
 
 -- what it does under a failover key leaves what commits depend on
-failover-lawful : {quorum : ℕ} (now ttl : Ticks) (sequence : ℕ) (grant : Granted) (snapshot : SnapshotFacts) (s : State) (m : ℕ) (input : AgentInput) (o b : Outcome) → Ground s m quorum o b → is_leader b.role ≡ true
-    → FailoverRows (Lawful quorum now sequence grant snapshot s m input o) now grant.revision (led_on now ttl grant.revision (Told snapshot b))
-failover-lawful {quorum = quorum} now ttl sequence grant snapshot s m input o b ground leads =
-    let led : Outcome = led_on now ttl grant.revision (Told snapshot b) in
+failover-lawful : {quorum : ℕ} (now : Ticks) (sequence : ℕ) (grant : Granted) (snapshot : SnapshotFacts) (s : State) (m : ℕ) (input : AgentInput) (o b : Outcome) (watch : WatchdogAfter b) → Ground s m quorum o b → is_leader b.role ≡ true
+    → FailoverRows (Lawful quorum now sequence grant snapshot s m input o) now grant.revision (led_by b watch grant.revision snapshot)
+failover-lawful {quorum = quorum} now sequence grant snapshot s m input o b watch ground leads =
+    let led : Outcome = led_by b watch grant.revision snapshot in
     let u : Outcome = unheard led in
     let w : Outcome = waiting_no_more u in
-    let idle : FailoverRows (Idle None b) now grant.revision led = failover-idle None now grant.revision b led (led-idle now ttl grant.revision snapshot b leads) (omega arith) in
+    let idle : FailoverRows (Idle None b) now grant.revision led = failover-idle None now grant.revision b led (led-idle grant.revision snapshot b watch leads) (omega arith) in
     let still : (x : Outcome) → Idle None b x → Lawful quorum now sequence grant snapshot s m input o x = λ x after. rests now sequence grant snapshot s m input o b x ground after in
     record {
       kept = still led idle.kept;
@@ -266,22 +267,31 @@ failover-lawful {quorum = quorum} now ttl sequence grant snapshot s m input o b 
       };
     }
 
+-- a leader under its lease
+led-lawful : (now : Ticks) (sequence : ℕ) (grant : Granted) (snapshot : SnapshotFacts) (s : State) (m : ℕ) (input : AgentInput) (o b : Outcome) (w : WatchdogAfter b) → Ground s m strict_quorum o b → Leased s m sequence grant snapshot input o → is_leader b.role ≡ true
+    → LedSteps (Lawful strict_quorum now sequence grant snapshot s m input o) now grant.revision snapshot (led_by b w grant.revision snapshot)
+led-lawful now sequence grant snapshot s m input o b w ground leased leads =
+    let led : Outcome = led_by b w grant.revision snapshot in
+    let ended : Outcome = record (ending_server now StartTooLong led) { role = Ending grant.revision HandOver } in
+    record {
+      ends = rests now sequence grant snapshot s m input o b ended ground (falls None b ended refl refl refl refl refl (waits-nothing b ended refl) (λ leads h q. quietly leads led.outputs (outputs.Stop StartTooLong) (w.quiet leads q) tt));
+      plans = plan-lawful now sequence grant snapshot s m input o b w ground leased leads;
+      fails_over = failover-lawful now sequence grant snapshot s m input o b w ground leads;
+    }
+
 -- what each role does with a lease
 lease-lawful : (now ttl : Ticks) (sequence : ℕ) (grant : Granted) (snapshot : SnapshotFacts) (s : State) (m : ℕ) (input : AgentInput) (o b : Outcome) → Ground s m strict_quorum o b → Leased s m sequence grant snapshot input o → (may_create b.role ≡ true → is_ready o.role ≡ false)
     → LeaseSteps (Lawful strict_quorum now sequence grant snapshot s m input o) now ttl grant.revision snapshot b
 lease-lawful now ttl sequence grant snapshot s m input o b ground leased unready-before =
     let told : Outcome = Told snapshot b in
-    let fed : Outcome = led_on now ttl grant.revision told in
-    let ended : Outcome = record (ending_server now StartTooLong fed) { role = Ending grant.revision HandOver } in
     let stopped : Outcome = ending_server now WatchdogNotArmed told in
     let back : Outcome = gives_back grant.revision told in
-    let refused : Outcome = gives_back grant.revision (record told { outputs = with_output (outputs.Note agent_notes.CannotArm) b.outputs }) in
+    let refused : Outcome = cannot_arm grant.revision told in
     let still : (x : Outcome) → Idle None b x → Lawful strict_quorum now sequence grant snapshot s m input o x = λ x idle. rests now sequence grant snapshot s m input o b x ground idle in
     record {
       other = still told (told-idle snapshot b);
-      ends = still ended (falls None b ended refl refl refl refl refl (waits-nothing b ended refl) (λ leads h q. quietly leads fed.outputs (outputs.Stop StartTooLong) (quiet-fed leads (deadline_after now ttl b.machine.watchdog) b.outputs q) tt));
-      plans = λ held is. plan-lawful now ttl sequence grant snapshot s m input o b ground leased (rw is refl);
-      fails_over = λ held is. failover-lawful now ttl sequence grant snapshot s m input o b ground (rw is refl);
+      leads = λ held is. led-lawful now sequence grant snapshot s m input o b (fed-by now ttl b) ground leased (rw is refl);
+      keeps = λ held is. led-lawful now sequence grant snapshot s m input o b (as-it-was b) ground leased (rw is refl);
       stops = λ _. still stopped (stays None b stopped refl refl refl refl (waits-nothing b stopped refl) (λ leads h q. quietly leads b.outputs (outputs.Stop WatchdogNotArmed) q tt));
       takes_over = λ _. takes-over-lawful now ttl sequence grant snapshot s m input o b ground;
       returns = still back (falls None b back refl refl refl refl refl (waits-nothing b back refl) (λ leads h q. quietly leads b.outputs _ q tt));

@@ -1,5 +1,5 @@
 -- The steps of a granted request while the synchronous mode is on: what holds of each that applies holds of what is made of it.
-use Rattle.std.proofs.Common.{◌≡◌, ℕ, ◌==◌, ◌&&◌, Bool, true, false, if◌then◌else◌, not, Option, Some, None, refl, sym, ap, ◌∙◌}
+use Rattle.std.proofs.Common.{◌≡◌, ℕ, ◌==◌, ◌&&◌, Bool, true, false, if◌then◌else◌, not, Option, Some, None, refl, subst, sym, ap, ◌∙◌}
 use Rattle.std.proofs.lemmas.Bool.{not-false}
 use Rattle.pat_base.specs.declared.member_set.MemberSet.{MemberSet}
 use Rattle.pat_base.specs.declared.server_state.Required.TheVariants as requireds
@@ -10,7 +10,6 @@ use Rattle.lease_store.specs.Writes.{nobody}
 use Rattle.cluster_view.specs.KeyValues.{config_in, sync_in}
 use Rattle.cluster_view.specs.Snapshots.{SnapshotFacts}
 use Rattle.cluster_view.specs.declared.view.LeaderView.{LeaderView}
-use Rattle.event_book.specs.declared.agent_note.AgentNote.TheVariants as agent_notes
 use Rattle.event_book.specs.declared.reason.Reason.TheVariants.{StartTooLong, WatchdogNotArmed}
 use Rattle.sync_state.specs.Plans.{change_of, plan_on, plan_off}
 use Rattle.sync_state.specs.Sets.{both, either, is_within, are_same}
@@ -24,21 +23,19 @@ use Rattle.agent_model.specs.declared.knowledge.Question.TheVariants.{Reading, C
 use Rattle.agent_model.specs.declared.knowledge.Settling.{Settling}
 use Rattle.agent_model.specs.declared.knowledge.Settling.TheVariants.{KeepsList, NamesStandbys, ClearsList}
 use Rattle.agent_model.specs.declared.knowledge.PendingQuestion.{PendingQuestion}
-use Rattle.agent_model.specs.declared.output.Output.TheVariants as outputs
 use Rattle.agent_model.specs.declared.why.Why.TheVariants.{HandOver}
-use Rattle.agent_model.specs.Acting.{ending_server, arming, requiring, is_refusing, waiting_no_more}
+use Rattle.agent_model.specs.Acting.{comes_late, ending_server, arming, requiring, is_refusing, waiting_no_more}
 use Rattle.agent_model.specs.Agents.{RoleFacts, Follower, Holder, Ready, Leader, Ending, Unleased, Outcome, is_leader}
 use Rattle.agent_model.specs.Claiming.{begins, claims, begins_or_claims, passing, postpones, can_begin_on_claim, may_begin_on_claim}
 use Rattle.agent_commit_law.specs.Committing.{IsAwaitedWrite, IsSynchronousSnapshot}
-use Rattle.agent_model.specs.Decisions.{confirming, is_decision, is_sync_decision, is_lease_of, is_write_of, belongs, is_start_too_long, takes_over, unleased_renewed, leader_renewed, may_create, may_take, gives_back, arms, takes_key, lease_granted, accepted_grant, sync_granted, accepted_sync, granted_write, granted_for, granted, asks_renewal, granted_in_pause, lease_used, uses_lease}
+use Rattle.agent_model.specs.Decisions.{confirming, is_decision, is_sync_decision, is_lease_of, is_write_of, belongs, is_start_too_long, takes_over, unleased_renewed, cannot_arm, granted_late, judges_start, lease_heard, may_create, may_take, gives_back, arms, takes_key, lease_granted, accepted_grant, sync_granted, accepted_sync, granted_write, granted_for, granted, asks_renewal, granted_in_pause, lease_used, uses_lease}
 use Rattle.agent_model.specs.HandingOver.{duties}
-use Rattle.agent_model.specs.Outputs.{with_output}
 use Rattle.agent_model.specs.Planning.{leader_view, naming, noting, planned_as, planned_on, settled}
 use Rattle.agent_roles.specs.Powers.{IsAwaitedLease}
 use Rattle.agent_model.specs.Synchronous.{waiting_for}
 use Rattle.agent_roles.proofs.Granting.{Told, both-true}
 use Rattle.agent_roles.proofs.Living.{no-way}
-use Rattle.agent_model.proofs.Rows.{FailoverRows, led_on, if-cases, duties-by}
+use Rattle.agent_model.proofs.Rows.{FailoverRows, kept_on, led_on, if-cases, duties-by, takes-late-by}
 use Rattle.agent_model.specs.Pausing.{is_paused, is_wanted_by}
 
 -- the standbys that a leader wants by a snapshot, and those that have confirmed the noted position
@@ -96,22 +93,27 @@ planned-on-by P now revision snapshot o on rows = let view : LeaderView = leader
     if-cases (λ (plan : Plan). P (planned_as now revision plan o)) (config_in snapshot).synchronous_mode (plan_on view snapshot (sync_in snapshot)) (plan_off (sync_in snapshot))
     (λ _. plan-on-by P now revision snapshot o (sync_in snapshot) refl rows) (λ off. absurd (no-way (sym off ∙ on.synchronous)))
 
--- what each role does with a lease
+-- a leader under a lease that was just granted
+pub record LedSteps (P : Outcome → Type 0) (now : Ticks) (revision : ℕ) (snapshot : SnapshotFacts) (led : Outcome) : Type 0 where
+  pub ends : P (record (ending_server now StartTooLong led) { role = Ending revision HandOver })
+  pub plans : PlanSteps P now revision snapshot led
+  pub fails_over : FailoverRows P now revision led
+
+-- what each role does with a lease, heard of in time or too late
 pub record LeaseSteps (P : Outcome → Type 0) (now ttl : Ticks) (revision : ℕ) (snapshot : SnapshotFacts) (o : Outcome) : Type 0 where
   pub other : P (Told snapshot o)
-  pub ends : P (record (ending_server now StartTooLong (led_on now ttl revision (Told snapshot o))) { role = Ending revision HandOver })
-  pub plans : (held : ℕ) → o.role ≡ Leader held → PlanSteps P now revision snapshot (led_on now ttl revision (Told snapshot o))
-  pub fails_over : (held : ℕ) → o.role ≡ Leader held → FailoverRows P now revision (led_on now ttl revision (Told snapshot o))
+  pub leads : (held : ℕ) → o.role ≡ Leader held → LedSteps P now revision snapshot (led_on now ttl revision (Told snapshot o))
+  pub keeps : (held : ℕ) → o.role ≡ Leader held → LedSteps P now revision snapshot (kept_on revision (Told snapshot o))
   pub stops : o.role ≡ Unleased → P (ending_server now WatchdogNotArmed (Told snapshot o))
   pub takes_over : o.role ≡ Unleased → P (takes_over now revision (arming now ttl (Told snapshot o)))
   pub returns : P (gives_back revision (Told snapshot o))
-  pub refuses : P (gives_back revision (record (Told snapshot o) { outputs = with_output (outputs.Note agent_notes.CannotArm) o.outputs }))
+  pub refuses : P (cannot_arm revision (Told snapshot o))
   pub claims : may_create o.role ≡ true → P (claims now revision (passing (arming now ttl (Told snapshot o))))
 
-renewed-steps : (P : Outcome → Type 0) (now ttl : Ticks) (revision : ℕ) (snapshot : SnapshotFacts) (o : Outcome) (held : ℕ) → o.role ≡ Leader held → IsSynchronousSnapshot snapshot → LeaseSteps P now ttl revision snapshot o → P (leader_renewed now ttl revision (Told snapshot o))
-renewed-steps P now ttl revision snapshot o held is on rows = let led : Outcome = led_on now ttl revision (Told snapshot o) in
+started-steps : (P : Outcome → Type 0) (now : Ticks) (revision : ℕ) (snapshot : SnapshotFacts) (led : Outcome) → led.knows.seen ≡ Some snapshot → IsSynchronousSnapshot snapshot → LedSteps P now revision snapshot led → P (judges_start now revision led)
+started-steps P now revision snapshot led seen on rows =
     if-cases P (is_start_too_long now led.knows led.machine.server.state) (record (ending_server now StartTooLong led) { role = Ending revision HandOver }) (duties now revision led)
-    (λ _. rows.ends) (λ _. duties-by P now revision led (planned-on-by P now revision snapshot led on (rows.plans held is)) (rows.fails_over held is))
+    (λ _. rows.ends) (λ _. duties-by P now revision led (subst (λ (read : Option SnapshotFacts). P (planned_on now revision read led)) (sym seen) (planned-on-by P now revision snapshot led on rows.plans)) rows.fails_over)
 
 unleased-steps : (P : Outcome → Type 0) (now ttl : Ticks) (revision : ℕ) (snapshot : SnapshotFacts) (o : Outcome) → o.role ≡ Unleased → LeaseSteps P now ttl revision snapshot o → P (unleased_renewed now ttl revision (Told snapshot o))
 unleased-steps P now ttl revision snapshot o is rows =
@@ -120,19 +122,31 @@ unleased-steps P now ttl revision snapshot o is rows =
 
 takes-steps : (P : Outcome → Type 0) (now ttl : Ticks) (revision : ℕ) (snapshot : SnapshotFacts) (o : Outcome) → may_create o.role ≡ true → o.knows.turn_settings.synchronous_mode ≡ true → LeaseSteps P now ttl revision snapshot o → P (takes_key now ttl revision (Told snapshot o))
 takes-steps P now ttl revision snapshot o creates mode rows = let told : Outcome = Told snapshot o in let arm : Outcome = arming now ttl told in
-    let refuses : Outcome = gives_back revision (record told { outputs = with_output (outputs.Note agent_notes.CannotArm) o.outputs }) in
     if-cases P (may_take now told.knows o.machine) (arms now ttl revision told) (gives_back revision told)
-    (λ _. if-cases P (is_refusing o.machine.watchdog.mode o.machine.watchdog.works) refuses (begins_or_claims now revision arm) (λ _. rows.refuses)
+    (λ _. if-cases P (is_refusing o.machine.watchdog.mode o.machine.watchdog.works) (cannot_arm revision told) (begins_or_claims now revision arm) (λ _. rows.refuses)
     (λ _. if-cases P o.knows.turn_settings.synchronous_mode (claims now revision (passing arm)) (begins now revision arm) (λ _. rows.claims creates) (λ off. absurd (no-way (sym off ∙ mode)))))
     (λ _. rows.returns)
 
 lease-steps : (P : Outcome → Type 0) (now ttl : Ticks) (revision : ℕ) (snapshot : SnapshotFacts) (role : RoleFacts) (o : Outcome) → o.role ≡ role → IsSynchronousSnapshot snapshot → o.knows.turn_settings.synchronous_mode ≡ true → LeaseSteps P now ttl revision snapshot o → P (lease_granted now ttl revision role (Told snapshot o))
-lease-steps P now ttl revision snapshot (Leader held) o is on mode rows = renewed-steps P now ttl revision snapshot o held is on rows
+lease-steps P now ttl revision snapshot (Leader held) o is on mode rows = started-steps P now revision snapshot (led_on now ttl revision (Told snapshot o)) refl on (rows.leads held is)
 lease-steps P now ttl revision snapshot Unleased o is on mode rows = unleased-steps P now ttl revision snapshot o is rows
 lease-steps P now ttl revision snapshot Follower o is on mode rows = takes-steps P now ttl revision snapshot o (rw is refl) mode rows
 lease-steps P now ttl revision snapshot (Holder held) o is on mode rows = takes-steps P now ttl revision snapshot o (rw is refl) mode rows
 lease-steps P now ttl revision snapshot (Ready held) o is on mode rows = rows.other
 lease-steps P now ttl revision snapshot (Ending held why) o is on mode rows = rows.other
+
+late-steps : (P : Outcome → Type 0) (now ttl : Ticks) (revision : ℕ) (snapshot : SnapshotFacts) (role : RoleFacts) (o : Outcome) → o.role ≡ role → IsSynchronousSnapshot snapshot → LeaseSteps P now ttl revision snapshot o → P (granted_late now revision role (Told snapshot o))
+late-steps P now ttl revision snapshot (Leader held) o is on rows = started-steps P now revision snapshot (kept_on revision (Told snapshot o)) refl on (rows.keeps held is)
+late-steps P now ttl revision snapshot Unleased o is on rows = rows.stops is
+late-steps P now ttl revision snapshot Follower o is on rows = takes-late-by P now revision (Told snapshot o) rows.refuses rows.returns
+late-steps P now ttl revision snapshot (Holder held) o is on rows = takes-late-by P now revision (Told snapshot o) rows.refuses rows.returns
+late-steps P now ttl revision snapshot (Ready held) o is on rows = rows.other
+late-steps P now ttl revision snapshot (Ending held why) o is on rows = rows.other
+
+heard-steps : (P : Outcome → Type 0) (now : Ticks) (waited : PendingQuestion) (revision : ℕ) (snapshot : SnapshotFacts) (o : Outcome) → IsSynchronousSnapshot snapshot → o.knows.turn_settings.synchronous_mode ≡ true → LeaseSteps P now waited.ttl revision snapshot o → P (lease_heard now waited revision (Told snapshot o))
+heard-steps P now waited revision snapshot o on mode rows =
+    if-cases P (comes_late now waited o.machine) (granted_late now revision o.role (Told snapshot o)) (lease_granted now waited.ttl revision o.role (Told snapshot o))
+    (λ _. late-steps P now waited.ttl revision snapshot o.role o refl on rows) (λ _. lease-steps P now waited.ttl revision snapshot o.role o refl on mode rows)
 
 -- what a granted write of the sync key comes to, by its question
 pub record WriteSteps (P : Outcome → Type 0) (now : Ticks) (question : Question) (snapshot : SnapshotFacts) (o : Outcome) : Type 0 where
@@ -187,9 +201,9 @@ granted-for-steps P now sequence grant snapshot (Some waited) o is on rows =
     (λ decides. let parts : (is_decision waited sequence ≡ true) × (is_lease_of o.knows.who.me grant ≡ true) = both-true (is_decision waited sequence) (is_lease_of o.knows.who.me grant) decides in
     let awaited : IsAwaitedLease sequence grant o.knows = record { waited = waited; is = is; decision = parts.0; mine = parts.1 } in
     if-cases P (uses_lease (is_paused (Told snapshot o).knows) waited.question o.role) (confirming snapshot (lease_used now waited grant.revision (Told snapshot o))) (waiting_no_more o)
-    (λ _. rows.confirms (lease_used now waited grant.revision (Told snapshot o)) (if-cases P (is_paused (Told snapshot o).knows) (granted_in_pause now (asks_renewal waited.question) grant.revision o.role (Told snapshot o)) (lease_granted now waited.ttl grant.revision o.role (Told snapshot o))
+    (λ _. rows.confirms (lease_used now waited grant.revision (Told snapshot o)) (if-cases P (is_paused (Told snapshot o).knows) (granted_in_pause now (asks_renewal waited.question) grant.revision o.role (Told snapshot o)) (lease_heard now waited grant.revision (Told snapshot o))
     (λ paused. absurd (no-way (sym rows.unpaused ∙ paused)))
-    (λ _. lease-steps P now waited.ttl grant.revision snapshot o.role o refl on (rows.mode awaited) (rows.leases awaited)))) (λ _. rows.quiet))
+    (λ _. heard-steps P now waited grant.revision snapshot o on (rows.mode awaited) (rows.leases awaited)))) (λ _. rows.quiet))
     (λ _. if-cases P (is_sync_decision waited sequence && is_write_of o.knows.who.me grant) (accepted_sync now waited snapshot o) o
     (λ decides. let parts : (is_sync_decision waited sequence ≡ true) × (is_write_of o.knows.who.me grant ≡ true) = both-true (is_sync_decision waited sequence) (is_write_of o.knows.who.me grant) decides in
     let awaited : IsAwaitedWrite sequence grant o.knows = record { waited = waited; is = is; decision = parts.0; mine = parts.1 } in

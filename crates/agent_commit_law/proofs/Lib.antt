@@ -1,5 +1,6 @@
 pub mod CommitTools
 pub mod CommitGrowing
+pub mod CommitLeaders
 pub mod CommitQuiet
 pub mod CommitShown
 pub mod CommitIdling

@@ -4,7 +4,7 @@ ghost use Rattle.agent_model.specs.Agents.{Follower, IsWithin, Leader, Unleased}
 ghost use Rattle.agent_turn.specs.Turns.{HasLeft, Spent, reached};
 ghost use Rattle.leader_key.specs.Watchdog.{IsLeaseSpan};
 ghost use Rattle.pat_base.specs.declared.member_id.TheConstants.{MOST_MEMBERS};
-ghost use Rattle.agent_model.specs.Decisions.{can_begin, granted_in_pause, has_lasted, is_start_too_long, judges_start, leader_renewed, may_start_again, may_take, since_crash, unleased_renewed, takes_key, takes_key_in_pause};
+ghost use Rattle.agent_model.specs.Decisions.{can_begin, cannot_arm, granted_in_pause, has_lasted, is_start_too_long, judges_start, leader_kept, leader_renewed, may_start_again, may_take, since_crash, unleased_renewed, unleased_unarmed, takes_key, takes_key_in_pause, takes_late};
 ghost use Rattle.leader_key.specs.Lease.{lease_revision, writer_revision};
 ghost use Rattle.agent_model.specs.Answers.{most_grant_outputs};
 ghost use Rattle.agent_turn.specs.Roles.{role_of};
@@ -30,6 +30,17 @@ pub fn leader_renewed(writer: Writer, turn: &mut Turn, ttl: Ticks, grant: Grante
 {
     let writer = turn.feed(writer, ttl, grant);
     judge_start(writer, turn)
+}
+
+/// The lease of a leader is renewed, and it hears that too late: its watchdog keeps its deadline.
+pub fn leader_kept(writer: Writer, turn: &mut Turn, grant: Granted) -> Role
+    requires turn { HasLeft MOST_MEMBERS 1 turn.old }
+    requires leased { grant.leased ≡ true }
+    requires server { IsWithin turn.old.machine.now.server }
+    ensures outcome { reached (role_of result) turn.new ≡ leader_kept turn.old.moment grant.revision (reached (Leader (writer_revision writer)) turn.old) }
+    ensures left { Spent MOST_MEMBERS 1 turn.old turn.new }
+{
+    judge_start(writer.kept(grant), turn)
 }
 
 /// Where the start of a primary takes longer than it may, another member is to lead; else the leader does what it owes its
@@ -85,12 +96,20 @@ pub fn unleased_renewed(lease: Lease, turn: &mut Turn, ttl: Ticks) -> Role
             turn.knows.noted = turn.machine.server.end;
             Role::Leader(Writer::begin(armed))
         }
-        Err(lease) => {
-            turn.end_server(Reason::WatchdogNotArmed);
-            lease.lost();
-            Role::Unleased
-        }
+        Err(lease) => unleased_unarmed(lease, turn),
     }
+}
+
+/// An agent whose server is live without a lease can't arm its watchdog on the one that it gets: it ends the server.
+pub fn unleased_unarmed(lease: Lease, turn: &mut Turn) -> Role
+    requires turn { HasLeft 1 0 turn.old }
+    requires server { IsWithin turn.old.machine.now.server }
+    ensures outcome { reached (role_of result) turn.new ≡ unleased_unarmed turn.old.moment (reached Unleased turn.old) }
+    ensures left { Spent 1 0 turn.old turn.new }
+{
+    turn.end_server(Reason::WatchdogNotArmed);
+    lease.lost();
+    Role::Unleased
 }
 
 /// An agent that isn't leading gets a lease.
@@ -107,12 +126,32 @@ pub fn take_key(lease: Lease, turn: &mut Turn, ttl: Ticks) -> Role
     }
     match turn.arm(lease, ttl) {
         Ok(armed) => begin_or_claim(armed, turn),
-        Err(lease) => {
-            turn.out.put(Output::Note(AgentNote::CannotArm));
-            turn.release(lease);
-            Role::Follower
-        }
+        Err(lease) => cannot_arm(lease, turn),
     }
+}
+
+/// Nobody begins whose watchdog can't be armed: the lease is given back.
+fn cannot_arm(lease: Lease, turn: &mut Turn) -> Role
+    requires { HasLeft 2 1 turn.old }
+    ensures outcome { reached (role_of result) turn.new ≡ cannot_arm (lease_revision lease) (reached Follower turn.old) }
+    ensures left { Spent 2 1 turn.old turn.new }
+{
+    turn.out.put(Output::Note(AgentNote::CannotArm));
+    turn.release(lease);
+    Role::Follower
+}
+
+/// An agent that isn't leading gets a lease, and hears of it too late.
+pub fn take_late(lease: Lease, turn: &mut Turn) -> Role
+    requires { HasLeft 2 1 turn.old }
+    ensures outcome { reached (role_of result) turn.new ≡ takes_late turn.old.moment (lease_revision lease) (reached Follower turn.old) }
+    ensures left { Spent 2 1 turn.old turn.new }
+{
+    if may_take(turn.moment, turn.knows, turn.machine) {
+        return cannot_arm(lease, turn);
+    }
+    turn.release(lease);
+    Role::Follower
 }
 
 /// The lease of a leader is renewed in a pause: its watchdog rests, and its start may last as long as it does.

@@ -10,8 +10,8 @@ mod staying;
 pub use claiming::{claim_fails, claim_granted};
 pub use handing_over::{hear_successor, judge_if_leading};
 pub use leading::{
-    leader_renewed, leader_renewed_in_pause, take_key, take_key_in_pause, unleased_renewed,
-    unleased_renewed_in_pause,
+    leader_kept, leader_renewed, leader_renewed_in_pause, take_key, take_key_in_pause, take_late,
+    unleased_renewed, unleased_renewed_in_pause, unleased_unarmed,
 };
 pub use planning::settle;
 pub use staying::{failsafe_answered, leader_unanswered, unacknowledged};

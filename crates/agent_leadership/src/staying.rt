@@ -6,11 +6,13 @@ ghost use Rattle.leader_key.specs.Watchdog.{IsLeaseSpan};
 ghost use Rattle.agent_turn.specs.Turns.{ComesTo, HasLeft, Spent, reached};
 ghost use Rattle.agent_turn.specs.Roles.{role_of};
 ghost use Rattle.agent_model.specs.Agents.{IsWithin, Leader};
-ghost use Rattle.agent_model.specs.StayingPrimary.{accepted_failsafe, acknowledged_to, asking_to_stay, awaits_failsafe, failsafe_answered, fed_by_failsafe, is_staying, may_stay, others_known, requesting_all, requesting_one, seeks_to_stay, stays, unacknowledged};
+ghost use Rattle.agent_model.specs.StayingPrimary.{accepted_failsafe, acknowledged_to, asking_to_stay, awaits_failsafe, failsafe_answered, fed_by_failsafe, is_staying, may_stay, others_known, requesting_all, requesting_one, seeks_to_stay, stays, stays_by, unacknowledged};
 ghost use Rattle.agent_model.specs.Wake.{leader_unanswered};
 
 use agent_model::{Knowledge, Output, PendingQuestion, Question, Target};
-use agent_turn::{Outputs, Role, Turn, answers_until, deadline_of, is_armable, is_paused};
+use agent_turn::{
+    Outputs, Role, Turn, answers_until, comes_late, deadline_of, is_armable, is_paused,
+};
 use event_book::{Body, Reason};
 use failsafe::{Ask, without_member};
 use leader_key::Writer;
@@ -256,6 +258,19 @@ fn acknowledge(
 {
     turn.knows.failsafe.heard(from, true, sent);
     if let Some(since) = turn.knows.failsafe.all() {
-        stay(writer, turn, waited.ttl, waited.sequence, since);
+        stay_by(waited, writer, turn, since);
     }
+}
+
+/// All acknowledged, the first of them at this moment: the leader stays primary, unless the last answer comes too late outside a pause.
+fn stay_by(waited: PendingQuestion, writer: &Writer, turn: &mut Turn, since: Ticks)
+    requires turn { HasLeft 2 0 turn.old }
+    requires span { IsLeaseSpan waited.ttl.0 }
+    ensures outcome { ComesTo (stays_by turn.old.moment waited since) turn.old turn.new }
+    ensures left { Spent 2 0 turn.old turn.new }
+{
+    if !is_paused(turn.knows) && comes_late(turn.moment, waited, turn.machine) {
+        return turn.wait_no_more();
+    }
+    stay(writer, turn, waited.ttl, waited.sequence, since);
 }

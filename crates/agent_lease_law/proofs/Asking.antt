@@ -28,7 +28,7 @@ use Rattle.agent_lease_law.specs.Asking.{IsNumbered, IsAskedNow, AsksAsWaited, S
 use Rattle.agent_model.specs.Reconciling.{reconciled}
 use Rattle.agent_model.specs.Claiming.{begins, claims, begins_or_claims, passing, postpones}
 use Rattle.agent_model.specs.StayingPrimary.{answering_failsafe, asking_to_stay, counting, holding_for, is_staying, leader_unacknowledged, others_known, stays, stays_alone}
-use Rattle.agent_model.specs.Decisions.{asks_lease, confirming, leader_renewed, takes_over, unleased_renewed, may_take, gives_back, arms, takes_key, granted, refused}
+use Rattle.agent_model.specs.Decisions.{asks_lease, cannot_arm, confirming, leader_kept, leader_renewed, takes_over, unleased_renewed, may_take, gives_back, arms, takes_key, granted, refused}
 use Rattle.agent_model.specs.Planning.{writing_sync, noting}
 use Rattle.agent_model.specs.Outputs.{with_output}
 use Rattle.agent_model.specs.Repairs.{repair_of}
@@ -44,7 +44,7 @@ use Rattle.agent_roles.proofs.Granting.{Told}
 use Rattle.agent_roles.proofs.Knowing.{IsAlone, alone-of, before-onward, given-up-onward}
 use Rattle.agent_roles.proofs.Staying.{before-waits}
 use Rattle.agent_roles.proofs.Living.{no-way}
-use Rattle.agent_model.proofs.Rows.{led_on, if-cases, renewed-by, begins-or-claims-by, overdue-by, turn-by, wake-by, got-by, refused-by, follow-by, repaired-by, free-by, granted-by, judged-by, answered-by, failsafe-asked-by, failsafe-answered-by, HandoverRows, ReplyRows, dropping, granted-any-by, refused-any-by, given-up-by, looked-by, operated-by, DutyRows, duties-of, leading_in_pause, takes-in-pause-by}
+use Rattle.agent_model.proofs.Rows.{kept_on, led_on, if-cases, judges-start-by, renewed-by, begins-or-claims-by, overdue-by, turn-by, wake-by, got-by, refused-by, follow-by, repaired-by, free-by, granted-by, judged-by, answered-by, failsafe-asked-by, failsafe-answered-by, HandoverRows, ReplyRows, dropping, granted-any-by, refused-any-by, given-up-by, looked-by, operated-by, DutyRows, duties-of, leading_in_pause, takes-in-pause-by}
 use Rattle.store_keys.specs.declared.action.OperatorRequest.TheVariants as requests
 use Rattle.store_keys.specs.declared.config_value.ConfigValue.{ConfigValue}
 use Rattle.store_keys.specs.declared.txn.Txn.TheVariants as txns
@@ -236,12 +236,16 @@ renewed-holds : (now ttl : Ticks) (revision : ℕ) (o b : Outcome) → b.knows.w
 renewed-holds now ttl revision o b none = let led : Outcome = led_on now ttl revision b in
     renewed-by (Holds now o) now ttl revision b (nothing now o (record (ending_server now StartTooLong led) { role = Ending revision HandOver }) none) (duty-holds now revision o led none)
 
+kept-holds : (now : Ticks) (revision : ℕ) (o b : Outcome) → b.knows.waited ≡ None → Holds now o (leader_kept now revision b)
+kept-holds now revision o b none = let led : Outcome = kept_on revision b in
+    judges-start-by (Holds now o) now revision led (nothing now o (record (ending_server now StartTooLong led) { role = Ending revision HandOver }) none) (duty-holds now revision o led none)
+
 unleased-holds : (now ttl : Ticks) (revision : ℕ) (o b : Outcome) → b.knows.waited ≡ None → Holds now o (unleased_renewed now ttl revision b)
 unleased-holds now ttl revision o b none = let ended : Outcome = ending_server now WatchdogNotArmed b in let over : Outcome = takes_over now revision (arming now ttl b) in
     if-cases (Holds now o) (is_refusing b.machine.watchdog.mode b.machine.watchdog.works) ended over (λ _. nothing now o ended none) (λ _. nothing now o over none)
 
 takes-holds : (now ttl : Ticks) (revision : ℕ) (o b : Outcome) → b.knows.waited ≡ None → Holds now o (takes_key now ttl revision b)
-takes-holds now ttl revision o b none = let back : Outcome = gives_back revision (record b { outputs = with_output (outputs.Note agent_notes.CannotArm) b.outputs }) in let arm : Outcome = arming now ttl b in
+takes-holds now ttl revision o b none = let back : Outcome = cannot_arm revision b in let arm : Outcome = arming now ttl b in
     if-cases (Holds now o) (may_take now b.knows b.machine) (arms now ttl revision b) (gives_back revision b)
     (λ _. if-cases (Holds now o) (is_refusing b.machine.watchdog.mode b.machine.watchdog.works) back (begins_or_claims now revision arm) (λ _. nothing now o back none)
     (λ _. begins-or-claims-by (Holds now o) now revision arm (nothing now o (begins now revision arm) none) (only-reads now o (claims now revision (passing arm)) _ refl refl)))
@@ -254,6 +258,10 @@ granted-holds now sequence grant snapshot o b same = granted-by (Holds now o) no
       leader = λ held _. renewed-holds now waited.ttl grant.revision o (Told snapshot b) refl;
       unleased = λ _. unleased-holds now waited.ttl grant.revision o (Told snapshot b) refl;
       takes = λ _. takes-holds now waited.ttl grant.revision o (Told snapshot b) refl;
+      keeps_late = λ held _. kept-holds now grant.revision o (Told snapshot b) refl;
+      ends_late = λ _. nothing now o (ending_server now WatchdogNotArmed (Told snapshot b)) refl;
+      refuses_late = λ _. nothing now o (cannot_arm grant.revision (Told snapshot b)) refl;
+      returns_late = λ _. nothing now o (gives_back grant.revision (Told snapshot b)) refl;
       leads_in_pause = λ renews _ held _. let led : Outcome = leading_in_pause renews grant.revision (Told snapshot b) in duties-of (Holds now o) now grant.revision led (duty-holds now grant.revision o led refl);
       unleased_in_pause = λ renews _ _. nothing now o (takes_over now grant.revision (disabling_watchdog renews (Told snapshot b))) refl;
       takes_in_pause = λ renews _ _. let rest : Outcome = disabling_watchdog renews (Told snapshot b) in
@@ -296,7 +304,8 @@ step-holds now points (FailsafeAnswered from sequence accepted sent) o alone sil
       kept = as-before now o b (before-waits now o);
       quiet = nothing now o (waiting_no_more b) refl;
       counts = λ held _. as-before now o (counting from sent b) (before-waits now o);
-      stays = λ held _ waited _ _ since _. nothing now o (stays now waited.ttl waited.sequence since (counting from sent b)) refl;
+      counts_late = λ held _ _. nothing now o (waiting_no_more (counting from sent b)) refl;
+      stays = λ held _ waited _ _ since _ _. nothing now o (stays now waited.ttl waited.sequence since (counting from sent b)) refl;
       fails = λ held _ _. nothing now o (leader_unacknowledged now held (waiting_no_more b)) refl;
     })
 step-holds now points (Answered sequence answer) o alone silent = answered-holds now sequence answer o (reconciled now o) (before-onward None now o).last (before-waits now o) (before-fronts now o alone silent)

@@ -32,10 +32,10 @@ use Rattle.agent_model.specs.declared.knowledge.PendingQuestion.{PendingQuestion
 use Rattle.agent_model.specs.declared.who.Who.{Who}
 use Rattle.agent_model.specs.declared.why.Why.{Why}
 use Rattle.agent_model.specs.declared.why.Why.TheVariants.{HandOver, Lost}
-use Rattle.agent_model.specs.Acting.{arming, ending_server, is_refusing, requiring, touching, waiting_no_more}
+use Rattle.agent_model.specs.Acting.{arming, comes_late, ending_server, is_refusing, requiring, touching, waiting_no_more}
 use Rattle.agent_model.specs.Agents.{RoleFacts, Follower, Holder, Ready, Leader, Ending, Unleased, Outcome, is_leader}
 use Rattle.agent_model.specs.Claiming.{begins, begins_or_claims, claims, may_begin_on_claim, passing, postpones}
-use Rattle.agent_model.specs.Decisions.{accepted_grant, accepted_sync, belongs, is_sync_decision, is_write_of, sync_granted, asks_renewal, confirming, gives_back, granted, granted_for, granted_in_pause, granted_write, is_decision, is_lease_of, lease_granted, lease_used, may_take, arms, takes_key, takes_over, uses_lease}
+use Rattle.agent_model.specs.Decisions.{accepted_grant, accepted_sync, belongs, is_sync_decision, is_write_of, sync_granted, asks_renewal, cannot_arm, confirming, gives_back, granted, granted_for, granted_in_pause, granted_late, granted_write, is_decision, is_lease_of, lease_granted, lease_heard, lease_used, may_take, arms, takes_key, takes_over, uses_lease}
 use Rattle.agent_model.specs.FailsafeKeys.{failsafe_read_by, failsafe_read_of_entry}
 use Rattle.agent_model.specs.HandingOver.{checking, hands_over}
 use Rattle.agent_model.specs.Operators.{answering, given_up, learned, looked, operated}
@@ -48,19 +48,16 @@ use Rattle.agent_model.specs.declared.knowledge.Settling.{Settling}
 use Rattle.agent_model.specs.declared.knowledge.Settling.TheVariants.{KeepsList, NamesStandbys, ClearsList}
 use Rattle.agent_model.specs.declared.knowledge.Question.{Question}
 use Rattle.agent_model.specs.declared.knowledge.Question.TheVariants.{Reading, ComparingPositions, Creating, Renewing, Claiming, Syncing, FindingCandidate, StayingPrimary}
-use Rattle.agent_model.specs.declared.output.Output.TheVariants as outputs
-use Rattle.agent_model.specs.Outputs.{with_output}
-use Rattle.event_book.specs.declared.agent_note.AgentNote.TheVariants as agent_notes
 use Rattle.std.proofs.lemmas.Bool.Decides.{nat_tests}
 use Rattle.agent_model.specs.Racing.{asking_others, bar_of, barred, creating, finds_free, judged, unheard}
 use Rattle.agent_model.specs.Reconciling.{has_ended, reconciled}
 use Rattle.agent_model.specs.Repairs.{repair_of}
 use Rattle.agent_model.specs.Snapshots.{asks_as_unleased, follow_row, follows, informed, leader_loses_key, led_by_another, read_answered, read_noted, renewing, unleased_loses_key}
-use Rattle.agent_model.specs.StayingPrimary.{accepted_failsafe, asking_to_stay, awaits_failsafe, counting, failsafe_answered, failsafe_answered_for, failsafe_asked, is_staying, leader_unacknowledged, others_known, stays_alone, stays_if, unacknowledged, unacknowledged_as}
+use Rattle.agent_model.specs.StayingPrimary.{accepted_failsafe, asking_to_stay, awaits_failsafe, counting, failsafe_answered, failsafe_answered_for, failsafe_asked, is_staying, leader_unacknowledged, others_known, stays, stays_alone, stays_if, unacknowledged, unacknowledged_as}
 use Rattle.agent_model.specs.Table.{granted_any, refused_any, step}
 use Rattle.agent_model.specs.Views.{view_of}
 use Rattle.agent_model.specs.Wake.{leader_out_of_reach, overdue, reading, turn_noted, turned, unleased_out_of_reach, woken}
-use Rattle.agent_model.proofs.Rows.{HandoverRows, ReplyRows, DutyRows, GrantWhen, dropping, looked-by, given-up-by, granted-any-by, refused-any-by, operated-by, led_on, if-cases, renewed-by, begins-or-claims-by, before-by, overdue-when, turn-by, wake-by, got-by, refused-by, follow-by, repaired-by, judged-by, answered-when, failsafe-asked-by, duties-of, leading_in_pause, takes-in-pause-by}
+use Rattle.agent_model.proofs.Rows.{HandoverRows, ReplyRows, DutyRows, GrantWhen, dropping, looked-by, given-up-by, granted-any-by, refused-any-by, operated-by, kept_on, led_on, if-cases, judges-start-by, renewed-by, takes-late-by, begins-or-claims-by, before-by, overdue-when, turn-by, wake-by, got-by, refused-by, follow-by, repaired-by, judged-by, answered-when, failsafe-asked-by, duties-of, leading_in_pause, takes-in-pause-by}
 use Rattle.agent_roles.proofs.Granting.{Told, both-true}
 use Rattle.agent_roles.proofs.Knowing.{given-up-onward}
 use Rattle.agent_roles.proofs.Living.{no-way}
@@ -361,7 +358,7 @@ duty-goes mode now revision o led both = let onto : (x : Outcome) → Goes mode 
     }
 
 takes-goes : (mode : Bool) (now ttl : Ticks) (revision : ℕ) (o : Outcome) → Both mode o (takes_key now ttl revision o)
-takes-goes mode now ttl revision o = let back : Outcome = gives_back revision (record o { outputs = with_output (outputs.Note agent_notes.CannotArm) o.outputs }) in let arm : Outcome = arming now ttl o in
+takes-goes mode now ttl revision o = let back : Outcome = cannot_arm revision o in let arm : Outcome = arming now ttl o in
     if-cases (Both mode o) (may_take now o.knows o.machine) (arms now ttl revision o) (gives_back revision o)
     (λ _. if-cases (Both mode o) (is_refusing o.machine.watchdog.mode o.machine.watchdog.works) back (begins_or_claims now revision arm) (λ _. kept back (goes-on mode o _ refl refl refl) refl)
     (λ _. begins-or-claims-by (Both mode o) now revision arm (kept (begins now revision arm) (goes-on mode o _ refl refl refl) refl) (kept (claims now revision (passing arm)) (asks-else mode o _ _ refl refl refl refl) refl)))
@@ -371,13 +368,18 @@ takes-goes mode now ttl revision o = let back : Outcome = gives_back revision (r
     kept x goes informed = record { goes = goes; informed = informed }
 
 -- what a lease brings that is used
-lease-rows : (mode : Bool) (now ttl : Ticks) (revision : ℕ) (o : Outcome) → GrantWhen (Both mode o) now ttl revision o
-lease-rows mode now ttl revision o = record {
+lease-rows : (mode : Bool) (now : Ticks) (waited : PendingQuestion) (revision : ℕ) (o : Outcome) → GrantWhen (Both mode o) now waited revision o
+lease-rows mode now waited revision o = record {
   other = kept o (same-goes mode o) refl;
-  leader = λ held _ _. let led : Outcome = led_on now ttl revision o in
-      renewed-by (Both mode o) now ttl revision o (kept _ (goes-on mode o _ refl refl refl) refl) (duty-goes mode now revision o led (kept led (goes-on mode o led refl refl refl) refl));
-  unleased = λ _ _. if-cases (Both mode o) (is_refusing o.machine.watchdog.mode o.machine.watchdog.works) (ending_server now WatchdogNotArmed o) (takes_over now revision (arming now ttl o)) (λ _. kept _ (goes-on mode o _ refl refl refl) refl) (λ _. kept _ (goes-on mode o _ refl refl refl) refl);
-  takes = λ _ _. takes-goes mode now ttl revision o;
+  leader = λ held _ _ _. let led : Outcome = led_on now waited.ttl revision o in
+      renewed-by (Both mode o) now waited.ttl revision o (kept _ (goes-on mode o _ refl refl refl) refl) (duty-goes mode now revision o led (kept led (goes-on mode o led refl refl refl) refl));
+  keeps_late = λ held _ _ _. let led : Outcome = kept_on revision o in
+      judges-start-by (Both mode o) now revision led (kept _ (goes-on mode o _ refl refl refl) refl) (duty-goes mode now revision o led (kept led (goes-on mode o led refl refl refl) refl));
+  ends_late = λ _ _. kept _ (goes-on mode o _ refl refl refl) refl;
+  refuses_late = λ _ _. kept _ (goes-on mode o _ refl refl refl) refl;
+  returns_late = λ _ _. kept _ (goes-on mode o _ refl refl refl) refl;
+  unleased = λ _ _ _. if-cases (Both mode o) (is_refusing o.machine.watchdog.mode o.machine.watchdog.works) (ending_server now WatchdogNotArmed o) (takes_over now revision (arming now waited.ttl o)) (λ _. kept _ (goes-on mode o _ refl refl refl) refl) (λ _. kept _ (goes-on mode o _ refl refl refl) refl);
+  takes = λ _ _ _. takes-goes mode now waited.ttl revision o;
   leads_in_pause = λ renews _ held _. let led : Outcome = leading_in_pause renews revision o in duties-of (Both mode o) now revision led (duty-goes mode now revision o led (kept led (goes-on mode o led refl refl refl) refl));
   unleased_in_pause = λ renews _ _. kept _ (goes-on mode o _ refl refl refl) refl;
   takes_in_pause = λ renews _ _. takes-in-pause-by (Both mode o) now renews revision o (kept _ (goes-on mode o _ refl refl refl) refl) (kept _ (goes-on mode o _ refl refl refl) refl) (kept _ (asks-else mode o _ _ refl refl refl refl) refl);
@@ -386,21 +388,31 @@ lease-rows mode now ttl revision o = record {
     kept : (x : Outcome) → Goes mode o x → x.knows.informed ≡ o.knows.informed → Both mode o x
     kept x goes informed = record { goes = goes; informed = informed }
 
-used-in-pause : (mode : Bool) (now ttl : Ticks) (renews : Bool) (revision : ℕ) (role : RoleFacts) (o : Outcome) → o.role ≡ role → is_paused o.knows ≡ true → Both mode o (granted_in_pause now renews revision role o)
-used-in-pause mode now ttl renews revision (Leader held) o is paused = (lease-rows mode now ttl revision o).leads_in_pause renews paused held is
-used-in-pause mode now ttl renews revision Unleased o is paused = (lease-rows mode now ttl revision o).unleased_in_pause renews paused is
-used-in-pause mode now ttl renews revision Follower o is paused = (lease-rows mode now ttl revision o).takes_in_pause renews paused (rw is refl)
-used-in-pause mode now ttl renews revision (Holder held) o is paused = (lease-rows mode now ttl revision o).takes_in_pause renews paused (rw is refl)
-used-in-pause mode now ttl renews revision (Ready held) o is paused = (lease-rows mode now ttl revision o).other
-used-in-pause mode now ttl renews revision (Ending held why) o is paused = (lease-rows mode now ttl revision o).other
+used-in-pause : (mode : Bool) (now : Ticks) (waited : PendingQuestion) (renews : Bool) (revision : ℕ) (role : RoleFacts) (o : Outcome) → o.role ≡ role → is_paused o.knows ≡ true → Both mode o (granted_in_pause now renews revision role o)
+used-in-pause mode now waited renews revision (Leader held) o is paused = (lease-rows mode now waited revision o).leads_in_pause renews paused held is
+used-in-pause mode now waited renews revision Unleased o is paused = (lease-rows mode now waited revision o).unleased_in_pause renews paused is
+used-in-pause mode now waited renews revision Follower o is paused = (lease-rows mode now waited revision o).takes_in_pause renews paused (rw is refl)
+used-in-pause mode now waited renews revision (Holder held) o is paused = (lease-rows mode now waited revision o).takes_in_pause renews paused (rw is refl)
+used-in-pause mode now waited renews revision (Ready held) o is paused = (lease-rows mode now waited revision o).other
+used-in-pause mode now waited renews revision (Ending held why) o is paused = (lease-rows mode now waited revision o).other
 
-used-goes : (mode : Bool) (now ttl : Ticks) (revision : ℕ) (role : RoleFacts) (o : Outcome) → o.role ≡ role → is_paused o.knows ≡ false → Both mode o (lease_granted now ttl revision role o)
-used-goes mode now ttl revision (Leader held) o is unpaused = (lease-rows mode now ttl revision o).leader held unpaused is
-used-goes mode now ttl revision Unleased o is unpaused = (lease-rows mode now ttl revision o).unleased unpaused is
-used-goes mode now ttl revision Follower o is unpaused = (lease-rows mode now ttl revision o).takes unpaused (rw is refl)
-used-goes mode now ttl revision (Holder held) o is unpaused = (lease-rows mode now ttl revision o).takes unpaused (rw is refl)
-used-goes mode now ttl revision (Ready held) o is unpaused = (lease-rows mode now ttl revision o).other
-used-goes mode now ttl revision (Ending held why) o is unpaused = (lease-rows mode now ttl revision o).other
+used-goes : (mode : Bool) (now : Ticks) (waited : PendingQuestion) (revision : ℕ) (role : RoleFacts) (o : Outcome) → o.role ≡ role → is_paused o.knows ≡ false → comes_late now waited o.machine ≡ false → Both mode o (lease_granted now waited.ttl revision role o)
+used-goes mode now waited revision (Leader held) o is unpaused in_time = (lease-rows mode now waited revision o).leader held unpaused in_time is
+used-goes mode now waited revision Unleased o is unpaused in_time = (lease-rows mode now waited revision o).unleased unpaused in_time is
+used-goes mode now waited revision Follower o is unpaused in_time = (lease-rows mode now waited revision o).takes unpaused in_time (rw is refl)
+used-goes mode now waited revision (Holder held) o is unpaused in_time = (lease-rows mode now waited revision o).takes unpaused in_time (rw is refl)
+used-goes mode now waited revision (Ready held) o is unpaused in_time = (lease-rows mode now waited revision o).other
+used-goes mode now waited revision (Ending held why) o is unpaused in_time = (lease-rows mode now waited revision o).other
+
+used-late : (mode : Bool) (now : Ticks) (waited : PendingQuestion) (revision : ℕ) (role : RoleFacts) (o : Outcome) → o.role ≡ role → is_paused o.knows ≡ false → comes_late now waited o.machine ≡ true → Both mode o (granted_late now revision role o)
+used-late mode now waited revision (Leader held) o is unpaused late = (lease-rows mode now waited revision o).keeps_late held unpaused late is
+used-late mode now waited revision Unleased o is unpaused late = (lease-rows mode now waited revision o).ends_late unpaused is
+used-late mode now waited revision Follower o is unpaused late =
+    takes-late-by (Both mode o) now revision o ((lease-rows mode now waited revision o).refuses_late unpaused (rw is refl)) ((lease-rows mode now waited revision o).returns_late unpaused (rw is refl))
+used-late mode now waited revision (Holder held) o is unpaused late =
+    takes-late-by (Both mode o) now revision o ((lease-rows mode now waited revision o).refuses_late unpaused (rw is refl)) ((lease-rows mode now waited revision o).returns_late unpaused (rw is refl))
+used-late mode now waited revision (Ready held) o is unpaused late = (lease-rows mode now waited revision o).other
+used-late mode now waited revision (Ending held why) o is unpaused late = (lease-rows mode now waited revision o).other
 
 -- its set is confirmed besides, if the snapshot has a failsafe key
 confirm-goes : (mode : Bool) (snapshot : SnapshotFacts) (o x : Outcome) → TellsMode mode snapshot → Both mode (Told snapshot o) x → Goes mode o (confirming snapshot x)
@@ -432,8 +444,9 @@ granted-goes mode now sequence grant snapshot o tells = by-waited o.knows.waited
     used : (waited : PendingQuestion) → Goes mode o (accepted_grant now waited grant.revision snapshot o)
     used waited = if-cases (Goes mode o) (uses_lease (is_paused told.knows) waited.question o.role) (confirming snapshot (lease_used now waited grant.revision told)) (waiting_no_more o)
         (λ _. confirm-goes mode snapshot o (lease_used now waited grant.revision told) tells
-        (if-cases (Both mode told) (is_paused told.knows) (granted_in_pause now (asks_renewal waited.question) grant.revision told.role told) (lease_granted now waited.ttl grant.revision told.role told)
-        (λ paused. used-in-pause mode now waited.ttl (asks_renewal waited.question) grant.revision told.role told refl paused) (λ unpaused. used-goes mode now waited.ttl grant.revision told.role told refl unpaused)))
+        (if-cases (Both mode told) (is_paused told.knows) (granted_in_pause now (asks_renewal waited.question) grant.revision told.role told) (lease_heard now waited grant.revision told)
+        (λ paused. used-in-pause mode now waited (asks_renewal waited.question) grant.revision told.role told refl paused) (λ unpaused. if-cases (Both mode told) (comes_late now waited told.machine) (granted_late now grant.revision told.role told) (lease_granted now waited.ttl grant.revision told.role told)
+        (λ late. used-late mode now waited grant.revision told.role told refl unpaused late) (λ in_time. used-goes mode now waited grant.revision told.role told refl unpaused in_time))))
         (λ _. rests mode o (waiting_no_more o) refl refl)
 
     written : (x : Outcome) → Goes mode told x → Goes mode o x
@@ -528,7 +541,8 @@ ends-goes mode now o = if-cases (Goes mode o) (is_paused o.knows) (waiting_no_mo
 
 hears-yes : (now : Ticks) (from : MemberId) (sequence : ℕ) (sent : Ticks) (mode : Bool) (waited : PendingQuestion) (all : Option Ticks) (o : Outcome) → o.knows.waited ≡ Some waited → waited.sequence ≡ sequence → HearsSo from sequence true sent mode o (stays_if now waited all (counting from sent o))
 hears-yes now from sequence sent mode waited None o is number = inr (refl, record { waits = refl; awaited = λ one e. ap (λ (w : PendingQuestion). w.sequence) (some-is one waited (sym e ∙ is)) ∙ number; ask = refl; keeps = keeps-as mode o.knows (counting from sent o).knows refl (λ keeps awaits. keeps.races awaits) })
-hears-yes now from sequence sent mode waited (Some since) o is number = inl (rests mode o _ refl refl)
+hears-yes now from sequence sent mode waited (Some since) o is number =
+    if-cases (HearsSo from sequence true sent mode o) (not (is_paused o.knows) && comes_late now waited o.machine) (waiting_no_more (counting from sent o)) (stays now waited.ttl waited.sequence since (counting from sent o)) (λ _. inl (rests mode o _ refl refl)) (λ _. inl (rests mode o _ refl refl))
 
 hears-as : (now : Ticks) (from : MemberId) (sequence : ℕ) (accepted : Bool) (sent : Ticks) (mode : Bool) (waited : PendingQuestion) (role : RoleFacts) (o : Outcome) → o.knows.waited ≡ Some waited → waited.sequence ≡ sequence → HearsSo from sequence accepted sent mode o (accepted_failsafe now waited from accepted sent role o)
 hears-as now from sequence true sent mode waited (Leader held) o is number = hears-yes now from sequence sent mode waited (moment_of_all (ask_heard o.knows.failsafe from true sent)) o is number

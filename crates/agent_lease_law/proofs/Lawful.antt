@@ -208,13 +208,17 @@ watchdog-kept s m runs input now o after stands is same basis acts =
     Kept (ap (λ (x : MachineSeen). x.deadline) is.machine ∙ (ap (λ (w : WatchdogFacts). moment_seen w.deadline) same ∙ sym (ap (λ (x : MachineSeen). x.deadline) stands.member)))
     (ap (λ (x : MachineSeen). x.by_failsafe) is.machine ∙ (basis ∙ sym (ap (λ (x : MachineSeen). x.by_failsafe) stands.member))) acts
 
--- what an input does to its watchdog that gives it no deadline
-pub watchdog-left : (s : State) (m runs : ℕ) (input : AgentInput) (now : Ticks) (o after : Outcome) → StandsIn s m runs now o → IsInputOf s m runs o after input → DeadlineMay o after → after.machine.by_failsafe ≡ o.machine.by_failsafe → BringsNothing o after → WatchdogMay s m input (was_of o) (was_of after)
-watchdog-left s m runs input now o after stands is deadline basis brings = elim deadline [
-  | DeadlineKept same ↦ watchdog-kept s m runs input now o after stands is same basis (λ acts. seen-acts (s.members m) runs o stands.member (acts-before o after brings (acts-seen input.machine runs after is.machine acts)))
+-- what an input does to its watchdog that gives it no deadline, where who acts after it acted before
+pub watchdog-by : (s : State) (m runs : ℕ) (input : AgentInput) (now : Ticks) (o after : Outcome) → StandsIn s m runs now o → IsInputOf s m runs o after input → DeadlineMay o after → after.machine.by_failsafe ≡ o.machine.by_failsafe → (Acts after → Acts o) → WatchdogMay s m input (was_of o) (was_of after)
+watchdog-by s m runs input now o after stands is deadline basis acts-so = elim deadline [
+  | DeadlineKept same ↦ watchdog-kept s m runs input now o after stands is same basis (λ acts. seen-acts (s.members m) runs o stands.member (acts-so (acts-seen input.machine runs after is.machine acts)))
   | DeadlineRemoved gone rests ↦ Removed (λ acts. rests (acts-seen input.machine runs after is.machine acts))
   | DeadlineUndone gone ready lives ↦ Undone (ap (λ (x : MachineSeen). law_ready x.agent) stands.member ∙ ready) (ap (λ (x : MachineSeen). x.live) stands.member ∙ lives)
 ]
+
+-- where it brings nothing
+pub watchdog-left : (s : State) (m runs : ℕ) (input : AgentInput) (now : Ticks) (o after : Outcome) → StandsIn s m runs now o → IsInputOf s m runs o after input → DeadlineMay o after → after.machine.by_failsafe ≡ o.machine.by_failsafe → BringsNothing o after → WatchdogMay s m input (was_of o) (was_of after)
+watchdog-left s m runs input now o after stands is deadline basis brings = watchdog-by s m runs input now o after stands is deadline basis (λ acts. acts-before o after brings acts)
 
 -- what an input without a grant does to it
 pub watchdog-leaves : (s : State) (m runs : ℕ) (input : AgentInput) (now : Ticks) (o after : Outcome) → StandsIn s m runs now o → IsInputOf s m runs o after input → LeavesMachine o after → BringsNothing o after → WatchdogMay s m input (was_of o) (was_of after)

@@ -186,13 +186,13 @@ heard-has ask from sent p = if-cases (λ (x : Ask). set_members x.acknowledged p
     either false b e = inr e
 
 -- the acknowledgement that is heard
-heard-yes : (s : State) (m : ℕ) (heard : Option ℕ) (now : Ticks) (from : MemberId) (sequence number p : ℕ) (o : Outcome) → HearsYes s m heard now from sequence o → number ≡ sequence → from.number ≡ p → HeardYes s m o.knows.incarnation number p
-heard-yes s m heard now from sequence number p o hears same by = record { number = hears.number; said = record { member = m; incarnation = o.knows.incarnation; sequence = sequence; by = from.number }; is = hears.is; member = refl; run_is = refl; sequence_is = sym same; by = by }
+heard-yes : (s : State) (m : ℕ) (heard : Option ℕ) (from : MemberId) (sequence number p : ℕ) (o : Outcome) → HearsYes s m heard from sequence o → number ≡ sequence → from.number ≡ p → HeardYes s m o.knows.incarnation number p
+heard-yes s m heard from sequence number p o hears same by = record { number = hears.number; said = record { member = m; incarnation = o.knows.incarnation; sequence = sequence; by = from.number }; is = hears.is; member = refl; run_is = refl; sequence_is = sym same; by = by }
 
 -- a leader that counts one more yes
-counts-check : (s : State) (m : ℕ) (mode : Bool) (now : Ticks) (heard : Option ℕ) (from : MemberId) (sequence : ℕ) (sent : Ticks) (o after : Outcome) → HearsYes s m heard now from sequence o → Counts from sequence sent mode o after → (check : FailsafeCheck) → check_seen after.knows.failsafe after.knows.waited ≡ Some check
+counts-check : (s : State) (m : ℕ) (mode : Bool) (heard : Option ℕ) (from : MemberId) (sequence : ℕ) (sent : Ticks) (o after : Outcome) → HearsYes s m heard from sequence o → Counts from sequence sent mode o after → (check : FailsafeCheck) → check_seen after.knows.failsafe after.knows.waited ≡ Some check
     → ContinuesCheck s m (was_of o) check ⊎ BeginsCheck s m (was_of o) (was_of after) check
-counts-check s m mode now heard from sequence sent o after hears said check e =
+counts-check s m mode heard from sequence sent o after hears said check e =
     let waits = checks-waited after.knows.failsafe after.knows.waited check e in
     let was : o.knows.waited ≡ Some waits.one = sym said.waits ∙ waits.is in
     let before-it : FailsafeCheck = record { sequence = waits.one.sequence; ttl = waits.one.ttl.0; sent = waits.one.sent.0; members = set_members o.knows.failsafe.members; yes = set_members o.knows.failsafe.acknowledged } in
@@ -205,12 +205,12 @@ counts-check s m mode now heard from sequence sent o after hears said check e =
       members = ap (λ (x : FailsafeCheck). x.members) waits.check_is ∙ ap (λ (set : MemberSet). set_members set) (ap (λ (x : Ask). x.members) said.ask ∙ heard-members o.knows.failsafe from sent);
       yes = λ p acked. elim (heard-has o.knows.failsafe from sent p (sym (ap (λ (x : FailsafeCheck). x.yes p) waits.check_is ∙ ap (λ (x : Ask). set_members x.acknowledged p) said.ask) ∙ acked)) [
         | inl before ↦ inl before
-        | inr it ↦ inr (heard-yes s m heard now from sequence waits.one.sequence p o hears (said.awaited waits.one was) it)
+        | inr it ↦ inr (heard-yes s m heard from sequence waits.one.sequence p o hears (said.awaited waits.one was) it)
       ];
     })
 
 -- a leader stays primary, since all acknowledged
-word-watchdog : (s : State) (m runs : ℕ) (input : AgentInput) (now : Ticks) (from : MemberId) (sequence : ℕ) (sent : Ticks) (o after : Outcome) → AsksLeases o.knows → StandsIn s m runs now o → IsInputOf s m runs o after input → HearsYes s m input.heard now from sequence o → BringsNothing o after
+word-watchdog : (s : State) (m runs : ℕ) (input : AgentInput) (now : Ticks) (from : MemberId) (sequence : ℕ) (sent : Ticks) (o after : Outcome) → AsksLeases o.knows → StandsIn s m runs now o → IsInputOf s m runs o after input → HearsYes s m input.heard from sequence o → BringsNothing o after
     → (word : StaysByWord now from sent o after) → word.waited.sequence ≡ sequence → WatchdogMay s m input (was_of o) (was_of after)
 word-watchdog s m runs input now from sequence sent o after sound stands is hears brings word number =
     let one : PendingQuestion = word.waited in
@@ -225,11 +225,11 @@ word-watchdog s m runs input now from sequence sent o after sound stands is hear
       failsafe_check = check;
       is = ap (λ (w : Option PendingQuestion). check_seen o.knows.failsafe w) word.is ∙ seen-check o.knows.failsafe one word.staying;
       later = subst (λ (n : ℕ). n < until) (sym stands.clock) (later-deadline o.machine.watchdog.margin now.0 one.ttl.0 span hears.feeds.margin);
-      deadline_is = subst (λ (margin : Option ℕ). IsDeadline margin s.clock one.ttl.0 one.sent.0 until) (sym stands.margin) (deadline-of o.machine.watchdog.margin now one s.clock one.ttl.0 one.sent.0 stands.clock refl refl span hears.feeds.margin (hears.young one word.is));
+      deadline_is = subst (λ (margin : Option ℕ). IsDeadline margin s.clock one.ttl.0 one.sent.0 until) (sym stands.margin) (deadline-of o.machine.watchdog.margin now one s.clock one.ttl.0 one.sent.0 stands.clock refl refl span hears.feeds.margin (word.in_time stands.unpaused));
       yes = λ p asked. elim (heard-has o.knows.failsafe from sent p (within-has (ask_heard o.knows.failsafe from true sent).members (ask_heard o.knows.failsafe from true sent).acknowledged (all-within (ask_heard o.knows.failsafe from true sent) word.since word.all) p
           (ap (λ (set : MemberSet). set_members set p) (heard-members o.knows.failsafe from sent) ∙ asked))) [
             | inl before ↦ inl before
-            | inr it ↦ inr (heard-yes s m input.heard now from sequence one.sequence p o hears number it)
+            | inr it ↦ inr (heard-yes s m input.heard from sequence one.sequence p o hears number it)
           ];
     })
 
@@ -284,7 +284,7 @@ answer-does now from sequence true sent o = elim (answer-leaves now from sequenc
     by word true test = inr (refl, (word, numbers-same word.waited.sequence sequence (both-true (is_staying word.waited.question) (word.waited.sequence == sequence) test).1))
     by word false test = inl (subst (λ (x : Outcome). LeavesMachine o x) (sym (other word.waited (before-waits now o ∙ word.is) test)) (before-leaves now o))
 
-pub failsafe-answered-lawful : (s : State) (m runs : ℕ) (input : AgentInput) (now : Ticks) (from : MemberId) (sequence : ℕ) (accepted : Bool) (sent : Ticks) (o : Outcome) → AsksLeases o.knows → IsAlone o → All IsSilent o.outputs → StandsIn s m runs now o → (accepted ≡ true → HearsYes s m input.heard now from sequence o)
+pub failsafe-answered-lawful : (s : State) (m runs : ℕ) (input : AgentInput) (now : Ticks) (from : MemberId) (sequence : ℕ) (accepted : Bool) (sent : Ticks) (o : Outcome) → AsksLeases o.knows → IsAlone o → All IsSilent o.outputs → StandsIn s m runs now o → (accepted ≡ true → HearsYes s m input.heard from sequence o)
     → IsInputOf s m runs o (failsafe_answered now from sequence accepted sent (reconciled now o)) input → IsLawfulAnd s m (failsafe_answered now from sequence accepted sent (reconciled now o)) input
 failsafe-answered-lawful s m runs input now from sequence accepted sent o sound alone silent stands hears is =
     lawful-with s m runs input now None G o after stands is (step-onward now [] (FailsafeAnswered from sequence accepted sent) o) watchdog brings ready mode sends (ungranted-lawful s m input o after) (λ revision e. e)
@@ -323,5 +323,5 @@ failsafe-answered-lawful s m runs input now from sequence accepted sent o sound 
     check : (check : FailsafeCheck) → check_seen after.knows.failsafe after.knows.waited ≡ Some check → ContinuesCheck s m (was_of o) check ⊎ BeginsCheck s m (was_of o) (was_of after) check
     check one e = elim (failsafe-answered-goes now from sequence accepted sent s.declared.failsafe o) [
       | inl goes ↦ goes-check s m s.declared.failsafe o after goes one e
-      | inr said ↦ counts-check s m s.declared.failsafe now input.heard from sequence sent o after (hears said.0) said.1 one e
+      | inr said ↦ counts-check s m s.declared.failsafe input.heard from sequence sent o after (hears said.0) said.1 one e
     ]

@@ -1,5 +1,5 @@
 -- A grant that an agent hears is the law's.
-use Rattle.std.proofs.Common.{◌≡◌, ℕ, ◌+◌, ◌≤◌, ◌==◌, ◌&&◌, Bool, true, false, if◌then◌else◌, Option, Some, None, IfSome, refl, sym, subst, ap, ◌∙◌, arith}
+use Rattle.std.proofs.Common.{◌≡◌, ℕ, ◌+◌, ◌-◌, ◌/◌, ◌≤◌, ◌==◌, nat_lt, ◌&&◌, Bool, true, false, if◌then◌else◌, Option, Some, None, IfSome, refl, sym, subst, ap, ◌∙◌, arith}
 use Rattle.std.proofs.lemmas.Bool.Decides.{nat_tests}
 use Rattle.pat_base.specs.declared.member_set.MemberSet.{MemberSet}
 use Rattle.pat_base.specs.declared.ticks.Ticks.{Ticks}
@@ -7,7 +7,7 @@ use Rattle.lease_store.specs.declared.granted.Granted.{Granted}
 use Rattle.store_keys.specs.declared.value.KeyEntry.{KeyEntry}
 use Rattle.cluster_view.specs.Snapshots.{SnapshotFacts, failsafe_by, failsafe_of_entry}
 use Rattle.leader_key.specs.declared.watchdog.Mode.{Mode}
-use Rattle.leader_key.specs.Watchdog.{WatchdogFacts, IsLeaseSpan, greatest_margin, timeout_of, is_armable, fed}
+use Rattle.leader_key.specs.Watchdog.{WatchdogFacts, IsLeaseSpan, greatest_margin, timeout_of, is_armable, is_late, fed}
 use Rattle.lease_law.specs.Leases.{LeaderSeen, FailsafeKey}
 use Rattle.lease_law.specs.States.{Machine as MachineSeen, State}
 use Rattle.lease_law.specs.Inputs.{HeardGrant, HeardLeader, HeardFailsafe, IsDeadline, Fed}
@@ -15,10 +15,10 @@ use Rattle.event_book.specs.Functions.{set_members}
 use Rattle.lease_law.proofs.Tools.{some-is, none-some}
 use Rattle.agent_model.specs.declared.knowledge.Knowledge.{Knowledge}
 use Rattle.agent_model.specs.declared.knowledge.PendingQuestion.{PendingQuestion}
-use Rattle.agent_model.specs.Acting.{is_hold_active}
+use Rattle.agent_model.specs.Acting.{comes_late, is_hold_active}
 use Rattle.agent_model.specs.Agents.{Outcome}
 use Rattle.agent_model.specs.Decisions.{asks_lease}
-use Rattle.agent_lease_law.specs.Lawful.{StandsIn, HearsAnswer, IsYoung, TellsLease, HearsGrant}
+use Rattle.agent_lease_law.specs.Lawful.{StandsIn, HearsAnswer, TellsLease, HearsGrant}
 use Rattle.agent_roles.specs.Powers.{LeavesMachine, IsAwaitedLease}
 use Rattle.agent_roles.specs.Powers.DeadlineMay.{Kept as DeadlineKept, Removed as DeadlineRemoved, Undone as DeadlineUndone}
 use Rattle.agent_roles.specs.Seen.{lease_asked, leader_seen_if, failsafe_listed, failsafe_entry_seen, failsafe_seen_if, moment_seen, hold_seen}
@@ -44,7 +44,7 @@ asked-of true number sequence e = let is : number ≡ sequence = grind (arith, n
 asked-of false number sequence e = absurd (no-way e)
 
 -- the grant that it waits for
-pub hears-grant : (s : State) (m runs sequence : ℕ) (heard : Option ℕ) (now : Ticks) (grant : Granted) (snapshot : SnapshotFacts) (o : Outcome) → StandsIn s m runs now o → (hears : HearsGrant s m heard now sequence grant snapshot o)
+pub hears-grant : (s : State) (m runs sequence : ℕ) (heard : Option ℕ) (now : Ticks) (grant : Granted) (snapshot : SnapshotFacts) (o : Outcome) → StandsIn s m runs now o → (hears : HearsGrant s m heard sequence grant snapshot o)
     → (awaited : IsAwaitedLease sequence grant o.knows) → HeardGrant s m heard (hears.lease awaited).told
 unfolding some_of
 hears-grant s m runs sequence heard now grant snapshot o stands hears awaited = record {
@@ -62,21 +62,25 @@ hears-grant s m runs sequence heard now grant snapshot o stands hears awaited = 
   };
 }
 
+-- no more than half of the span has passed since it was asked for
+at-most : (half now sent clock ttl sent_at : ℕ) → clock ≡ now → half ≡ ttl / 2 → sent_at ≡ sent → nat_lt half (now - sent) ≡ false → clock ≤ sent_at + ttl / 2
+at-most half now sent clock ttl sent_at clock_is half_is sent_is in_time = let within : now - sent ≤ half = grind (arith, nat_tests) in omega (arith, within, clock_is, half_is, sent_is)
+
 -- the deadline that it gives, by the margin
-pub deadline-of : (margin : Option Ticks) (now : Ticks) (waited : PendingQuestion) (clock ttl sent : ℕ) → clock ≡ now.0 → ttl ≡ waited.ttl.0 → sent ≡ waited.sent.0 → IsLeaseSpan waited.ttl.0 → IfSome margin (λ at_most. at_most.0 ≤ greatest_margin) → IsYoung margin now waited
+pub deadline-of : (margin : Option Ticks) (now : Ticks) (waited : PendingQuestion) (clock ttl sent : ℕ) → clock ≡ now.0 → ttl ≡ waited.ttl.0 → sent ≡ waited.sent.0 → IsLeaseSpan waited.ttl.0 → IfSome margin (λ at_most. at_most.0 ≤ greatest_margin) → is_late margin now.0 waited.sent.0 waited.ttl.0 ≡ false
     → IsDeadline (moment_seen margin) clock ttl sent (now.0 + timeout_of margin waited.ttl.0)
-deadline-of (Some margin) now waited clock ttl sent clock_is ttl_is sent_is span has young = (omega (arith, ttl_is, span.least, has), omega (arith, clock_is, ttl_is))
-deadline-of None now waited clock ttl sent clock_is ttl_is sent_is span has young = (omega (arith, ttl_is, span.least), omega (arith, clock_is, ttl_is, sent_is, young), omega (arith, clock_is, ttl_is))
+deadline-of (Some margin) now waited clock ttl sent clock_is ttl_is sent_is span has in_time = (omega (arith, ttl_is, span.least, has), omega (arith, clock_is, ttl_is))
+deadline-of None now waited clock ttl sent clock_is ttl_is sent_is span has in_time = (omega (arith, ttl_is, span.least), at-most (waited.ttl.0 / 2) now.0 waited.sent.0 clock ttl sent clock_is (ap (λ (n : ℕ). n / 2) (sym ttl_is)) sent_is in_time, omega (arith, clock_is, ttl_is))
 
 -- the grant and its deadline
-abbrev pub fed-of : (s : State) (m runs sequence : ℕ) (heard : Option ℕ) (now : Ticks) (grant : Granted) (snapshot : SnapshotFacts) (o : Outcome) → StandsIn s m runs now o → (hears : HearsGrant s m heard now sequence grant snapshot o)
-    → (awaited : IsAwaitedLease sequence grant o.knows) → IsLeaseSpan awaited.waited.ttl.0 → Fed s m heard
-fed-of s m runs sequence heard now grant snapshot o stands hears awaited span = let tells : TellsLease now grant snapshot o.machine awaited.waited hears.answer.answer = hears.lease awaited in record {
+abbrev pub fed-of : (s : State) (m runs sequence : ℕ) (heard : Option ℕ) (now : Ticks) (grant : Granted) (snapshot : SnapshotFacts) (o : Outcome) → StandsIn s m runs now o → (hears : HearsGrant s m heard sequence grant snapshot o)
+    → (awaited : IsAwaitedLease sequence grant o.knows) → IsLeaseSpan awaited.waited.ttl.0 → comes_late now awaited.waited o.machine ≡ false → Fed s m heard
+fed-of s m runs sequence heard now grant snapshot o stands hears awaited span in_time = let tells : TellsLease grant snapshot o.machine awaited.waited hears.answer.answer = hears.lease awaited in record {
   grant = tells.told;
   hears = hears-grant s m runs sequence heard now grant snapshot o stands hears awaited;
   deadline = now.0 + timeout_of o.machine.watchdog.margin awaited.waited.ttl.0;
   deadline_is = subst (λ (margin : Option ℕ). IsDeadline margin s.clock tells.told.ttl tells.told.sent (now.0 + timeout_of o.machine.watchdog.margin awaited.waited.ttl.0)) (sym stands.margin)
-      (deadline-of o.machine.watchdog.margin now awaited.waited s.clock tells.told.ttl tells.told.sent stands.clock tells.ttl tells.sent span tells.feeds.margin tells.young);
+      (deadline-of o.machine.watchdog.margin now awaited.waited s.clock tells.told.ttl tells.told.sent stands.clock tells.ttl tells.sent span tells.feeds.margin in_time);
 }
 
 -- the members that the grant's failsafe key lists
@@ -103,6 +107,10 @@ same-watchdog o b leaves = elim leaves.deadline [
 
 same-armable : (w v : WatchdogFacts) → SameWatchdog w v → is_armable w.mode w.works ≡ true → is_armable v.mode v.works ≡ true
 same-armable w v same armable = ap (λ (x : Mode). is_armable x v.works) same.mode ∙ (ap (λ (x : Bool). is_armable w.mode x) same.works ∙ armable)
+
+-- an answer comes as late by the machine that is found before the input
+pub late-before : (now : Ticks) (waited : PendingQuestion) (o b : Outcome) → LeavesMachine o b → comes_late now waited b.machine ≡ false → comes_late now waited o.machine ≡ false
+late-before now waited o b leaves in_time = sym (ap (λ (margin : Option Ticks). is_late margin now.0 waited.sent.0 waited.ttl.0) (same-watchdog o b leaves).margin) ∙ in_time
 
 pub fed-deadline : (n ttl : ℕ) (v : WatchdogFacts) → is_armable v.mode v.works ≡ true → moment_seen (fed n ttl v).deadline ≡ Some (n + timeout_of v.margin ttl)
 fed-deadline n ttl v armable = rw armable refl

@@ -42,10 +42,10 @@ use Rattle.agent_model.specs.Reconciling.{reconciled}
 use Rattle.agent_model.specs.Decisions.{asks_lease, is_lease_of}
 use Rattle.agent_lease_law.specs.Modes.{KeepsMode, MayTakeKey}
 use Rattle.agent_lease_law.specs.Lawful.{CanFeed, StandsIn, HearsAnswer, TellsLease, HearsGrant, IsInputOf, MayPromote, IsLawfulAnd, IsLawfulFrom}
-use Rattle.agent_roles.specs.Powers.{AcknowledgesOperated, BringsNothing, DeadlineMay, LeavesMachine, IsAwaitedLease, StaysAlone, GrantMay, leads, lease_of}
+use Rattle.agent_roles.specs.Powers.{AcknowledgesOperated, Acts, BringsNothing, DeadlineMay, LeavesMachine, IsAwaitedLease, StaysAlone, GrantMay, leads, lease_of}
 use Rattle.agent_roles.specs.Powers.DeadlineMay.{Kept as DeadlineKept, Removed as DeadlineRemoved, Undone as DeadlineUndone}
 use Rattle.agent_roles.proofs.Acknowledging.{operated-leaves, wake-leaves}
-use Rattle.agent_roles.specs.Powers.GrantMay.{Nothing, Leads, Rests, Begins}
+use Rattle.agent_roles.specs.Powers.GrantMay.{Nothing, Leads, Keeps, Rests, Begins}
 use Rattle.agent_roles.specs.Seen.{check_seen, failsafe_entry_seen, failsafe_listed, failsafe_read_seen}
 use Rattle.agent_model.specs.Peers.{asked, answered}
 use Rattle.agent_model.specs.Snapshots.{read_answered}
@@ -61,8 +61,8 @@ use Rattle.agent_roles.proofs.Fitting.{before-fits, ready-same}
 use Rattle.agent_roles.proofs.Granting.{both-true, awaited-lease, any-granted-may as grant-may}
 use Rattle.agent_roles.proofs.Knowing.{told-pause, any-granted-onward, any-refused-onward, looked-onward, operated-onward, IsAlone, alone-of, Onward, before-onward, wake-onward, got-onward, answered-onward, asked-onward, onward-then}
 use Rattle.agent_lease_law.proofs.Checking.{Begins as BeginsToStay, Goes, answered-step-goes, asked-step-goes, free-takes, got-step-goes, granted-step-goes, operated-step-goes, refused-step-goes, wake-goes}
-use Rattle.agent_lease_law.proofs.Lawful.{AreLawfulGrounds, lease-only, ready-left, takes-nothing, watchdog-left, was_of, acts-seen, seen-acts, watchdog-kept, watchdog-leaves, parted-by, lawful-of}
-use Rattle.agent_lease_law.proofs.LawfulGrants.{heard-leader, heard-failsafe, hears-grant, fed-of, entry-known, armable-before, new-deadline, free-of}
+use Rattle.agent_lease_law.proofs.Lawful.{AreLawfulGrounds, lease-only, ready-left, takes-nothing, watchdog-by, watchdog-left, was_of, acts-seen, seen-acts, watchdog-kept, watchdog-leaves, parted-by, lawful-of}
+use Rattle.agent_lease_law.proofs.LawfulGrants.{heard-leader, heard-failsafe, hears-grant, fed-of, entry-known, armable-before, late-before, new-deadline, free-of}
 use Rattle.agent_roles.proofs.Leaving.{given-up-fits, acts-before, stays, told-fits, leaves-then, before-leaves, read-leaves, refusal-leaves, asked-leaves, answered-leaves}
 use Rattle.agent_roles.proofs.Living.{no-way}
 use Rattle.agent_roles.proofs.Staying.{before-waits, stays-unpaused}
@@ -117,11 +117,11 @@ awaited-before sequence grant o b waits who awaited = record {
 abbrev Gives : ℕ → Granted → Outcome → ℕ → Type 0
 Gives sequence grant b revision = (Decides sequence grant b × (grant.revision ≡ revision)) ⊎ (lease_of b.role ≡ Some revision)
 
-awaited-by : (sequence : ℕ) (grant : Granted) (now : Ticks) (o : Outcome) → Decides sequence grant (reconciled now o) → IsAwaitedLease sequence grant o.knows
+abbrev awaited-by : (sequence : ℕ) (grant : Granted) (now : Ticks) (o : Outcome) → Decides sequence grant (reconciled now o) → IsAwaitedLease sequence grant o.knows
 awaited-by sequence grant now o decides =
     awaited-before sequence grant o (reconciled now o) (before-waits now o) (before-onward None now o).who (awaited-lease sequence grant (reconciled now o) decides.0 decides.1 decides.2)
 
-gives-owns : (s : State) (m runs sequence : ℕ) (input : AgentInput) (now : Ticks) (grant : Granted) (snapshot : SnapshotFacts) (o : Outcome) → StandsIn s m runs now o → HearsGrant s m input.heard now sequence grant snapshot o
+gives-owns : (s : State) (m runs sequence : ℕ) (input : AgentInput) (now : Ticks) (grant : Granted) (snapshot : SnapshotFacts) (o : Outcome) → StandsIn s m runs now o → HearsGrant s m input.heard sequence grant snapshot o
     → IsAwaitedLease sequence grant o.knows → (revision : ℕ) → grant.revision ≡ revision → Owns s m input.heard (was_of o) revision
 gives-owns s m runs sequence input now grant snapshot o stands hears awaited revision is =
     inr ((hears.lease awaited).told, hears-grant s m runs sequence input.heard now grant snapshot o stands hears awaited, (hears.lease awaited).revision ∙ is)
@@ -166,7 +166,7 @@ no-check mode sequence grant o after goes awaited = by after.knows.waited refl
 by-grant-now : (armable by_failsafe : Bool) → armable ≡ true → not armable && by_failsafe ≡ false
 by-grant-now armable by_failsafe is = rw is refl
 
-leads-brought : (s : State) (m runs sequence : ℕ) (input : AgentInput) (now : Ticks) (grant : Granted) (snapshot : SnapshotFacts) (o after : Outcome) → AsksLeases o.knows → StandsIn s m runs now o → HearsGrant s m input.heard now sequence grant snapshot o → IsInputOf s m runs o after input
+leads-brought : (s : State) (m runs sequence : ℕ) (input : AgentInput) (now : Ticks) (grant : Granted) (snapshot : SnapshotFacts) (o after : Outcome) → AsksLeases o.knows → StandsIn s m runs now o → HearsGrant s m input.heard sequence grant snapshot o → IsInputOf s m runs o after input
     → GrantMay now sequence grant snapshot (reconciled now o) after → Goes s.declared.failsafe o after → Brought s m input o after
 leads-brought s m runs sequence input now grant snapshot o after sound stands hears is (Nothing brings deadline basis) goes =
     let all : BringsNothing o after = brings-then o (reconciled now o) after (before-brings now o) brings in record {
@@ -184,15 +184,15 @@ leads-brought s m runs sequence input now grant snapshot o after sound stands he
       lease = λ revision e. inl ((before-brings now o).lease revision (sym lease ∙ e));
       ready = λ e. absurd (no-way (sym ready ∙ e));
     }
-leads-brought s m runs sequence input now grant snapshot o after sound stands hears is (Leads later fed basis lease parted known told free armed) goes =
+leads-brought s m runs sequence input now grant snapshot o after sound stands hears is (Leads later in_time fed basis lease parted known told free armed) goes =
     let b : Outcome = reconciled now o in
     let awaited : IsAwaitedLease sequence grant o.knows = awaited-before sequence grant o b (before-waits now o) (before-onward None now o).who later in
-    let tells : TellsLease now grant snapshot o.machine awaited.waited hears.answer.answer = hears.lease awaited in
+    let tells : TellsLease grant snapshot o.machine awaited.waited hears.answer.answer = hears.lease awaited in
     let can : is_armable b.machine.watchdog.mode b.machine.watchdog.works ≡ true = armable-before o b (before-leaves now o) tells.feeds.armable in
     let by-grant : after.machine.by_failsafe ≡ false = basis ∙ by-grant-now (is_armable b.machine.watchdog.mode b.machine.watchdog.works) b.machine.by_failsafe can in
     let waits-else : check_seen after.knows.failsafe after.knows.waited ≡ None = no-check s.declared.failsafe sequence grant o after goes awaited in
     let knows-it : FedKnown s m input (was_of after) = record {
-      fed = fed-of s m runs sequence input.heard now grant snapshot o stands hears awaited (span-of o.knows awaited.waited sound awaited.is);
+      fed = fed-of s m runs sequence input.heard now grant snapshot o stands hears awaited (span-of o.knows awaited.waited sound awaited.is) (late-before now awaited.waited o b (before-leaves now o) in_time);
       feeds = is.feeds ∙ told can;
       by_grant = ap (λ (x : MachineSeen). x.by_failsafe) is.machine ∙ by-grant;
       known = λ key e p listed. ap (λ (set : MemberSet). set_members set p) known ∙ entry-known b.knows.known (entry_in keys.Failsafe snapshot) key (sym tells.failsafe ∙ e) p listed;
@@ -203,6 +203,22 @@ leads-brought s m runs sequence input now grant snapshot o after sound stands he
       leads_by = λ e. inr knows-it;
       lease = λ revision e. gives-owns s m runs sequence input now grant snapshot o stands hears awaited revision (some-is grant.revision revision (sym lease ∙ e));
       ready = λ _. by-grant;
+    }
+leads-brought s m runs sequence input now grant snapshot o after sound stands hears is (Keeps later late led same basis lease ready known lives) goes =
+    let b : Outcome = reconciled now o in
+    let awaited : IsAwaitedLease sequence grant o.knows = awaited-before sequence grant o b (before-waits now o) (before-onward None now o).who later in
+    let on : Outcome = record b { machine = record after.machine { by_failsafe = b.machine.by_failsafe; hold = b.machine.hold } } in
+    let lived : Acts after → live after.machine.server.state ≡ true = λ acts. elim acts [ inl live ↦ live | inr again ↦ absurd (no-way (sym ready ∙ again)) ] in
+    let deadline : DeadlineMay o after = elim (leaves-then o b on (before-leaves now o) (before-fits now o) (record { deadline = DeadlineKept same; basis = refl; hold = refl }) (record { live = lives; leads = λ e. e; ready = λ e. e; lease = λ revision e. e })).deadline [
+      | DeadlineKept kept ↦ DeadlineKept kept
+      | DeadlineRemoved gone rests ↦ DeadlineRemoved gone (λ acts. rests (inl (lived acts)))
+      | DeadlineUndone gone was-ready live ↦ DeadlineUndone gone was-ready live
+    ] in record {
+      watchdog = watchdog-by s m runs input now o after stands is deadline (basis ∙ (before-leaves now o).basis) (λ acts. inl ((before-brings now o).live (lives (lived acts))));
+      parted = λ e. absurd (no-way (sym ready ∙ e));
+      leads_by = λ _. inl ((before-brings now o).leads (leader-leads b.role led));
+      lease = λ revision e. gives-owns s m runs sequence input now grant snapshot o stands hears awaited revision (some-is grant.revision revision (sym lease ∙ e));
+      ready = λ e. absurd (no-way (sym ready ∙ e));
     }
 leads-brought s m runs sequence input now grant snapshot o after sound stands hears is (Rests paused later rested lease free) goes =
     absurd (no-way (sym (stays-unpaused now snapshot o stands.unpaused hears.answer.unpaused) ∙ paused))
@@ -367,17 +383,17 @@ asked-lawful s m runs input now from incarnation sequence o alone silent stands 
     (asked-leaves now from incarnation sequence o) (asked-brings now from incarnation sequence o) (parted-by b b (before-fits now o) (record { live = λ e. e; leads = λ e. e; ready = λ e. e; lease = λ revision e. e }))
     (asked-step-goes s.declared.failsafe now from incarnation sequence o) (asked-may (Ungranted s m input o) now from incarnation sequence o alone silent) (λ key e. absurd (none-some _ e)) (λ seen e. absurd (none-some _ e))
 
-may-promote : (s : State) (m runs sequence : ℕ) (input : AgentInput) (now : Ticks) (grant : Granted) (snapshot : SnapshotFacts) (o : Outcome) → AsksLeases o.knows → StandsIn s m runs now o → HearsGrant s m input.heard now sequence grant snapshot o
+may-promote : (s : State) (m runs sequence : ℕ) (input : AgentInput) (now : Ticks) (grant : Granted) (snapshot : SnapshotFacts) (o : Outcome) → AsksLeases o.knows → StandsIn s m runs now o → HearsGrant s m input.heard sequence grant snapshot o
     → (outs : List Output) → BeginsOn now sequence grant (reconciled now o) outs → MayPromote s m input outs
 may-promote s m runs sequence input now grant snapshot o sound stands hears outs (WasReady ready) = inl (seen-acts (s.members m) runs o stands.member (inr ((before-brings now o).ready ready)))
-may-promote s m runs sequence input now grant snapshot o sound stands hears outs (OnLease decides free armed) = let awaited : IsAwaitedLease sequence grant o.knows = awaited-by sequence grant now o decides in inr (record {
-  fed = fed-of s m runs sequence input.heard now grant snapshot o stands hears awaited (span-of o.knows awaited.waited sound awaited.is);
+may-promote s m runs sequence input now grant snapshot o sound stands hears outs (OnLease decides in_time free armed) = let awaited : IsAwaitedLease sequence grant o.knows = awaited-by sequence grant now o decides in inr (record {
+  fed = fed-of s m runs sequence input.heard now grant snapshot o stands hears awaited (span-of o.knows awaited.waited sound awaited.is) (late-before now awaited.waited o (reconciled now o) (before-leaves now o) in_time);
   free = free-of s m runs now o (reconciled now o) stands (before-leaves now o) free;
   armed = armed;
 })
 
 grant-lawful : (s : State) (m runs : ℕ) (input : AgentInput) (now : Ticks) (sequence : ℕ) (grant : Granted) (snapshot : SnapshotFacts) (o : Outcome) → AsksLeases o.knows → IsAlone o → All IsSilent o.outputs → StandsIn s m runs now o
-    → HearsGrant s m input.heard now sequence grant snapshot o → IsInputOf s m runs o (granted_any now sequence grant snapshot (reconciled now o)) input → IsLawfulAnd s m (granted_any now sequence grant snapshot (reconciled now o)) input
+    → HearsGrant s m input.heard sequence grant snapshot o → IsInputOf s m runs o (granted_any now sequence grant snapshot (reconciled now o)) input → IsLawfulAnd s m (granted_any now sequence grant snapshot (reconciled now o)) input
 grant-lawful s m runs input now sequence grant snapshot o sound alone silent stands hears is =
     let b : Outcome = reconciled now o in
     let after : Outcome = granted_any now sequence grant snapshot b in

@@ -36,7 +36,7 @@ use Rattle.agent_model.specs.FailsafeKeys.{failsafe_compared, is_fed_by_failsafe
 use Rattle.agent_model.specs.StayingPrimary.{holding_for, span_after}
 use Rattle.agent_model.specs.Reconciling.{reconciled}
 use Rattle.agent_model.specs.Claiming.{begins, claims, begins_or_claims, passing, postpones}
-use Rattle.agent_model.specs.Decisions.{confirming, is_decision, is_lease_of, leader_renewed, takes_over, unleased_renewed, may_take, gives_back, arms, takes_key, granted, refused}
+use Rattle.agent_model.specs.Decisions.{cannot_arm, confirming, is_decision, is_lease_of, leader_kept, leader_renewed, takes_over, unleased_renewed, unleased_unarmed, may_take, gives_back, arms, takes_key, granted, refused}
 use Rattle.agent_model.specs.Fits.{Fits}
 use Rattle.agent_model.specs.Outputs.{with_output}
 use Rattle.agent_model.specs.Planning.{writing_sync, noting}
@@ -68,7 +68,7 @@ use Rattle.agent_roles.proofs.Staying.{before-leaves, before-waits}
 use Rattle.agent_roles.proofs.Fitting.{ended-for}
 use Rattle.agent_roles.proofs.Leaving.{rests-by, told-fits}
 use Rattle.agent_roles.proofs.Living.{no-way, primary-live, restart-live, wipe-live}
-use Rattle.agent_model.proofs.Rows.{asked-to-hold-by, HandoverRows, dropping, looked-by, granted-any-by, refused-any-by, WritesSync, led_on, if-cases, renewed-by, passing-by, begins-or-claims-by, got-by, refused-by, follow-by, repaired-by, granted-by, answered-when, DutyRows, duties-of, leading_in_pause, takes-in-pause-by}
+use Rattle.agent_model.proofs.Rows.{asked-to-hold-by, HandoverRows, dropping, looked-by, granted-any-by, refused-any-by, WritesSync, kept_on, led_on, if-cases, judges-start-by, renewed-by, passing-by, begins-or-claims-by, got-by, refused-by, follow-by, repaired-by, granted-by, answered-when, DutyRows, duties-of, leading_in_pause, takes-in-pause-by}
 use Rattle.agent_model.specs.Pausing.{is_paused, may_start_behind, disabling_watchdog, running_without_key}
 use Rattle.agent_lease_law.proofs.MaySend.{IsSilent, Grounds, CarriesSet, CarriesSetIf, MayTransact, MayAskStore, MayPut, AllMay, front, push, silently, silent-armed, silent-fed, silent-disabled, IsReleaseOr, Fronts, IsMild, AllMild, mild-all, mild-front, judged-mild, others-mild, handover-mild, checking-mild, before-fronts, released, fronts-may, postpones-silent, told-fronts, before-compares, CreatesAsCompared, creates-behind, sends, told-may, front-of}
 use Rattle.agent_lease_law.proofs.MaySend.Fronts.{Silent, Released}
@@ -299,15 +299,27 @@ renewed-may G now ttl revision o b later silent = let led : Outcome = led_on now
     let rest : All IsSilent led.outputs = silent-fed (deadline_after now ttl b.machine.watchdog) b.outputs silent in
     renewed-by (AllMay G o) now ttl revision b (front G o ended ended.outputs (silently led.outputs (outputs.Stop StartTooLong) rest tt)) (duty-may G now revision o led later rest)
 
+kept-may : (G : Grounds) (now : Ticks) (revision : ℕ) (o b : Outcome) → o.knows.sequence ≤ b.knows.sequence → All IsSilent b.outputs → AllMay G o (leader_kept now revision b)
+kept-may G now revision o b later silent = let led : Outcome = kept_on revision b in
+    let ended : Outcome = record (ending_server now StartTooLong led) { role = Ending revision HandOver } in
+    judges-start-by (AllMay G o) now revision led (front G o ended ended.outputs (silently b.outputs (outputs.Stop StartTooLong) silent tt)) (duty-may G now revision o led later silent)
+
+unarmed-may : (G : Grounds) (now : Ticks) (o b : Outcome) → All IsSilent b.outputs → AllMay G o (unleased_unarmed now b)
+unarmed-may G now o b silent = let ended : Outcome = ending_server now WatchdogNotArmed b in front G o ended ended.outputs (silently b.outputs (outputs.Stop WatchdogNotArmed) silent tt)
+
 unleased-may : (G : Grounds) (now ttl : Ticks) (revision : ℕ) (o b : Outcome) → All IsSilent b.outputs → AllMay G o (unleased_renewed now ttl revision b)
-unleased-may G now ttl revision o b silent = let over : Outcome = takes_over now revision (arming now ttl b) in let ended : Outcome = ending_server now WatchdogNotArmed b in
-    if-cases (AllMay G o) (is_refusing b.machine.watchdog.mode b.machine.watchdog.works) ended over
-    (λ _. front G o ended ended.outputs (silently b.outputs (outputs.Stop WatchdogNotArmed) silent tt)) (λ _. front G o over over.outputs (silent-armed (deadline_after now ttl b.machine.watchdog) b.outputs silent))
+unleased-may G now ttl revision o b silent = let over : Outcome = takes_over now revision (arming now ttl b) in
+    if-cases (AllMay G o) (is_refusing b.machine.watchdog.mode b.machine.watchdog.works) (unleased_unarmed now b) over
+    (λ _. unarmed-may G now o b silent) (λ _. front G o over over.outputs (silent-armed (deadline_after now ttl b.machine.watchdog) b.outputs silent))
 
 -- the lease that a grant gives is given back by who doesn't act
 gives-back-may : (G : Grounds) (revision : ℕ) (o b : Outcome) → o.knows.sequence ≤ b.knows.sequence → live b.machine.server.state ≡ false → G.gives revision → All IsSilent b.outputs → AllMay G o (gives_back revision b)
 gives-back-may G revision o b later ended given silent = let back : Outcome = gives_back revision b in
     push G o back b.outputs _ (front G o back b.outputs silent) (sends G o back b.knows.sequence _ later refl (rests-by back ended refl, inr given))
+
+cannot-arm-may : (G : Grounds) (revision : ℕ) (o b : Outcome) → o.knows.sequence ≤ b.knows.sequence → live b.machine.server.state ≡ false → G.gives revision → All IsSilent b.outputs → AllMay G o (cannot_arm revision b)
+cannot-arm-may G revision o b later ended given silent =
+    gives-back-may G revision o (record b { outputs = with_output (outputs.Note agent_notes.CannotArm) b.outputs }) later ended given (silently b.outputs (outputs.Note agent_notes.CannotArm) silent tt)
 
 begins-may : (G : Grounds) (now : Ticks) (revision : ℕ) (o b : Outcome) → G.gives revision → All IsSilent b.outputs → AllMay G o (begins now revision b)
 begins-may G now revision o b given silent = let begun : Outcome = begins now revision b in let required : Output = outputs.Require (unnamed b.knows.turn_settings) in
@@ -322,10 +334,10 @@ claims-may G now revision o b later silent = let after : Outcome = claims now re
     push G o after b.outputs _ (front G o after b.outputs silent) (sends G o after b.knows.sequence _ later refl tt)
 
 arms-may : (G : Grounds) (now ttl : Ticks) (revision : ℕ) (o b : Outcome) → o.knows.sequence ≤ b.knows.sequence → live b.machine.server.state ≡ false → G.gives revision → All IsSilent b.outputs → AllMay G o (arms now ttl revision b)
-arms-may G now ttl revision o b later ended given silent = let cannot : Outcome = record b { outputs = with_output (outputs.Note agent_notes.CannotArm) b.outputs } in let arm : Outcome = arming now ttl b in
+arms-may G now ttl revision o b later ended given silent = let arm : Outcome = arming now ttl b in
     let rest : All IsSilent arm.outputs = silent-armed (deadline_after now ttl b.machine.watchdog) b.outputs silent in
-    if-cases (AllMay G o) (is_refusing b.machine.watchdog.mode b.machine.watchdog.works) (gives_back revision cannot) (begins_or_claims now revision arm)
-    (λ _. gives-back-may G revision o cannot later ended given (silently b.outputs (outputs.Note agent_notes.CannotArm) silent tt))
+    if-cases (AllMay G o) (is_refusing b.machine.watchdog.mode b.machine.watchdog.works) (cannot_arm revision b) (begins_or_claims now revision arm)
+    (λ _. cannot-arm-may G revision o b later ended given silent)
     (λ _. begins-or-claims-by (AllMay G o) now revision arm (begins-may G now revision o arm given rest) (claims-may G now revision o (passing arm) later (silent-passing arm rest)))
 
 takes-may : (G : Grounds) (now ttl : Ticks) (revision : ℕ) (o b : Outcome) → o.knows.sequence ≤ b.knows.sequence → live b.machine.server.state ≡ false → G.gives revision → All IsSilent b.outputs → AllMay G o (takes_key now ttl revision b)
@@ -380,6 +392,10 @@ granted-silent G now sequence grant snapshot o b later fits gives readies silent
       leader = λ held _. renewed-may G now waited.ttl grant.revision o (Told snapshot b) later silent;
       unleased = λ _. unleased-may G now waited.ttl grant.revision o (Told snapshot b) silent;
       takes = λ may. takes-may G now waited.ttl grant.revision o (Told snapshot b) later (ended-for b.role (live b.machine.server.state) may fits) (gives (waited, is, decision)) silent;
+      keeps_late = λ held _. kept-may G now grant.revision o (Told snapshot b) later silent;
+      ends_late = λ _. unarmed-may G now o (Told snapshot b) silent;
+      refuses_late = λ may. cannot-arm-may G grant.revision o (Told snapshot b) later (ended-for b.role (live b.machine.server.state) may fits) (gives (waited, is, decision)) silent;
+      returns_late = λ may. gives-back-may G grant.revision o (Told snapshot b) later (ended-for b.role (live b.machine.server.state) may fits) (gives (waited, is, decision)) silent;
       leads_in_pause = λ renews _ held _. let led : Outcome = leading_in_pause renews grant.revision (Told snapshot b) in duties-of (AllMay G o) now grant.revision led (duty-may G now grant.revision o led later (silent-disabled renews b.machine.watchdog.deadline b.outputs silent));
       unleased_in_pause = λ renews _ _. let over : Outcome = takes_over now grant.revision (disabling_watchdog renews (Told snapshot b)) in front G o over over.outputs (silent-disabled renews b.machine.watchdog.deadline b.outputs silent);
       takes_in_pause = λ renews _ may. let told : Outcome = Told snapshot b in let rest : Outcome = disabling_watchdog renews told in let quiet : All IsSilent rest.outputs = silent-disabled renews b.machine.watchdog.deadline b.outputs silent in

@@ -245,7 +245,8 @@ failsafe-answered-all G now from sequence accepted sent o b feeds silent = fails
   kept = front G o b b.outputs silent;
   quiet = front G o (waiting_no_more b) b.outputs silent;
   counts = λ held _. front G o (counting from sent b) b.outputs silent;
-  stays = λ held _ waited is staying since _. let x : Outcome = stays now waited.ttl waited.sequence since (counting from sent b) in
+  counts_late = λ held _ _. front G o (waiting_no_more (counting from sent b)) b.outputs silent;
+  stays = λ held _ waited is staying since _ _. let x : Outcome = stays now waited.ttl waited.sequence since (counting from sent b) in
       steady-all G o x x (counting from sent b).knows.failsafe.members waited.sequence (subst (λ (members : MemberSet). G.feeds members waited.sequence) (sym (heard-same b.knows.failsafe)) (feeds waited is staying)) (stays-steady now waited.ttl waited.sequence since (counting from sent b) silent);
   fails = λ held _ _. let ended : Outcome = leader_unacknowledged now held (waiting_no_more b) in front G o ended ended.outputs (silently b.outputs (outputs.Stop FailsafeNotAcknowledged) silent tt);
 })

@@ -1,5 +1,5 @@
 -- Which inputs of the law of the lease an input of the table stands for, and that they are lawful.
-use Rattle.std.specs.Prelude.{ℕ, ◌≡◌, ◌⊎◌, ◌+◌, ◌/◌, ◌≤◌, Bool, true, false, List, [], Option, Some, None, Contains}
+use Rattle.std.specs.Prelude.{ℕ, ◌≡◌, ◌⊎◌, ◌≤◌, Bool, true, false, List, [], Option, Some, None, Contains}
 use Rattle.pat_base.specs.declared.member_id.MemberId.{MemberId}
 use Rattle.pat_base.specs.declared.ticks.Ticks.{Ticks}
 use Rattle.lease_store.specs.declared.granted.Granted.{Granted}
@@ -53,18 +53,13 @@ pub record HearsAnswer (s : State) (m : ℕ) (heard : Option ℕ) (sequence : �
   pub mode : TellsMode s.declared.failsafe snapshot
   pub unpaused : (config_in snapshot).pause ≡ false
 
--- a watchdog without a margin is fed only while half of the lease's span hasn't passed since it was asked for
-abbrev pub IsYoung : Option Ticks → Ticks → PendingQuestion → Type 0
-IsYoung (Some margin) now waited = Unit {0}
-IsYoung None now waited = now.0 ≤ waited.sent.0 + waited.ttl.0 / 2
-
 -- a watchdog can be fed: it is on, its device works, and its margin is one that a watchdog may have
 pub record CanFeed (machine : Machine) : Type 0 where
   pub armable : is_armable machine.watchdog.mode machine.watchdog.works ≡ true
   pub margin : HasMargin machine.watchdog
 
--- the answer tells the grant of the lease that is waited for, and the watchdog can be fed on it
-pub record TellsLease (now : Ticks) (grant : Granted) (snapshot : SnapshotFacts) (machine : Machine) (waited : PendingQuestion) (answer : Answer) : Type 0 where
+-- the answer tells the grant of the lease that is waited for, and the watchdog can be fed on it. Whether that comes in time the agent judges itself
+pub record TellsLease (grant : Granted) (snapshot : SnapshotFacts) (machine : Machine) (waited : PendingQuestion) (answer : Answer) : Type 0 where
   pub told : Grant
   pub is : answer.grant ≡ Some told
   pub revision : told.revision ≡ grant.revision
@@ -72,12 +67,11 @@ pub record TellsLease (now : Ticks) (grant : Granted) (snapshot : SnapshotFacts)
   pub sent : told.sent ≡ waited.sent.0
   pub failsafe : told.failsafe ≡ failsafe_seen snapshot
   pub feeds : CanFeed machine
-  pub young : IsYoung machine.watchdog.margin now waited
 
 -- it hears the answer to a granted request; where that grants the lease that is waited for, it tells so
-pub record HearsGrant (s : State) (m : ℕ) (heard : Option ℕ) (now : Ticks) (sequence : ℕ) (grant : Granted) (snapshot : SnapshotFacts) (o : Outcome) : Type 0 where
+pub record HearsGrant (s : State) (m : ℕ) (heard : Option ℕ) (sequence : ℕ) (grant : Granted) (snapshot : SnapshotFacts) (o : Outcome) : Type 0 where
   pub answer : HearsAnswer s m heard sequence snapshot o.knows
-  pub lease : (awaited : IsAwaitedLease sequence grant o.knows) → TellsLease now grant snapshot o.machine awaited.waited answer.answer
+  pub lease : (awaited : IsAwaitedLease sequence grant o.knows) → TellsLease grant snapshot o.machine awaited.waited answer.answer
 
 -- the message that is heard is the failsafe request of this member, of that number in its incarnation, for leases of this span
 pub record HearsRequest (s : State) (heard : Option ℕ) (from : MemberId) (incarnation sequence : ℕ) (ttl : Ticks) : Type 0 where
@@ -87,25 +81,24 @@ pub record HearsRequest (s : State) (heard : Option ℕ) (from : MemberId) (inca
   pub is : s.flight number ≡ Some (FailsafeRequested (record { member = from.number; incarnation = incarnation; sequence = sequence; ttl = ttl.0; sent = sent }))
 
 -- it is this member's acknowledgement of the failsafe request of that number, and the watchdog can be fed on it
-pub record HearsYes (s : State) (m : ℕ) (heard : Option ℕ) (now : Ticks) (from : MemberId) (sequence : ℕ) (o : Outcome) : Type 0 where
+pub record HearsYes (s : State) (m : ℕ) (heard : Option ℕ) (from : MemberId) (sequence : ℕ) (o : Outcome) : Type 0 where
   pub number : ℕ
   pub heard_is : heard ≡ Some number
   pub is : s.flight number ≡ Some (Acknowledged (record { member = m; incarnation = o.knows.incarnation; sequence = sequence; by = from.number }))
   pub feeds : CanFeed o.machine
-  pub young : (waited : PendingQuestion) → o.knows.waited ≡ Some waited → IsYoung o.machine.watchdog.margin now waited
 
 -- what the law hears of what comes to an agent. Of a refusal, and of how far servers are, which other members ask and answer, it needs no more
 -- than that its message is gone then. A wake may feed the watchdog of a leader that has nobody to ask
-abbrev pub Hears : State → ℕ → Option ℕ → Ticks → Heard → Outcome → Type 0
-Hears s m heard now heards.Wake o = CanFeed o.machine
-Hears s m heard now (heards.ReadAnswered sequence snapshot) o = HearsAnswer s m heard sequence snapshot o.knows
-Hears s m heard now (heards.Granted sequence grant snapshot) o = HearsGrant s m heard now sequence grant snapshot o
-Hears s m heard now (heards.Mismatch sequence key found) o = Unit {0}
-Hears s m heard now (heards.Asked from incarnation sequence) o = Unit {0}
-Hears s m heard now (heards.Answered sequence answer) o = Unit {0}
-Hears s m heard now (heards.FailsafeAsked from incarnation sequence ttl) o = HearsRequest s heard from incarnation sequence ttl
-Hears s m heard now (heards.FailsafeAnswered from sequence accepted sent) o = accepted ≡ true → HearsYes s m heard now from sequence o
-Hears s m heard now (heards.Operated action) o = Unit {0}
+abbrev pub Hears : State → ℕ → Option ℕ → Heard → Outcome → Type 0
+Hears s m heard heards.Wake o = CanFeed o.machine
+Hears s m heard (heards.ReadAnswered sequence snapshot) o = HearsAnswer s m heard sequence snapshot o.knows
+Hears s m heard (heards.Granted sequence grant snapshot) o = HearsGrant s m heard sequence grant snapshot o
+Hears s m heard (heards.Mismatch sequence key found) o = Unit {0}
+Hears s m heard (heards.Asked from incarnation sequence) o = Unit {0}
+Hears s m heard (heards.Answered sequence answer) o = Unit {0}
+Hears s m heard (heards.FailsafeAsked from incarnation sequence ttl) o = HearsRequest s heard from incarnation sequence ttl
+Hears s m heard (heards.FailsafeAnswered from sequence accepted sent) o = accepted ≡ true → HearsYes s m heard from sequence o
+Hears s m heard (heards.Operated action) o = Unit {0}
 
 -- what the law reads of a question to the key store
 abbrev pub query_in : Body → Option Query
@@ -169,4 +162,4 @@ pub record IsLawfulAnd (s : State) (m : ℕ) (after : Outcome) (input : AgentInp
 
 -- whatever input of the law stands for this one of the table is lawful
 abbrev pub IsLawfulFrom : Ticks → Heard → Outcome → Outcome → Type 0
-IsLawfulFrom now heard o after = (s : State) (m runs : ℕ) (input : AgentInput) → StandsIn s m runs now o → Hears s m input.heard now heard o → IsInputOf s m runs o after input → IsLawfulAnd s m after input
+IsLawfulFrom now heard o after = (s : State) (m runs : ℕ) (input : AgentInput) → StandsIn s m runs now o → Hears s m input.heard heard o → IsInputOf s m runs o after input → IsLawfulAnd s m after input

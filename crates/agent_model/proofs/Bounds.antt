@@ -28,7 +28,7 @@ use Rattle.agent_model.specs.Acting.{arming, armed, deadline_after, disarmed, fe
 use Rattle.agent_model.specs.Agents.{Follower, Outcome}
 use Rattle.agent_model.specs.Reconciling.{reconciled, has_ended}
 use Rattle.agent_model.specs.Claiming.{begins, begins_or_claims, claims, passing, postpones}
-use Rattle.agent_model.specs.Decisions.{arms, gives_back, granted, leader_renewed, may_take, refused, unleased_renewed, takes_key, takes_over, takes_key_in_pause}
+use Rattle.agent_model.specs.Decisions.{arms, cannot_arm, gives_back, granted, judges_start, leader_renewed, may_take, refused, unleased_renewed, takes_key, takes_over, takes_key_in_pause}
 use Rattle.agent_model.specs.HandingOver.{asking_whom, hands_over}
 use Rattle.agent_model.specs.Operators.{given_up, looked, operated, unnumbered}
 use Rattle.agent_model.specs.Outputs.{with_output}
@@ -40,7 +40,7 @@ use Rattle.failsafe.specs.Asks.{asked, has}
 use Rattle.agent_model.specs.Table.{granted_any, refused_any, step}
 use Rattle.agent_model.specs.Wake.{overdue, turned, woken}
 use Rattle.agent_model.specs.Bounds.{IsSmall}
-use Rattle.agent_model.proofs.Rows.{HandoverRows, ReplyRows, WritesSync, led_on, if-cases, begins-or-claims-by, passing-by, renewed-by, before-by, overdue-by, turn-by, wake-by, got-by, refused-by, granted-by, follow-by, repaired-by, free-by, judged-by, answered-by, given-up-by, looked-by, failsafe-asked-by, failsafe-answered-by, granted-any-by, refused-any-by, DutyRows, duties-of, leading_in_pause, takes-in-pause-by, asked-to-hold-by}
+use Rattle.agent_model.proofs.Rows.{HandoverRows, ReplyRows, WritesSync, kept_on, led_on, if-cases, begins-or-claims-by, passing-by, judges-start-by, before-by, overdue-by, turn-by, wake-by, got-by, refused-by, granted-by, follow-by, repaired-by, free-by, judged-by, answered-by, given-up-by, looked-by, failsafe-asked-by, failsafe-answered-by, granted-any-by, refused-any-by, DutyRows, duties-of, leading_in_pause, takes-in-pause-by, asked-to-hold-by}
 use Rattle.agent_model.specs.Answers.{is_other, asking_one, asking_first}
 use Rattle.pat_base.specs.declared.member_id.TheConstants.{MOST_MEMBERS}
 use Rattle.agent_model.specs.Peers.{keeping, answered}
@@ -364,10 +364,14 @@ claims-row now held o =
 begun-row : (now : Ticks) (held : ℕ) (o : Outcome) → Brings 2 o (begins_or_claims now held o)
 begun-row now held o = begins-or-claims-by (Brings 2 o) now held o (begins-row now held o) (claims-row now held o)
 
+cannot-row : (held : ℕ) (o : Outcome) → Row o (cannot_arm held o)
+cannot-row held o =
+    grows-then 1 1 9 o.knows.sequence o.knows.sequence (o.knows.sequence + 1) o.outputs (with_output (outputs.Note agent_notes.CannotArm) o.outputs) _ (omega arith)
+    (one o.knows.sequence o.knows.sequence o.outputs (outputs.Note agent_notes.CannotArm) (omega arith) tt) (back-row held (record o { outputs = with_output (outputs.Note agent_notes.CannotArm) o.outputs }))
+
 arms-row : (now ttl : Ticks) (held : ℕ) (o : Outcome) → Row o (arms now ttl held o)
-arms-row now ttl held o = if-cases (Row o) (is_refusing o.machine.watchdog.mode o.machine.watchdog.works) (gives_back held (record o { outputs = with_output (outputs.Note agent_notes.CannotArm) o.outputs })) (begins_or_claims now held (arming now ttl o))
-    (λ _. grows-then 1 1 9 o.knows.sequence o.knows.sequence (o.knows.sequence + 1) o.outputs (with_output (outputs.Note agent_notes.CannotArm) o.outputs) _ (omega arith)
-    (one o.knows.sequence o.knows.sequence o.outputs (outputs.Note agent_notes.CannotArm) (omega arith) tt) (back-row held (record o { outputs = with_output (outputs.Note agent_notes.CannotArm) o.outputs })))
+arms-row now ttl held o = if-cases (Row o) (is_refusing o.machine.watchdog.mode o.machine.watchdog.works) (cannot_arm held o) (begins_or_claims now held (arming now ttl o))
+    (λ _. cannot-row held o)
     (λ _. grows-then 1 2 9 o.knows.sequence o.knows.sequence _ o.outputs (armed (deadline_after now ttl o.machine.watchdog) o.outputs) _ (omega arith)
     (armed-one o.knows.sequence (deadline_after now ttl o.machine.watchdog) o.outputs) (begun-row now held (arming now ttl o)))
 
@@ -414,11 +418,13 @@ takes-in-pause-row now renews held o =
     takes-in-pause-by (Row o) now renews held o (weaker 1 9 _ _ _ _ (omega arith) (back-row held o))
     (grows-then 2 2 9 _ _ _ _ _ _ (omega arith) (disabling-row renews o) (begins-row now held rest)) (grows-then 2 2 9 _ _ _ _ _ _ (omega arith) (disabling-row renews o) (claims-row now held rest))
 
+-- a leader whose lease is renewed, behind what became of its watchdog
+start-row : (now : Ticks) (held : ℕ) (o led : Outcome) → Brings 1 o led → Brings 17 o (judges_start now held led)
+start-row now held o led before =
+    judges-start-by (Brings 17 o) now held led (grows-then 1 1 17 _ _ _ _ _ _ (omega arith) before (one led.knows.sequence led.knows.sequence led.outputs _ (omega arith) tt)) (duties-row 1 17 now held o led (omega arith) before)
+
 renewed-row : (now ttl : Ticks) (held : ℕ) (o : Outcome) → Brings 17 o (leader_renewed now ttl held o)
-renewed-row now ttl held o =
-    let led : Outcome = led_on now ttl held o in
-    let fed : Brings 1 o led = fed-one o.knows.sequence (deadline_after now ttl o.machine.watchdog) o.outputs in
-    renewed-by (Brings 17 o) now ttl held o (grows-then 1 1 17 _ _ _ _ _ _ (omega arith) fed (one o.knows.sequence o.knows.sequence led.outputs _ (omega arith) tt)) (duties-row 1 17 now held o led (omega arith) fed)
+renewed-row now ttl held o = start-row now held o (led_on now ttl held o) (fed-one o.knows.sequence (deadline_after now ttl o.machine.watchdog) o.outputs)
 
 unleased-row : (now ttl : Ticks) (held : ℕ) (o : Outcome) → Row o (unleased_renewed now ttl held o)
 unleased-row now ttl held o = if-cases (Row o) (is_refusing o.machine.watchdog.mode o.machine.watchdog.works) _ (takes_over now held (arming now ttl o))
@@ -434,6 +440,10 @@ granted-row now sequence grant snapshot o =
       leader = λ held _. weaker 17 18 _ _ _ _ (omega arith) (renewed-row now given.ttl grant.revision told);
       unleased = λ _. as-much _ _ _ _ (unleased-row now given.ttl grant.revision told);
       takes = λ _. as-much _ _ _ _ (takes-row now given.ttl grant.revision told);
+      keeps_late = λ held _. weaker 17 18 _ _ _ _ (omega arith) (start-row now grant.revision told (kept_on grant.revision told) (none o.knows.sequence o.outputs));
+      ends_late = λ _. as-much _ _ _ _ (said o.knows.sequence o.knows.sequence o.outputs _ (omega arith) tt);
+      refuses_late = λ _. as-much _ _ _ _ (cannot-row grant.revision told);
+      returns_late = λ _. weaker 1 18 _ _ _ _ (omega arith) (back-row grant.revision told);
       leads_in_pause = λ renews _ held _. let led : Outcome = leading_in_pause renews grant.revision told in duties-of (Brings 18 o) now grant.revision led (duties-row 2 18 now grant.revision o led (omega arith) (disabling-row renews told));
       unleased_in_pause = λ renews _ _. weaker 2 18 _ _ _ _ (omega arith) (disabling-row renews told);
       takes_in_pause = λ renews _ _. as-much _ _ _ _ (takes-in-pause-row now renews grant.revision told);
@@ -487,7 +497,8 @@ failsafe-answered-row now from sequence accepted sent o = failsafe-answered-by (
   kept = kept;
   quiet = kept;
   counts = λ held _. kept;
-  stays = λ held _ waited _ _ since _. stays-row now waited.ttl waited.sequence since (counting from sent o);
+  stays = λ held _ waited _ _ since _ _. stays-row now waited.ttl waited.sequence since (counting from sent o);
+  counts_late = λ held _ _. kept;
   fails = λ held _ _. ends-row now held o;
 })
 

@@ -1,5 +1,5 @@
 -- The rows of the decision table, one by one: what holds of each row that applies holds of the whole.
-use Rattle.std.proofs.Common.{◌≡◌, ℕ, ◌==◌, ◌&&◌, nat_le, Bool, true, false, is_none, if◌then◌else◌, Option, Some, None, List, refl, subst, ap, ◌∙◌, not, []}
+use Rattle.std.proofs.Common.{◌≡◌, ℕ, ◌==◌, ◌&&◌, nat_le, Bool, true, false, is_none, if◌then◌else◌, Option, Some, None, List, refl, sym, subst, ap, ◌∙◌, not, []}
 use Rattle.pat_base.specs.declared.ineligibility.Ineligibility.{Ineligibility}
 use Rattle.lease_store.specs.declared.granted.Granted.{Granted}
 use Rattle.wal_model.specs.declared.entry.HistoryPoint.{HistoryPoint}
@@ -33,11 +33,11 @@ use Rattle.sync_state.specs.Plans.{plan_of}
 use Rattle.agent_model.specs.declared.why.Why.TheVariants.{HandOver}
 use Rattle.event_book.specs.declared.reason.Reason.TheVariants.{StartTooLong}
 use Rattle.agent_model.specs.declared.why.Why.{Why}
-use Rattle.agent_model.specs.Acting.{sending, lease_span, disarming, feeding, ending_server, requiring, waiting_no_more, touching, starting_replica, following_server, is_hold_active, shutting_down}
+use Rattle.agent_model.specs.Acting.{sending, lease_span, disarming, comes_late, feeding, ending_server, requiring, waiting_no_more, touching, starting_replica, following_server, is_hold_active, shutting_down}
 use Rattle.agent_model.specs.Agents.{RoleFacts, Follower, Holder, Ready, Leader, Ending, Unleased, Outcome, is_leader}
 use Rattle.agent_model.specs.Reconciling.{leader_finds_ended, has_ended, finds_live, unleased_finds_ended, before_as, reconciled}
 use Rattle.agent_model.specs.Pausing.{is_paused, ends_forks, is_wanted, disabling_watchdog, running_without_key}
-use Rattle.agent_model.specs.Decisions.{takes_over, may_take, gives_back, takes_key_in_pause, granted_in_pause, uses_lease, asks_renewal, lease_used, may_create, has_primary, leader_renewed, is_start_too_long, unleased_renewed, takes_key, lease_granted, belongs, confirming, accepted_grant, is_lease_of, granted_write, granted_for, granted, is_decision, is_sync_decision, awaits_decision, is_write_of, sync_granted, accepted_sync, follower_for, renewal_refused, refused_as, refused_for, refused}
+use Rattle.agent_model.specs.Decisions.{takes_over, may_take, gives_back, takes_key_in_pause, cannot_arm, granted_in_pause, granted_late, judges_start, leader_kept, lease_heard, takes_late, uses_lease, unleased_unarmed, asks_renewal, lease_used, may_create, has_primary, leader_renewed, is_start_too_long, unleased_renewed, takes_key, lease_granted, belongs, confirming, accepted_grant, is_lease_of, granted_write, granted_for, granted, is_decision, is_sync_decision, awaits_decision, is_write_of, sync_granted, accepted_sync, follower_for, renewal_refused, refused_as, refused_for, refused}
 use Rattle.agent_model.specs.Claiming.{begins, claims, begins_or_claims, passing, told_passing, postpones, claim_fails_as, claim_fails, may_begin_on_claim}
 use Rattle.agent_model.specs.Planning.{leader_view, writing_sync, switching_off, noting, planned_as, planned_on, planned, settled}
 use Rattle.agent_model.specs.Fits.{Fits}
@@ -571,31 +571,51 @@ abbrev pub leading_in_pause : Bool → ℕ → Outcome → Outcome
 leading_in_pause renews revision o = record (disabling_watchdog renews o) { role = Leader revision }
 
 -- the lease of a request that was granted, by when each row applies
-pub record GrantWhen (P : Outcome → Type 0) (now ttl : Ticks) (revision : ℕ) (o : Outcome) : Type 0 where
+pub record GrantWhen (P : Outcome → Type 0) (now : Ticks) (waited : PendingQuestion) (revision : ℕ) (o : Outcome) : Type 0 where
   pub other : P o
-  pub leader : (held : ℕ) → is_paused o.knows ≡ false → o.role ≡ Leader held → P (leader_renewed now ttl revision o)
-  pub unleased : is_paused o.knows ≡ false → o.role ≡ Unleased → P (unleased_renewed now ttl revision o)
-  pub takes : is_paused o.knows ≡ false → may_create o.role ≡ true → P (takes_key now ttl revision o)
+  pub leader : (held : ℕ) → is_paused o.knows ≡ false → comes_late now waited o.machine ≡ false → o.role ≡ Leader held → P (leader_renewed now waited.ttl revision o)
+  pub unleased : is_paused o.knows ≡ false → comes_late now waited o.machine ≡ false → o.role ≡ Unleased → P (unleased_renewed now waited.ttl revision o)
+  pub takes : is_paused o.knows ≡ false → comes_late now waited o.machine ≡ false → may_create o.role ≡ true → P (takes_key now waited.ttl revision o)
+  -- heard too late
+  pub keeps_late : (held : ℕ) → is_paused o.knows ≡ false → comes_late now waited o.machine ≡ true → o.role ≡ Leader held → P (leader_kept now revision o)
+  pub ends_late : is_paused o.knows ≡ false → o.role ≡ Unleased → P (unleased_unarmed now o)
+  pub refuses_late : is_paused o.knows ≡ false → may_create o.role ≡ true → P (cannot_arm revision o)
+  pub returns_late : is_paused o.knows ≡ false → may_create o.role ≡ true → P (gives_back revision o)
   -- in a pause
   pub leads_in_pause : (renews : Bool) → is_paused o.knows ≡ true → (held : ℕ) → o.role ≡ Leader held → P (duties now revision (leading_in_pause renews revision o))
   pub unleased_in_pause : (renews : Bool) → is_paused o.knows ≡ true → o.role ≡ Unleased → P (takes_over now revision (disabling_watchdog renews o))
   pub takes_in_pause : (renews : Bool) → is_paused o.knows ≡ true → may_create o.role ≡ true → P (takes_key_in_pause now renews revision o)
 
-granted-in-pause : (P : Outcome → Type 0) (now ttl : Ticks) (renews : Bool) (revision : ℕ) (role : RoleFacts) (o : Outcome) → o.role ≡ role → is_paused o.knows ≡ true → GrantWhen P now ttl revision o → P (granted_in_pause now renews revision role o)
-granted-in-pause P now ttl renews revision (Leader held) o is paused rows = rows.leads_in_pause renews paused held is
-granted-in-pause P now ttl renews revision Unleased o is paused rows = rows.unleased_in_pause renews paused is
-granted-in-pause P now ttl renews revision Follower o is paused rows = rows.takes_in_pause renews paused (rw is refl)
-granted-in-pause P now ttl renews revision (Holder held) o is paused rows = rows.takes_in_pause renews paused (rw is refl)
-granted-in-pause P now ttl renews revision (Ready held) o is paused rows = rows.other
-granted-in-pause P now ttl renews revision (Ending held why) o is paused rows = rows.other
+granted-in-pause : (P : Outcome → Type 0) (now : Ticks) (waited : PendingQuestion) (renews : Bool) (revision : ℕ) (role : RoleFacts) (o : Outcome) → o.role ≡ role → is_paused o.knows ≡ true → GrantWhen P now waited revision o → P (granted_in_pause now renews revision role o)
+granted-in-pause P now waited renews revision (Leader held) o is paused rows = rows.leads_in_pause renews paused held is
+granted-in-pause P now waited renews revision Unleased o is paused rows = rows.unleased_in_pause renews paused is
+granted-in-pause P now waited renews revision Follower o is paused rows = rows.takes_in_pause renews paused (rw is refl)
+granted-in-pause P now waited renews revision (Holder held) o is paused rows = rows.takes_in_pause renews paused (rw is refl)
+granted-in-pause P now waited renews revision (Ready held) o is paused rows = rows.other
+granted-in-pause P now waited renews revision (Ending held why) o is paused rows = rows.other
 
-lease-granted : (P : Outcome → Type 0) (now ttl : Ticks) (revision : ℕ) (role : RoleFacts) (o : Outcome) → o.role ≡ role → is_paused o.knows ≡ false → GrantWhen P now ttl revision o → P (lease_granted now ttl revision role o)
-lease-granted P now ttl revision (Leader held) o is unpaused rows = rows.leader held unpaused is
-lease-granted P now ttl revision Unleased o is unpaused rows = rows.unleased unpaused is
-lease-granted P now ttl revision Follower o is unpaused rows = rows.takes unpaused (rw is refl)
-lease-granted P now ttl revision (Holder held) o is unpaused rows = rows.takes unpaused (rw is refl)
-lease-granted P now ttl revision (Ready held) o is unpaused rows = rows.other
-lease-granted P now ttl revision (Ending held why) o is unpaused rows = rows.other
+lease-granted : (P : Outcome → Type 0) (now : Ticks) (waited : PendingQuestion) (revision : ℕ) (role : RoleFacts) (o : Outcome) → o.role ≡ role → is_paused o.knows ≡ false → comes_late now waited o.machine ≡ false → GrantWhen P now waited revision o → P (lease_granted now waited.ttl revision role o)
+lease-granted P now waited revision (Leader held) o is unpaused in_time rows = rows.leader held unpaused in_time is
+lease-granted P now waited revision Unleased o is unpaused in_time rows = rows.unleased unpaused in_time is
+lease-granted P now waited revision Follower o is unpaused in_time rows = rows.takes unpaused in_time (rw is refl)
+lease-granted P now waited revision (Holder held) o is unpaused in_time rows = rows.takes unpaused in_time (rw is refl)
+lease-granted P now waited revision (Ready held) o is unpaused in_time rows = rows.other
+lease-granted P now waited revision (Ending held why) o is unpaused in_time rows = rows.other
+
+pub takes-late-by : (P : Outcome → Type 0) (now : Ticks) (revision : ℕ) (o : Outcome) → P (cannot_arm revision o) → P (gives_back revision o) → P (takes_late now revision o)
+takes-late-by P now revision o refuses returns = if-cases P (may_take now o.knows o.machine) (cannot_arm revision o) (gives_back revision o) (λ _. refuses) (λ _. returns)
+
+granted-late : (P : Outcome → Type 0) (now : Ticks) (waited : PendingQuestion) (revision : ℕ) (role : RoleFacts) (o : Outcome) → o.role ≡ role → is_paused o.knows ≡ false → comes_late now waited o.machine ≡ true → GrantWhen P now waited revision o → P (granted_late now revision role o)
+granted-late P now waited revision (Leader held) o is unpaused late rows = rows.keeps_late held unpaused late is
+granted-late P now waited revision Unleased o is unpaused late rows = rows.ends_late unpaused is
+granted-late P now waited revision Follower o is unpaused late rows = takes-late-by P now revision o (rows.refuses_late unpaused (rw is refl)) (rows.returns_late unpaused (rw is refl))
+granted-late P now waited revision (Holder held) o is unpaused late rows = takes-late-by P now revision o (rows.refuses_late unpaused (rw is refl)) (rows.returns_late unpaused (rw is refl))
+granted-late P now waited revision (Ready held) o is unpaused late rows = rows.other
+granted-late P now waited revision (Ending held why) o is unpaused late rows = rows.other
+
+lease-heard : (P : Outcome → Type 0) (now : Ticks) (waited : PendingQuestion) (revision : ℕ) (o : Outcome) → is_paused o.knows ≡ false → GrantWhen P now waited revision o → P (lease_heard now waited revision o)
+lease-heard P now waited revision o unpaused rows = if-cases P (comes_late now waited o.machine) (granted_late now revision o.role o) (lease_granted now waited.ttl revision o.role o)
+    (λ late. granted-late P now waited revision o.role o refl unpaused late rows) (λ in_time. lease-granted P now waited revision o.role o refl unpaused in_time rows)
 
 -- the same, whenever they apply
 pub record GrantRows (P : Outcome → Type 0) (now ttl : Ticks) (revision : ℕ) (o : Outcome) : Type 0 where
@@ -603,17 +623,26 @@ pub record GrantRows (P : Outcome → Type 0) (now ttl : Ticks) (revision : ℕ)
   pub leader : (held : ℕ) → o.role ≡ Leader held → P (leader_renewed now ttl revision o)
   pub unleased : o.role ≡ Unleased → P (unleased_renewed now ttl revision o)
   pub takes : may_create o.role ≡ true → P (takes_key now ttl revision o)
+  -- heard too late
+  pub keeps_late : (held : ℕ) → o.role ≡ Leader held → P (leader_kept now revision o)
+  pub ends_late : o.role ≡ Unleased → P (unleased_unarmed now o)
+  pub refuses_late : may_create o.role ≡ true → P (cannot_arm revision o)
+  pub returns_late : may_create o.role ≡ true → P (gives_back revision o)
   -- in a pause
   pub leads_in_pause : (renews : Bool) → is_paused o.knows ≡ true → (held : ℕ) → o.role ≡ Leader held → P (duties now revision (leading_in_pause renews revision o))
   pub unleased_in_pause : (renews : Bool) → is_paused o.knows ≡ true → o.role ≡ Unleased → P (takes_over now revision (disabling_watchdog renews o))
   pub takes_in_pause : (renews : Bool) → is_paused o.knows ≡ true → may_create o.role ≡ true → P (takes_key_in_pause now renews revision o)
 
-grant-rows : (P : Outcome → Type 0) (now ttl : Ticks) (revision : ℕ) (o : Outcome) → GrantRows P now ttl revision o → GrantWhen P now ttl revision o
-grant-rows P now ttl revision o rows = record {
+grant-rows : (P : Outcome → Type 0) (now : Ticks) (waited : PendingQuestion) (revision : ℕ) (o : Outcome) → GrantRows P now waited.ttl revision o → GrantWhen P now waited revision o
+grant-rows P now waited revision o rows = record {
   other = rows.other;
-  leader = λ held _ is. rows.leader held is;
-  unleased = λ _ is. rows.unleased is;
-  takes = λ _ may. rows.takes may;
+  leader = λ held _ _ is. rows.leader held is;
+  unleased = λ _ _ is. rows.unleased is;
+  takes = λ _ _ may. rows.takes may;
+  keeps_late = λ held _ _ is. rows.keeps_late held is;
+  ends_late = λ _ is. rows.ends_late is;
+  refuses_late = λ _ may. rows.refuses_late may;
+  returns_late = λ _ may. rows.returns_late may;
   leads_in_pause = rows.leads_in_pause;
   unleased_in_pause = rows.unleased_in_pause;
   takes_in_pause = rows.takes_in_pause;
@@ -628,6 +657,10 @@ WritesSync _ = ⊥
 -- a leader whose watchdog was fed on the grant of this revision
 abbrev pub led_on : Ticks → Ticks → ℕ → Outcome → Outcome
 led_on now ttl revision o = record (feeding now ttl o) { role = Leader revision }
+
+-- a leader that keeps its watchdog's deadline under the lease of this revision
+abbrev pub kept_on : ℕ → Outcome → Outcome
+kept_on revision o = record o { role = Leader revision }
 
 -- a leader's step with its standbys
 pub record PlanRows (P : Outcome → Type 0) (now : Ticks) (o : Outcome) : Type 0 where
@@ -687,11 +720,14 @@ pub record DutyRows (P : Outcome → Type 0) (now : Ticks) (revision : ℕ) (o :
 pub duties-of : (P : Outcome → Type 0) (now : Ticks) (revision : ℕ) (o : Outcome) → DutyRows P now revision o → P (duties now revision o)
 duties-of P now revision o rows = duties-by P now revision o (planned-by P now revision o rows.plan) (record { kept = rows.plan.kept; clears = rows.clears; asks = rows.asks; judges = rows.judges })
 
+-- a leader under the lease of this revision, whose server may have been starting for too long
+pub judges-start-by : (P : Outcome → Type 0) (now : Ticks) (revision : ℕ) (o : Outcome) → P (record (ending_server now StartTooLong o) { role = Ending revision HandOver }) → DutyRows P now revision o → P (judges_start now revision o)
+judges-start-by P now revision o ends rows =
+    if-cases P (is_start_too_long now o.knows o.machine.server.state) (record (ending_server now StartTooLong o) { role = Ending revision HandOver }) (duties now revision o) (λ _. ends) (λ _. duties-of P now revision o rows)
+
 -- a leader whose lease is renewed
 pub renewed-by : (P : Outcome → Type 0) (now ttl : Ticks) (revision : ℕ) (o : Outcome) → P (record (ending_server now StartTooLong (led_on now ttl revision o)) { role = Ending revision HandOver }) → DutyRows P now revision (led_on now ttl revision o) → P (leader_renewed now ttl revision o)
-renewed-by P now ttl revision o ends rows = let fed : Outcome = led_on now ttl revision o in
-    if-cases P (is_start_too_long now fed.knows fed.machine.server.state) (record (ending_server now StartTooLong fed) { role = Ending revision HandOver }) (duties now revision fed)
-    (λ _. ends) (λ _. duties-of P now revision fed rows)
+renewed-by P now ttl revision o ends rows = judges-start-by P now revision (led_on now ttl revision o) ends rows
 
 -- what a member notes of the sync key before it claims that: nothing, or that it doesn't name the member
 passing-as : (P : List Output → Type 0) (named : Bool) (outs : List Output) → P outs → P (with_output outputs.ClaimsOutsideSync outs) → P (told_passing named outs)
@@ -750,22 +786,22 @@ sync-granted P now FindingCandidate role o is fits rows = rows.other
 sync-granted P now StayingPrimary role o is fits rows = rows.other
 
 granted-for : (P : Outcome → Type 0) (now : Ticks) (sequence : ℕ) (grant : Granted) (snapshot : SnapshotFacts) (waited : Option PendingQuestion) (o : Outcome) → o.knows.waited ≡ waited → P o → P (waiting_no_more o)
-    → ((asked : PendingQuestion) → o.knows.waited ≡ Some asked → is_decision asked sequence && is_lease_of o.knows.who.me grant ≡ true → GrantWhen P now asked.ttl grant.revision (record o { knows = informed snapshot o.knows }))
+    → ((asked : PendingQuestion) → o.knows.waited ≡ Some asked → is_decision asked sequence && is_lease_of o.knows.who.me grant ≡ true → GrantWhen P now asked grant.revision (record o { knows = informed snapshot o.knows }))
     → ((after : Outcome) → P after → P (confirming snapshot after)) → SyncWhen P now (record o { knows = informed snapshot o.knows }) → P (granted_for now sequence grant snapshot waited o)
 granted-for P now sequence grant snapshot None o is kept quiet rows confirms syncs = kept
 granted-for P now sequence grant snapshot (Some waited) o is kept quiet rows confirms syncs = let told : Outcome = record o { knows = informed snapshot o.knows } in
     if-cases P (is_decision waited sequence && is_lease_of o.knows.who.me grant) (accepted_grant now waited grant.revision snapshot o) (granted_write now sequence grant snapshot waited o)
     (λ decision. if-cases P (uses_lease (is_paused told.knows) waited.question o.role) (confirming snapshot (lease_used now waited grant.revision told)) (waiting_no_more o)
-    (λ _. confirms (lease_used now waited grant.revision told) (if-cases P (is_paused told.knows) (granted_in_pause now (asks_renewal waited.question) grant.revision o.role told) (lease_granted now waited.ttl grant.revision o.role told)
-    (λ paused. granted-in-pause P now waited.ttl (asks_renewal waited.question) grant.revision o.role told refl paused (rows waited is decision))
-    (λ unpaused. lease-granted P now waited.ttl grant.revision o.role told refl unpaused (rows waited is decision)))) (λ _. quiet))
+    (λ _. confirms (lease_used now waited grant.revision told) (if-cases P (is_paused told.knows) (granted_in_pause now (asks_renewal waited.question) grant.revision o.role told) (lease_heard now waited grant.revision told)
+    (λ paused. granted-in-pause P now waited (asks_renewal waited.question) grant.revision o.role told refl paused (rows waited is decision))
+    (λ unpaused. lease-heard P now waited grant.revision told unpaused (rows waited is decision)))) (λ _. quiet))
     (λ _. if-cases P (is_sync_decision waited sequence && is_write_of o.knows.who.me grant) (accepted_sync now waited snapshot o) o
     (λ _. if-cases P (belongs waited.question o.role) (sync_granted now waited.question o.role told) (waiting_no_more o)
     (λ fits. sync-granted P now waited.question o.role told refl fits syncs) (λ _. quiet)) (λ _. kept))
 
 -- a request was granted, by when each row applies
 pub granted-when : (P : Outcome → Type 0) (now : Ticks) (sequence : ℕ) (grant : Granted) (snapshot : SnapshotFacts) (o : Outcome) → P o → P (waiting_no_more o)
-    → ((asked : PendingQuestion) → o.knows.waited ≡ Some asked → is_decision asked sequence && is_lease_of o.knows.who.me grant ≡ true → GrantWhen P now asked.ttl grant.revision (record o { knows = informed snapshot o.knows }))
+    → ((asked : PendingQuestion) → o.knows.waited ≡ Some asked → is_decision asked sequence && is_lease_of o.knows.who.me grant ≡ true → GrantWhen P now asked grant.revision (record o { knows = informed snapshot o.knows }))
     → ((after : Outcome) → P after → P (confirming snapshot after)) → SyncWhen P now (record o { knows = informed snapshot o.knows }) → P (granted now sequence grant snapshot o)
 granted-when P now sequence grant snapshot o kept quiet rows confirms syncs = granted-for P now sequence grant snapshot o.knows.waited o refl kept quiet rows confirms syncs
 
@@ -774,7 +810,7 @@ pub granted-by : (P : Outcome → Type 0) (now : Ticks) (sequence : ℕ) (grant 
     → ((asked : PendingQuestion) → o.knows.waited ≡ Some asked → is_decision asked sequence && is_lease_of o.knows.who.me grant ≡ true → GrantRows P now asked.ttl grant.revision (record o { knows = informed snapshot o.knows }))
     → ((after : Outcome) → P after → P (confirming snapshot after)) → SyncRows P now (record o { knows = informed snapshot o.knows }) → P (granted now sequence grant snapshot o)
 granted-by P now sequence grant snapshot o kept quiet rows confirms syncs = let told : Outcome = record o { knows = informed snapshot o.knows } in
-    granted-when P now sequence grant snapshot o kept quiet (λ asked is decision. grant-rows P now asked.ttl grant.revision told (rows asked is decision)) confirms (sync-rows P now told syncs)
+    granted-when P now sequence grant snapshot o kept quiet (λ asked is decision. grant-rows P now asked grant.revision told (rows asked is decision)) confirms (sync-rows P now told syncs)
 
 -- a request was granted: what an operator wants, or the agent by itself
 pub granted-any-by : (P : Outcome → Type 0) (now : Ticks) (sequence : ℕ) (grant : Granted) (snapshot : SnapshotFacts) (o : Outcome) → P o → ReplyRows P (learned snapshot o) → P (granted now sequence grant snapshot o) → P (granted_any now sequence grant snapshot o)
@@ -791,13 +827,26 @@ pub record StayRows (P : Outcome → Type 0) (now : Ticks) (from : MemberId) (se
   pub quiet : P (waiting_no_more o)
   pub counts : (revision : ℕ) → o.role ≡ Leader revision → P (counting from sent o)
   pub stays : (revision : ℕ) → o.role ≡ Leader revision → (waited : PendingQuestion) → o.knows.waited ≡ Some waited → is_staying waited.question ≡ true → (since : Ticks) → moment_of_all (heard o.knows.failsafe from true sent) ≡ Some since
-      → P (stays now waited.ttl waited.sequence since (counting from sent o))
+      → (is_paused o.knows ≡ false → comes_late now waited o.machine ≡ false) → P (stays now waited.ttl waited.sequence since (counting from sent o))
+  pub counts_late : (revision : ℕ) → o.role ≡ Leader revision → is_paused o.knows ≡ false → P (waiting_no_more (counting from sent o))
   pub fails : (revision : ℕ) → o.role ≡ Leader revision → is_paused o.knows ≡ false → P (leader_unacknowledged now revision (waiting_no_more o))
+
+not-of : (b : Bool) → not b ≡ true → b ≡ false
+not-of true e = sym e
+not-of false e = refl
+
+unless-paused : (paused late : Bool) → not paused && late ≡ false → paused ≡ false → late ≡ false
+unless-paused true true e unpaused = unpaused
+unless-paused true false e unpaused = refl
+unless-paused false late e unpaused = e
 
 acknowledged-by : (P : Outcome → Type 0) (now : Ticks) (waited : PendingQuestion) (from : MemberId) (sent : Ticks) (moment : Option Ticks) (revision : ℕ) (o : Outcome) → o.role ≡ Leader revision → o.knows.waited ≡ Some waited → is_staying waited.question ≡ true → moment_of_all (heard o.knows.failsafe from true sent) ≡ moment → StayRows P now from sent o
     → P (stays_if now waited moment (counting from sent o))
 acknowledged-by P now waited from sent None revision o role is staying all rows = rows.counts revision role
-acknowledged-by P now waited from sent (Some since) revision o role is staying all rows = rows.stays revision role waited is staying since all
+acknowledged-by P now waited from sent (Some since) revision o role is staying all rows =
+    if-cases P (not (is_paused o.knows) && comes_late now waited o.machine) (waiting_no_more (counting from sent o)) (stays now waited.ttl waited.sequence since (counting from sent o))
+    (λ late. rows.counts_late revision role (not-of (is_paused o.knows) (and-left (not (is_paused o.knows)) (comes_late now waited o.machine) late)))
+    (λ in_time. rows.stays revision role waited is staying since all (unless-paused (is_paused o.knows) (comes_late now waited o.machine) in_time))
 
 accepted-failsafe : (P : Outcome → Type 0) (now : Ticks) (waited : PendingQuestion) (from : MemberId) (accepted : Bool) (sent : Ticks) (role : RoleFacts) (o : Outcome) → o.role ≡ role → o.knows.waited ≡ Some waited → is_staying waited.question ≡ true → StayRows P now from sent o
     → P (accepted_failsafe now waited from accepted sent role o)

@@ -14,9 +14,10 @@ use Rattle.event_book.specs.declared.reason.Reason.{Reason}
 use Rattle.event_book.specs.Members.{server_id_of}
 use Rattle.leader_key.specs.declared.watchdog.Mode.{Mode}
 use Rattle.leader_key.specs.declared.watchdog.Mode.TheVariants as modes
-use Rattle.leader_key.specs.Watchdog.{WatchdogFacts, fed, is_armable, timeout_of}
+use Rattle.leader_key.specs.Watchdog.{WatchdogFacts, fed, is_armable, is_late, timeout_of}
 use Rattle.agent_model.specs.declared.knowledge.Knowledge.{Knowledge}
 use Rattle.agent_model.specs.declared.knowledge.Question.{Question}
+use Rattle.agent_model.specs.declared.knowledge.PendingQuestion.{PendingQuestion}
 use Rattle.agent_model.specs.declared.machine.Machine.{Machine}
 use Rattle.agent_model.specs.declared.output.Output.{Output}
 use Rattle.agent_model.specs.declared.output.Output.TheVariants as outputs
@@ -143,6 +144,10 @@ arming now ttl o = record o { machine = with_feed now ttl o.machine; outputs = a
 -- the watchdog gets a new deadline, where it is used and its device works
 abbrev pub feeding : Ticks → Ticks → Outcome → Outcome
 feeding now ttl o = record o { machine = with_feed now ttl o.machine; outputs = fed_until (deadline_after now ttl o.machine.watchdog) o.outputs }
+
+-- an answer to what is waited for comes too late to arm or feed the watchdog
+abbrev pub comes_late : Ticks → PendingQuestion → Machine → Bool
+comes_late now waited machine = is_late machine.watchdog.margin now.0 waited.sent.0 waited.ttl.0
 
 -- whether a hold is active
 abbrev pub is_hold_active : Ticks → Option Ticks → Bool

@@ -16,7 +16,7 @@ use Rattle.agent_model.specs.declared.knowledge.PendingQuestion.{PendingQuestion
 use Rattle.agent_model.specs.declared.machine.Machine.{Machine}
 use Rattle.agent_model.specs.declared.output.Output.TheVariants as outputs
 use Rattle.agent_model.specs.declared.why.Why.TheVariants.{HandOver}
-use Rattle.agent_model.specs.Acting.{waiting_no_more, releasing, ending_server, arming, feeding, is_refusing, is_hold_active}
+use Rattle.agent_model.specs.Acting.{waiting_no_more, releasing, ending_server, arming, comes_late, feeding, is_refusing, is_hold_active}
 use Rattle.agent_model.specs.Agents.{RoleFacts, Follower, Holder, Ready, Leader, Ending, Unleased, Outcome, is_ready, is_leader}
 use Rattle.agent_model.specs.Claiming.{begins_or_claims, claim_fails, claim_granted}
 use Rattle.agent_model.specs.Outputs.{with_output}
@@ -46,15 +46,23 @@ judges_start now revision o =
 abbrev pub leader_renewed : Ticks → Ticks → ℕ → Outcome → Outcome
 leader_renewed now ttl revision o = judges_start now revision (record (feeding now ttl o) { role = Leader revision })
 
+-- the lease of a leader is renewed, and it hears that too late: its watchdog keeps its deadline
+abbrev pub leader_kept : Ticks → ℕ → Outcome → Outcome
+leader_kept now revision o = judges_start now revision (record o { role = Leader revision })
+
 -- an agent leads from now on with the server that is live already. What was acknowledged before is known to no agent any more, so the
 -- end of the log is noted, which covers it
 abbrev pub takes_over : Ticks → ℕ → Outcome → Outcome
 takes_over now revision o = record o { role = Leader revision; knows = record o.knows { begun = Some now; noted = o.machine.server.end } }
 
+-- an agent whose server is live without a lease can't arm its watchdog: it ends the server
+abbrev pub unleased_unarmed : Ticks → Outcome → Outcome
+unleased_unarmed now o = ending_server now WatchdogNotArmed o
+
 -- an agent whose server is live without a lease gets one: it leads, once its watchdog is armed
 abbrev pub unleased_renewed : Ticks → Ticks → ℕ → Outcome → Outcome
 unleased_renewed now ttl revision o =
-    if is_refusing o.machine.watchdog.mode o.machine.watchdog.works then ending_server now WatchdogNotArmed o else takes_over now revision (arming now ttl o)
+    if is_refusing o.machine.watchdog.mode o.machine.watchdog.works then unleased_unarmed now o else takes_over now revision (arming now ttl o)
 
 -- so many ticks have passed since the crash was noted; none where none was
 abbrev pub since_crash : Ticks → Option Ticks → ℕ
@@ -81,14 +89,22 @@ may_take now knows machine = not (is_hold_active now machine.hold) && (can_begin
 abbrev pub gives_back : ℕ → Outcome → Outcome
 gives_back revision o = record (releasing revision o) { role = Follower }
 
+-- nobody begins whose watchdog can't be armed
+abbrev pub cannot_arm : ℕ → Outcome → Outcome
+cannot_arm revision o = gives_back revision (record o { outputs = with_output (outputs.Note agent_notes.CannotArm) o.outputs })
+
 -- nobody begins without an armed watchdog, where the member needs one
 abbrev pub arms : Ticks → Ticks → ℕ → Outcome → Outcome
 arms now ttl revision o =
-    if is_refusing o.machine.watchdog.mode o.machine.watchdog.works then gives_back revision (record o { outputs = with_output (outputs.Note agent_notes.CannotArm) o.outputs }) else begins_or_claims now revision (arming now ttl o)
+    if is_refusing o.machine.watchdog.mode o.machine.watchdog.works then cannot_arm revision o else begins_or_claims now revision (arming now ttl o)
 
 -- an agent that isn't leading gets a lease
 abbrev pub takes_key : Ticks → Ticks → ℕ → Outcome → Outcome
 takes_key now ttl revision o = if may_take now o.knows o.machine then arms now ttl revision o else gives_back revision o
+
+-- an agent that isn't leading gets a lease, and hears of it too late
+abbrev pub takes_late : Ticks → ℕ → Outcome → Outcome
+takes_late now revision o = if may_take now o.knows o.machine then cannot_arm revision o else gives_back revision o
 
 -- in a pause only whom an operator wants to lead takes the leader key, and its watchdog rests
 abbrev pub takes_key_in_pause : Ticks → Bool → ℕ → Outcome → Outcome
@@ -110,6 +126,14 @@ lease_granted now ttl revision Unleased o = unleased_renewed now ttl revision o
 lease_granted now ttl revision Follower o = takes_key now ttl revision o
 lease_granted now ttl revision (Holder held) o = takes_key now ttl revision o
 lease_granted now ttl revision _ o = o
+
+-- what each role does with a lease that it was granted, and heard of too late
+abbrev pub granted_late : Ticks → ℕ → RoleFacts → Outcome → Outcome
+granted_late now revision (Leader held) o = leader_kept now revision o
+granted_late now revision Unleased o = unleased_unarmed now o
+granted_late now revision Follower o = takes_late now revision o
+granted_late now revision (Holder held) o = takes_late now revision o
+granted_late now revision _ o = o
 
 -- who may have asked for the leader key while it was absent
 abbrev pub may_create : RoleFacts → Bool
@@ -147,9 +171,13 @@ abbrev pub asks_renewal : Question → Bool
 asks_renewal Renewing = true
 asks_renewal _ = false
 
--- a lease is granted that was asked for so
+-- a lease is granted that was asked for so, and heard of in time or too late
+abbrev pub lease_heard : Ticks → PendingQuestion → ℕ → Outcome → Outcome
+lease_heard now waited revision o = if comes_late now waited o.machine then granted_late now revision o.role o else lease_granted now waited.ttl revision o.role o
+
+-- a lease is granted that was asked for so; in a pause nothing is late
 abbrev pub lease_used : Ticks → PendingQuestion → ℕ → Outcome → Outcome
-lease_used now waited revision o = if is_paused o.knows then granted_in_pause now (asks_renewal waited.question) revision o.role o else lease_granted now waited.ttl revision o.role o
+lease_used now waited revision o = if is_paused o.knows then granted_in_pause now (asks_renewal waited.question) revision o.role o else lease_heard now waited revision o
 
 -- a leader's failsafe set is confirmed by a grant of its key whose snapshot has a failsafe key
 abbrev pub confirming : SnapshotFacts → Outcome → Outcome

@@ -1,6 +1,6 @@
 -- How a leader goes on without the key store by the word of all other members, and how these acknowledge it (Patroni documentation, "DCS Failsafe
 -- Mode").
-use Rattle.std.specs.Prelude.{ℕ, zero, suc, ◌+◌, ◌==◌, ◌&&◌, ◌||◌, if◌then◌else◌, Bool, true, false, List, Option, Some, None}
+use Rattle.std.specs.Prelude.{ℕ, zero, suc, ◌+◌, ◌==◌, ◌&&◌, ◌||◌, if◌then◌else◌, not, Bool, true, false, List, Option, Some, None}
 use Rattle.pat_base.specs.MemberId.{member_of}
 use Rattle.pat_base.specs.declared.member_id.MemberId.{MemberId}
 use Rattle.pat_base.specs.declared.member_id.TheConstants.{MOST_MEMBERS}
@@ -22,7 +22,7 @@ use Rattle.agent_model.specs.declared.output.Output.{Output}
 use Rattle.agent_model.specs.declared.output.Output.TheVariants as outputs
 use Rattle.agent_model.specs.declared.output.Target.TheVariants as targets
 use Rattle.agent_model.specs.declared.why.Why.TheVariants.{Lost}
-use Rattle.agent_model.specs.Acting.{counted, deadline_after, ending_server, lease_span, waiting, waiting_no_more}
+use Rattle.agent_model.specs.Acting.{comes_late, counted, deadline_after, ending_server, lease_span, waiting, waiting_no_more}
 use Rattle.agent_model.specs.Agents.{RoleFacts, Leader, Ending, Outcome}
 use Rattle.agent_model.specs.Outputs.{with_output}
 use Rattle.agent_model.specs.Pausing.{is_paused}
@@ -99,10 +99,14 @@ unacknowledged_as now _ o = o
 abbrev pub unacknowledged : Ticks → Outcome → Outcome
 unacknowledged now o = if is_paused o.knows then waiting_no_more o else unacknowledged_as now o.role (waiting_no_more o)
 
+-- all acknowledged, the first of them at this moment: the member stays primary, unless the last answer comes too late outside a pause
+abbrev pub stays_by : Ticks → PendingQuestion → Ticks → Outcome → Outcome
+stays_by now waited since o = if not (is_paused o.knows) && comes_late now waited o.machine then waiting_no_more o else stays now waited.ttl waited.sequence since o
+
 -- the member stays primary once each that was asked has acknowledged
 abbrev pub stays_if : Ticks → PendingQuestion → Option Ticks → Outcome → Outcome
 stays_if now waited None o = o
-stays_if now waited (Some since) o = stays now waited.ttl waited.sequence since o
+stays_if now waited (Some since) o = stays_by now waited since o
 
 -- an acknowledgement that was sent at this moment is counted
 abbrev pub counting : MemberId → Ticks → Outcome → Outcome

@@ -30,7 +30,7 @@ use Rattle.agent_model.specs.Acting.{arming, requiring, feeding, armed, fed_unti
 use Rattle.agent_model.specs.Agents.{RoleFacts, Follower, Outcome, outcome_from}
 use Rattle.agent_model.specs.Reconciling.{has_ended, reconciled}
 use Rattle.agent_model.specs.Claiming.{begins, begins_or_claims, passing, postpones}
-use Rattle.agent_model.specs.Decisions.{leader_renewed, takes_over, unleased_renewed, may_take, gives_back, arms, takes_key, granted, refused, takes_key_in_pause}
+use Rattle.agent_model.specs.Decisions.{cannot_arm, leader_renewed, takes_over, unleased_renewed, may_take, gives_back, arms, takes_key, granted, refused, takes_key_in_pause}
 use Rattle.agent_model.specs.Planning.{noting}
 use Rattle.agent_model.specs.Synchronous.{unnamed}
 use Rattle.pat_base.specs.declared.server_state.Required.{Required}
@@ -47,7 +47,7 @@ use Rattle.agent_model.specs.StayingPrimary.{counting, failsafe_answered, failsa
 use Rattle.agent_model.specs.Table.{step, granted_any, refused_any}
 use Rattle.pg_model.specs.Running.{is_primary}
 use Rattle.agent_model.specs.Wake.{overdue, turned, woken}
-use Rattle.agent_model.proofs.Rows.{HandoverRows, ReplyRows, ActRows, looked-by, given-up-by, granted-any-by, refused-any-by, operated-by, led_on, if-cases, renewed-by, passing-by, begins-or-claims-by, before-by, overdue-by, turn-by, wake-by, got-by, refused-by, follow-by, free-by, granted-by, repaired-by, judged-by, answered-by, failsafe-asked-by, failsafe-answered-by, DutyRows, duties-of, leading_in_pause, takes-in-pause-by}
+use Rattle.agent_model.proofs.Rows.{HandoverRows, ReplyRows, ActRows, looked-by, given-up-by, granted-any-by, refused-any-by, operated-by, kept_on, led_on, if-cases, judges-start-by, renewed-by, passing-by, begins-or-claims-by, before-by, overdue-by, turn-by, wake-by, got-by, refused-by, follow-by, free-by, granted-by, repaired-by, judged-by, answered-by, failsafe-asked-by, failsafe-answered-by, DutyRows, duties-of, leading_in_pause, takes-in-pause-by}
 use Rattle.agent_model.specs.Answers.{is_other, asking_one, asking_first}
 use Rattle.pat_base.specs.declared.member_id.TheConstants.{MOST_MEMBERS}
 use Rattle.agent_model.specs.Peers.{keeping, answered}
@@ -342,10 +342,13 @@ begin-reaches now start revision o r = let waits : Outcome = requiring (unnamed 
 passing-reaches : (now : Ticks) (start : Machine) (o : Outcome) → Reaches now start o → Reaches now start (passing o)
 passing-reaches now start o r = passing-by (λ (outs : List Output). Reached now start o.machine outs) o r (one-more now start o.machine o.outputs outputs.ClaimsOutsideSync tt r)
 
+cannot-reaches : (now : Ticks) (start : Machine) (revision : ℕ) (o : Outcome) → Reaches now start o → Reaches now start (cannot_arm revision o)
+cannot-reaches now start revision o r = send-reaches now start (bodies.Request (txns.Release revision)) (record o { outputs = with_output (outputs.Note agent_notes.CannotArm) o.outputs }) (one-more now start o.machine o.outputs (outputs.Note agent_notes.CannotArm) tt r)
+
 arms-reaches : (now ttl : Ticks) (start : Machine) (revision : ℕ) (o : Outcome) → Reaches now start o → Reaches now start (arms now ttl revision o)
 arms-reaches now ttl start revision o r =
-    if-cases (Reaches now start) (is_refusing o.machine.watchdog.mode o.machine.watchdog.works) _ (begins_or_claims now revision (arming now ttl o))
-    (λ _. send-reaches now start (bodies.Request (txns.Release revision)) (record o { outputs = with_output (outputs.Note agent_notes.CannotArm) o.outputs }) (one-more now start o.machine o.outputs (outputs.Note agent_notes.CannotArm) tt r))
+    if-cases (Reaches now start) (is_refusing o.machine.watchdog.mode o.machine.watchdog.works) (cannot_arm revision o) (begins_or_claims now revision (arming now ttl o))
+    (λ _. cannot-reaches now start revision o r)
     (λ _. let arm : Outcome = arming now ttl o in let fed : Reaches now start arm = arm-reaches now ttl start o r in
     begins-or-claims-by (Reaches now start) now revision arm (begin-reaches now start revision arm fed) (send-reaches now start _ (passing arm) (passing-reaches now start arm fed)))
 
@@ -367,6 +370,10 @@ granted-reaches now start sequence grant snapshot o r = let told : Outcome = rec
       leader = λ held _. renewed-reaches now waited.ttl start grant.revision told r;
       unleased = λ _. unleased-reaches now waited.ttl start grant.revision told r;
       takes = λ _. takes-reaches now waited.ttl start grant.revision told r;
+      keeps_late = λ held _. let kept : Outcome = kept_on grant.revision told in judges-start-by (Reaches now start) now grant.revision kept (end-reaches now start StartTooLong kept r) (duty-reaches now start grant.revision kept r);
+      ends_late = λ _. end-reaches now start WatchdogNotArmed told r;
+      refuses_late = λ _. cannot-reaches now start grant.revision told r;
+      returns_late = λ _. one-more now start told.machine told.outputs _ tt r;
       leads_in_pause = λ renews _ held _. duties-of (Reaches now start) now grant.revision (leading_in_pause renews grant.revision told) (duty-reaches now start grant.revision (leading_in_pause renews grant.revision told) (disabled-reaches now start renews told r));
       unleased_in_pause = λ renews _ _. disabled-reaches now start renews told r;
       takes_in_pause = λ renews _ _. leading-in-pause-reaches now start renews grant.revision told r;
@@ -418,7 +425,8 @@ step-carries now points (FailsafeAnswered from sequence accepted sent) start o r
       kept = fresh;
       quiet = fresh;
       counts = λ _ _. fresh;
-      stays = λ _ _ waited _ _ since _. stays-reaches now waited.ttl waited.sequence since start (counting from sent first) fresh;
+      counts_late = λ _ _ _. fresh;
+      stays = λ _ _ waited _ _ since _ _. stays-reaches now waited.ttl waited.sequence since start (counting from sent first) fresh;
       fails = λ _ _ _. end-reaches now start FailsafeNotAcknowledged first fresh;
     }))
 step-carries now points (HearsOperator action) start o r = let first : Outcome = reconciled now o in

@@ -41,7 +41,7 @@ use Rattle.agent_model.specs.Acting.{requiring, ending_server, seconds_after, le
 use Rattle.agent_model.specs.Agents.{RoleFacts, Follower, Ending, Outcome, outcome_from}
 use Rattle.agent_model.specs.Reconciling.{has_ended, reconciled}
 use Rattle.agent_model.specs.Claiming.{begins, claims, begins_or_claims, passing, postpones}
-use Rattle.agent_model.specs.Decisions.{confirming, asks_lease, asks_sync, is_start_too_long, leader_renewed, takes_over, unleased_renewed, may_take, gives_back, arms, takes_key, granted, refused}
+use Rattle.agent_model.specs.Decisions.{cannot_arm, confirming, asks_lease, asks_sync, is_start_too_long, judges_start, leader_renewed, takes_over, unleased_renewed, may_take, gives_back, arms, takes_key, granted, refused}
 use Rattle.agent_model.specs.Planning.{writing_sync, switching_off, planned_as, planned_on, leader_view, noting}
 use Rattle.agent_model.specs.Synchronous.{expected_of, sync_read_if, unnamed, waiting_for}
 use Rattle.pat_base.specs.declared.server_state.Required.{Required}
@@ -58,7 +58,7 @@ use Rattle.agent_model.specs.FailsafeKeys.{set_carried}
 use Rattle.agent_model.specs.StayingPrimary.{asking_to_stay, counting, failsafe_answered, fed_by_failsafe, holding_for, others_known, requesting_all, requesting_first, requesting_one, span_after, stays}
 use Rattle.agent_model.specs.Table.{granted_any, refused_any, step}
 use Rattle.agent_model.specs.Wake.{turn_noted, overdue, turned, woken}
-use Rattle.agent_model.proofs.Rows.{HandoverRows, IsOperatorTxn, ReplyRows, dropping, led_on, if-cases, begins-or-claims-by, passing-by, before-by, duties-by, given-up-by, granted-any-by, looked-by, operated-by, overdue-by, refused-any-by, turn-by, wake-by, got-by, refused-by, follow-by, repaired-by, free-by, granted-by, judged-by, answered-by, failsafe-asked-by, failsafe-answered-by, leading_in_pause, takes-in-pause-by}
+use Rattle.agent_model.proofs.Rows.{HandoverRows, IsOperatorTxn, ReplyRows, dropping, kept_on, led_on, if-cases, begins-or-claims-by, passing-by, before-by, duties-by, given-up-by, granted-any-by, looked-by, operated-by, overdue-by, refused-any-by, turn-by, wake-by, got-by, refused-by, follow-by, repaired-by, free-by, granted-by, judged-by, answered-by, failsafe-asked-by, failsafe-answered-by, leading_in_pause, takes-in-pause-by}
 use Rattle.agent_model.specs.declared.who.Who.{Who}
 use Rattle.agent_model.specs.Answers.{is_other, asking_all, asking_one, asking_first}
 use Rattle.pat_base.specs.declared.member_id.TheConstants.{MOST_MEMBERS}
@@ -389,7 +389,8 @@ staying-reaches now known from sequence accepted sent o r =
       kept = r;
       quiet = quiet;
       counts = λ _ _. counts;
-      stays = λ _ _ waited _ _ since _. stay-reaches now waited.ttl known waited.sequence since (counting from sent o) counts;
+      stays = λ _ _ waited _ _ since _ _. stay-reaches now waited.ttl known waited.sequence since (counting from sent o) counts;
+      counts_late = λ _ _ _. rests now known (counting from sent o).knows _ o.outputs refl refl refl refl counts;
       fails = λ _ _ _. one-more now known _ o.outputs _ tt quiet;
     })
 
@@ -484,11 +485,14 @@ duties-reach now known revision o r =
       judges = handover-reaches now known revision (unheard o) alone;
     })
 
-renewed-reaches : (now ttl : Ticks) (known : Knowledge) (revision : ℕ) (o : Outcome) → Reaches now known o → Reaches now known (leader_renewed now ttl revision o)
-renewed-reaches now ttl known revision o r = let led : Outcome = led_on now ttl revision o in
-    let fed : Reaches now known led = feed-reaches now ttl known o r in
+-- a leader under the lease of this revision, whatever became of its watchdog
+start-reaches : (now : Ticks) (known : Knowledge) (revision : ℕ) (led : Outcome) → Reaches now known led → Reaches now known (judges_start now revision led)
+start-reaches now known revision led r =
     if-cases (Reaches now known) (is_start_too_long now led.knows led.machine.server.state) (record (ending_server now StartTooLong led) { role = Ending revision HandOver }) (duties now revision led)
-    (λ _. one-more now known led.knows led.outputs _ tt fed) (λ _. duties-reach now known revision led fed)
+    (λ _. one-more now known led.knows led.outputs _ tt r) (λ _. duties-reach now known revision led r)
+
+renewed-reaches : (now ttl : Ticks) (known : Knowledge) (revision : ℕ) (o : Outcome) → Reaches now known o → Reaches now known (leader_renewed now ttl revision o)
+renewed-reaches now ttl known revision o r = start-reaches now known revision (led_on now ttl revision o) (feed-reaches now ttl known o r)
 
 unleased-reaches : (now ttl : Ticks) (known : Knowledge) (revision : ℕ) (o : Outcome) → Reaches now known o → Reaches now known (unleased_renewed now ttl revision o)
 unleased-reaches now ttl known revision o r = let armed-now : Outcome = arming now ttl o in
@@ -503,10 +507,14 @@ claim-reaches : (now : Ticks) (known : Knowledge) (revision : ℕ) (o : Outcome)
 claim-reaches now known revision o r =
     ask-reaches now known Claiming _ _ (passing o) tt (λ e. absurd (both e)) (λ _. tt) (passing-by (AsksAnew now known o.knows) o r (one-more now known o.knows o.outputs outputs.ClaimsOutsideSync tt r))
 
+cannot-reaches : (now : Ticks) (known : Knowledge) (revision : ℕ) (o : Outcome) → Reaches now known o → Reaches now known (cannot_arm revision o)
+cannot-reaches now known revision o r =
+    send-reaches now known (bodies.Request (txns.Release revision)) (record o { outputs = with_output (outputs.Note agent_notes.CannotArm) o.outputs }) tt (one-more now known o.knows o.outputs (outputs.Note agent_notes.CannotArm) tt r)
+
 arms-reaches : (now ttl : Ticks) (known : Knowledge) (revision : ℕ) (o : Outcome) → Reaches now known o → Reaches now known (arms now ttl revision o)
 arms-reaches now ttl known revision o r =
-    if-cases (Reaches now known) (is_refusing o.machine.watchdog.mode o.machine.watchdog.works) _ (begins_or_claims now revision (arming now ttl o))
-    (λ _. send-reaches now known (bodies.Request (txns.Release revision)) (record o { outputs = with_output (outputs.Note agent_notes.CannotArm) o.outputs }) tt (one-more now known o.knows o.outputs (outputs.Note agent_notes.CannotArm) tt r))
+    if-cases (Reaches now known) (is_refusing o.machine.watchdog.mode o.machine.watchdog.works) (cannot_arm revision o) (begins_or_claims now revision (arming now ttl o))
+    (λ _. cannot-reaches now known revision o r)
     (λ _. let arm : Outcome = arming now ttl o in let fed : Reaches now known arm = arm-reaches now ttl known o r in
     begins-or-claims-by (Reaches now known) now revision arm (begin-reaches now known revision arm fed) (claim-reaches now known revision arm fed))
 
@@ -534,6 +542,10 @@ granted-reaches now known sequence grant snapshot o r =
       leader = λ held _. renewed-reaches now waited.ttl known grant.revision told next;
       unleased = λ _. unleased-reaches now waited.ttl known grant.revision told next;
       takes = λ _. takes-reaches now waited.ttl known grant.revision told next;
+      keeps_late = λ held _. start-reaches now known grant.revision (kept_on grant.revision told) next;
+      ends_late = λ _. one-more now known told.knows told.outputs _ tt next;
+      refuses_late = λ _. cannot-reaches now known grant.revision told next;
+      returns_late = λ _. send-reaches now known (bodies.Request (txns.Release grant.revision)) told tt next;
       leads_in_pause = λ renews _ held _. duties-reach now known grant.revision (leading_in_pause renews grant.revision told) (disabled-reaches now known renews told next);
       unleased_in_pause = λ renews _ _. goes-on now known told.knows _ (disabling_watchdog renews told).outputs refl refl refl refl (disabled-reaches now known renews told next);
       takes_in_pause = λ renews _ _. let rest : Outcome = disabling_watchdog renews told in let rested : Reaches now known rest = disabled-reaches now known renews told next in

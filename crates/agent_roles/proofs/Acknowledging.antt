@@ -22,7 +22,7 @@ use Rattle.agent_model.specs.declared.output.Output.TheVariants as outputs
 use Rattle.agent_model.specs.declared.who.Who.{Who}
 use Rattle.agent_model.specs.declared.why.Why.{Why}
 use Rattle.agent_model.specs.declared.why.Why.TheVariants.{HandOver, Lost}
-use Rattle.agent_model.specs.Acting.{lease_span, waiting_no_more}
+use Rattle.agent_model.specs.Acting.{comes_late, lease_span, waiting_no_more}
 use Rattle.agent_model.specs.Agents.{RoleFacts, Follower, Holder, Ready, Leader, Ending, Unleased, Outcome, is_leader, word_of}
 use Rattle.agent_model.specs.Fits.{Fits}
 use Rattle.agent_model.specs.Operators.{given_up, operated, unnumbered}
@@ -202,7 +202,8 @@ answer-leaves now from sequence accepted sent o = by (failsafe-answered-by (λ (
   kept = inl stays;
   quiet = inl (record { watchdog = Same refl; basis = refl; hold = refl });
   counts = λ held _. inl (record { watchdog = Same refl; basis = refl; hold = refl });
-  stays = λ held is waited waits asks since all. inr (record { waited = waited; is = waits; staying = asks; fed = fed-so' held is waited since; since = since; all = all });
+  stays = λ held is waited waits asks since all in_time. inr (record { waited = waited; is = waits; staying = asks; fed = fed-so' held is waited since; in_time = in_time; since = since; all = all });
+  counts_late = λ held _ _. inl (record { watchdog = Same refl; basis = refl; hold = refl });
   fails = λ held _ _. inl (record { watchdog = Same refl; basis = refl; hold = refl });
 }))
   where
@@ -224,6 +225,7 @@ answer-leaves now from sequence accepted sent o = by (failsafe-answered-by (λ (
       is = sym led.waited ∙ word.is;
       staying = word.staying;
       fed = fed-from now word.waited.ttl o b after led word.fed;
+      in_time = λ unpaused. ap (λ (m : Machine). comes_late now word.waited m) (sym led.machine) ∙ word.in_time (ap (λ (c : Config). c.pause) led.settings ∙ unpaused);
       since = word.since;
       all = ap (λ (ask : Ask). moment_of_all (heard ask from true sent)) (sym led.failsafe) ∙ word.all;
     })

@@ -257,7 +257,8 @@ staying-brings now from sequence accepted sent o = failsafe-answered-by (BringsN
   kept = same-role o o refl (λ e. e);
   quiet = same-role o (waiting_no_more o) refl (λ e. e);
   counts = λ held _. same-role o (counting from sent o) refl (λ e. e);
-  stays = λ held _ waited _ _ since _. same-role o (stays now waited.ttl waited.sequence since (counting from sent o)) refl (λ e. e);
+  stays = λ held _ waited _ _ since _ _. same-role o (stays now waited.ttl waited.sequence since (counting from sent o)) refl (λ e. e);
+  counts_late = λ held _ _. same-role o (waiting_no_more (counting from sent o)) refl (λ e. e);
   fails = λ held is _. unacknowledged-brings now held o is;
 })
 

@@ -11,16 +11,16 @@ use Rattle.agent_model.specs.declared.knowledge.PendingQuestion.{PendingQuestion
 use Rattle.agent_model.specs.declared.output.Output.{Output}
 use Rattle.agent_model.specs.declared.output.Output.TheVariants as outputs
 use Rattle.agent_model.specs.declared.why.Why.TheVariants.{HandOver}
-use Rattle.agent_model.specs.Acting.{armed, fed_until, arming, ending_server, requiring, is_hold_active, is_refusing, waiting_no_more}
-use Rattle.agent_model.specs.Agents.{Ending, Outcome, is_ready}
+use Rattle.agent_model.specs.Acting.{armed, comes_late, fed_until, arming, ending_server, requiring, is_hold_active, is_refusing, waiting_no_more}
+use Rattle.agent_model.specs.Agents.{Ending, Outcome, is_leader, is_ready}
 use Rattle.agent_model.specs.Claiming.{begins_or_claims, passing, postpones}
-use Rattle.agent_model.specs.Decisions.{confirming, is_decision, is_lease_of, leader_renewed, takes_over, unleased_renewed, can_begin, may_take, gives_back, arms, takes_key, granted, takes_key_in_pause}
+use Rattle.agent_model.specs.Decisions.{cannot_arm, confirming, is_decision, is_lease_of, judges_start, leader_renewed, takes_over, unleased_renewed, unleased_unarmed, can_begin, may_take, gives_back, arms, takes_key, granted, takes_key_in_pause}
 use Rattle.agent_model.specs.Fits.{Fits}
 use Rattle.agent_model.specs.Outputs.{with_output, is_feeding, has_one}
 use Rattle.agent_model.specs.Planning.{writing_sync, noting}
 use Rattle.agent_roles.specs.Powers.{IsAwaitedLease, GrantMay, BringsNothing, DeadlineMay, Acts, lease_of}
 use Rattle.agent_roles.specs.Powers.DeadlineMay.{Kept, Removed, Undone}
-use Rattle.agent_roles.specs.Powers.GrantMay.{Nothing, Leads, Rests, Begins}
+use Rattle.agent_roles.specs.Powers.GrantMay.{Nothing, Leads, Keeps, Rests, Begins}
 use Rattle.agent_model.specs.Snapshots.{informed, known_with}
 use Rattle.agent_model.specs.Synchronous.{may_lead_in_sync, unnamed}
 use Rattle.agent_roles.proofs.Bringing.{same-role, no-lease, postpones-brings}
@@ -38,7 +38,7 @@ use Rattle.pat_base.specs.MemberId.{member_of}
 use Rattle.pat_base.specs.declared.member_id.MemberId.{MemberId}
 use Rattle.event_book.specs.declared.message.Body.TheVariants as bodies
 use Rattle.agent_model.specs.declared.output.Target.TheVariants as targets
-use Rattle.agent_model.proofs.Rows.{dropping, granted-any-by, SyncRows, led_on, if-cases, granted-by, renewed-by, passing-by, begins-or-claims-by, DutyRows, duties-of, leading_in_pause}
+use Rattle.agent_model.proofs.Rows.{dropping, granted-any-by, SyncWhen, kept_on, led_on, if-cases, granted-when, judges-start-by, renewed-by, passing-by, begins-or-claims-by, DutyRows, duties-of, leading_in_pause}
 use Rattle.agent_model.specs.Pausing.{is_paused, is_wanted, disabling_watchdog}
 
 pub take-free : (held can : Bool) → not held && can ≡ true → held ≡ false
@@ -80,11 +80,11 @@ acts-live after X Y unready lives (inl acts) = inl (lives acts)
 acts-live after X Y unready lives (inr ready) = absurd (no-way (sym unready ∙ ready))
 
 -- the lease of the grant, with the watchdog fed on it, over a server that was live before if it is after
-leads-live : (now : Ticks) (sequence : ℕ) (grant : Granted) (snapshot : SnapshotFacts) (o after : Outcome) (awaited : IsAwaitedLease sequence grant o.knows) → after.machine.watchdog ≡ fed now.0 awaited.waited.ttl.0 o.machine.watchdog → after.machine.by_failsafe ≡ (not (is_armable o.machine.watchdog.mode o.machine.watchdog.works) && o.machine.by_failsafe)
+leads-live : (now : Ticks) (sequence : ℕ) (grant : Granted) (snapshot : SnapshotFacts) (o after : Outcome) (awaited : IsAwaitedLease sequence grant o.knows) → comes_late now awaited.waited o.machine ≡ false → after.machine.watchdog ≡ fed now.0 awaited.waited.ttl.0 o.machine.watchdog → after.machine.by_failsafe ≡ (not (is_armable o.machine.watchdog.mode o.machine.watchdog.works) && o.machine.by_failsafe)
     → lease_of after.role ≡ Some grant.revision → is_ready after.role ≡ false → after.knows.known ≡ known_with o.knows.known (failsafe_in snapshot) → (is_armable o.machine.watchdog.mode o.machine.watchdog.works ≡ true → has_one is_feeding after.outputs ≡ true)
     → (live after.machine.server.state ≡ true → live o.machine.server.state ≡ true) → GrantMay now sequence grant snapshot o after
-leads-live now sequence grant snapshot o after awaited fed-is basis lease unready known told lives =
-    Leads awaited fed-is basis lease (λ ready. absurd (no-way (sym unready ∙ ready))) known told (acts-live after _ _ unready lives) (acts-live after _ _ unready lives)
+leads-live now sequence grant snapshot o after awaited in_time fed-is basis lease unready known told lives =
+    Leads awaited in_time fed-is basis lease (λ ready. absurd (no-way (sym unready ∙ ready))) known told (acts-live after _ _ unready lives) (acts-live after _ _ unready lives)
 
 -- asks stand behind what was told before
 ask-told : (who : Who) (sequence : ℕ) (member : Option MemberId) (outs : List Output) → has_one is_feeding outs ≡ true → has_one is_feeding (asking_one who sequence member outs) ≡ true
@@ -100,57 +100,77 @@ whom-told : (who : Who) (candidate : Option MemberId) (sequence : ℕ) (outs : L
 whom-told who None sequence outs told = asks-told who sequence MOST_MEMBERS outs told
 whom-told who (Some candidate) sequence outs told = ask-told who sequence (Some candidate) outs told
 
-renewed-may : (now : Ticks) (sequence : ℕ) (grant : Granted) (snapshot : SnapshotFacts) (o : Outcome) (awaited : IsAwaitedLease sequence grant o.knows) → GrantMay now sequence grant snapshot o (leader_renewed now awaited.waited.ttl grant.revision (Told snapshot o))
-renewed-may now sequence grant snapshot o awaited = let led : Outcome = led_on now awaited.waited.ttl grant.revision (Told snapshot o) in
+renewed-may : (now : Ticks) (sequence : ℕ) (grant : Granted) (snapshot : SnapshotFacts) (o : Outcome) (awaited : IsAwaitedLease sequence grant o.knows) → comes_late now awaited.waited o.machine ≡ false → GrantMay now sequence grant snapshot o (leader_renewed now awaited.waited.ttl grant.revision (Told snapshot o))
+renewed-may now sequence grant snapshot o awaited in_time = let led : Outcome = led_on now awaited.waited.ttl grant.revision (Told snapshot o) in
     let told : is_armable o.machine.watchdog.mode o.machine.watchdog.works ≡ true → has_one is_feeding led.outputs ≡ true = fed-told o.outputs _ (is_armable o.machine.watchdog.mode o.machine.watchdog.works) in
     let ended : Outcome = record (ending_server now StartTooLong led) { role = Ending grant.revision HandOver } in
     renewed-by (GrantMay now sequence grant snapshot o) now awaited.waited.ttl grant.revision (Told snapshot o)
-    (leads-live now sequence grant snapshot o ended awaited refl refl refl refl refl (λ armable. one-before is_feeding led.outputs (outputs.Stop StartTooLong) (told armable)) (stop-live now o.machine.server))
+    (leads-live now sequence grant snapshot o ended awaited in_time refl refl refl refl refl (λ armable. one-before is_feeding led.outputs (outputs.Stop StartTooLong) (told armable)) (stop-live now o.machine.server))
     (record {
       plan = record {
-        kept = leads-live now sequence grant snapshot o led awaited refl refl refl refl refl told (λ e. e);
-        writes = λ settling txn _. leads-live now sequence grant snapshot o (writing_sync now settling txn led) awaited refl refl refl refl refl (λ armable. one-before is_feeding led.outputs _ (told armable)) (λ e. e);
-        adds = λ required. leads-live now sequence grant snapshot o (requiring required (noting led)) awaited refl refl refl refl refl (λ armable. one-before is_feeding led.outputs (outputs.Require required) (told armable)) (λ e. e);
-        drops = λ required. leads-live now sequence grant snapshot o (requiring required led) awaited refl refl refl refl refl (λ armable. one-before is_feeding led.outputs (outputs.Require required) (told armable)) (λ e. e);
+        kept = leads-live now sequence grant snapshot o led awaited in_time refl refl refl refl refl told (λ e. e);
+        writes = λ settling txn _. leads-live now sequence grant snapshot o (writing_sync now settling txn led) awaited in_time refl refl refl refl refl (λ armable. one-before is_feeding led.outputs _ (told armable)) (λ e. e);
+        adds = λ required. leads-live now sequence grant snapshot o (requiring required (noting led)) awaited in_time refl refl refl refl refl (λ armable. one-before is_feeding led.outputs (outputs.Require required) (told armable)) (λ e. e);
+        drops = λ required. leads-live now sequence grant snapshot o (requiring required led) awaited in_time refl refl refl refl refl (λ armable. one-before is_feeding led.outputs (outputs.Require required) (told armable)) (λ e. e);
       };
-      clears = λ compared. leads-live now sequence grant snapshot o (dropping compared led) awaited refl refl refl refl refl (λ armable. one-before is_feeding led.outputs _ (told armable)) (λ e. e);
-      asks = λ candidate. leads-live now sequence grant snapshot o (checking now candidate (unheard led)) awaited refl refl refl refl refl (λ armable. whom-told led.knows.who candidate (led.knows.sequence + 1) led.outputs (told armable)) (λ e. e);
+      clears = λ compared. leads-live now sequence grant snapshot o (dropping compared led) awaited in_time refl refl refl refl refl (λ armable. one-before is_feeding led.outputs _ (told armable)) (λ e. e);
+      asks = λ candidate. leads-live now sequence grant snapshot o (checking now candidate (unheard led)) awaited in_time refl refl refl refl refl (λ armable. whom-told led.knows.who candidate (led.knows.sequence + 1) led.outputs (told armable)) (λ e. e);
       judges = record {
-        kept = leads-live now sequence grant snapshot o (waiting_no_more (unheard led)) awaited refl refl refl refl refl told (λ e. e);
-        clears = λ compared. leads-live now sequence grant snapshot o (dropping compared (waiting_no_more (unheard led))) awaited refl refl refl refl refl (λ armable. one-before is_feeding led.outputs _ (told armable)) (λ e. e);
-        hands = λ candidate. leads-live now sequence grant snapshot o (hands_over now grant.revision candidate (waiting_no_more (unheard led))) awaited refl refl refl refl refl
+        kept = leads-live now sequence grant snapshot o (waiting_no_more (unheard led)) awaited in_time refl refl refl refl refl told (λ e. e);
+        clears = λ compared. leads-live now sequence grant snapshot o (dropping compared (waiting_no_more (unheard led))) awaited in_time refl refl refl refl refl (λ armable. one-before is_feeding led.outputs _ (told armable)) (λ e. e);
+        hands = λ candidate. leads-live now sequence grant snapshot o (hands_over now grant.revision candidate (waiting_no_more (unheard led))) awaited in_time refl refl refl refl refl
             (λ armable. one-before is_feeding (with_output (outputs.Note (agent_notes.HandsOver candidate)) led.outputs) outputs.ShutDown (one-before is_feeding led.outputs (outputs.Note (agent_notes.HandsOver candidate)) (told armable))) (stop-live now o.machine.server);
       };
     })
 
-unleased-may : (now : Ticks) (sequence : ℕ) (grant : Granted) (snapshot : SnapshotFacts) (o : Outcome) (awaited : IsAwaitedLease sequence grant o.knows) → GrantMay now sequence grant snapshot o (unleased_renewed now awaited.waited.ttl grant.revision (Told snapshot o))
-unleased-may now sequence grant snapshot o awaited = let over : Outcome = takes_over now grant.revision (arming now awaited.waited.ttl (Told snapshot o)) in
+unleased-may : (now : Ticks) (sequence : ℕ) (grant : Granted) (snapshot : SnapshotFacts) (o : Outcome) (awaited : IsAwaitedLease sequence grant o.knows) → comes_late now awaited.waited o.machine ≡ false → GrantMay now sequence grant snapshot o (unleased_renewed now awaited.waited.ttl grant.revision (Told snapshot o))
+unleased-may now sequence grant snapshot o awaited in_time = let over : Outcome = takes_over now grant.revision (arming now awaited.waited.ttl (Told snapshot o)) in
     if-cases (GrantMay now sequence grant snapshot o) (is_refusing o.machine.watchdog.mode o.machine.watchdog.works) (ending_server now WatchdogNotArmed (Told snapshot o)) over
     (λ _. Nothing (same-role o (ending_server now WatchdogNotArmed (Told snapshot o)) refl (stop-live now o.machine.server)) (Kept refl) refl)
-    (λ _. leads-live now sequence grant snapshot o over awaited refl refl refl refl refl (armed-told o.outputs _ (is_armable o.machine.watchdog.mode o.machine.watchdog.works)) (λ e. e))
+    (λ _. leads-live now sequence grant snapshot o over awaited in_time refl refl refl refl refl (armed-told o.outputs _ (is_armable o.machine.watchdog.mode o.machine.watchdog.works)) (λ e. e))
 
 -- a note of the sync key takes nothing from what was fed
 passing-told : (o : Outcome) → has_one is_feeding o.outputs ≡ true → has_one is_feeding (passing o).outputs ≡ true
 passing-told o told = passing-by (λ (outs : List Output). has_one is_feeding outs ≡ true) o told (one-before is_feeding o.outputs outputs.ClaimsOutsideSync told)
 
-arms-may : (now : Ticks) (sequence : ℕ) (grant : Granted) (snapshot : SnapshotFacts) (o : Outcome) (awaited : IsAwaitedLease sequence grant o.knows) → live o.machine.server.state ≡ false → is_hold_active now o.machine.hold ≡ false
+arms-may : (now : Ticks) (sequence : ℕ) (grant : Granted) (snapshot : SnapshotFacts) (o : Outcome) (awaited : IsAwaitedLease sequence grant o.knows) → comes_late now awaited.waited o.machine ≡ false → live o.machine.server.state ≡ false → is_hold_active now o.machine.hold ≡ false
     → GrantMay now sequence grant snapshot o (arms now awaited.waited.ttl grant.revision (Told snapshot o))
-arms-may now sequence grant snapshot o awaited ended free = let back : Outcome = gives_back grant.revision (record (Told snapshot o) { outputs = with_output (outputs.Note agent_notes.CannotArm) o.outputs }) in
+arms-may now sequence grant snapshot o awaited in_time ended free = let back : Outcome = gives_back grant.revision (record (Told snapshot o) { outputs = with_output (outputs.Note agent_notes.CannotArm) o.outputs }) in
     let arm : Outcome = arming now awaited.waited.ttl (Told snapshot o) in
     let told : is_armable o.machine.watchdog.mode o.machine.watchdog.works ≡ true → has_one is_feeding arm.outputs ≡ true = armed-told o.outputs _ (is_armable o.machine.watchdog.mode o.machine.watchdog.works) in
     if-cases (GrantMay now sequence grant snapshot o) (is_refusing o.machine.watchdog.mode o.machine.watchdog.works) back (begins_or_claims now grant.revision arm)
     (λ _. Nothing (no-lease o back refl refl (λ e. e)) (Kept refl) refl)
     (λ ready. begins-or-claims-by (GrantMay now sequence grant snapshot o) now grant.revision arm
-    (Leads awaited refl refl refl (λ e. absurd (no-way e)) refl
+    (Leads awaited in_time refl refl refl (λ e. absurd (no-way e)) refl
     (λ armable. one-before is_feeding (with_output (outputs.Require (unnamed arm.knows.turn_settings)) arm.outputs) outputs.Begin (one-before is_feeding arm.outputs (outputs.Require (unnamed arm.knows.turn_settings)) (told armable)))
     (λ _. inr free) (λ _. inr ready))
-    (Leads awaited refl refl refl (λ _. ended) refl (λ armable. one-before is_feeding (passing arm).outputs _ (passing-told arm (told armable))) (λ _. inr free) (λ _. inr ready)))
+    (Leads awaited in_time refl refl refl (λ _. ended) refl (λ armable. one-before is_feeding (passing arm).outputs _ (passing-told arm (told armable))) (λ _. inr free) (λ _. inr ready)))
 
-takes-may : (now : Ticks) (sequence : ℕ) (grant : Granted) (snapshot : SnapshotFacts) (o : Outcome) (awaited : IsAwaitedLease sequence grant o.knows) → live o.machine.server.state ≡ false → GrantMay now sequence grant snapshot o (takes_key now awaited.waited.ttl grant.revision (Told snapshot o))
-takes-may now sequence grant snapshot o awaited ended = let back : Outcome = gives_back grant.revision (Told snapshot o) in
+takes-may : (now : Ticks) (sequence : ℕ) (grant : Granted) (snapshot : SnapshotFacts) (o : Outcome) (awaited : IsAwaitedLease sequence grant o.knows) → comes_late now awaited.waited o.machine ≡ false → live o.machine.server.state ≡ false → GrantMay now sequence grant snapshot o (takes_key now awaited.waited.ttl grant.revision (Told snapshot o))
+takes-may now sequence grant snapshot o awaited in_time ended = let back : Outcome = gives_back grant.revision (Told snapshot o) in
     if-cases (GrantMay now sequence grant snapshot o) (may_take now (Told snapshot o).knows o.machine) (arms now awaited.waited.ttl grant.revision (Told snapshot o)) back
-    (λ may. arms-may now sequence grant snapshot o awaited ended (take-free (is_hold_active now o.machine.hold) (can_begin now o.knows o.machine.server o.machine.server.state && may_lead_in_sync o.knows) may))
+    (λ may. arms-may now sequence grant snapshot o awaited in_time ended (take-free (is_hold_active now o.machine.hold) (can_begin now o.knows o.machine.server o.machine.server.state && may_lead_in_sync o.knows) may))
     (λ _. Nothing (no-lease o back refl refl (λ e. e)) (Kept refl) refl)
+
+-- a leader that hears of its renewal too late
+kept-may : (now : Ticks) (sequence : ℕ) (grant : Granted) (snapshot : SnapshotFacts) (o : Outcome) (awaited : IsAwaitedLease sequence grant o.knows) → comes_late now awaited.waited o.machine ≡ true → is_leader o.role ≡ true
+    → GrantMay now sequence grant snapshot o (judges_start now grant.revision (kept_on grant.revision (Told snapshot o)))
+kept-may now sequence grant snapshot o awaited late led = let kept : Outcome = kept_on grant.revision (Told snapshot o) in
+    judges-start-by (GrantMay now sequence grant snapshot o) now grant.revision kept (Keeps awaited late led refl refl refl refl refl (stop-live now o.machine.server)) (record {
+      plan = record {
+        kept = Keeps awaited late led refl refl refl refl refl (λ e. e);
+        writes = λ settling txn _. Keeps awaited late led refl refl refl refl refl (λ e. e);
+        adds = λ required. Keeps awaited late led refl refl refl refl refl (λ e. e);
+        drops = λ required. Keeps awaited late led refl refl refl refl refl (λ e. e);
+      };
+      clears = λ compared. Keeps awaited late led refl refl refl refl refl (λ e. e);
+      asks = λ candidate. Keeps awaited late led refl refl refl refl refl (λ e. e);
+      judges = record {
+        kept = Keeps awaited late led refl refl refl refl refl (λ e. e);
+        clears = λ compared. Keeps awaited late led refl refl refl refl refl (λ e. e);
+        hands = λ candidate. Keeps awaited late led refl refl refl refl refl (stop-live now o.machine.server);
+      };
+    })
 
 pub both-true : (a b : Bool) → a && b ≡ true → (a ≡ true) × (b ≡ true)
 both-true true b e = (refl, e)
@@ -190,10 +210,10 @@ takes-in-pause-may now sequence grant snapshot renews o paused awaited = let res
     (λ _. Nothing (no-lease o (gives_back grant.revision (Told snapshot o)) refl refl (λ e. e)) (Kept refl) refl)
 
 -- an agent that was about to begin begins, or keeps its lease
-sync-may : (now : Ticks) (sequence : ℕ) (grant : Granted) (snapshot : SnapshotFacts) (o : Outcome) → Fits o.role (live o.machine.server.state) → SyncRows (GrantMay now sequence grant snapshot o) now (Told snapshot o)
+sync-may : (now : Ticks) (sequence : ℕ) (grant : Granted) (snapshot : SnapshotFacts) (o : Outcome) → Fits o.role (live o.machine.server.state) → SyncWhen (GrantMay now sequence grant snapshot o) now (Told snapshot o)
 sync-may now sequence grant snapshot o fits = record {
   other = Nothing (same-role o (Told snapshot o) refl (λ e. e)) (Kept refl) refl;
-  begins = λ revision is. Begins (ready-is o.role revision is) refl refl refl (sym (ap lease_of is));
+  begins = λ revision is _. Begins (ready-is o.role revision is) refl refl refl (sym (ap lease_of is));
   postpones = λ revision is. let brings : BringsNothing o (postpones revision (Told snapshot o)) = postpones-brings o revision (Told snapshot o) is refl in
       Nothing brings (behind-by o o (postpones revision (Told snapshot o)) (Kept refl) (postpones-stays o revision (Told snapshot o) is fits refl).watchdog brings) refl;
   settles = λ required _. Nothing (same-role o (requiring required (Told snapshot o)) refl (λ e. e)) (Kept refl) refl;
@@ -211,19 +231,24 @@ confirms-may now sequence grant snapshot o after (Nothing brings deadline basis)
     still (Kept same) = Kept same
     still (Removed is rests) = Removed is (λ acts. rests acts)
     still (Undone is ready live) = Undone is ready live
-confirms-may now sequence grant snapshot o after (Leads awaited fed-is basis lease parted known told free armed) = Leads awaited fed-is basis lease parted known told (λ acts. free acts) (λ acts. armed acts)
+confirms-may now sequence grant snapshot o after (Leads awaited in_time fed-is basis lease parted known told free armed) = Leads awaited in_time fed-is basis lease parted known told (λ acts. free acts) (λ acts. armed acts)
+confirms-may now sequence grant snapshot o after (Keeps awaited late led same basis lease ready known lives) = Keeps awaited late led same basis lease ready known (λ is. lives is)
 confirms-may now sequence grant snapshot o after (Rests paused awaited rested lease free) = Rests paused awaited rested lease (λ acts. free acts)
 confirms-may now sequence grant snapshot o after (Begins was_ready ready same basis lease) = Begins was_ready ready same basis lease
 
 pub granted-may : (now : Ticks) (sequence : ℕ) (grant : Granted) (snapshot : SnapshotFacts) (o : Outcome) → Fits o.role (live o.machine.server.state) → GrantMay now sequence grant snapshot o (granted now sequence grant snapshot o)
-granted-may now sequence grant snapshot o fits = granted-by (GrantMay now sequence grant snapshot o) now sequence grant snapshot o
+granted-may now sequence grant snapshot o fits = granted-when (GrantMay now sequence grant snapshot o) now sequence grant snapshot o
     (Nothing (same-role o o refl (λ e. e)) (Kept refl) refl)
     (Nothing (same-role o (waiting_no_more o) refl (λ e. e)) (Kept refl) refl)
     (λ waited is decision. let awaited = awaited-lease sequence grant o waited is decision in record {
       other = Nothing (same-role o (Told snapshot o) refl (λ e. e)) (Kept refl) refl;
-      leader = λ held _. renewed-may now sequence grant snapshot o awaited;
-      unleased = λ _. unleased-may now sequence grant snapshot o awaited;
-      takes = λ may. takes-may now sequence grant snapshot o awaited (ended-for o.role (live o.machine.server.state) may fits);
+      leader = λ held _ in_time _. renewed-may now sequence grant snapshot o awaited in_time;
+      unleased = λ _ in_time _. unleased-may now sequence grant snapshot o awaited in_time;
+      takes = λ _ in_time may. takes-may now sequence grant snapshot o awaited in_time (ended-for o.role (live o.machine.server.state) may fits);
+      keeps_late = λ held _ late is. kept-may now sequence grant snapshot o awaited late (rw is refl);
+      ends_late = λ _ _. Nothing (same-role o (unleased_unarmed now (Told snapshot o)) refl (stop-live now o.machine.server)) (Kept refl) refl;
+      refuses_late = λ _ _. Nothing (no-lease o (cannot_arm grant.revision (Told snapshot o)) refl refl (λ e. e)) (Kept refl) refl;
+      returns_late = λ _ _. Nothing (no-lease o (gives_back grant.revision (Told snapshot o)) refl refl (λ e. e)) (Kept refl) refl;
       leads_in_pause = λ renews paused held _. duties-of (GrantMay now sequence grant snapshot o) now grant.revision (leading_in_pause renews grant.revision (Told snapshot o)) (leading-in-pause-may now sequence grant snapshot renews o paused awaited);
       unleased_in_pause = λ renews paused _. paused-live now sequence grant snapshot o (takes_over now grant.revision (disabling_watchdog renews (Told snapshot o))) paused awaited refl refl refl (λ e. e);
       takes_in_pause = λ renews paused _. takes-in-pause-may now sequence grant snapshot renews o paused awaited;

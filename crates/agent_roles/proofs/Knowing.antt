@@ -31,7 +31,7 @@ use Rattle.agent_model.specs.declared.why.Why.TheVariants.{HandOver, Lost}
 use Rattle.agent_model.specs.Acting.{disarming, arming, ending_server, requiring, shutting_down, touching, starting_replica, following_server, is_refusing, waiting_no_more}
 use Rattle.agent_model.specs.Agents.{EndsAlone, HasCounted, RoleFacts, Follower, Holder, Ready, Leader, Ending, Unleased, Outcome}
 use Rattle.agent_model.specs.Reconciling.{leader_finds_ended, has_ended, finds_live, unleased_finds_ended, reconciled}
-use Rattle.agent_model.specs.Decisions.{confirming, may_create, leader_renewed, takes_over, unleased_renewed, may_take, gives_back, arms, takes_key, granted, refused, takes_key_in_pause}
+use Rattle.agent_model.specs.Decisions.{cannot_arm, confirming, judges_start, may_create, leader_renewed, takes_over, unleased_renewed, unleased_unarmed, may_take, gives_back, arms, takes_key, granted, refused, takes_key_in_pause}
 use Rattle.agent_model.specs.Claiming.{begins, claims, begins_or_claims, passing, postpones}
 use Rattle.agent_model.specs.Planning.{writing_sync, noting}
 use Rattle.agent_model.specs.Outputs.{with_output}
@@ -50,7 +50,7 @@ use Rattle.event_book.specs.declared.message.Body.TheVariants as bodies
 use Rattle.agent_model.specs.Wake.{reading, turn_noted, leader_out_of_reach, unleased_out_of_reach, overdue, turned, woken}
 use Rattle.agent_roles.proofs.Granting.{Told}
 use Rattle.agent_roles.proofs.Living.{no-way}
-use Rattle.agent_model.proofs.Rows.{HandoverRows, ReplyRows, ActRows, dropping, looked-by, given-up-by, granted-any-by, refused-any-by, operated-by, led_on, if-cases, renewed-by, begins-or-claims-by, before-by, overdue-by, turn-by, wake-by, got-by, refused-by, follow-by, repaired-by, free-by, granted-by, judged-by, answered-by, failsafe-asked-by, failsafe-answered-by, DutyRows, duties-of, leading_in_pause, takes-in-pause-by}
+use Rattle.agent_model.proofs.Rows.{HandoverRows, ReplyRows, ActRows, dropping, looked-by, given-up-by, granted-any-by, refused-any-by, operated-by, led_on, if-cases, judges-start-by, begins-or-claims-by, before-by, overdue-by, turn-by, wake-by, got-by, refused-by, follow-by, repaired-by, free-by, granted-by, judged-by, answered-by, failsafe-asked-by, failsafe-answered-by, DutyRows, duties-of, leading_in_pause, takes-in-pause-by}
 use Rattle.agent_model.specs.Pausing.{is_paused, may_start_behind, disabling_watchdog, running_without_key}
 use Rattle.store_keys.specs.Defaults.{default_config}
 use Rattle.store_keys.specs.declared.value.Value.{Value}
@@ -528,10 +528,14 @@ duty-onward now revision snapshot o machine outs hold = let led : Outcome = reco
   judges = handover-onward (Some snapshot) now revision o (unheard led) (quiet-told snapshot o (unheard led) refl refl refl refl refl refl (omega arith) refl hold);
 }
 
-renewed-onward : (now ttl : Ticks) (revision : ℕ) (snapshot : SnapshotFacts) (o : Outcome) → Onward (Some snapshot) o (leader_renewed now ttl revision (Told snapshot o))
-renewed-onward now ttl revision snapshot o = let led : Outcome = led_on now ttl revision (Told snapshot o) in
+start-onward : (now : Ticks) (revision : ℕ) (snapshot : SnapshotFacts) (o : Outcome) (machine : Machine) (outs : List Output) → machine.hold ≡ o.machine.hold
+    → Onward (Some snapshot) o (judges_start now revision (record (Told snapshot o) { role = Leader revision; machine = machine; outputs = outs }))
+start-onward now revision snapshot o machine outs hold = let led : Outcome = record (Told snapshot o) { role = Leader revision; machine = machine; outputs = outs } in
     let ended : Outcome = record (ending_server now StartTooLong led) { role = Ending revision HandOver } in
-    renewed-by (Onward (Some snapshot) o) now ttl revision (Told snapshot o) (quiet-told snapshot o ended refl refl refl refl refl refl (omega arith) refl refl) (duty-onward now revision snapshot o led.machine led.outputs refl)
+    judges-start-by (Onward (Some snapshot) o) now revision led (quiet-told snapshot o ended refl refl refl refl refl refl (omega arith) refl hold) (duty-onward now revision snapshot o machine outs hold)
+
+renewed-onward : (now ttl : Ticks) (revision : ℕ) (snapshot : SnapshotFacts) (o : Outcome) → Onward (Some snapshot) o (leader_renewed now ttl revision (Told snapshot o))
+renewed-onward now ttl revision snapshot o = let led : Outcome = led_on now ttl revision (Told snapshot o) in start-onward now revision snapshot o led.machine led.outputs refl
 
 unleased-onward : (now ttl : Ticks) (revision : ℕ) (snapshot : SnapshotFacts) (o : Outcome) → Onward (Some snapshot) o (unleased_renewed now ttl revision (Told snapshot o))
 unleased-onward now ttl revision snapshot o = let over : Outcome = takes_over now revision (arming now ttl (Told snapshot o)) in let ended : Outcome = ending_server now WatchdogNotArmed (Told snapshot o) in
@@ -566,6 +570,10 @@ granted-onward now sequence grant snapshot o = granted-by (Onward (Some snapshot
       leader = λ held _. renewed-onward now waited.ttl grant.revision snapshot o;
       unleased = λ _. unleased-onward now waited.ttl grant.revision snapshot o;
       takes = λ _. takes-onward now waited.ttl grant.revision snapshot o;
+      keeps_late = λ held _. start-onward now grant.revision snapshot o o.machine o.outputs refl;
+      ends_late = λ _. quiet-told snapshot o (unleased_unarmed now (Told snapshot o)) refl refl refl refl refl refl (omega arith) refl refl;
+      refuses_late = λ _. quiet-told snapshot o (cannot_arm grant.revision (Told snapshot o)) refl refl refl refl refl refl (omega arith) refl refl;
+      returns_late = λ _. quiet-told snapshot o (gives_back grant.revision (Told snapshot o)) refl refl refl refl refl refl (omega arith) refl refl;
       leads_in_pause = λ renews _ held _. let led : Outcome = leading_in_pause renews grant.revision (Told snapshot o) in duties-of (Onward (Some snapshot) o) now grant.revision led (duty-onward now grant.revision snapshot o led.machine led.outputs refl);
       unleased_in_pause = λ renews _ _. quiet-told snapshot o (takes_over now grant.revision (disabling_watchdog renews (Told snapshot o))) refl refl refl refl refl refl (omega arith) refl refl;
       takes_in_pause = λ renews _ _. leading-in-pause-onward now renews grant.revision snapshot o;
@@ -598,7 +606,8 @@ staying-onward told now from sequence accepted sent o = failsafe-answered-by (On
   kept = same told o;
   quiet = rests told o (waiting_no_more o) refl refl refl refl refl refl (omega arith) refl refl;
   counts = λ held _. keeps told o (counting from sent o) refl refl refl refl refl refl (omega arith) (λ n e. inl e) refl (λ alone. alone) (λ counted. counted);
-  stays = λ held _ waited _ _ since _. rests told o (stays now waited.ttl waited.sequence since (counting from sent o)) refl refl refl refl refl refl (omega arith) refl refl;
+  stays = λ held _ waited _ _ since _ _. rests told o (stays now waited.ttl waited.sequence since (counting from sent o)) refl refl refl refl refl refl (omega arith) refl refl;
+  counts_late = λ held _ _. rests told o (waiting_no_more (counting from sent o)) refl refl refl refl refl refl (omega arith) refl refl;
   fails = λ held _ _. rests told o (leader_unacknowledged now held (waiting_no_more o)) refl refl refl refl refl refl (omega arith) refl refl;
 })
 

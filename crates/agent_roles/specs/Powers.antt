@@ -12,7 +12,7 @@ use Rattle.agent_model.specs.declared.knowledge.Knowledge.{Knowledge}
 use Rattle.agent_model.specs.declared.knowledge.PendingQuestion.{PendingQuestion}
 use Rattle.event_book.specs.Watchdogs.{prolonged_to}
 use Rattle.failsafe.specs.Asks.{heard, moment_of_all}
-use Rattle.agent_model.specs.Acting.{is_hold_active, is_refusing, lease_span}
+use Rattle.agent_model.specs.Acting.{comes_late, is_hold_active, is_refusing, lease_span}
 use Rattle.agent_model.specs.Agents.{RoleFacts, Follower, Holder, Ready, Leader, Ending, Outcome, is_leader, is_ready}
 use Rattle.agent_model.specs.Decisions.{is_decision, is_lease_of}
 use Rattle.agent_model.specs.Outputs.{is_feeding, has_one}
@@ -82,6 +82,8 @@ pub record StaysByWord (now : Ticks) (from : MemberId) (sent : Ticks) (o after :
   pub is : o.knows.waited ≡ Some waited
   pub staying : is_staying waited.question ≡ true
   pub fed : IsFedByFailsafe now waited.ttl o after
+  -- outside a pause it comes in time
+  pub in_time : is_paused o.knows ≡ false → comes_late now waited o.machine ≡ false
   pub since : Ticks
   pub all : moment_of_all (heard o.knows.failsafe from true sent) ≡ Some since
 
@@ -105,17 +107,20 @@ pub record IsAwaitedLease (sequence : ℕ) (grant : Granted) (knows : Knowledge)
   pub decision : is_decision waited sequence ≡ true
   pub mine : is_lease_of knows.who.me grant ≡ true
 
--- what a granted request may bring an agent: nothing; or the lease of its revision, where it is waited for: the watchdog is fed on
--- it for the span that was asked for and an output tells that, if this member needs one then with a device that works, and the
--- members of the snapshot's failsafe key are known. Who comes to act has no active hold. In a pause the lease comes with no deadline. Or an
--- agent that was about to begin does so
+-- what a granted request may bring an agent: nothing; or the lease of its revision, where it is waited for: if it is heard in time, the watchdog is
+-- fed on it for the span that was asked for and an output tells that, if this member needs one then with a device that works, and the
+-- members of the snapshot's failsafe key are known. Who comes to act has no active hold. Heard too late it comes to a leader alone, whose watchdog
+-- keeps its deadline. In a pause the lease comes with no deadline. Or an agent that was about to begin does so
 pub data GrantMay (now : Ticks) (sequence : ℕ) (grant : Granted) (snapshot : SnapshotFacts) (o after : Outcome) : Type 0 where
   Nothing : (brings : BringsNothing o after) → (deadline : DeadlineMay o after) → (basis : after.machine.by_failsafe ≡ o.machine.by_failsafe) → GrantMay now sequence grant snapshot o after
-  Leads : (awaited : IsAwaitedLease sequence grant o.knows) → (fed : after.machine.watchdog ≡ fed now.0 awaited.waited.ttl.0 o.machine.watchdog) → (basis : after.machine.by_failsafe ≡ (not (is_armable o.machine.watchdog.mode o.machine.watchdog.works) && o.machine.by_failsafe)) → (lease : lease_of after.role ≡ Some grant.revision) → (parted : is_ready after.role ≡ true → live after.machine.server.state ≡ false)
+  Leads : (awaited : IsAwaitedLease sequence grant o.knows) → (in_time : comes_late now awaited.waited o.machine ≡ false) → (fed : after.machine.watchdog ≡ fed now.0 awaited.waited.ttl.0 o.machine.watchdog) → (basis : after.machine.by_failsafe ≡ (not (is_armable o.machine.watchdog.mode o.machine.watchdog.works) && o.machine.by_failsafe)) → (lease : lease_of after.role ≡ Some grant.revision) → (parted : is_ready after.role ≡ true → live after.machine.server.state ≡ false)
       → (known : after.knows.known ≡ known_with o.knows.known (failsafe_in snapshot))
       → (told : is_armable o.machine.watchdog.mode o.machine.watchdog.works ≡ true → has_one is_feeding after.outputs ≡ true)
       → (free : Acts after → (live o.machine.server.state ≡ true) ⊎ (is_hold_active now o.machine.hold ≡ false))
       → (armed : Acts after → (live o.machine.server.state ≡ true) ⊎ (is_refusing o.machine.watchdog.mode o.machine.watchdog.works ≡ false))
+      → GrantMay now sequence grant snapshot o after
+  Keeps : (awaited : IsAwaitedLease sequence grant o.knows) → (late : comes_late now awaited.waited o.machine ≡ true) → (led : is_leader o.role ≡ true) → (same : after.machine.watchdog ≡ o.machine.watchdog) → (basis : after.machine.by_failsafe ≡ o.machine.by_failsafe)
+      → (lease : lease_of after.role ≡ Some grant.revision) → (ready : is_ready after.role ≡ false) → (known : after.knows.known ≡ known_with o.knows.known (failsafe_in snapshot)) → (lives : live after.machine.server.state ≡ true → live o.machine.server.state ≡ true)
       → GrantMay now sequence grant snapshot o after
   Rests : (paused : is_paused (informed snapshot o.knows) ≡ true) → (awaited : IsAwaitedLease sequence grant o.knows) → (rested : after.machine.watchdog ≡ record o.machine.watchdog { deadline = None }) → (lease : lease_of after.role ≡ Some grant.revision)
       → (free : Acts after → (live o.machine.server.state ≡ true) ⊎ (is_hold_active now o.machine.hold ≡ false)) → GrantMay now sequence grant snapshot o after

@@ -39,8 +39,9 @@ pub fn only_a_grant_lets_lead()
 
 /// Only a grant sets a deadline, or the word of all other members: any other input leaves the watchdog and the hold as they were, but for
 /// a deadline that is removed where nobody acts after it, or where an agent that was about to begin found its server live. By
-/// that word a leader's watchdog is fed that leads on, at an answer to its failsafe request, or as it has nobody to ask. Only
-/// who acknowledges such a request, by a message or by the REST interface, takes a hold, which lasts at least for its span.
+/// that word a leader's watchdog is fed that leads on, at an answer to its failsafe request that outside a pause doesn't come too
+/// late, or as it has nobody to ask. Only who acknowledges such a request, by a message or by the REST interface, takes a hold,
+/// which lasts at least for its span.
 pub fn only_a_grant_sets_deadlines()
     ensures wake { (now : Ticks) (points : List HistoryPoint) (o : Outcome) → LeavesMachine o (step now points heard.Wake o) ⊎ StaysAlone now o (step now points heard.Wake o) }
     ensures read { (now : Ticks) (points : List HistoryPoint) (sequence : ℕ) (snapshot : SnapshotFacts) (o : Outcome) → LeavesMachine o (step now points (heard.ReadAnswered sequence snapshot) o) }
@@ -53,7 +54,8 @@ pub fn only_a_grant_sets_deadlines()
 {}
 
 /// A grant gives at most the lease of its revision, where that is waited for, with the watchdog fed on it for the span that was
-/// asked for. A server becomes live by it only where no hold is active, and where the watchdog was armed or isn't needed.
+/// asked for. One that comes too late for the watchdog arms and feeds nothing: of it only who leads has the lease, and keeps its
+/// deadline. A server becomes live by a grant only where no hold is active, and where the watchdog was armed or isn't needed.
 pub fn a_grant_feeds_the_watchdog()
     ensures { (now : Ticks) (points : List HistoryPoint) (sequence : ℕ) (grant : Granted) (snapshot : SnapshotFacts) (o : Outcome) → GrantMay now sequence grant snapshot (reconciled now o) (step now points (heard.Granted sequence grant snapshot) o) }
 {}

@@ -3,18 +3,19 @@ ghost use Rattle.std.specs.Prelude.{true, ◌≡◌};
 ghost use Rattle.agent_turn.specs.Turns.{HasLeft, Spent, reached};
 ghost use Rattle.leader_key.specs.Watchdog.{IsLeaseSpan};
 ghost use Rattle.agent_model.specs.Agents.{IsWithin};
-ghost use Rattle.agent_model.specs.Decisions.{accepted_grant, accepted_sync, asks_in_pause, asks_lease, asks_renewal, asks_sync, follower_for, granted, granted_in_pause, is_decision, is_sync_decision, lease_granted, lease_used, refused, refused_as, renewal_refused, uses_lease};
+ghost use Rattle.agent_model.specs.Decisions.{accepted_grant, accepted_sync, asks_in_pause, asks_lease, asks_renewal, asks_sync, follower_for, granted, granted_in_pause, granted_late, is_decision, is_sync_decision, lease_granted, lease_heard, lease_used, refused, refused_as, renewal_refused, uses_lease};
 ghost use Rattle.agent_model.specs.Answers.{most_grant_outputs};
 ghost use Rattle.agent_turn.specs.Roles.{role_of};
 ghost use Rattle.agent_model.specs.Acting.{waiting_no_more};
 
 use agent_following::{leader_without_key, unleased_without_key};
 use agent_leadership::{
-    claim_fails, claim_granted, leader_renewed, leader_renewed_in_pause, settle, take_key,
-    take_key_in_pause, unleased_renewed, unleased_renewed_in_pause,
+    claim_fails, claim_granted, leader_kept, leader_renewed, leader_renewed_in_pause, settle,
+    take_key, take_key_in_pause, take_late, unleased_renewed, unleased_renewed_in_pause,
+    unleased_unarmed,
 };
 use agent_model::{PendingQuestion, Question};
-use agent_turn::{Role, Turn, belongs, inform, is_lease_of, is_paused, is_write_of};
+use agent_turn::{Role, Turn, belongs, comes_late, inform, is_lease_of, is_paused, is_write_of};
 use cluster_view::Snapshot;
 use leader_key::Lease;
 use lease_store::Granted;
@@ -72,7 +73,7 @@ fn accept_grant(
     role
 }
 
-/// A lease is granted that was asked for so.
+/// A lease is granted that was asked for so; in a pause nothing is late.
 fn use_lease(waited: PendingQuestion, role: Role, turn: &mut Turn, grant: Granted) -> Role
     requires turn { HasLeft most_grant_outputs 1 turn.old }
     requires span { IsLeaseSpan waited.ttl.0 }
@@ -83,6 +84,22 @@ fn use_lease(waited: PendingQuestion, role: Role, turn: &mut Turn, grant: Grante
 {
     if is_paused(turn.knows) {
         granted_in_pause(role, turn, waited.question, grant)
+    } else {
+        lease_heard(waited, role, turn, grant)
+    }
+}
+
+/// A lease is granted that was asked for so, and heard of in time or too late.
+fn lease_heard(waited: PendingQuestion, role: Role, turn: &mut Turn, grant: Granted) -> Role
+    requires turn { HasLeft most_grant_outputs 1 turn.old }
+    requires span { IsLeaseSpan waited.ttl.0 }
+    requires leased { grant.leased ≡ true }
+    requires server { IsWithin turn.old.machine.now.server }
+    ensures outcome { reached (role_of result) turn.new ≡ lease_heard turn.old.moment waited grant.revision (reached (role_of role) turn.old) }
+    ensures left { Spent most_grant_outputs 1 turn.old turn.new }
+{
+    if comes_late(turn.moment, waited, turn.machine) {
+        granted_late(role, turn, grant)
     } else {
         lease_granted(role, turn, waited.ttl, grant)
     }
@@ -193,6 +210,26 @@ fn lease_granted(role: Role, turn: &mut Turn, ttl: Ticks, grant: Granted) -> Rol
         Role::Holder(lease) => {
             lease.lost();
             take_key(Lease::of(grant), turn, ttl)
+        }
+        role => role,
+    }
+}
+
+/// An agent gets a lease, and hears of it too late.
+fn granted_late(role: Role, turn: &mut Turn, grant: Granted) -> Role
+    requires turn { HasLeft most_grant_outputs 1 turn.old }
+    requires leased { grant.leased ≡ true }
+    requires server { IsWithin turn.old.machine.now.server }
+    ensures outcome { reached (role_of result) turn.new ≡ granted_late turn.old.moment grant.revision (role_of role) (reached (role_of role) turn.old) }
+    ensures left { Spent most_grant_outputs 1 turn.old turn.new }
+{
+    match role {
+        Role::Leader(writer) => leader_kept(writer, turn, grant),
+        Role::Unleased => unleased_unarmed(Lease::of(grant), turn),
+        Role::Follower => take_late(Lease::of(grant), turn),
+        Role::Holder(lease) => {
+            lease.lost();
+            take_late(Lease::of(grant), turn)
         }
         role => role,
     }

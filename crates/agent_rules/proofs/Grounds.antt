@@ -37,12 +37,12 @@ use Rattle.agent_model.specs.declared.output.Target.TheVariants as targets
 use Rattle.agent_model.specs.declared.who.Who.{Who}
 use Rattle.agent_model.specs.declared.why.Why.{Why}
 use Rattle.agent_model.specs.declared.why.Why.TheVariants.{HandOver, Lost}
-use Rattle.agent_model.specs.Acting.{lease_span, arming, armed, fed_until, deadline_after, disarmed, ending_server, starting_replica, is_refusing, touching, waiting_no_more}
+use Rattle.agent_model.specs.Acting.{comes_late, lease_span, arming, armed, fed_until, deadline_after, disarmed, ending_server, starting_replica, is_refusing, touching, waiting_no_more}
 use Rattle.agent_model.specs.Agents.{RoleFacts, Follower, Holder, Ready, Leader, Ending, Unleased, Outcome, EndsAlone, IsSoundAgent, outcome_from}
 use Rattle.agent_model.specs.Answers.{is_other, asking_one, asking_first}
 use Rattle.agent_model.specs.Reconciling.{has_ended, reconciled}
 use Rattle.agent_model.specs.Claiming.{begins, begins_or_claims, claims, passing, postpones}
-use Rattle.agent_model.specs.Decisions.{arms, gives_back, granted, has_primary, may_create, may_take, refused, unleased_renewed, takes_key, takes_key_in_pause, takes_over, leader_renewed}
+use Rattle.agent_model.specs.Decisions.{arms, cannot_arm, gives_back, granted, has_primary, may_create, may_take, refused, unleased_renewed, takes_key, takes_key_in_pause, takes_over, judges_start, leader_renewed}
 use Rattle.agent_model.specs.HandingOver.{asking_whom}
 use Rattle.agent_model.specs.Operators.{given_up, learned, looked, operated, unnumbered}
 use Rattle.agent_model.specs.Outputs.{with_output}
@@ -53,7 +53,7 @@ use Rattle.agent_model.specs.Snapshots.{follow_row, follows, read_answered, info
 use Rattle.agent_model.specs.Synchronous.{expected_of, unnamed}
 use Rattle.agent_model.specs.Table.{step, granted_any}
 use Rattle.agent_model.specs.Wake.{overdue, turned, woken}
-use Rattle.agent_model.proofs.Rows.{HandoverRows, ReplyRows, DutyRows, WritesSync, led_on, leading_in_pause, if-cases, before-by, looked-by, given-up-by, granted-any-by, refused-any-by, renewed-by, duties-of, passing-by, overdue-when, turn-by, wake-by, got-when, refused-when, answered-when, granted-when, follow-by, free-by, judged-by, failsafe-answered-by, failsafe-asked-by, asked-to-hold-by}
+use Rattle.agent_model.proofs.Rows.{HandoverRows, ReplyRows, DutyRows, WritesSync, kept_on, led_on, leading_in_pause, if-cases, before-by, looked-by, given-up-by, granted-any-by, refused-any-by, judges-start-by, duties-of, passing-by, overdue-when, turn-by, wake-by, got-when, refused-when, answered-when, granted-when, follow-by, free-by, judged-by, failsafe-answered-by, failsafe-asked-by, asked-to-hold-by}
 use Rattle.agent_model.specs.StayingPrimary.{counting, failsafe_answered, failsafe_asked, fed_by_failsafe, others_known, requesting_first, requesting_one, span_after, stays}
 use Rattle.agent_roles.specs.Powers.{lease_of}
 use Rattle.agent_roles.proofs.Living.{no-way}
@@ -300,7 +300,8 @@ module _ (now : Ticks) (heard : Heard) (b : Outcome) where
     kept = s;
     quiet = quiet x s;
     counts = λ _ _. s;
-    stays = λ _ _ waited _ _ since _. stays-so waited.ttl waited.sequence since (counting from sent x) same s;
+    counts_late = λ _ _ _. quiet x s;
+    stays = λ _ _ waited _ _ since _ _. stays-so waited.ttl waited.sequence since (counting from sent x) same s;
     fails = λ held is _. from-lease _ x.role (Ending held Lost) None held (rw is refl) (end-so _ (waiting_no_more x) (quiet x s));
   })
 
@@ -355,6 +356,10 @@ module _ (now : Ticks) (heard : Heard) (b : Outcome) where
   disabled-keeps outs true (Some deadline) all = All-push KeepsLeases (with_output outputs.Disarmed outs) (outputs.Note agent_notes.DisablesWatchdog) (All-push KeepsLeases outs outputs.Disarmed all tt) tt
   disabled-keeps outs false (Some deadline) all = All-push KeepsLeases outs outputs.Disarmed all tt
 
+  -- a leader under the lease of this revision, whatever became of its watchdog
+  start-so : (revision : ℕ) (led : Outcome) → led.role ≡ Leader revision → All KeepsLeases led.outputs → So led → So (judges_start now revision led)
+  start-so revision led role all leads = judges-start-by So now revision led (from-lease _ led.role (Ending revision HandOver) led.knows.waited revision (ap lease_of role) (end-so StartTooLong led leads)) (duty-so revision led all leads)
+
   -- where one is waited for, nothing was given back before
   renewed-so : (ttl : Ticks) (revision held : ℕ) (x : Outcome) → x.machine ≡ b.machine → lease_of x.role ≡ Some held → So x → So (leader_renewed now ttl revision x)
   renewed-so ttl revision held x same has s =
@@ -363,7 +368,7 @@ module _ (now : Ticks) (heard : Heard) (b : Outcome) where
       (λ e. ap (λ (m : Machine). is_armable m.watchdog.mode m.watchdog.works) (sym same) ∙ e) s in
       let all : All KeepsLeases led.outputs = kept-by led.outputs x.role x.knows.waited held has fed in
       let leads : So led = with-role led.outputs x.role (Leader revision) x.knows.waited all fed in
-      renewed-by So now ttl revision x (from-lease _ (Leader revision) (Ending revision HandOver) x.knows.waited revision refl (end-so StartTooLong led leads)) (duty-so revision led all leads)
+      start-so revision led refl all leads
 
   unleased-so : (ttl : Ticks) (revision : ℕ) (x : Outcome) → x.machine ≡ b.machine → All KeepsLeases x.outputs → So x → So (unleased_renewed now ttl revision x)
   unleased-so ttl revision x same all s =
@@ -390,14 +395,17 @@ module _ (now : Ticks) (heard : Heard) (b : Outcome) where
     abbrev Heard_so : Outcome
     Heard_so = record b { knows = informed snapshot b.knows }
 
-    takes-so : (ttl : Ticks) → Decides sequence grant b → is_paused (informed snapshot b.knows) ≡ false → All KeepsLeases b.outputs → So b → So (takes_key now ttl grant.revision Heard_so)
-    takes-so ttl decides unpaused all s =
+    cannot-so : So Heard_so → So (cannot_arm grant.revision Heard_so)
+    cannot-so r = gives-so grant.revision (record Heard_so { outputs = with_output (outputs.Note agent_notes.CannotArm) b.outputs }) (more b.outputs b.role None (outputs.Note agent_notes.CannotArm) tt tt r)
+
+    takes-so : (ttl : Ticks) → (decides : Decides sequence grant b) → is_paused (informed snapshot b.knows) ≡ false → comes_late now decides.asked b.machine ≡ false → All KeepsLeases b.outputs → So b → So (takes_key now ttl grant.revision Heard_so)
+    takes-so ttl decides unpaused in_time all s =
         let r : So Heard_so = quiet b s in
         if-cases So (may_take now (informed snapshot b.knows) b.machine) (arms now ttl grant.revision Heard_so) (gives_back grant.revision Heard_so)
-        (λ may. if-cases So (is_refusing b.machine.watchdog.mode b.machine.watchdog.works) (gives_back grant.revision (record Heard_so { outputs = with_output (outputs.Note agent_notes.CannotArm) b.outputs })) (begins_or_claims now grant.revision (arming now ttl Heard_so))
-        (λ _. gives-so grant.revision (record Heard_so { outputs = with_output (outputs.Note agent_notes.CannotArm) b.outputs }) (more b.outputs b.role None (outputs.Note agent_notes.CannotArm) tt tt r))
+        (λ may. if-cases So (is_refusing b.machine.watchdog.mode b.machine.watchdog.works) (cannot_arm grant.revision Heard_so) (begins_or_claims now grant.revision (arming now ttl Heard_so))
+        (λ _. cannot-so r)
         (λ works. begins-or-claims-so grant.revision (arming now ttl Heard_so)
-        (subst (λ (h : Heard). TakeGround now h b grant.revision) (sym is) (may-take now sequence grant snapshot b decides may (λ _. works) (λ paused. absurd (no-way (sym unpaused ∙ paused))))) refl refl
+        (subst (λ (h : Heard). TakeGround now h b grant.revision) (sym is) (may-take now sequence grant snapshot b decides may (λ _. works) (λ _. in_time) (λ paused. absurd (no-way (sym unpaused ∙ paused))))) refl refl
         (armed-keeps b.outputs (deadline_after now ttl b.machine.watchdog) all)
         (arm-so b.outputs b.role None (record { 0 = now.0 + timeout_of b.machine.watchdog.margin ttl.0 }) (is_armable b.machine.watchdog.mode b.machine.watchdog.works) (λ e. e) r)))
         (λ _. gives-so grant.revision Heard_so r)
@@ -408,7 +416,7 @@ module _ (now : Ticks) (heard : Heard) (b : Outcome) where
         if-cases So (is_wanted b.knows.who.me b.knows.turn_failover b.machine.server.state && may_take now (informed snapshot b.knows) b.machine) (begins_or_claims now grant.revision (disabling_watchdog renews Heard_so)) (gives_back grant.revision Heard_so)
         (λ both. begins-or-claims-so grant.revision (disabling_watchdog renews Heard_so)
         (subst (λ (h : Heard). TakeGround now h b grant.revision) (sym is)
-        (may-take now sequence grant snapshot b decides (second-true (is_wanted b.knows.who.me b.knows.turn_failover b.machine.server.state) _ both) (λ unpaused. absurd (no-way (sym unpaused ∙ paused)))
+        (may-take now sequence grant snapshot b decides (second-true (is_wanted b.knows.who.me b.knows.turn_failover b.machine.server.state) _ both) (λ unpaused. absurd (no-way (sym unpaused ∙ paused))) (λ unpaused. absurd (no-way (sym unpaused ∙ paused)))
         (λ _. first-true (is_wanted b.knows.who.me b.knows.turn_failover b.machine.server.state) _ both))) refl refl
         (disabled-keeps b.outputs renews b.machine.watchdog.deadline all) (disabled-so b.outputs b.role None renews b.machine.watchdog.deadline r))
         (λ _. gives-so grant.revision Heard_so r)
@@ -421,9 +429,13 @@ module _ (now : Ticks) (heard : Heard) (b : Outcome) where
         granted-when So now sequence grant snapshot b s (quiet b s)
         (λ asked waited decision. let all : All KeepsLeases b.outputs = front asked waited in record {
           other = r;
-          leader = λ held _ role. renewed-so asked.ttl grant.revision held Heard_so refl (rw role refl) r;
-          unleased = λ _ _. unleased-so asked.ttl grant.revision Heard_so refl all r;
-          takes = λ unpaused may. takes-so asked.ttl (record { asked = asked; is = waited; decision = decision; role = may }) unpaused all s;
+          leader = λ held _ _ role. renewed-so asked.ttl grant.revision held Heard_so refl (rw role refl) r;
+          unleased = λ _ _ _. unleased-so asked.ttl grant.revision Heard_so refl all r;
+          takes = λ unpaused in_time may. takes-so asked.ttl (record { asked = asked; is = waited; decision = decision; role = may }) unpaused in_time all s;
+          keeps_late = λ held _ _ role. start-so grant.revision (kept_on grant.revision Heard_so) refl all (with-role b.outputs b.role (Leader grant.revision) None all r);
+          ends_late = λ _ _. end-so WatchdogNotArmed Heard_so r;
+          refuses_late = λ _ _. cannot-so r;
+          returns_late = λ _ _. gives-so grant.revision Heard_so r;
           leads_in_pause = λ renews _ held _.
               let led : Outcome = leading_in_pause renews grant.revision Heard_so in
               let rested : All KeepsLeases led.outputs = disabled-keeps b.outputs renews b.machine.watchdog.deadline all in

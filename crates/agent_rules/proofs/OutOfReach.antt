@@ -38,7 +38,7 @@ use Rattle.agent_model.specs.Acting.{touching}
 use Rattle.agent_model.specs.StayingPrimary.{accepted_failsafe, failsafe_answered, failsafe_answered_for, is_staying, leader_unacknowledged, may_stay, others_known, seeks_to_stay, unacknowledged, unacknowledged_as}
 use Rattle.agent_model.specs.Table.{step}
 use Rattle.agent_model.specs.Wake.{has_turn, is_due, is_overdue, finds_ended, leader_out_of_reach, overdue, overdue_for, out_of_reach, out_of_reach_as, roused, turned, unanswered}
-use Rattle.agent_model.proofs.Rows.{HandoverRows, DutyRows, led_on, leading_in_pause, if-cases, before-by, looked-by, given-up-by, granted-any-by, refused-any-by, operated-by, renewed-by, duties-of, begins-or-claims-by, takes-in-pause-by, overdue-by, turn-by, wake-by, got-by, refused-by, answered-by, granted-by, follow-by, repaired-by, free-by, judged-by, failsafe-answered-by, failsafe-asked-by}
+use Rattle.agent_model.proofs.Rows.{HandoverRows, DutyRows, kept_on, led_on, leading_in_pause, if-cases, before-by, looked-by, given-up-by, granted-any-by, refused-any-by, operated-by, judges-start-by, renewed-by, duties-of, begins-or-claims-by, takes-in-pause-by, overdue-by, turn-by, wake-by, got-by, refused-by, answered-by, granted-by, follow-by, repaired-by, free-by, judged-by, failsafe-answered-by, failsafe-asked-by}
 use Rattle.agent_roles.proofs.Living.{no-way}
 use Rattle.agent_rules.specs.OutOfReach.{asks_to_lead, AsksToStay, EndsServer, IsOutOfReach, HasNoAnswer, IsUnacknowledged, WaitsForTurn, turn_of}
 
@@ -247,7 +247,7 @@ module _ (now : Ticks) (b : Outcome) where
 
   stay-waits : (from : MemberId) (sequence : ℕ) (accepted : Bool) (sent : Ticks) (x : Outcome) → W x → W (failsafe_answered now from sequence accepted sent x)
   stay-waits from sequence accepted sent x w = let none : Waits None x.knows.settings = nothing x.knows.settings in
-      failsafe-answered-by W now from sequence accepted sent x (record { kept = w; quiet = none; counts = λ held _. w; stays = λ held _ waited _ _ since _. none; fails = λ held _ _. none })
+      failsafe-answered-by W now from sequence accepted sent x (record { kept = w; quiet = none; counts = λ held _. w; stays = λ held _ waited _ _ since _ _. none; counts_late = λ held _ _. none; fails = λ held _ _. none })
 
   -- what a leader owes its cluster, where it waits for nothing
   duty-waits : (revision : ℕ) (x : Outcome) → W x → DutyRows W now revision x
@@ -274,6 +274,10 @@ module _ (now : Ticks) (b : Outcome) where
         leader = λ held _. renewed-by W now asked.ttl grant.revision told none (duty-waits grant.revision (led_on now asked.ttl grant.revision told) none);
         unleased = λ _. if-cases W (is_refusing told.machine.watchdog.mode told.machine.watchdog.works) (ending_server now WatchdogNotArmed told) (takes_over now grant.revision (arming now asked.ttl told)) (λ _. none) (λ _. none);
         takes = λ _. takes-waits asked.ttl grant.revision told none;
+        keeps_late = λ held _. judges-start-by W now grant.revision (kept_on grant.revision told) none (duty-waits grant.revision (kept_on grant.revision told) none);
+        ends_late = λ _. none;
+        refuses_late = λ _. none;
+        returns_late = λ _. none;
         leads_in_pause = λ renews _ held _. duties-of W now grant.revision (leading_in_pause renews grant.revision told) (duty-waits grant.revision (leading_in_pause renews grant.revision told) none);
         unleased_in_pause = λ renews _ _. none;
         takes_in_pause = λ renews _ _. takes-in-pause-by W now renews grant.revision told none none (aside told.knows.settings _ refl);

@@ -52,7 +52,7 @@ use Rattle.agent_model.specs.Synchronous.{unnamed}
 use Rattle.agent_model.specs.StayingPrimary.{counting, failsafe_answered, failsafe_asked, fed_by_failsafe, span_after}
 use Rattle.agent_model.specs.Table.{step}
 use Rattle.agent_model.specs.Wake.{overdue, turned}
-use Rattle.agent_model.proofs.Rows.{HandoverRows, ReplyRows, DutyRows, led_on, leading_in_pause, if-cases, before-by, looked-by, given-up-by, granted-any-by, refused-any-by, renewed-by, duties-of, passing-by, begins-or-claims-by, overdue-when, turn-by, wake-by, follow-by, got-when, refused-when, answered-when, granted-when, judged-by, failsafe-answered-by, failsafe-asked-by, asked-to-hold-by}
+use Rattle.agent_model.proofs.Rows.{HandoverRows, ReplyRows, DutyRows, kept_on, led_on, leading_in_pause, if-cases, before-by, looked-by, given-up-by, granted-any-by, refused-any-by, judges-start-by, renewed-by, duties-of, passing-by, begins-or-claims-by, overdue-when, turn-by, wake-by, follow-by, got-when, refused-when, answered-when, granted-when, judged-by, failsafe-answered-by, failsafe-asked-by, asked-to-hold-by}
 use Rattle.agent_roles.proofs.Living.{no-way}
 use Rattle.agent_rules.specs.Grounds.{IsReinit}
 use Rattle.agent_rules.specs.Pauses.{IsRestart, IsRestrained, RestrainsInPause}
@@ -202,7 +202,8 @@ module _ (now : Ticks) (heard : Heard) (b : Outcome) where
     kept = calm x.outputs x.role x.knows.settings all;
     quiet = calm x.outputs x.role x.knows.settings all;
     counts = λ _ _. calm x.outputs x.role x.knows.settings all;
-    stays = λ _ _ waited _ _ since _. let c : Outcome = counting from sent x in
+    counts_late = λ _ _ _. calm x.outputs x.role x.knows.settings all;
+    stays = λ _ _ waited _ _ since _ _. let c : Outcome = counting from sent x in
         calm _ _ _ (calmly _ outputs.StaysByFailsafe tt (calm-by-failsafe (deadline_after now waited.ttl x.machine.watchdog) c.knows.failsafe.members waited.sequence since x.outputs all));
     fails = λ _ _ unpaused. free-of _ _ _ unpaused;
   })
@@ -369,10 +370,14 @@ module _ (now : Ticks) (heard : Heard) (b : Outcome) where
         granted-when R now sequence grant snapshot b (calm b.outputs b.role b.knows.settings all) (calm b.outputs b.role b.knows.settings all)
         (λ asked _ _. record {
           other = calm Told.outputs Told.role Told.knows.settings all;
-          leader = λ held unpaused _. renewed-by R now asked.ttl grant.revision Told (free-of _ _ _ unpaused)
+          leader = λ held unpaused _ _. renewed-by R now asked.ttl grant.revision Told (free-of _ _ _ unpaused)
               (duty-calm grant.revision (led_on now asked.ttl grant.revision Told) (calm-fed (deadline_after now asked.ttl b.machine.watchdog) b.outputs all));
-          unleased = λ unpaused _. if-cases R (is_refusing b.machine.watchdog.mode b.machine.watchdog.works) (ending_server now WatchdogNotArmed Told) (takes_over now grant.revision (arming now asked.ttl Told)) (λ _. free-of _ _ _ unpaused) (λ _. free-of _ _ _ unpaused);
-          takes = λ unpaused _. takes-calm asked.ttl grant.revision Told unpaused all;
+          unleased = λ unpaused _ _. if-cases R (is_refusing b.machine.watchdog.mode b.machine.watchdog.works) (ending_server now WatchdogNotArmed Told) (takes_over now grant.revision (arming now asked.ttl Told)) (λ _. free-of _ _ _ unpaused) (λ _. free-of _ _ _ unpaused);
+          takes = λ unpaused _ _. takes-calm asked.ttl grant.revision Told unpaused all;
+          keeps_late = λ held unpaused _ _. judges-start-by R now grant.revision (kept_on grant.revision Told) (free-of _ _ _ unpaused) (duty-calm grant.revision (kept_on grant.revision Told) all);
+          ends_late = λ unpaused _. free-of _ _ _ unpaused;
+          refuses_late = λ unpaused _. free-of _ _ _ unpaused;
+          returns_late = λ unpaused _. free-of _ _ _ unpaused;
           leads_in_pause = λ renews _ held _. duties-of R now grant.revision (leading_in_pause renews grant.revision Told) (duty-calm grant.revision (leading_in_pause renews grant.revision Told) (calm-disabled renews b.machine.watchdog.deadline b.outputs all));
           unleased_in_pause = λ renews _ _. calm _ _ _ (calm-disabled renews b.machine.watchdog.deadline b.outputs all);
           takes_in_pause = λ renews _ _. disabling-calm renews grant.revision Told (by-turn grant.revision) all;

@@ -21,7 +21,7 @@ use Rattle.agent_model.specs.declared.knowledge.SyncRead.{SyncRead}
 use Rattle.agent_model.specs.declared.knowledge.PendingQuestion.{PendingQuestion}
 use Rattle.agent_model.specs.declared.output.Repair.{Repair}
 use Rattle.agent_model.specs.declared.output.Repair.TheVariants.{Rewind, Clone}
-use Rattle.agent_model.specs.Acting.{is_hold_active, is_refusing}
+use Rattle.agent_model.specs.Acting.{comes_late, is_hold_active, is_refusing}
 use Rattle.agent_model.specs.Agents.{Outcome}
 use Rattle.agent_model.specs.Decisions.{can_begin, is_decision, is_lease_of, may_create, may_start_again, may_take, since_crash}
 use Rattle.agent_model.specs.Pausing.{is_paused, is_replica, is_wanted, lets_rewind}
@@ -91,10 +91,10 @@ pub record Decides (sequence : ℕ) (grant : Granted) (o : Outcome) : Type 0 whe
   pub decision : is_decision asked sequence && is_lease_of o.knows.who.me grant ≡ true
   pub role : may_create o.role ≡ true
 
-pub may-take : (now : Ticks) (sequence : ℕ) (grant : Granted) (snapshot : SnapshotFacts) (o : Outcome) → Decides sequence grant o → may_take now (informed snapshot o.knows) o.machine ≡ true
-    → (is_paused (informed snapshot o.knows) ≡ false → is_refusing o.machine.watchdog.mode o.machine.watchdog.works ≡ false)
+pub may-take : (now : Ticks) (sequence : ℕ) (grant : Granted) (snapshot : SnapshotFacts) (o : Outcome) → (decides : Decides sequence grant o) → may_take now (informed snapshot o.knows) o.machine ≡ true
+    → (is_paused (informed snapshot o.knows) ≡ false → is_refusing o.machine.watchdog.mode o.machine.watchdog.works ≡ false) → (is_paused (informed snapshot o.knows) ≡ false → comes_late now decides.asked o.machine ≡ false)
     → (is_paused (informed snapshot o.knows) ≡ true → is_wanted o.knows.who.me o.knows.turn_failover o.machine.server.state ≡ true) → TakeGround now (heards.Granted sequence grant snapshot) o grant.revision
-may-take now sequence grant snapshot o decides may armed wanted =
+may-take now sequence grant snapshot o decides may armed in_time wanted =
     let told : Knowledge = informed snapshot o.knows in
     let both : can_begin now told o.machine.server o.machine.server.state && may_lead_in_sync told ≡ true = second-true (not (is_hold_active now o.machine.hold)) _ may in record {
       sequence = sequence;
@@ -113,6 +113,7 @@ may-take now sequence grant snapshot o decides may armed wanted =
       server = began (can-begin now told o.machine.server o.machine.server.state refl (first-true (can_begin now told o.machine.server o.machine.server.state) (may_lead_in_sync told) both));
       named = λ on read is. is-named told on (second-true (can_begin now told o.machine.server o.machine.server.state) (may_lead_in_sync told) both) read is;
       guarded = λ unpaused. guarded o.machine.watchdog.mode o.machine.watchdog.works (armed unpaused);
+      in_time = in_time;
       wanted = λ paused. (first-true (is_candidate o.knows.who.me o.knows.turn_failover) (is_replica o.machine.server.state) (wanted paused), replica o.machine.server.state (second-true (is_candidate o.knows.who.me o.knows.turn_failover) (is_replica o.machine.server.state) (wanted paused)));
     }
   where

@@ -25,7 +25,7 @@ use Rattle.agent_model.specs.declared.output.Output.TheVariants as outputs
 use Rattle.agent_model.specs.declared.output.Repair.{Repair}
 use Rattle.agent_model.specs.declared.output.Repair.TheVariants.{Rewind, Clone}
 use Rattle.agent_model.specs.declared.output.Target.TheVariants as targets
-use Rattle.agent_model.specs.Acting.{is_hold_active}
+use Rattle.agent_model.specs.Acting.{comes_late, is_hold_active}
 use Rattle.agent_model.specs.Agents.{Outcome, is_ready}
 use Rattle.agent_model.specs.Decisions.{has_primary, may_create, since_crash}
 use Rattle.agent_model.specs.Pausing.{is_paused}
@@ -63,8 +63,8 @@ abbrev pub WatchdogServes : WatchdogFacts → Type 0
 WatchdogServes watchdog = watchdog.mode ≡ modes.Required → watchdog.works ≡ true
 
 -- the grant of the leader key that a follower or a holder waited for lets it take the key of this revision: no hold of its own is active, its server can begin, in
--- synchronous mode the sync key doesn't exclude it, and its watchdog works if it is required. In a pause an operator names it as candidate, and its
--- server is a replica; the watchdog rests then
+-- synchronous mode the sync key doesn't exclude it, its watchdog works if it is required, and the grant doesn't come too late for that. In a pause an
+-- operator names it as candidate, and its server is a replica; the watchdog rests then
 pub record TakeGround (now : Ticks) (heard : Heard) (o : Outcome) (revision : ℕ) : Type 0 where
   pub sequence : ℕ
   pub grant : Granted
@@ -77,6 +77,7 @@ pub record TakeGround (now : Ticks) (heard : Heard) (o : Outcome) (revision : �
   pub server : CanBegin now o.knows o.machine.server
   pub named : o.knows.turn_settings.synchronous_mode ≡ true → IsNamed o.knows
   pub guarded : is_paused (informed snapshot o.knows) ≡ false → WatchdogServes o.machine.watchdog
+  pub in_time : is_paused (informed snapshot o.knows) ≡ false → comes_late now awaited.waited o.machine ≡ false
   pub wanted : is_paused (informed snapshot o.knows) ≡ true → (is_candidate o.knows.who.me o.knows.turn_failover ≡ true) × (o.machine.server.state ≡ states.Replica)
 
 -- who begins: who takes the leader key outside synchronous mode, and who was ready to, on a grant

@@ -5,7 +5,6 @@ use Rattle.pat_base.specs.declared.ticks.Ticks.{Ticks}
 use Rattle.lease_store.specs.declared.granted.Granted.{Granted}
 use Rattle.wal_model.specs.declared.entry.HistoryPoint.{HistoryPoint}
 use Rattle.cluster_view.specs.Snapshots.{SnapshotFacts}
-use Rattle.event_book.specs.declared.agent_note.AgentNote.TheVariants as agent_notes
 use Rattle.agent_model.specs.declared.heard.Heard.{Heard}
 use Rattle.agent_model.specs.declared.heard.Heard.TheVariants.{Wake, ReadAnswered, Granted as HeardGranted, Mismatch, Asked, Answered, FailsafeAsked, FailsafeAnswered, Operated as HearsOperator}
 use Rattle.agent_model.specs.declared.knowledge.Question.{Question}
@@ -13,13 +12,12 @@ use Rattle.agent_model.specs.declared.knowledge.Question.TheVariants.{Reading, C
 use Rattle.agent_model.specs.declared.knowledge.PendingQuestion.{PendingQuestion}
 use Rattle.agent_model.specs.declared.knowledge.Knowledge.{Knowledge}
 use Rattle.agent_model.specs.declared.output.Output.TheVariants as outputs
-use Rattle.agent_model.specs.Acting.{arming, is_refusing, waiting_no_more}
+use Rattle.agent_model.specs.Acting.{arming, comes_late, is_refusing, waiting_no_more}
 use Rattle.agent_model.specs.Agents.{RoleFacts, Follower, Holder, Ready, Leader, Ending, Unleased, Outcome, is_ready}
 use Rattle.agent_model.specs.Reconciling.{reconciled}
 use Rattle.agent_model.specs.Claiming.{begins, begins_or_claims, can_begin_on_claim, claims, passing, postpones}
-use Rattle.agent_model.specs.Decisions.{confirming, accepted_grant, accepted_sync, arms, asks_lease, asks_sync, belongs, gives_back, granted, granted_for, granted_write, is_decision, is_lease_of, is_sync_decision, is_write_of, lease_granted, may_create, may_take, sync_granted, takes_key, asks_in_pause, asks_renewal, granted_in_pause, lease_used}
+use Rattle.agent_model.specs.Decisions.{confirming, accepted_grant, accepted_sync, arms, asks_lease, asks_sync, belongs, cannot_arm, gives_back, granted, granted_late, lease_heard, granted_for, granted_write, is_decision, is_lease_of, is_sync_decision, is_write_of, lease_granted, may_create, may_take, sync_granted, takes_key, asks_in_pause, asks_renewal, granted_in_pause, lease_used}
 use Rattle.agent_succession.specs.FreeKey.{AsksWhereFree, AsksWhereWon, BeginsOn, ClaimsOn, IsAwaitedClaim, BeginsWhereGranted}
-use Rattle.agent_model.specs.Outputs.{with_output}
 use Rattle.agent_roles.specs.Powers.{IsAwaitedLease}
 use Rattle.agent_model.specs.Snapshots.{informed}
 use Rattle.agent_model.specs.Operators.{looked, is_asked_for, awaits_number, grants_operator, operator_granted}
@@ -71,18 +69,19 @@ takes-it now ttl revision Unleased o may = absurd (no-way may)
 abbrev Told : SnapshotFacts → Outcome → Outcome
 Told snapshot o = record o { knows = informed snapshot o.knows }
 
-takes-then : (now : Ticks) (sequence : ℕ) (grant : Granted) (snapshot : SnapshotFacts) (o : Outcome) → is_paused (informed snapshot o.knows) ≡ false → (awaited : IsAwaitedLease sequence grant o.knows) → may_create o.role ≡ true → may_take now (informed snapshot o.knows) o.machine ≡ true
+takes-then : (now : Ticks) (sequence : ℕ) (grant : Granted) (snapshot : SnapshotFacts) (o : Outcome) → is_paused (informed snapshot o.knows) ≡ false → (awaited : IsAwaitedLease sequence grant o.knows) → comes_late now awaited.waited o.machine ≡ false → may_create o.role ≡ true → may_take now (informed snapshot o.knows) o.machine ≡ true
     → is_refusing o.machine.watchdog.mode o.machine.watchdog.works ≡ false → granted now sequence grant snapshot o ≡ confirming snapshot (begins_or_claims now grant.revision (arming now awaited.waited.ttl (Told snapshot o)))
-takes-then now sequence grant snapshot o unpaused awaited may take armed =
+takes-then now sequence grant snapshot o unpaused awaited in_time may take armed =
     let waited = awaited.waited in
     let told : Outcome = Told snapshot o in
     ap (λ (w : Option PendingQuestion). granted_for now sequence grant snapshot w o) awaited.is
     ∙ ap (λ (b : Bool). cond b (accepted_grant now waited grant.revision snapshot o) (granted_write now sequence grant snapshot waited o)) (both-true (is_decision waited sequence) (is_lease_of o.knows.who.me grant) awaited.decision awaited.mine)
     ∙ ap (λ (b : Bool). cond b (confirming snapshot (lease_used now waited grant.revision told)) (waiting_no_more o)) (either-true (belongs waited.question o.role) (is_paused told.knows && asks_in_pause waited.question o.role) (may-use waited.question o.role (first-true (asks_lease waited.question) _ awaited.decision) may))
-    ∙ ap (confirming snapshot) (ap (λ (b : Bool). cond b (granted_in_pause now (asks_renewal waited.question) grant.revision o.role told) (lease_granted now waited.ttl grant.revision o.role told)) unpaused
+    ∙ ap (confirming snapshot) (ap (λ (b : Bool). cond b (granted_in_pause now (asks_renewal waited.question) grant.revision o.role told) (lease_heard now waited grant.revision told)) unpaused
+    ∙ ap (λ (b : Bool). cond b (granted_late now grant.revision o.role told) (lease_granted now waited.ttl grant.revision o.role told)) in_time
     ∙ takes-it now waited.ttl grant.revision o.role told may
     ∙ ap (λ (b : Bool). cond b (arms now waited.ttl grant.revision told) (gives_back grant.revision told)) take
-    ∙ ap (λ (b : Bool). cond b (gives_back grant.revision (let barred : Outcome = record told { outputs = with_output (outputs.Note agent_notes.CannotArm) told.outputs } in barred)) (begins_or_claims now grant.revision (arming now waited.ttl told))) armed)
+    ∙ ap (λ (b : Bool). cond b (cannot_arm grant.revision told) (begins_or_claims now grant.revision (arming now waited.ttl told))) armed)
 
 lease-begins : (now : Ticks) (sequence : ℕ) (grant : Granted) (snapshot : SnapshotFacts) (o : Outcome) → (awaited : IsAwaitedLease sequence grant o.knows) → granted now sequence grant snapshot o ≡ confirming snapshot (begins_or_claims now grant.revision (arming now awaited.waited.ttl (Told snapshot o)))
     → (o.knows.turn_settings.synchronous_mode ≡ false → BeginsOn now grant.revision o (granted now sequence grant snapshot o)) × (o.knows.turn_settings.synchronous_mode ≡ true → ClaimsOn grant.revision o (granted now sequence grant snapshot o))
@@ -113,7 +112,7 @@ claim-then now sequence grant snapshot o revision unpaused awaited role can =
 
 granted-begins : (now : Ticks) (sequence : ℕ) (grant : Granted) (snapshot : SnapshotFacts) (o : Outcome) → BeginsWhereGranted now (HeardGranted sequence grant snapshot) o (granted now sequence grant snapshot o)
 granted-begins now sequence grant snapshot o = (
-  (λ unpaused awaited may take armed. lease-begins now sequence grant snapshot o awaited (takes-then now sequence grant snapshot o unpaused awaited may take armed)),
+  (λ unpaused awaited in_time may take armed. lease-begins now sequence grant snapshot o awaited (takes-then now sequence grant snapshot o unpaused awaited in_time may take armed)),
   (λ revision unpaused awaited role can. subst (BeginsOn now revision o) (sym (claim-then now sequence grant snapshot o revision unpaused awaited role can)) (record { role = refl; server = refl; begins = Contains-push _ outputs.Begin })),
 )
 
@@ -140,10 +139,10 @@ granted-own now sequence grant snapshot o own = if-false (grants_operator sequen
 
 any-begins : (now : Ticks) (sequence : ℕ) (grant : Granted) (snapshot : SnapshotFacts) (o : Outcome) → BeginsWhereGranted now (HeardGranted sequence grant snapshot) o (granted_any now sequence grant snapshot o)
 any-begins now sequence grant snapshot o = let begin = granted-begins now sequence grant snapshot o in (
-  (λ unpaused awaited may take armed.
+  (λ unpaused awaited in_time may take armed.
       let own = granted-own now sequence grant snapshot o (own-grant sequence grant o.knows awaited.waited awaited.is (second-true (asks_lease awaited.waited.question) _ awaited.decision)) in (
-        (λ off. subst (BeginsOn now grant.revision o) (sym own) ((begin.0 unpaused awaited may take armed).0 off)),
-        (λ on. subst (ClaimsOn grant.revision o) (sym own) ((begin.0 unpaused awaited may take armed).1 on)),
+        (λ off. subst (BeginsOn now grant.revision o) (sym own) ((begin.0 unpaused awaited in_time may take armed).0 off)),
+        (λ on. subst (ClaimsOn grant.revision o) (sym own) ((begin.0 unpaused awaited in_time may take armed).1 on)),
       )),
   (λ revision unpaused awaited role can.
       let own = granted-own now sequence grant snapshot o (own-grant sequence grant o.knows awaited.waited awaited.is awaited.number) in

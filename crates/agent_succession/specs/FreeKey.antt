@@ -18,7 +18,7 @@ use Rattle.agent_model.specs.declared.knowledge.Question.TheVariants.{ComparingP
 use Rattle.agent_model.specs.declared.knowledge.PendingQuestion.{PendingQuestion}
 use Rattle.agent_model.specs.declared.output.Output.TheVariants as outputs
 use Rattle.agent_model.specs.declared.output.Target.TheVariants as targets
-use Rattle.agent_model.specs.Acting.{is_refusing, lease_span, status_begun}
+use Rattle.agent_model.specs.Acting.{comes_late, is_refusing, lease_span, status_begun}
 use Rattle.agent_model.specs.Agents.{Follower, Ready, Leader, Outcome}
 use Rattle.agent_model.specs.Answers.{is_other, with_answer, asking_all, all_answered}
 use Rattle.agent_model.specs.Claiming.{can_begin_on_claim}
@@ -133,12 +133,12 @@ pub record IsAwaitedClaim (sequence : ℕ) (grant : Granted) (knows : Knowledge)
   pub number : waited.sequence == sequence ≡ true
   pub mine : is_write_of knows.who.me grant ≡ true
 
--- an input that hears, outside a pause, the grant of the leader key that it waits for: who may take it, and whose watchdog can be armed or isn't needed,
--- begins, or in synchronous mode claims the sync key. One that hears the grant of that claim: who is about to begin begins, where its
--- server still can
+-- an input that hears, outside a pause, the grant of the leader key that it waits for: who may take it, hears of it in time for its watchdog, and whose
+-- watchdog can be armed or isn't needed, begins, or in synchronous mode claims the sync key. One that hears the grant of that claim: who is about to
+-- begin begins, where its server still can
 abbrev pub BeginsWhereGranted : Ticks → Heard → Outcome → Outcome → Type 0
 BeginsWhereGranted now (HeardGranted sequence grant snapshot) o after =
-    (is_paused (informed snapshot o.knows) ≡ false → IsAwaitedLease sequence grant o.knows → may_create o.role ≡ true → may_take now (informed snapshot o.knows) o.machine ≡ true → is_refusing o.machine.watchdog.mode o.machine.watchdog.works ≡ false
+    (is_paused (informed snapshot o.knows) ≡ false → (awaited : IsAwaitedLease sequence grant o.knows) → comes_late now awaited.waited o.machine ≡ false → may_create o.role ≡ true → may_take now (informed snapshot o.knows) o.machine ≡ true → is_refusing o.machine.watchdog.mode o.machine.watchdog.works ≡ false
     → (o.knows.turn_settings.synchronous_mode ≡ false → BeginsOn now grant.revision o after) × (o.knows.turn_settings.synchronous_mode ≡ true → ClaimsOn grant.revision o after))
     × ((revision : ℕ) → is_paused (informed snapshot o.knows) ≡ false → IsAwaitedClaim sequence grant o.knows → o.role ≡ Ready revision → can_begin_on_claim o.machine.server.was_primary o.machine.server.state ≡ true → BeginsOn now revision o after)
 BeginsWhereGranted now _ o after = Unit {0}

@@ -58,7 +58,8 @@ pub fn late_answers_are_not_waited_for()
     ensures lost { (now : Ticks) (points : List HistoryPoint) (waited : PendingQuestion) (snapshot : SnapshotFacts) (bar : Ineligibility) (o : Outcome) → RunsLate now waited snapshot (prepared now heard.Wake o) → outcome_of (shown now (prepared now heard.Wake o)) snapshot (prepared now heard.Wake o).knows.answers ≡ Some bar → LosesAndTurns now bar (prepared now heard.Wake o) (step now points heard.Wake o) }
 {}
 
-/// A free leader key is asked for, by whom nothing bars and who wins; and whom it is granted to begins.
+/// A free leader key is asked for, by whom nothing bars and who wins; and whom it is granted to begins, where it hears that in
+/// time for its watchdog.
 pub fn a_free_key_finds_a_leader()
     ensures free_key { (now : Ticks) (points : List HistoryPoint) (heard : Heard) (o : Outcome) → AsksWhereFree now heard (prepared now heard o) (step now points heard o) }
     ensures won_race { (now : Ticks) (points : List HistoryPoint) (heard : Heard) (o : Outcome) → AsksWhereWon now heard (prepared now heard o) (step now points heard o) }

@@ -5,7 +5,7 @@ ghost use Rattle.leader_key.specs.Lease.{armed_revision, lease_revision, writer_
 ghost use Rattle.leader_key.specs.Watchdog.{IsLeaseSpan, is_armable};
 ghost use Rattle.agent_model.specs.declared.output.Output.TheVariants as outputs;
 ghost use Rattle.agent_model.specs.declared.why.Why.TheVariants as whys;
-ghost use Rattle.agent_model.specs.Acting.{armed, arming, asking, disarmed, disarming, ending_server, fed_until, feeding, is_hold_active, is_refusing, releasing, requiring, sending, touching, waiting_no_more};
+ghost use Rattle.agent_model.specs.Acting.{armed, arming, asking, comes_late, disarmed, disarming, ending_server, fed_until, feeding, is_hold_active, is_refusing, releasing, requiring, sending, touching, waiting_no_more};
 ghost use Rattle.agent_model.specs.Agents.{Ending, IsWithin, Unleased};
 ghost use Rattle.agent_model.specs.Pausing.{disabling_told, disabling_watchdog, running_without_key};
 ghost use Rattle.agent_turn.specs.Roles.{role_of};
@@ -15,7 +15,7 @@ use crate::info::info_of;
 use crate::outputs::Outputs;
 use crate::role::Role;
 use crate::turn::Turn;
-use agent_model::{Output, PendingQuestion, Question, Target, Why};
+use agent_model::{Machine, Output, PendingQuestion, Question, Target, Why};
 use event_book::{AgentNote, Body, Reason};
 use leader_key::{Armed, Lease, Mode, NotArmed, Watchdog, Writer};
 use lease_store::Granted;
@@ -289,6 +289,13 @@ pub fn deadline_of(watchdog: &Watchdog) -> Option<Ticks>
     } else {
         None
     }
+}
+
+/// Whether an answer to what is waited for comes too late to arm or feed the watchdog.
+pub fn comes_late(now: Ticks, waited: PendingQuestion, machine: &Machine) -> bool
+    ensures { result ≡ comes_late now waited machine.now }
+{
+    machine.watchdog.is_late(now, waited.sent, waited.ttl)
 }
 
 /// Whether a hold is active.

@@ -14,7 +14,7 @@ mod synchronous;
 mod turn;
 mod view;
 
-pub use acting::{deadline_of, is_armable, is_hold_active};
+pub use acting::{comes_late, deadline_of, is_armable, is_hold_active};
 pub use asking::{all_answered, answers_until, ask_all, ask_one, is_settled};
 pub use belonging::{belongs, is_active, is_lease_of, is_write_of, may_create};
 pub use failsafe_keys::{failsafe_compared, failsafe_read_in, set_carried};

@@ -1,5 +1,5 @@
 -- The machines of members, as their agents find them.
-use Rattle.std.specs.Prelude.{ℕ, ◌*◌, ◌==◌, Bool, false, is_some, if◌then◌else◌, List, [], Option, Some, None, option_map, map, replicate, slice_get, slice_index_or, length}
+use Rattle.std.specs.Prelude.{ℕ, ◌==◌, Bool, false, is_some, if◌then◌else◌, List, [], Option, Some, None, option_map, map, replicate, slice_get, slice_index_or, length}
 use Rattle.std.specs.List.{range_with_len}
 use Rattle.pat_base.specs.declared.lsn.Lsn.{Lsn}
 use Rattle.pat_base.specs.ServerState.{writes}
@@ -8,7 +8,7 @@ use Rattle.agent_model.specs.declared.machine.Replication.{Replication}
 use Rattle.pat_base.specs.declared.host.Host.{Host}
 use Rattle.pat_base.specs.declared.name.Name.{Name}
 use Rattle.pat_base.specs.declared.ticks.Ticks.{Ticks}
-use Rattle.member_options.specs.Options.{unsaid_options}
+use Rattle.member_options.specs.Options.{margin_span, unsaid_options}
 use Rattle.member_options.specs.declared.member_option.MemberOptions.{MemberOptions}
 use Rattle.wal_model.specs.declared.entry.HistoryPoint.{HistoryPoint}
 use Rattle.pg_model.specs.Facts.{ServerFacts}
@@ -21,11 +21,10 @@ use Rattle.cluster_model.specs.FailsafeDeadlines.{is_set_by_failsafe}
 use Rattle.cluster_model.specs.State.{Cluster}
 use Rattle.cluster_model.specs.Streaming.{source_of}
 use Rattle.pat_base.specs.declared.member_id.TheConstants.{MOST_MEMBERS}
-use Rattle.pat_base.specs.declared.ticks.TheConstants.{TICKS_OF_SECOND}
 
 -- the watchdog of a member with these options and this deadline
 abbrev pub watchdog_of : MemberOptions → Option Ticks → WatchdogFacts
-watchdog_of options deadline = record { mode = options.watchdog; works = options.device_works; margin = Some (record { 0 = TICKS_OF_SECOND * options.margin.seconds }); deadline = deadline }
+watchdog_of options deadline = record { mode = options.watchdog; works = options.device_works; margin = margin_span options.margin; deadline = deadline }
 
 -- this member is the one from which another one receives, if there is such a one
 abbrev pub is_source : Member → Option Member → Bool

@@ -344,7 +344,7 @@ fn plain_line(members: &Members, keyword: Keyword, rest: Option<&[u8]>) -> Resul
             Command::Join(first, second)
         }
         Keyword::Trace => Command::Trace(one_switch(members, rest)?),
-        _ => return Err(Fault::NotBuilt),
+        _ => return Err(Fault::BadWord),
     };
     Ok(Line::Command(command))
 }

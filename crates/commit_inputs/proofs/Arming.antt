@@ -58,7 +58,7 @@ module _ (head : HeadText) (book : List Event) (cluster : Cluster) (good : Commi
       arms-in-time head book cluster good.lease a.member a.agent a.machine (found-of cluster a.member a.machine a.machine_is) a.here a.heard a.number a.message a.opening a.opening_is a.numbered a.low a.well a.acts (calm head book cluster good a)
       meets.hands_off.watched (a.hears_lease meets.hands_off.watched) meets (inr ready) (rested down unready)
 
-  revision-by : (works : (m : ℕ) → works_of head m ≡ true) (heard : Heard) (revision : ℕ) (fed : Fed Lease M a.number) → Hears Lease M a.number (moment_of cluster) heard (Before head book cluster good a) → ArmsOn (moment_of cluster) heard (Before head book cluster good a) revision → fed.grant.revision ≡ revision
+  revision-by : (works : (m : ℕ) → works_of head m ≡ true) (heard : Heard) (revision : ℕ) (fed : Fed Lease M a.number) → Hears Lease M a.number heard (Before head book cluster good a) → ArmsOn (moment_of cluster) heard (Before head book cluster good a) revision → fed.grant.revision ≡ revision
   revision-by works (heards.Granted sequence grant snapshot) revision fed hears arms =
       let lease = hears.lease arms.0 in
       same-revision Lease M a.number fed.grant lease.told fed.hears hears.answer.number hears.answer.answer hears.answer.heard_is hears.answer.is lease.is ∙ lease.revision ∙ arms.1

@@ -111,7 +111,7 @@ record IsByItself (head : HeadText) (book : List Event) (cluster : Cluster) (mem
   on : HearsSynchronousMode heard
   below : HearsBelow (member_count head) heard
   hears_lease : ((m : ℕ) → works_of head m ≡ true) → (agent : AgentFacts) (machine : Machine) → IsFound cluster member machine
-      → Hears (lease_past.state_of (declared_of head) (lease_past.past_of book) (run_volatile.volatile_of cluster)) member.id.number None (moment_of cluster) heard (outcome_from agent.role agent.knows machine [])
+      → Hears (lease_past.state_of (declared_of head) (lease_past.past_of book) (run_volatile.volatile_of cluster)) member.id.number None heard (outcome_from agent.role agent.knows machine [])
   well : IsHeardWell (declared_of head).failsafe cluster.facts.members (lease_past.past_of book).flight member heard None no_message
   may : MayAnswer head book cluster heard
 
@@ -207,12 +207,12 @@ module _ (head : HeadText) (few : member_count head ≤ MOST_MEMBERS) (book : Li
 
   -- the law of the lease hears it
   hears-lease-by : ((m : ℕ) → works_of head m ≡ true) → (agent : AgentFacts) (machine : Machine) → IsFound cluster member machine → slice_get cluster.agents member.id.number ≡ Some (Some agent) → (heard : Heard) → heard_from cluster message ≡ Some heard
-      → Hears (lease_past.state_of (declared_of head) (lease_past.past_of book) (run_volatile.volatile_of cluster)) member.id.number (Some number) (moment_of cluster) heard (outcome_from agent.role agent.knows machine [])
+      → Hears (lease_past.state_of (declared_of head) (lease_past.past_of book) (run_volatile.volatile_of cluster)) member.id.number (Some number) heard (outcome_from agent.role agent.knows machine [])
   hears-lease-by works agent machine machine_found here heard h = elim (sender head book cluster number message member good.lease found to open_is) [
     | inl store ↦ hears-by head (lease_past.past_of book) cluster good.lease.matched (run_volatile.volatile_of cluster) member agent machine machine_found here (works member.id.number)
-        number message found store.0 to (run-same agent here store.1) (moment_of cluster) message.message.body refl store.1 heard h
+        number message found store.0 to (run-same agent here store.1) message.message.body refl store.1 heard h
     | inr peer ↦ peers-hear head (lease_past.past_of book) cluster good.lease.matched (run_volatile.volatile_of cluster) member agent machine machine_found (works member.id.number)
-        number message found to (λ answers. answered-run head book cluster number message member good.lease found to open_is answers agent here) (moment_of cluster) message.message.body refl peer heard h
+        number message found to (λ answers. answered-run head book cluster number message member good.lease found to open_is answers agent here) message.message.body refl peer heard h
   ]
 
   -- a member that asks is one that may be answered

@@ -137,7 +137,7 @@ pub record Acting (head : HeadText) (book : List Event) (cluster : Cluster) : Ty
   pub on : HearsSynchronousMode heard
   pub below : HearsBelow (member_count head) heard
   -- the law of the lease hears it too, where watchdogs work
-  pub hears_lease : ((m : ℕ) → works_of head m ≡ true) → Hears (lease_past.state_of (declared_of head) (lease_past.past_of book) (run_volatile.volatile_of cluster)) member.id.number number (moment_of cluster) heard (outcome_from agent.role agent.knows machine [])
+  pub hears_lease : ((m : ℕ) → works_of head m ≡ true) → Hears (lease_past.state_of (declared_of head) (lease_past.past_of book) (run_volatile.volatile_of cluster)) member.id.number number heard (outcome_from agent.role agent.knows machine [])
   -- the number of the message is none of those to come
   pub numbered : (n : ℕ) → number ≡ Some n → (message.number ≡ n) × (n ≤ cluster.facts.sent)
   pub low : message.number ≤ cluster.facts.sent

@@ -66,12 +66,12 @@ fn ticks_beside_the_lines_count(rt: HostRuntime) {
 #[test]
 fn texts_of_faults(rt: HostRuntime) {
     let alloc = rt.alloc();
-    let (line, fault) = (7, Fault::NotBuilt);
+    let (line, fault) = (7, Fault::BadWord);
     has_words(
         &rt,
         alloc,
         &ScriptFault::At { line, fault },
-        "line 7: not built",
+        "line 7: unknown line",
     );
     has_words(&rt, alloc, &WalFault::Full, "the log is full");
     let in_state = InState(State::Primary);

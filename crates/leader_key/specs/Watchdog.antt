@@ -1,5 +1,5 @@
 -- Watchdogs: what is seen of one, and when it fires.
-use Rattle.std.specs.Prelude.{ℕ, ◌≡◌, ◌+◌, ◌-◌, ◌*◌, ◌/◌, ◌^◌, ◌≤◌, nat_le, Bool, false, if◌then◌else◌, Option, Some, None, IfSome}
+use Rattle.std.specs.Prelude.{ℕ, ◌≡◌, ◌+◌, ◌-◌, ◌*◌, ◌/◌, ◌^◌, ◌≤◌, nat_le, nat_lt, Bool, false, if◌then◌else◌, Option, Some, None, IfSome}
 use Rattle.pat_base.specs.declared.ticks.Ticks.{Ticks}
 use Rattle.leader_key.specs.declared.watchdog.Mode.{Mode}
 use Rattle.leader_key.specs.declared.watchdog.Mode.TheVariants.{Off, Automatic, Required}
@@ -51,6 +51,12 @@ pub record IsRefusing (watchdog : WatchdogFacts) : Type 0 where
 abbrev pub IsInTime : Option Ticks → (granted moment ttl : ℕ) → Type 0
 IsInTime None granted moment ttl = 2 * moment ≤ 2 * granted + ttl
 IsInTime (Some margin) granted moment ttl = moment ≤ granted + margin.0
+
+-- an answer at this moment comes too late for a watchdog with this margin, where leases of this span were asked for at another: without a margin
+-- once more than half of the span has passed since then, and with one never
+abbrev pub is_late : Option Ticks → (moment sent ttl : ℕ) → Bool
+is_late None moment sent ttl = nat_lt (ttl / 2) (moment - sent)
+is_late (Some margin) moment sent ttl = false
 
 -- the watchdog fires no later than at this moment, if it is armed
 abbrev pub FiresBy : ℕ → WatchdogFacts → Type 0

@@ -141,6 +141,14 @@ impl Writer {
         self.replaced_by(granted)
     }
 
+    /// The lease was renewed, but that was heard too late: the lease is the one of the new revision, and the watchdog's deadline stays.
+    pub fn kept(self, granted: Granted) -> Writer
+        requires { IsTrue granted.leased }
+        ensures { writer_revision result ≡ granted.revision }
+    {
+        self.replaced_by(granted)
+    }
+
     /// The lease was renewed while the cluster is paused: the deadline is removed.
     pub fn renewed_without_watchdog(self, granted: Granted, watchdog: &mut Watchdog) -> Writer
         requires { IsTrue granted.leased }

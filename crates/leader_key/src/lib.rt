@@ -6,6 +6,6 @@ mod laws;
 mod lease;
 mod watchdog;
 
-pub use laws::watchdog_fires_before_the_lease_ends;
+pub use laws::{watchdog_fires_before_the_lease_ends, what_isnt_late_is_in_time};
 pub use lease::{Armed, Lease, NotArmed, Writer};
 pub use watchdog::{Mode, Watchdog};

@@ -36,7 +36,7 @@ impl Model for Watchdog {
 
 impl Watchdog {
     ghost use Rattle.std.specs.Prelude.{◌≡◌, ◌+◌, ◌≤◌, ◌↔◌, ◌^◌, None, IfSome, IsTrue};
-    ghost use Rattle.leader_key.specs.Watchdog.{WatchdogFacts, HasMargin, IsLeaseSpan, IsRefusing, greatest_margin, fed, is_armable, is_due_at, timeout_of};
+    ghost use Rattle.leader_key.specs.Watchdog.{WatchdogFacts, HasMargin, IsLeaseSpan, IsRefusing, greatest_margin, fed, is_armable, is_due_at, is_late, timeout_of};
     ghost use Rattle.pat_base.specs.Moments.{latest};
 
     /// A watchdog without a deadline. `works` tells whether its device works. `margin` is the span between its deadline and
@@ -95,6 +95,17 @@ impl Watchdog {
         match self.deadline {
             None => false,
             Some(deadline) => deadline <= now,
+        }
+    }
+
+    /// Whether an answer at this moment comes too late to arm or feed it, where leases of the span `ttl` were asked for at the moment
+    /// `sent`: without a margin once more than half of the span has passed since then, and with one never.
+    pub fn is_late(&self, now: Ticks, sent: Ticks, ttl: Ticks) -> bool
+        ensures { result ≡ is_late self.now.margin now.0 sent.0 ttl.0 }
+    {
+        match self.margin {
+            None => ttl.0 / 2 < now.0.saturating_sub(sent.0),
+            Some(_) => false,
         }
     }
 

@@ -129,7 +129,7 @@ from-none n = omega arith
 -- what comes to it is no message, and the law needs nothing of that
 module _ (head : HeadText) (book : List Event) (cluster : Cluster) (member : Member) (good : Bridged head book cluster) (heard : Heard) (happening : AgentEvent) (opens : IsOpening None (kinds.Agent happening))
     (acts : (cluster_after cluster (kinds.Agent happening)).agents ≡ agent_facts_with cluster.agents member (outcome_of cluster member heard))
-    (hears : (s : State) (m : ℕ) (now : Ticks) (o : Outcome) → CanFeed o.machine → Hears s m None now heard o) (calm : tells_pause (told_by heard) ≡ false)
+    (hears : (s : State) (m : ℕ) (o : Outcome) → CanFeed o.machine → Hears s m None heard o) (calm : tells_pause (told_by heard) ≡ false)
     (well : IsHeardWell (declared_of head).failsafe cluster.facts.members (past_of book).flight member heard None no_message) where
   unheard : outcome_of cluster member heard ≡ None → IsKept head book cluster (event_of cluster (kinds.Agent happening))
   unheard silent = idle-called head book cluster member heard happening opens acts good silent
@@ -142,7 +142,7 @@ module _ (head : HeadText) (book : List Event) (cluster : Cluster) (member : Mem
       let found = found-of cluster member machine m in
       input-kept head book cluster good member agent machine found (agent-here cluster member agent a) heard None no_message (kinds.Agent happening) opens
       (λ n e. absurd (none-some n e)) (from-none cluster.facts.sent) well
-      (acts ∙ ap (λ (o : Option Outcome). agent_facts_with cluster.agents member o) (the-outcome cluster member heard (Some agent) (Some machine) a m)) calm (λ works. hears _ _ _ _ (can-feed head (past_of book) cluster member machine good.matched found (works member.id.number)))
+      (acts ∙ ap (λ (o : Option Outcome). agent_facts_with cluster.agents member o) (the-outcome cluster member heard (Some agent) (Some machine) a m)) calm (λ works. hears _ _ _ (can-feed head (past_of book) cluster member machine good.matched found (works member.id.number)))
 
   kept-called : IsKept head book cluster (event_of cluster (kinds.Agent happening) ++ input_events (cluster_after cluster (kinds.Agent happening)) member no_message (outcome_of cluster member heard))
   kept-called = called-by (agent_at cluster.agents member.id.number) (machine_of cluster member) refl refl
@@ -174,7 +174,7 @@ operated-well head past cluster member action matched declared mode =
 
 pub kept-wake : (head : HeadText) (book : List Event) (cluster : Cluster) (member : Member) → IsDeclared head member → Bridged head book cluster → IsKept head book cluster (wake_events_of cluster member)
 kept-wake head book cluster member declared good =
-    kept-called head book cluster member good Wake (agents.Woken member) refl refl (λ s m now o feeds. feeds) refl (wake-well head (past_of book) cluster member good.matched declared)
+    kept-called head book cluster member good Wake (agents.Woken member) refl refl (λ s m o feeds. feeds) refl (wake-well head (past_of book) cluster member good.matched declared)
 
 -- an agent does what a request asks that it answers so: that changes failsafe mode for none
 standing-agent : (agent : Option AgentFacts) (machine : Option Machine) (o : Outcome) → standing agent machine ≡ Some o → (found : AgentFacts) × ((agent ≡ Some found) × (found.knows ≡ o.knows))
@@ -192,7 +192,7 @@ mode-asked head past cluster member o request asked matched stands answers =
 
 pub kept-operated : (head : HeadText) (book : List Event) (cluster : Cluster) (member : Member) (action : OperatorAction) → IsDeclared head member → IsModeRequested (declared_of head).failsafe action.asked → Bridged head book cluster → IsKept head book cluster (operate_events cluster member action)
 kept-operated head book cluster member action declared mode good =
-    kept-called head book cluster member good (Operated action) (agents.Operated member action) refl refl (λ s m now o feeds. tt) refl (operated-well head (past_of book) cluster member action good.matched declared mode)
+    kept-called head book cluster member good (Operated action) (agents.Operated member action) refl refl (λ s m o feeds. tt) refl (operated-well head (past_of book) cluster member action good.matched declared mode)
 
 -- ---- what stands in the way of a message
 or-second : (a b : Bool) → (a || b) ≡ false → b ≡ false
@@ -290,9 +290,9 @@ module _ (head : HeadText) (book : List Event) (cluster : Cluster) (number : ℕ
       (calm-from cluster message (unpaused-told cluster number message good.matched.unpaused found) heard h)
       (λ works. elim sender [
         | inl store ↦ hears-by head (past_of book) cluster good.matched (volatile_of cluster) member agent machine machine_found here (works member.id.number)
-            number message found store.0 to (same-run store.1 agent here) (moment_of cluster) message.message.body refl store.1 heard h
+            number message found store.0 to (same-run store.1 agent here) message.message.body refl store.1 heard h
         | inr peer ↦ peers-hear head (past_of book) cluster good.matched (volatile_of cluster) member agent machine machine_found (works member.id.number)
-            number message found to (λ answers. answered-run answers agent here) (moment_of cluster) message.message.body refl peer heard h
+            number message found to (λ answers. answered-run answers agent here) message.message.body refl peer heard h
       ])
 
   heard-by : (heard : Option Heard) → heard_from cluster message ≡ heard

@@ -52,7 +52,7 @@ use Rattle.lease_parts.specs.Bridged.{IsMatched}
 use Rattle.lease_parts.specs.Declaring.{declared_of, works_of}
 use Rattle.lease_parts.specs.Waiting.{IsAnswer, IsKnownEnd, IsPeerBody}
 use Rattle.lease_inputs.specs.Hearing.{IsHeardWell, IsRequestHeard}
-use Rattle.lease_inputs.proofs.InputSeen.{IsFound, can-feed, is-young}
+use Rattle.lease_inputs.proofs.InputSeen.{IsFound, can-feed}
 
 -- ---- the keys of a snapshot, as agents and as the law see them
 leader-by : (revision : ℕ) (value : Value) (expiry : Option Ticks) → IsLeased (Some (record { value = value; revision = revision; expiry = expiry }))
@@ -168,7 +168,7 @@ mode-told mode cluster carried is settings = mode-entry mode settings (find key_
 module _ (head : HeadText) (past : Past) (cluster : Cluster) (matched : IsMatched head past cluster) (volatile_states : ℕ → VolatileState)
     (member : Member) (agent : AgentFacts) (machine : Machine) (found : IsFound cluster member machine) (here : slice_get cluster.agents member.id.number ≡ Some (Some agent)) (works : works_of head member.id.number ≡ true)
     (number : ℕ) (carried : InFlightFacts) (there : in_flight cluster.facts.flight number ≡ Some carried) (from : carried.message.from ≡ ends.Store) (to : carried.message.to ≡ ends.Member member)
-    (incarnation : carried.message.incarnation ≡ agent.knows.incarnation) (now : Ticks) where
+    (incarnation : carried.message.incarnation ≡ agent.knows.incarnation) where
   abbrev Law : State
   Law = state_of (declared_of head) past volatile_states
 
@@ -214,7 +214,7 @@ module _ (head : HeadText) (past : Past) (cluster : Cluster) (matched : IsMatche
       same a b e = grind (arith, nat_tests)
 
   granted-heard : (request : ℕ) (leased_is : Bool) → carried.message.body ≡ bodies.Granted request leased_is → (grant : Granted) → carried.grant ≡ Some grant
-      → HearsGrant Law member.id.number (Some number) now carried.message.sequence grant (snapshot_in cluster carried) (outcome_from agent.role agent.knows machine [])
+      → HearsGrant Law member.id.number (Some number) carried.message.sequence grant (snapshot_in cluster carried) (outcome_from agent.role agent.knows machine [])
   granted-heard request leased_is body grant grant-is =
       let told = heard-granted past cluster.facts number carried member carried.message.incarnation carried.message.sequence request leased_is matched.flight there (message-is carried.message ends.Store (ends.Member member) (bodies.Granted request leased_is) from to body) in
       let same : grant ≡ record { revision = told.revision; by = member.id; leased = leased_is } = some-is grant _ (sym grant-is ∙ told.grant) in
@@ -247,36 +247,35 @@ module _ (head : HeadText) (past : Past) (cluster : Cluster) (matched : IsMatche
               sent = as_asked.0;
               failsafe = sym (failsafe-is (find key_cmp keys.Failsafe carried.snapshot));
               feeds = can-feed head past cluster member machine matched found works;
-              young = is-young cluster member machine now awaited.waited found;
             };
       }
 
   granted-by : (request : ℕ) (leased_is : Bool) → carried.message.body ≡ bodies.Granted request leased_is → (given : Option Granted) → carried.grant ≡ given → (heard : Heard)
       → option_map (λ grant. heards.Granted carried.message.sequence grant (snapshot_in cluster carried)) given ≡ Some heard
-      → Hears Law member.id.number (Some number) now heard (outcome_from agent.role agent.knows machine [])
+      → Hears Law member.id.number (Some number) heard (outcome_from agent.role agent.knows machine [])
   granted-by request leased_is body None is heard e = absurd (none-some heard e)
   granted-by request leased_is body (Some grant) is heard e =
-      subst (λ (h : Heard). Hears Law member.id.number (Some number) now h (outcome_from agent.role agent.knows machine [])) (some-is _ heard e) (granted-heard request leased_is body grant is)
+      subst (λ (h : Heard). Hears Law member.id.number (Some number) h (outcome_from agent.role agent.knows machine [])) (some-is _ heard e) (granted-heard request leased_is body grant is)
 
   pub hears-by : (body : Body) → carried.message.body ≡ body → IsAnswer body → (heard : Heard) → heard_in cluster carried body ≡ Some heard
-      → Hears Law member.id.number (Some number) now heard (outcome_from agent.role agent.knows machine [])
+      → Hears Law member.id.number (Some number) heard (outcome_from agent.role agent.knows machine [])
   hears-by bodies.Snapshot body is heard e =
-      subst (λ (h : Heard). Hears Law member.id.number (Some number) now h (outcome_from agent.role agent.knows machine [])) (some-is _ heard e) (snapshot-heard body)
+      subst (λ (h : Heard). Hears Law member.id.number (Some number) h (outcome_from agent.role agent.knows machine [])) (some-is _ heard e) (snapshot-heard body)
   hears-by (bodies.Granted request leased_is) body is heard e = granted-by request leased_is body carried.grant refl heard e
   hears-by (bodies.Refused request key at) body is heard e =
-      subst (λ (h : Heard). Hears Law member.id.number (Some number) now h (outcome_from agent.role agent.knows machine [])) (some-is _ heard e) tt
+      subst (λ (h : Heard). Hears Law member.id.number (Some number) h (outcome_from agent.role agent.knows machine [])) (some-is _ heard e) tt
   hears-by _ body is heard e = absurd is
 
 -- ---- what comes of another member
 -- the law hears nothing of how far servers are, which members ask and answer
-unheard : (law : State) (m : ℕ) (number : Option ℕ) (now : Ticks) (o : Outcome) (incarnation sequence : ℕ) (from : Option MemberId) (heard : Heard) → option_map (λ by. heards.Asked by incarnation sequence) from ≡ Some heard → Hears law m number now heard o
-unheard law m number now o incarnation sequence None heard e = absurd (none-some heard e)
-unheard law m number now o incarnation sequence (Some by) heard e = subst (λ (h : Heard). Hears law m number now h o) (some-is _ heard e) tt
+unheard : (law : State) (m : ℕ) (number : Option ℕ) (o : Outcome) (incarnation sequence : ℕ) (from : Option MemberId) (heard : Heard) → option_map (λ by. heards.Asked by incarnation sequence) from ≡ Some heard → Hears law m number heard o
+unheard law m number o incarnation sequence None heard e = absurd (none-some heard e)
+unheard law m number o incarnation sequence (Some by) heard e = subst (λ (h : Heard). Hears law m number h o) (some-is _ heard e) tt
 
 module _ (head : HeadText) (past : Past) (cluster : Cluster) (matched : IsMatched head past cluster) (volatile_states : ℕ → VolatileState)
     (member : Member) (agent : AgentFacts) (machine : Machine) (found : IsFound cluster member machine) (works : works_of head member.id.number ≡ true)
     (number : ℕ) (carried : InFlightFacts) (there : in_flight cluster.facts.flight number ≡ Some carried) (to : carried.message.to ≡ ends.Member member)
-    (in_run : is_answer carried.message.body ≡ true → carried.message.incarnation ≡ agent.knows.incarnation) (now : Ticks) where
+    (in_run : is_answer carried.message.body ≡ true → carried.message.incarnation ≡ agent.knows.incarnation) where
   abbrev Met : State
   Met = state_of (declared_of head) past volatile_states
 
@@ -284,7 +283,7 @@ module _ (head : HeadText) (past : Past) (cluster : Cluster) (matched : IsMatche
   Stood = outcome_from agent.role agent.knows machine []
 
   abbrev HearsIt : Heard → Type 0
-  HearsIt heard = Hears Met member.id.number (Some number) now heard Stood
+  HearsIt heard = Hears Met member.id.number (Some number) heard Stood
 
   request-by : (ttl : Ticks) → carried.message.body ≡ bodies.FailsafeRequest ttl → (from : LinkEnd) → carried.message.from ≡ from → (heard : Heard)
       → option_map (λ by. heards.FailsafeAsked by carried.message.incarnation carried.message.sequence ttl) (member_at_end from) ≡ Some heard → HearsIt heard
@@ -297,7 +296,7 @@ module _ (head : HeadText) (past : Past) (cluster : Cluster) (matched : IsMatche
         (message-is carried.message (ends.Member by) (ends.Member member) (bodies.FailsafeRequest ttl) from to body);
   })
 
-  yes-by : carried.message.body ≡ bodies.FailsafeAnswer true → (by : Member) → carried.message.from ≡ ends.Member by → HearsYes Met member.id.number (Some number) now by.id carried.message.sequence Stood
+  yes-by : carried.message.body ≡ bodies.FailsafeAnswer true → (by : Member) → carried.message.from ≡ ends.Member by → HearsYes Met member.id.number (Some number) by.id carried.message.sequence Stood
   yes-by body by from = record {
     number = number;
     heard_is = refl;
@@ -305,10 +304,9 @@ module _ (head : HeadText) (past : Past) (cluster : Cluster) (matched : IsMatche
         (message-is carried.message (ends.Member by) (ends.Member member) (bodies.FailsafeAnswer true) from to body)
         ∙ ap (λ (r : ℕ). Some (Acknowledged (record { member = member.id.number; incarnation = r; sequence = carried.message.sequence; by = by.id.number }))) (in_run (ap (λ (b : Body). is_answer b) body));
     feeds = can-feed head past cluster member machine matched found works;
-    young = λ waited _. is-young cluster member machine now waited found;
   }
 
-  said : (by : Member) → carried.message.from ≡ ends.Member by → (accepted : Bool) → carried.message.body ≡ bodies.FailsafeAnswer accepted → accepted ≡ true → HearsYes Met member.id.number (Some number) now by.id carried.message.sequence Stood
+  said : (by : Member) → carried.message.from ≡ ends.Member by → (accepted : Bool) → carried.message.body ≡ bodies.FailsafeAnswer accepted → accepted ≡ true → HearsYes Met member.id.number (Some number) by.id carried.message.sequence Stood
   said by from true body so = yes-by body by from
   said by from false body so = absurd (no-way so)
     where
@@ -321,7 +319,7 @@ module _ (head : HeadText) (past : Past) (cluster : Cluster) (matched : IsMatche
   answer-by accepted body (ends.Member by) from heard e = subst HearsIt (some-is (heards.FailsafeAnswered by.id carried.message.sequence accepted carried.sent) heard e) (said by from accepted body)
 
   pub peers-hear : (body : Body) → carried.message.body ≡ body → IsPeerBody body → (heard : Heard) → heard_in cluster carried body ≡ Some heard → HearsIt heard
-  peers-hear bodies.Ask body is heard e = unheard Met member.id.number (Some number) now Stood carried.message.incarnation carried.message.sequence (member_at_end carried.message.from) heard e
+  peers-hear bodies.Ask body is heard e = unheard Met member.id.number (Some number) Stood carried.message.incarnation carried.message.sequence (member_at_end carried.message.from) heard e
   peers-hear (bodies.Answer answer) body is heard e = subst HearsIt (some-is _ heard e) tt
   peers-hear (bodies.FailsafeRequest ttl) body is heard e = request-by ttl body carried.message.from refl heard e
   peers-hear (bodies.FailsafeAnswer accepted) body is heard e = answer-by accepted body carried.message.from refl heard e

@@ -650,7 +650,7 @@ module _ (head : HeadText) (book : List Event) (cluster : Cluster) (good : Bridg
         (input-shown-of (declared_of head) book (volatile_of cluster) M (volatile_of Later M) hn (has_one is_feeding After.outputs) Takes Events
         (all-events (IsOwn M) (opening-own M hn opening opens) (mine-own member agent.knows.incarnation message.number Q)) taken-so)
 
-    pub input-kept : (((m : ℕ) → works_of head m ≡ true) → Hears S M hn Now heard Before) → IsKept head book cluster Events
+    pub input-kept : (((m : ℕ) → works_of head m ≡ true) → Hears S M hn heard Before) → IsKept head book cluster Events
     input-kept hears = kept-if-works head book cluster Events (λ works.
         let sound = good.matched.waiting.agents M agent here in
         let lawful = input-lawful-from Now (points_of cluster member) heard agent.role agent.knows machine (λ waited is. (sound.waits waited is).span) sound.ends
@@ -683,7 +683,7 @@ module _ (head : HeadText) (book : List Event) (cluster : Cluster) (good : Bridg
     comes-to-act meets acts_behind rests was agent_behind (Undone was_ready live_before) = absurd (rests (inl live_before))
 
     -- where the premises are met, whoever comes to act in an input armed its watchdog in time, on the grant that it hears
-    pub arms-in-time : ((m : ℕ) → works_of head m ≡ true) → Hears S M hn Now heard Before → MeetsPremises head (book ++ Events) → Acts (machine_seen After.role After.knows After.machine (run_in cluster.facts.processes M)) → (Acts (S.members M) → ⊥) → ArmsInTime S M hn
+    pub arms-in-time : ((m : ℕ) → works_of head m ≡ true) → Hears S M hn heard Before → MeetsPremises head (book ++ Events) → Acts (machine_seen After.role After.knows After.machine (run_in cluster.facts.processes M)) → (Acts (S.members M) → ⊥) → ArmsInTime S M hn
     arms-in-time works hears meets acts_behind rests =
         let sound = good.matched.waiting.agents M agent here in
         let lawful = input-lawful-from Now (points_of cluster member) heard agent.role agent.knows machine (λ waited is. (sound.waits waited is).span) sound.ends

@@ -2,19 +2,20 @@
 use Rattle.std.proofs.Common.{◌≡◌, ◌*◌, ◌≤◌, ℕ, Bool, true, List, Option, Some, None, IfSome, slice_get, option_map, is_some, refl, sym, subst, ap, ◌∙◌, arith}
 use Rattle.std.proofs.lemmas.Option.{slice_get-map}
 use Rattle.pat_base.specs.declared.ticks.Ticks.{Ticks}
+use Rattle.member_options.specs.Options.{margin_span}
 use Rattle.member_options.specs.declared.member_option.MemberOptions.{MemberOptions}
+use Rattle.member_options.specs.declared.ranges.SafetyMargin.{SafetyMargin}
+use Rattle.member_options.specs.declared.ranges.SafetyMargin.TheVariants.{HalfOfLease, Seconds}
 use Rattle.script_model.specs.Script.{HeadText, MemberText}
 use Rattle.pg_model.specs.Facts.{ServerFacts}
 use Rattle.leader_key.specs.Watchdog.{HasMargin, is_armable}
 use Rattle.event_book.specs.declared.member.Member.{Member}
 use Rattle.agent_model.specs.declared.machine.Machine.{Machine}
 use Rattle.agent_model.specs.Agents.{AgentFacts}
-use Rattle.agent_lease_law.specs.Lawful.{CanFeed, IsYoung}
+use Rattle.agent_lease_law.specs.Lawful.{CanFeed}
 use Rattle.agent_roles.specs.Seen.{moment_seen, hold_seen, machine_seen}
-use Rattle.agent_model.specs.declared.knowledge.PendingQuestion.{PendingQuestion}
 use Rattle.cluster_model.specs.FailsafeDeadlines.{is_set_by_failsafe}
 use Rattle.cluster_model.specs.Machines.{machine_from, machine_of, replication_of}
-use Rattle.pat_base.specs.declared.ticks.TheConstants.{TICKS_OF_SECOND}
 use Rattle.agent_model.specs.declared.machine.Replication.{Replication}
 use Rattle.cluster_model.specs.State.{Cluster}
 use Rattle.cluster_model.specs.Streaming.{source_of}
@@ -35,7 +36,7 @@ pub record IsFound (cluster : Cluster) (member : Member) (machine : Machine) : T
   pub basis : is_set_by_failsafe (slice_get cluster.failsafe_deadlines member.id.number) ≡ machine.by_failsafe
   pub mode : machine.watchdog.mode ≡ options.watchdog
   pub works : machine.watchdog.works ≡ options.device_works
-  pub margin : machine.watchdog.margin ≡ Some (record { 0 = TICKS_OF_SECOND * options.margin.seconds })
+  pub margin : machine.watchdog.margin ≡ margin_span options.margin
 
 found-by : (cluster : Cluster) (member : Member) (receives by_failsafe : Bool) (replication : Option Replication) (machine : Machine) (options : Option MemberOptions) (deadline hold : Option (Option Ticks)) (s : Option ServerFacts)
     → slice_get cluster.options member.id.number ≡ options → slice_get cluster.facts.deadlines member.id.number ≡ deadline → slice_get cluster.facts.holds member.id.number ≡ hold → slice_get cluster.facts.servers member.id.number ≡ s
@@ -84,14 +85,14 @@ seen-of cluster m agent machine resembles basis is =
 
 -- ---- what its member declares
 declared-by : (found : Option MemberText) (options : MemberOptions) → option_map (λ (member : MemberText). member.options) found ≡ Some options
-    → (margin_said found ≡ Some (TICKS_OF_SECOND * options.margin.seconds)) × (works_said found ≡ is_armable options.watchdog options.device_works)
+    → (margin_said found ≡ moment_seen (margin_span options.margin)) × (works_said found ≡ is_armable options.watchdog options.device_works)
 declared-by None options e = absurd (none-some options e)
 declared-by (Some member) options e =
     let same = some-is member.options options e in
-    (ap (λ (o : MemberOptions). Some (TICKS_OF_SECOND * o.margin.seconds)) same, ap (λ (o : MemberOptions). is_armable o.watchdog o.device_works) same)
+    (ap (λ (o : MemberOptions). moment_seen (margin_span o.margin)) same, ap (λ (o : MemberOptions). is_armable o.watchdog o.device_works) same)
 
 declared-of : (head : HeadText) (past : Past) (cluster : Cluster) (member : Member) (machine : Machine) → IsMatched head past cluster → (found : IsFound cluster member machine)
-    → (margin_said (slice_get head.members member.id.number) ≡ Some (TICKS_OF_SECOND * found.options.margin.seconds)) × (works_of head member.id.number ≡ is_armable found.options.watchdog found.options.device_works)
+    → (margin_said (slice_get head.members member.id.number) ≡ moment_seen (margin_span found.options.margin)) × (works_of head member.id.number ≡ is_armable found.options.watchdog found.options.device_works)
 declared-of head past cluster member machine matched found =
     declared-by (slice_get head.members member.id.number) found.options
     (sym (slice_get-map (λ (member : MemberText). member.options) head.members member.id.number) ∙ ap (λ (l : List MemberOptions). slice_get l member.id.number) (sym matched.options) ∙ found.options_is)
@@ -106,14 +107,12 @@ pub margin-of : (head : HeadText) (past : Past) (cluster : Cluster) (member : Me
 margin-of head past cluster member machine matched found = (declared-of head past cluster member machine matched found).0 ∙ sym (ap moment_seen found.margin)
 
 pub has-margin : (cluster : Cluster) (member : Member) (machine : Machine) → (found : IsFound cluster member machine) → HasMargin machine.watchdog
-has-margin cluster member machine found = subst (λ (o : Option Ticks). IfSome o (λ margin. margin.0 ≤ 150)) (sym found.margin) (short found.options)
+has-margin cluster member machine found = subst (λ (o : Option Ticks). IfSome o (λ margin. margin.0 ≤ 150)) (sym found.margin) (short found.options.margin)
   where
-    short : (options : MemberOptions) → 10 * options.margin.seconds ≤ 150
-    short options = omega (arith, options.margin.most)
+    short : (margin : SafetyMargin) → IfSome (margin_span margin) (λ margin. margin.0 ≤ 150)
+    short HalfOfLease = tt
+    short (Seconds margin) = omega (arith, margin.most)
 
 -- its watchdog can be fed
 pub can-feed : (head : HeadText) (past : Past) (cluster : Cluster) (member : Member) (machine : Machine) → IsMatched head past cluster → (found : IsFound cluster member machine) → works_of head member.id.number ≡ true → CanFeed machine
 can-feed head past cluster member machine matched found works = record { armable = armable-of head past cluster member machine matched found works; margin = has-margin cluster member machine found }
-
-pub is-young : (cluster : Cluster) (member : Member) (machine : Machine) (now : Ticks) (waited : PendingQuestion) → (found : IsFound cluster member machine) → IsYoung machine.watchdog.margin now waited
-is-young cluster member machine now waited found = subst (λ (o : Option Ticks). IsYoung o now waited) (sym found.margin) tt

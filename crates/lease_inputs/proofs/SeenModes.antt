@@ -6,19 +6,16 @@ use Rattle.pat_base.specs.declared.ticks.Ticks.{Ticks}
 use Rattle.lease_store.specs.declared.granted.Granted.{Granted}
 use Rattle.wal_model.specs.declared.entry.HistoryPoint.{HistoryPoint}
 use Rattle.cluster_view.specs.Snapshots.{SnapshotFacts}
-use Rattle.event_book.specs.declared.agent_note.AgentNote.TheVariants as agent_notes
 use Rattle.event_book.specs.declared.reason.Reason.TheVariants.{WatchdogNotArmed}
 use Rattle.agent_model.specs.declared.heard.Heard.{Heard}
 use Rattle.agent_model.specs.declared.heard.Heard.TheVariants.{Wake, ReadAnswered, Granted as HeardGranted, Mismatch, Asked, Answered, FailsafeAsked, FailsafeAnswered, Operated as HearsOperator}
-use Rattle.agent_model.specs.declared.output.Output.TheVariants as outputs
 use Rattle.agent_model.specs.declared.why.Why.{Why}
 use Rattle.agent_model.specs.declared.why.Why.TheVariants.{HandOver, Lost}
 use Rattle.agent_model.specs.Acting.{arming, ending_server, is_refusing}
 use Rattle.agent_model.specs.Agents.{Follower, Outcome}
 use Rattle.agent_model.specs.Claiming.{begins_or_claims}
-use Rattle.agent_model.specs.Decisions.{arms, gives_back, granted, may_take, takes_key, takes_over}
+use Rattle.agent_model.specs.Decisions.{arms, cannot_arm, gives_back, granted, may_take, takes_key, takes_over}
 use Rattle.agent_model.specs.Operators.{given_up, learned, looked}
-use Rattle.agent_model.specs.Outputs.{with_output}
 use Rattle.agent_model.specs.Pausing.{may_start_behind}
 use Rattle.agent_model.specs.Peers.{answered, keeping}
 use Rattle.agent_model.specs.Racing.{finds_free, judged, unheard}
@@ -29,7 +26,7 @@ use Rattle.agent_model.specs.Acting.{touching}
 use Rattle.agent_model.specs.StayingPrimary.{failsafe_answered}
 use Rattle.agent_model.specs.Table.{granted_any, refused_any, step}
 use Rattle.agent_model.specs.Wake.{overdue, turned, woken}
-use Rattle.agent_model.proofs.Rows.{ActRows, DutyRows, HandoverRows, ReplyRows, answered-by, before-by, begins-or-claims-by, duties-of, failsafe-answered-by, failsafe-asked-by, follow-by, free-by, given-up-by, got-by, granted-any-by, granted-by, if-cases, judged-by, leading_in_pause, led_on, looked-by, operated-by, overdue-by, refused-any-by, refused-by, renewed-by, repaired-by, takes-in-pause-by, turn-by, wake-by}
+use Rattle.agent_model.proofs.Rows.{ActRows, DutyRows, HandoverRows, ReplyRows, answered-by, before-by, begins-or-claims-by, duties-of, failsafe-answered-by, failsafe-asked-by, follow-by, free-by, given-up-by, got-by, granted-any-by, granted-by, if-cases, judged-by, judges-start-by, kept_on, leading_in_pause, led_on, looked-by, operated-by, overdue-by, refused-any-by, refused-by, renewed-by, repaired-by, takes-in-pause-by, turn-by, wake-by}
 use Rattle.agent_roles.proofs.Granting.{Told}
 use Rattle.agent_lease_law.specs.Modes.{HearsMode, TellsMode}
 use Rattle.lease_law.proofs.Tools.{some-is}
@@ -128,7 +125,7 @@ module _ (mode : Bool) where
 
   -- ---- a grant
   takes-sees : (now ttl : Ticks) (revision : ℕ) (o : Outcome) → Sees o → Sees (takes_key now ttl revision o)
-  takes-sees now ttl revision o sees = let back : Outcome = gives_back revision (record o { outputs = with_output (outputs.Note agent_notes.CannotArm) o.outputs }) in let arm : Outcome = arming now ttl o in
+  takes-sees now ttl revision o sees = let back : Outcome = cannot_arm revision o in let arm : Outcome = arming now ttl o in
       if-cases Sees (may_take now o.knows o.machine) (arms now ttl revision o) (gives_back revision o)
       (λ _. if-cases Sees (is_refusing o.machine.watchdog.mode o.machine.watchdog.works) back (begins_or_claims now revision arm) (λ _. sees) (λ _. begins-or-claims-by Sees now revision arm sees sees)) (λ _. sees)
 
@@ -140,6 +137,10 @@ module _ (mode : Bool) where
         leader = λ held _. let led : Outcome = led_on now waited.ttl grant.revision told in renewed-by Sees now waited.ttl grant.revision told new (duty-sees now grant.revision led new);
         unleased = λ _. if-cases Sees (is_refusing o.machine.watchdog.mode o.machine.watchdog.works) (ending_server now WatchdogNotArmed told) (takes_over now grant.revision (arming now waited.ttl told)) (λ _. new) (λ _. new);
         takes = λ _. takes-sees now waited.ttl grant.revision told new;
+        keeps_late = λ held _. let kept : Outcome = kept_on grant.revision told in judges-start-by Sees now grant.revision kept new (duty-sees now grant.revision kept new);
+        ends_late = λ _. new;
+        refuses_late = λ _. new;
+        returns_late = λ _. new;
         leads_in_pause = λ renews _ held _. let led : Outcome = leading_in_pause renews grant.revision told in duties-of Sees now grant.revision led (duty-sees now grant.revision led new);
         unleased_in_pause = λ renews _ _. new;
         takes_in_pause = λ renews _ _. takes-in-pause-by Sees now renews grant.revision told new new new;
@@ -165,7 +166,7 @@ module _ (mode : Bool) where
 
   failsafe-answered-sees : (now : Ticks) (from : MemberId) (sequence : ℕ) (accepted : Bool) (sent : Ticks) (o : Outcome) → Sees o → Sees (failsafe_answered now from sequence accepted sent o)
   failsafe-answered-sees now from sequence accepted sent o sees =
-      failsafe-answered-by Sees now from sequence accepted sent o (record { kept = sees; quiet = sees; counts = λ held _. sees; stays = λ held _ waited _ _ since _. sees; fails = λ held _ _. sees })
+      failsafe-answered-by Sees now from sequence accepted sent o (record { kept = sees; quiet = sees; counts = λ held _. sees; stays = λ held _ waited _ _ since _ _. sees; counts_late = λ held _ _. sees; fails = λ held _ _. sees })
 
   acts-see : (now : Ticks) (request : ℕ) (o : Outcome) → Sees o → ActRows Sees now request o
   acts-see now request o sees = record { asks = λ operation txn _. sees; restarts = λ told. sees; wipes = λ told. sees; holds = λ ttl told _. sees; refuses = λ told. sees }

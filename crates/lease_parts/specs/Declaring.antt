@@ -1,14 +1,15 @@
 -- What a head declares, as the law of one writer reads it.
-use Rattle.std.specs.Prelude.{ℕ, ◌*◌, Bool, true, Option, Some, None, slice_get}
+use Rattle.std.specs.Prelude.{ℕ, Bool, true, Option, Some, None, slice_get}
 use Rattle.script_model.specs.Script.{HeadText, MemberText}
 use Rattle.leader_key.specs.Watchdog.{is_armable}
 use Rattle.lease_law.specs.States.{Declared}
-use Rattle.pat_base.specs.declared.ticks.TheConstants.{TICKS_OF_SECOND}
+use Rattle.member_options.specs.Options.{margin_span}
+use Rattle.agent_roles.specs.Seen.{moment_seen}
 
--- the margin that a member declares, in ticks; none past the members
+-- the margin that a member declares, in ticks; none where it is half of the lease, and past the members
 abbrev pub margin_said : Option MemberText → Option ℕ
 margin_said None = None
-margin_said (Some member) = Some (TICKS_OF_SECOND * member.options.margin.seconds)
+margin_said (Some member) = moment_seen (margin_span member.options.margin)
 
 -- the member's watchdog is on and its device works; so it counts past the members
 abbrev pub works_said : Option MemberText → Bool

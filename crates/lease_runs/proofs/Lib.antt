@@ -1,10 +1,15 @@
 pub mod Steps
 pub mod EveryRun
 pub mod Moments
+pub mod Staying
+pub mod AskedOnce
+pub mod AskedMore
 pub mod Fencing
 pub mod Measuring
 pub mod MeasuredParts
 pub mod MeasuredInputs
+pub mod MeasuredAgents
+pub mod MeasuredHearing
 pub mod MeasuredRuns
 pub mod Naming
 pub mod NamedParts

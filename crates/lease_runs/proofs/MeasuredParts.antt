@@ -1,5 +1,5 @@
 -- Each step of a run tells before each feed from when it is measured.
-use Rattle.std.proofs.Common.{ℕ, ◌≡◌, refl, ◌+◌, ◌++◌, Bool, true, false, cond, List, [], ◌∷◌, slice_get, Option, Some, None}
+use Rattle.std.proofs.Common.{ℕ, ◌≡◌, refl, ap, ◌∙◌, ◌+◌, ◌++◌, Bool, true, false, cond, List, [], ◌∷◌, slice_get, Option, Some, None}
 use Rattle.pat_base.specs.declared.ticks.Ticks.{Ticks}
 use Rattle.pat_base.specs.ServerState.{live}
 use Rattle.store_keys.specs.declared.txn.Txn.{Txn}
@@ -27,10 +27,10 @@ use Rattle.event_book.specs.Members.{server_of}
 use Rattle.event_book.specs.declared.event.Note.TheVariants.{AlreadyRunning}
 use Rattle.agent_model.specs.declared.machine.Machine.{Machine}
 use Rattle.cluster_model.specs.Machines.{machine_of}
-use Rattle.event_book.specs.Flight.{InFlightFacts}
+use Rattle.event_book.specs.Flight.{InFlightFacts, in_flight}
 use Rattle.script_model.specs.declared.line.Command.{Command}
 use Rattle.cluster_model.specs.Acknowledging.{acknowledge_kinds}
-use Rattle.cluster_model.specs.Cluster.{cluster_after}
+use Rattle.cluster_model.specs.Cluster.{agent_facts_reached, agent_facts_reached_at, cluster_after}
 use Rattle.cluster_model.specs.Commands.{disarm_at_start, disarm_if, disarm_of, kinds_of, agent_started}
 use Rattle.cluster_model.specs.Losing.{beginning_kinds, loss_if}
 use Rattle.cluster_model.specs.Messages.{answer_events_by, answer_message, decision_body, decision_kind, send_events, arrival_events_at, decision_events}
@@ -40,15 +40,16 @@ use Rattle.cluster_model.specs.ServerCommands.{promote_kinds}
 use Rattle.cluster_model.specs.State.{Cluster}
 use Rattle.cluster_model.specs.Streaming.{confirm_of, source_of, unconfirmed_end}
 use Rattle.cluster_model.specs.Ticking.{tick_events}
-use Rattle.event_book.specs.Premises.{Moments}
+use Rattle.event_book.specs.Premises.{Moments, moments_after}
 use Rattle.event_book.specs.Kinds.{AllAre}
 use Rattle.lease_parts.specs.Asides.{IsAsideIn, IsQuiet}
 use Rattle.lease_parts.proofs.Commands.{command-quiet}
 use Rattle.cluster_model.proofs.Commanding.{each-command-holds}
 use Rattle.cluster_model.proofs.Founds.{holds-unless}
 use Rattle.cluster_model.proofs.Lists.{AllKinds, HoldsIf, all-kinds, all-more, one-kind}
-use Rattle.lease_runs.proofs.Measuring.{IsPlain, Measures, Tells, tells-none, tells-send, told-for_some, told-plain, told-then}
-use Rattle.lease_runs.proofs.Moments.{KnowsSending}
+use Rattle.lease_runs.proofs.AskedMore.{unheard-one}
+use Rattle.lease_runs.proofs.AskedOnce.{neutral-one, started-one}
+use Rattle.lease_runs.proofs.Measuring.{IsPlain, Knows, Measures, Tells, tells-none, tells-send, told-for_some, told-plain, told-then}
 use Rattle.lease_parts.proofs.Streams.{acknowledge-quiet, confirm-quiet}
 use Rattle.lease_parts.proofs.Ticks.{IsBeside, Rest, rest-beside}
 
@@ -56,13 +57,21 @@ use Rattle.lease_parts.proofs.Ticks.{IsBeside, Rest, rest-beside}
 aside-plain : (May : ℕ → Type 0) (kind : EventKind) → IsAsideIn May kind → IsPlain kind
 aside-plain May (kinds.Watchdog (watchdogs.Armed member until answer)) is = absurd is
 aside-plain May (kinds.Watchdog (watchdogs.Fed member until basis)) is = absurd is
+aside-plain May (kinds.Watchdog (watchdogs.HoldTaken member until from incarnation sequence)) is = absurd is
 aside-plain May (kinds.Message (messages.Sent number message)) is = absurd is
+aside-plain May (kinds.Message (messages.Delivered number)) is = absurd is
+aside-plain May (kinds.Agent (agents.Woken member)) is = absurd is
+aside-plain May (kinds.Agent (agents.Operated member action)) is = absurd is
+aside-plain May (kinds.Agent (agents.Started member incarnation)) is = absurd is
 aside-plain May (kinds.Store (stores.Granted number by txn standbys)) is = absurd is
 aside-plain May _ is = tt
 
 quiet-plain : (kind : EventKind) → IsQuiet kind → IsPlain kind
 quiet-plain (kinds.Watchdog happening) is = absurd is
 quiet-plain (kinds.Message happening) is = absurd is
+quiet-plain (kinds.Agent (agents.Woken member)) is = absurd is
+quiet-plain (kinds.Agent (agents.Operated member action)) is = absurd is
+quiet-plain (kinds.Agent (agents.Started member incarnation)) is = absurd is
 quiet-plain (kinds.Store (stores.Granted number by txn standbys)) is = absurd is
 quiet-plain _ is = tt
 
@@ -80,7 +89,7 @@ plain-if cluster found is = all-kinds IsPlain cluster (kinds_of found) (one-kind
 
 -- ---- a tick
 pub tells-tick : Tells tick_events
-tells-tick moments cluster knows = told-plain moments cluster (tick_events cluster) (tt, beside-plain (λ n. Unit {0}) (Rest cluster) (rest-beside (λ n. Unit {0}) cluster (λ n lives. tt)))
+tells-tick moments cluster knows = told-plain moments cluster (tick_events cluster) (tt, beside-plain (λ n. Unit {0}) (Rest cluster) (rest-beside (λ n. Unit {0}) cluster (λ n lives. tt))) knows
 
 -- ---- streams
 confirms-quiet : (cluster : Cluster) (member from : Member) → AllAre IsQuiet (confirm_events cluster member from)
@@ -101,11 +110,11 @@ receives-quiet cluster most member (Some from) = receive-quiet cluster member fr
 pub most-quiet : (cluster : Cluster) (most : ℕ) (member : Member) → AllAre IsQuiet (receive_events_at_most cluster most member)
 most-quiet cluster most member = receives-quiet cluster most member (source_of cluster.facts.members cluster.facts.servers cluster.facts.cuts member)
 
-told-quiet : (moments : Moments) (cluster : Cluster) (events : List Event) → AllAre IsQuiet events → Measures moments cluster events
-told-quiet moments cluster events all = told-plain moments cluster events (all-more IsQuiet IsPlain events quiet-plain all)
+told-quiet : (moments : Moments) (cluster : Cluster) (events : List Event) → AllAre IsQuiet events → Knows moments cluster → Measures moments cluster events
+told-quiet moments cluster events all knows = told-plain moments cluster events (all-more IsQuiet IsPlain events quiet-plain all) knows
 
 pub tells-receive-at-most : (most : ℕ) (member : Member) → Tells (λ cluster. receive_events_at_most cluster most member)
-tells-receive-at-most most member moments cluster knows = told-quiet moments cluster (receive_events_at_most cluster most member) (most-quiet cluster most member)
+tells-receive-at-most most member moments cluster knows = told-quiet moments cluster (receive_events_at_most cluster most member) (most-quiet cluster most member) knows
 
 pub acknowledges-quiet : (cluster : Cluster) (member : Member) → AllAre IsQuiet (acknowledge_events cluster member)
 acknowledges-quiet cluster member =
@@ -113,7 +122,7 @@ acknowledges-quiet cluster member =
     all-kinds IsQuiet cluster (acknowledge_kinds cluster.facts.servers cluster.facts.members member found) (acknowledge-quiet cluster.facts.servers cluster.facts.members member found)
 
 pub tells-acknowledge : (member : Member) → Tells (λ cluster. acknowledge_events cluster member)
-tells-acknowledge member moments cluster knows = told-quiet moments cluster (acknowledge_events cluster member) (acknowledges-quiet cluster member)
+tells-acknowledge member moments cluster knows = told-quiet moments cluster (acknowledge_events cluster member) (acknowledges-quiet cluster member) knows
 
 -- ---- commands
 kind-plain : (cluster : Cluster) (command : Command) → HoldsIf IsPlain (command_kind cluster command)
@@ -121,7 +130,7 @@ kind-plain cluster command =
     each-command-holds IsPlain cluster (record { killed = λ m. tt; crashed = λ m. tt }) command (λ is. holds-more IsQuiet IsPlain (command_kind cluster command) quiet-plain (command-quiet cluster command is))
 
 pub tells-kind : (command : Command) → Tells (λ cluster. events_of cluster (kinds_of (command_kind cluster command)))
-tells-kind command moments cluster knows = told-plain moments cluster _ (plain-if cluster (command_kind cluster command) (kind-plain cluster command))
+tells-kind command moments cluster knows = told-plain moments cluster _ (plain-if cluster (command_kind cluster command) (kind-plain cluster command)) knows
 
 loss-plain : (member : Member) (test : Bool) → AllKinds IsPlain (kinds_of (loss_if member test))
 loss-plain member true = (tt, tt)
@@ -134,8 +143,8 @@ promoted-plain member acknowledged s false = tt
 
 pub tells-promote : (member : Member) → Tells (λ cluster. promote_events cluster member)
 tells-promote member moments cluster knows =
-    told-for_some moments cluster (slice_get cluster.facts.servers member.id.number) _ (λ s is.
-    told-plain moments cluster _ (all-kinds IsPlain cluster (promote_kinds member cluster.facts.acknowledged s) (promoted-plain member cluster.facts.acknowledged s (is_replica s.state))))
+    told-for_some moments cluster (slice_get cluster.facts.servers member.id.number) _ knows (λ s is.
+    told-plain moments cluster _ (all-kinds IsPlain cluster (promote_kinds member cluster.facts.acknowledged s) (promoted-plain member cluster.facts.acknowledged s (is_replica s.state))) knows)
 
 -- what holds of the events at the start of an agent holds of those that it brings
 module _ (P : EventKind → Type 0) (member : Member) where
@@ -158,37 +167,56 @@ module _ (P : EventKind → Type 0) (member : Member) where
     one-kind P (disarm_at_start member process machine) (holds-unless P process.running (disarm_of member machine) (disarms-hold machine disarmed)),
   )
 
+told-started : (moments : Moments) (cluster : Cluster) (member : Member) (process : AgentProcess) → slice_get cluster.facts.processes member.id.number ≡ Some process → Knows moments cluster → (running : Bool)
+    → Measures moments cluster (event_of cluster (cond running (kinds.Note (AlreadyRunning member)) (kinds.Agent (agents.Started member (process.incarnation + 1)))))
+told-started moments cluster member process is knows true = told-plain moments cluster _ (tt, tt) knows
+told-started moments cluster member process is knows false = record { measured = λ since. (tt, tt); numbered = (tt, tt); decided = (tt, tt); asks = started-one moments cluster member process is knows.asks }
+
 pub tells-restart : (member : Member) → Tells (λ cluster. agent_start_events cluster member)
 tells-restart member moments cluster knows =
-    told-for_some moments cluster (slice_get cluster.facts.processes member.id.number) _ (λ process is.
+    told-for_some moments cluster (slice_get cluster.facts.processes member.id.number) _ knows (λ process is.
     let machine = machine_of cluster member in
-    told-plain moments cluster _ (all-kinds IsPlain cluster (agent_started member process ∷ kinds_of (disarm_at_start member process machine)) (starts-hold IsPlain member process machine tt tt tt)))
+    let first : EventKind = agent_started member process in
+    let rest : List EventKind = kinds_of (disarm_at_start member process machine) in
+    told-then moments cluster (event_of cluster first) (events_of (cluster_after cluster first) rest) knows (told-started moments cluster member process is knows process.running)
+    (λ later. told-plain (moments_after moments first) (cluster_after cluster first) _ (all-kinds IsPlain (cluster_after cluster first) rest
+    (one-kind IsPlain (disarm_at_start member process machine) (holds-unless IsPlain process.running (disarm_of member machine) (disarms-hold IsPlain member machine tt)))) later))
 
 -- ---- the key store
-told-event : (moments : Moments) (cluster : Cluster) (kind : EventKind) (more : Cluster → List Event) → IsPlain kind → KnowsSending moments cluster.facts → Tells more → Measures moments cluster (event_of cluster kind ++ more (cluster_after cluster kind))
+told-event : (moments : Moments) (cluster : Cluster) (kind : EventKind) (more : Cluster → List Event) → IsPlain kind → Knows moments cluster → Tells more → Measures moments cluster (event_of cluster kind ++ more (cluster_after cluster kind))
 told-event moments cluster kind more is knows rest =
-    told-then moments cluster (event_of cluster kind) (more (cluster_after cluster kind)) knows (told-plain moments cluster (event_of cluster kind) (is, tt)) (λ later. rest _ (cluster_after cluster kind) later)
+    told-then moments cluster (event_of cluster kind) (more (cluster_after cluster kind)) knows (told-plain moments cluster (event_of cluster kind) (is, tt) knows) (λ later. rest _ (cluster_after cluster kind) later)
 
-told-granted : (moments : Moments) (cluster : Cluster) (number : ℕ) (by : Member) (txn : Txn) (more : Cluster → List Event) → decision_on cluster.facts.keys cluster.facts.clock txn ≡ Grant → KnowsSending moments cluster.facts → Tells more
+told-granted : (moments : Moments) (cluster : Cluster) (number : ℕ) (by : Member) (txn : Txn) (more : Cluster → List Event) → decision_on cluster.facts.keys cluster.facts.clock txn ≡ Grant → Knows moments cluster → Tells more
     → Measures moments cluster (event_of cluster (decision_kind cluster.facts.members number by txn Grant) ++ more (cluster_after cluster (decision_kind cluster.facts.members number by txn Grant)))
 told-granted moments cluster number by txn more granted knows rest =
     let kind : EventKind = decision_kind cluster.facts.members number by txn Grant in
-    told-then moments cluster (event_of cluster kind) (more (cluster_after cluster kind)) knows (record { measured = λ since. (tt, tt); numbered = (tt, tt); decided = (granted, tt) }) (λ later. rest _ (cluster_after cluster kind) later)
+    told-then moments cluster (event_of cluster kind) (more (cluster_after cluster kind)) knows
+    (record { measured = λ since. (tt, tt); numbered = (tt, tt); decided = (granted, tt); asks = neutral-one moments cluster kind tt knows.sending.order knows.asks }) (λ later. rest _ (cluster_after cluster kind) later)
 
-told-decision : (moments : Moments) (cluster : Cluster) (number : ℕ) (message : Message) (txn : Txn) (decision : Decision) (from : LinkEnd) → decision_on cluster.facts.keys cluster.facts.clock txn ≡ decision → KnowsSending moments cluster.facts
+told-decision : (moments : Moments) (cluster : Cluster) (number : ℕ) (message : Message) (txn : Txn) (decision : Decision) (from : LinkEnd) → decision_on cluster.facts.keys cluster.facts.clock txn ≡ decision → Knows moments cluster
     → Measures moments cluster (decision_events cluster number message txn decision from)
-told-decision moments cluster number message txn decision ends.Store is knows = tells-none moments cluster
+told-decision moments cluster number message txn decision ends.Store is knows = tells-none moments cluster knows
 told-decision moments cluster number message txn Grant (ends.Member by) is knows =
     let answer : Message = answer_message message (decision_body number txn Grant) in
-    told-granted moments cluster number by txn (λ later. send_events later answer) is knows (tells-send answer)
+    told-granted moments cluster number by txn (λ later. send_events later answer) is knows (tells-send answer (refl, refl))
 told-decision moments cluster number message txn (Refusal key found) (ends.Member by) is knows =
     let answer : Message = answer_message message (decision_body number txn (Refusal key found)) in
-    told-event moments cluster (decision_kind cluster.facts.members number by txn (Refusal key found)) (λ later. send_events later answer) tt knows (tells-send answer)
+    told-event moments cluster (decision_kind cluster.facts.members number by txn (Refusal key found)) (λ later. send_events later answer) tt knows (tells-send answer (refl, refl))
 
 tells-answer : (number : ℕ) (message : Message) (body : Body) → Tells (λ cluster. answer_events_by cluster number message body)
-tells-answer number message bodies.Read moments cluster knows = tells-send (answer_message message bodies.Snapshot) moments cluster knows
+tells-answer number message bodies.Read moments cluster knows = tells-send (answer_message message bodies.Snapshot) (refl, refl) moments cluster knows
 tells-answer number message (bodies.Request txn) moments cluster knows = told-decision moments cluster number message txn (decision_on cluster.facts.keys cluster.facts.clock txn) message.from refl knows
-tells-answer number message _ moments cluster knows = tells-none moments cluster
+tells-answer number message _ moments cluster knows = tells-none moments cluster knows
 
-pub told-store : (moments : Moments) (cluster : Cluster) (number : ℕ) (message : InFlightFacts) → KnowsSending moments cluster.facts → Measures moments cluster (arrival_events_at cluster number message ends.Store)
-told-store moments cluster number message knows = told-event moments cluster (kinds.Message (messages.Delivered number)) (λ later. answer_events_by later number message.message message.message.body) tt knows (tells-answer number message.message message.message.body)
+pub told-store : (moments : Moments) (cluster : Cluster) (number : ℕ) (message : InFlightFacts) → Knows moments cluster → in_flight cluster.facts.flight number ≡ Some message → message.message.to ≡ ends.Store → Measures moments cluster (arrival_events_at cluster number message ends.Store)
+told-store moments cluster number message knows found to =
+    let kind : EventKind = kinds.Message (messages.Delivered number) in
+    told-then moments cluster (event_of cluster kind) (answer_events_by (cluster_after cluster kind) number message.message message.message.body) knows
+    (record {
+      measured = λ since. (tt, tt);
+      numbered = (tt, tt);
+      decided = (tt, tt);
+      asks = unheard-one moments cluster (Some number) kind refl (ap (agent_facts_reached cluster) found ∙ ap (agent_facts_reached_at cluster message) to) knows.sending.order knows.asks;
+    })
+    (λ later. tells-answer number message.message message.message.body _ (cluster_after cluster kind) later)

@@ -1,5 +1,5 @@
 -- The moment at which each message in flight was sent is known to the premises.
-use Rattle.std.proofs.Common.{ℕ, ◌≡◌, ◌≤◌, ◌<◌, ◌+◌, List, [], ◌∷◌, Option, Some, ◌∙◌, ap, sym, arith, inl, inr}
+use Rattle.std.proofs.Common.{ℕ, ◌≡◌, ◌≤◌, ◌<◌, ◌+◌, ◌++◌, List, [], ◌∷◌, Option, Some, refl, ◌∙◌, ap, sym, arith, inl, inr}
 use Rattle.event_book.specs.declared.event.Event.{Event}
 use Rattle.event_book.specs.declared.event.EventKind.{EventKind}
 use Rattle.event_book.specs.declared.event.EventKind.TheVariants as kinds
@@ -75,3 +75,7 @@ pub sending-over : (moments : Moments) (cluster : Cluster) (events : List Event)
 sending-over moments cluster [] above old = old
 sending-over moments cluster (event ∷ events) above old =
     sending-over (moments_after moments event.kind) (cluster_after cluster event.kind) events above.1 (sending-by moments cluster.facts event.kind above.0 old)
+
+pub moments-append : (moments : Moments) (xs ys : List Event) → moments_over moments (xs ++ ys) ≡ moments_over (moments_over moments xs) ys
+moments-append moments [] ys = refl
+moments-append moments (x ∷ xs) ys = moments-append (moments_after moments x.kind) xs ys

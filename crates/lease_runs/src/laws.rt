@@ -37,6 +37,8 @@ pub fn runs_have_one_writer()
 /// its start is complete, or is about to, resets its machine at a moment to come; and until then the leader key is its own. Where it stays
 /// primary without the key store, and so acknowledgements set that moment, failsafe mode is on, and each other member that the failsafe
 /// key lists holds until then, so it doesn't take the leader key (Patroni documentation, "DCS Failsafe Mode").
+/// That is so whatever `ttl` and the other times are changed to while the cluster runs, and also where the safety margin is half of the lease:
+/// a deadline is set for the span that was asked for.
 pub fn runs_guard_who_acts()
     ensures { (head : HeadText) → IsHead head → (steps : List Step) → MeetsPremises head (run_events (cluster_of head) steps)
         → (m : ℕ) → Acts (machine_in (cluster_over (cluster_of head) (run_events (cluster_of head) steps)) m)

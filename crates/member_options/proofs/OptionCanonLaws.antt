@@ -11,7 +11,7 @@ use Rattle.pat_base.proofs.Hosts.{host_bytes-injective}
 use Rattle.leader_key.specs.declared.watchdog.Mode.{Mode}
 use Rattle.leader_key.specs.declared.watchdog.Mode.TheVariants as modes
 use Rattle.member_options.specs.Margins.{unsaid_margin}
-use Rattle.member_options.specs.Options.{name_of_option, option_names, same_option_name, options_of_name, option_said, flag_said, said_by, SayOnce, host_or_default, priority_or_default, tags_with, mode_or_default, works_or_default, margin_or_default, options_or_default, is_default_priority, priority_of, mode_to_say, device_to_say, to_say, options_saying, options_to_say}
+use Rattle.member_options.specs.Options.{name_of_option, option_names, same_option_name, options_of_name, option_said, flag_said, said_by, SayOnce, host_or_default, priority_or_default, tags_with, mode_or_default, works_or_default, margin_or_default, options_or_default, is_default_margin, is_default_priority, priority_of, mode_to_say, device_to_say, to_say, options_saying, options_to_say}
 use Rattle.member_options.specs.Ranges.{default_margin}
 use Rattle.member_options.specs.declared.member_option.MemberOptions.{MemberOptions}
 use Rattle.member_options.specs.declared.member_option.MemberOption.{MemberOption}
@@ -19,7 +19,8 @@ use Rattle.member_options.specs.declared.member_option.MemberOption.TheVariants 
 use Rattle.member_options.specs.declared.member_option.SaidOptions.{SaidOptions}
 use Rattle.member_options.specs.declared.option_name.OptionName.{OptionName}
 use Rattle.member_options.specs.declared.option_name.OptionName.TheVariants as names
-use Rattle.member_options.specs.declared.ranges.Margin.{Margin}
+use Rattle.member_options.specs.declared.ranges.SafetyMargin.{SafetyMargin}
+use Rattle.member_options.specs.declared.ranges.SafetyMargin.TheVariants as margins
 use Rattle.member_options.specs.declared.ranges.Priority.{Priority}
 use Rattle.member_options.proofs.PriorityLaws.{default-is}
 use Rattle.member_options.proofs.RangeLaws.{same_margin, default-seconds}
@@ -100,8 +101,9 @@ device-again : (works : Bool) → works_or_default (device_to_say works) ≡ wor
 device-again true = refl
 device-again false = refl
 
-margin-again : (margin : Margin) (t : Bool) → (margin.seconds == unsaid_margin) ≡ t → margin_or_default (cond t None (Some margin)) ≡ margin
-margin-again margin true is = same_margin default_margin margin (default-seconds ∙ sym (eqb-true margin.seconds unsaid_margin is))
+margin-again : (margin : SafetyMargin) (t : Bool) → is_default_margin margin ≡ t → margin_or_default (cond t None (Some margin)) ≡ margin
+margin-again margins.HalfOfLease true is = cc
+margin-again (margins.Seconds margin) true is = ap margins.Seconds (same_margin default_margin margin (default-seconds ∙ sym (eqb-true margin.seconds unsaid_margin is)))
 margin-again margin false is = refl
 
 pub options-enough : (declared : MemberOptions) → AreEnough declared (options_to_say declared)
@@ -113,6 +115,6 @@ options-enough declared = record {
     tags = tags_with (to_say declared) (priority-again (priority_of declared.tags) (is_default_priority declared.tags.failover_priority) refl i);
     watchdog = mode-again declared.watchdog i;
     device_works = device-again declared.device_works i;
-    margin = margin-again declared.margin (declared.margin.seconds == unsaid_margin) refl i;
+    margin = margin-again declared.margin (is_default_margin declared.margin) refl i;
   };
 }

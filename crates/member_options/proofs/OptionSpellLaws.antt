@@ -11,7 +11,7 @@ use Rattle.member_options.specs.declared.member_option.MemberOption.TheVariants 
 use Rattle.member_options.specs.declared.member_option.SaidOptions.{SaidOptions}
 use Rattle.member_options.specs.declared.option_name.OptionName.{OptionName}
 use Rattle.member_options.specs.declared.option_name.OptionName.TheVariants as names
-use Rattle.member_options.specs.declared.ranges.Margin.{Margin}
+use Rattle.member_options.specs.declared.ranges.SafetyMargin.{SafetyMargin}
 use Rattle.member_options.specs.declared.ranges.Priority.{Priority}
 use Rattle.member_options.proofs.OptionWords.{option_in-again}
 use Rattle.member_options.proofs.SaidLaws.{SayMore, moved, none-said, said-first}
@@ -33,7 +33,7 @@ device_said : MemberOption → Option Bool
 device_said (options.Device works) = Some works
 device_said _ = None
 
-margin_said : MemberOption → Option Margin
+margin_said : MemberOption → Option SafetyMargin
 margin_said (options.Margin margin) = Some margin
 margin_said _ = None
 

@@ -13,6 +13,7 @@ use Rattle.script_words.proofs.PlainTexts.{is_plain, IsPlain, IsPlain-append, Is
 use Rattle.member_options.specs.Options.{option_text, behind_blanks}
 use Rattle.member_options.specs.declared.member_option.MemberOption.{MemberOption}
 use Rattle.member_options.specs.declared.member_option.MemberOption.TheVariants as options
+use Rattle.member_options.specs.declared.ranges.SafetyMargin.TheVariants as margins
 use Rattle.member_options.proofs.OptionWords.{margin-fits}
 use Rattle.member_options.proofs.PriorityLaws.{fits-from-zero, fits-below-zero}
 
@@ -45,7 +46,8 @@ option-IsPlain (options.Watchdog modes.Automatic) = record { plain = refl; short
 option-IsPlain (options.Watchdog modes.Required) = record { plain = refl; short = omega arith }
 option-IsPlain (options.Device true) = record { plain = refl; short = omega arith }
 option-IsPlain (options.Device false) = record { plain = refl; short = omega arith }
-option-IsPlain (options.Margin margin) =
+option-IsPlain (options.Margin margins.HalfOfLease) = record { plain = refl; short = omega arith }
+option-IsPlain (options.Margin (margins.Seconds margin)) =
     IsPlain-append (codes "margin=") (decimal margin.seconds) 7 38 (record { plain = refl; short = omega arith })
     (IsPlain-most (decimal margin.seconds) 20 38 (omega arith) (decimal-IsPlain margin.seconds (margin-fits margin)))
 

@@ -13,8 +13,8 @@ use Rattle.script_words.specs.Faults.{on_ok}
 use Rattle.member_options.specs.Hosts.{host_of}
 use Rattle.script_words.specs.Lines.{first_at, push_byte}
 use Rattle.script_words.specs.Numbers.{number}
-use Rattle.member_options.specs.Options.{option_name_text, option_names, mode_text, device_text, name_and_value, option_text, behind_blanks}
-use Rattle.member_options.specs.OptionReading.{words_in, option_words, option_name_of, cut_name, host_in, priority_in, mode_in, device_in, margin_by_number, margin_in, option_of, known_option, option_in}
+use Rattle.member_options.specs.Options.{option_name_text, option_names, mode_text, device_text, margin_text, name_and_value, option_text, behind_blanks}
+use Rattle.member_options.specs.OptionReading.{words_in, option_words, option_name_of, cut_name, host_in, priority_in, mode_in, device_in, seconds_by_number, seconds_in, margin_in, option_of, known_option, option_in}
 use Rattle.member_options.specs.Ranges.{margin_of}
 use Rattle.script_words.specs.Words.{cut_word}
 use Rattle.script_words.specs.declared.fault.Fault.{Fault}
@@ -24,6 +24,8 @@ use Rattle.member_options.specs.declared.member_option.MemberOption.TheVariants 
 use Rattle.member_options.specs.declared.option_name.OptionName.{OptionName}
 use Rattle.member_options.specs.declared.option_name.OptionName.TheVariants as names
 use Rattle.member_options.specs.declared.ranges.Margin.{Margin}
+use Rattle.member_options.specs.declared.ranges.SafetyMargin.{SafetyMargin}
+use Rattle.member_options.specs.declared.ranges.SafetyMargin.TheVariants as margins
 use Rattle.member_options.proofs.HostLaws.{host_of-Some, host_of-text, first_at-host}
 use Rattle.script_words.proofs.NumberLaws.{number-is, number-decimal, first_at-append, first_at-decimal}
 use Rattle.script_words.proofs.Outcomes.{ok_is, err_is, on_ok-made, ok_or-Ok}
@@ -50,12 +52,15 @@ device_in-Ok value works e =
     (λ a. chosen device_text value (codes "broken") false works _ (bytes_eq value (codes "broken")) refl refl (λ b. absurd (err_is _ works b)) a)
     e
 
-margin-of : (value : List ℕ) (o : Option ℕ) (margin : Margin) → number value ≡ o → margin_by_number value o ≡ Ok margin → decimal margin.seconds ≡ value
-margin-of value None margin is e = absurd (err_is _ margin e)
-margin-of value (Some n) margin is e = ap decimal (margin_of-seconds n margin (ok_or-Ok (margin_of n) faults.BadNumber margin e)) ∙ sym (number-is value n is)
+seconds-of : (value : List ℕ) (o : Option ℕ) (margin : Margin) → number value ≡ o → seconds_by_number value o ≡ Ok margin → decimal margin.seconds ≡ value
+seconds-of value None margin is e = absurd (err_is _ margin e)
+seconds-of value (Some n) margin is e = ap decimal (margin_of-seconds n margin (ok_or-Ok (margin_of n) faults.BadNumber margin e)) ∙ sym (number-is value n is)
 
-margin_in-Ok : (value : List ℕ) (margin : Margin) → margin_in value ≡ Ok margin → decimal margin.seconds ≡ value
-margin_in-Ok value margin e = margin-of value (number value) margin refl e
+margin_in-Ok : (value : List ℕ) (margin : SafetyMargin) → margin_in value ≡ Ok margin → margin_text margin ≡ value
+margin_in-Ok value margin e =
+    chosen margin_text value (codes "-1") margins.HalfOfLease margin _ (bytes_eq value (codes "-1")) refl refl
+    (λ a. on_ok-made (λ x. margin_text x ≡ value) (seconds_in value) margins.Seconds margin a (λ seconds is. seconds-of value (number value) seconds refl is))
+    e
 
 host_in-Ok : (value : List ℕ) (host : Host) → host_in value ≡ Ok host → host_bytes host ≡ value
 host_in-Ok value host e = host_of-text value host (ok_or-Ok (host_of value) faults.BadOption host e)
@@ -92,10 +97,23 @@ option_in-Ok word o e = known-Ok word (option_name_of (cut_name word).0) (cut_na
 pub margin-fits : (margin : Margin) → margin.seconds < 2 ^ 64
 margin-fits margin = omega (arith, margin.most)
 
-margin_in-again : (margin : Margin) → margin_in (decimal margin.seconds) ≡ Ok margin
-margin_in-again margin =
-    ap (margin_by_number (decimal margin.seconds)) (number-decimal margin.seconds (margin-fits margin))
+seconds_in-again : (margin : Margin) → seconds_in (decimal margin.seconds) ≡ Ok margin
+seconds_in-again margin =
+    ap (seconds_by_number (decimal margin.seconds)) (number-decimal margin.seconds (margin-fits margin))
     ∙ ap (λ o. ok_or o faults.BadNumber) (margin_of-Some margin.seconds margin refl)
+
+-- no number is spelled with a minus sign
+unsigned : (n : ℕ) (t : Bool) → n < 2 ^ 64 → bytes_eq (decimal n) (codes "-1") ≡ t → t ≡ false
+unsigned n true fits is =
+    let same : None ≡ first_at 45 (codes "-1") = sym (first_at-decimal 45 n (omega arith) fits) ∙ ap (first_at 45) ((bytes_eq-Decides (decimal n) (codes "-1")).0 is) in
+    cc
+unsigned n false fits is = refl
+
+margin_in-again : (margin : SafetyMargin) → margin_in (margin_text margin) ≡ Ok margin
+margin_in-again margins.HalfOfLease = refl
+margin_in-again (margins.Seconds margin) =
+    ap (λ t. cond t (Ok margins.HalfOfLease) (on_ok (seconds_in (decimal margin.seconds)) (λ m. Ok (margins.Seconds m)))) (unsigned margin.seconds (bytes_eq (decimal margin.seconds) (codes "-1")) (margin-fits margin) refl)
+    ∙ ap (λ r. on_ok r (λ m. Ok (margins.Seconds m))) (seconds_in-again margin)
 
 pub option_in-again : (o : MemberOption) → option_in (option_text o) ≡ Ok o
 option_in-again (options.Host host) = ap (λ o. on_ok (ok_or o faults.BadOption) (λ h. Ok (options.Host h))) (host_of-Some (host_bytes host) host refl)
@@ -121,7 +139,8 @@ first_at-option (options.Watchdog modes.Automatic) = refl
 first_at-option (options.Watchdog modes.Required) = refl
 first_at-option (options.Device true) = refl
 first_at-option (options.Device false) = refl
-first_at-option (options.Margin margin) = first_at-append 32 (codes "margin=") (decimal margin.seconds) refl (first_at-decimal 32 margin.seconds (omega arith) (margin-fits margin))
+first_at-option (options.Margin margins.HalfOfLease) = refl
+first_at-option (options.Margin (margins.Seconds margin)) = first_at-append 32 (codes "margin=") (decimal margin.seconds) refl (first_at-decimal 32 margin.seconds (omega arith) (margin-fits margin))
 
 -- words and the blanks before them
 behind-step : (t : Bool) (b : ℕ) (bs : List ℕ) (ws : List (List ℕ)) → (b == 32) ≡ t → behind_blanks ws ≡ 32 ∷ bs → behind_blanks (cond t ([] ∷ ws) (push_byte b ws)) ≡ 32 ∷ (b ∷ bs)

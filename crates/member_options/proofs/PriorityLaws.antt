@@ -7,7 +7,7 @@ use Rattle.std.proofs.lemmas.Int.{ints}
 use denote.Struct.Props.{props}
 use Rattle.script_words.specs.Lines.{first_at}
 use Rattle.script_words.specs.Numbers.{number}
-use Rattle.member_options.specs.OptionReading.{no_priority, priority_found, priority_in}
+use Rattle.member_options.specs.OptionReading.{no_number, priority_found, priority_in}
 use Rattle.member_options.specs.Options.{is_default_priority}
 use Rattle.member_options.specs.Priorities.{greatest_priority, unsaid_priority}
 use Rattle.member_options.specs.Ranges.{from_zero_by, priority_from_zero, below_zero_by, priority_below_zero, default_priority}
@@ -116,7 +116,7 @@ found-text [] priority e = absurd (none_is priority e)
 found-text (b ∷ bs) priority e = text-found b bs priority (b == 45) refl e
 
 pub priority_in-Ok : (value : List ℕ) (priority : Priority) → priority_in value ≡ Ok priority → signed_decimal priority.number ≡ value
-priority_in-Ok value priority e = found-text value priority (ok_or-Ok (priority_found value) (no_priority value) priority e)
+priority_in-Ok value priority e = found-text value priority (ok_or-Ok (priority_found value) (no_number value) priority e)
 
 -- and is read again
 pub fits-from-zero : (n : ℕ) → pos n ≤ℤ pos 1000 → n < 2 ^ 64
@@ -141,7 +141,7 @@ found-again priority (negsuc less) is low high =
 
 pub priority_in-again : (priority : Priority) → priority_in (signed_decimal priority.number) ≡ Ok priority
 priority_in-again priority =
-    ap (λ o. ok_or o (no_priority (signed_decimal priority.number))) (found-again priority priority.number refl priority.lowest priority.highest)
+    ap (λ o. ok_or o (no_number (signed_decimal priority.number))) (found-again priority priority.number refl priority.lowest priority.highest)
 
 no-blank : (z : ℤ) → negsuc 999 ≤ℤ z → z ≤ℤ pos 1000 → first_at 32 (signed_decimal z) ≡ None
 no-blank (pos n) low high = first_at-decimal 32 n (omega arith) (fits-from-zero n high)

@@ -24,6 +24,8 @@ use Rattle.member_options.specs.declared.option_name.OptionName.{OptionName}
 use Rattle.member_options.specs.declared.option_name.OptionName.TheVariants as names
 use Rattle.member_options.specs.declared.ranges.Margin.{Margin}
 use Rattle.member_options.specs.declared.ranges.Priority.{Priority}
+use Rattle.member_options.specs.declared.ranges.SafetyMargin.{SafetyMargin}
+use Rattle.member_options.specs.declared.ranges.SafetyMargin.TheVariants as margins
 
 -- the words between blanks, of which there is always one
 abbrev pub words_in : List ℕ → List (List ℕ)
@@ -77,9 +79,9 @@ abbrev pub is_whole : List ℕ → Bool
 is_whole [] = false
 is_whole (b ∷ bs) = if b == 45 then is_decimal bs && not (bytes_eq bs (codes "0")) else is_decimal (b ∷ bs)
 
--- why a value is no priority: whole numbers are out of range
-abbrev pub no_priority : List ℕ → Fault
-no_priority value = if is_whole value then faults.BadNumber else faults.BadOption
+-- why a value is no number in its range: whole numbers are out of it
+abbrev pub no_number : List ℕ → Fault
+no_number value = if is_whole value then faults.BadNumber else faults.BadOption
 
 -- the priority that a value is, if it is one: a number, or a minus sign and one above 0
 abbrev pub priority_found : List ℕ → Option Priority
@@ -88,20 +90,20 @@ priority_found (b ∷ bs) = if b == 45 then option_and_then priority_below_zero 
 
 -- a number in the range of priorities
 abbrev pub priority_in : List ℕ → Result Priority Fault
-priority_in value = ok_or (priority_found value) (no_priority value)
+priority_in value = ok_or (priority_found value) (no_number value)
 
--- why a value is no margin: '-1' is to come, other whole numbers are out of range
-abbrev pub no_margin : List ℕ → Fault
-no_margin value = if bytes_eq value (codes "-1") then faults.NotBuilt else if is_whole value then faults.BadNumber else faults.BadOption
-
--- a margin, from its number
-abbrev pub margin_by_number : List ℕ → Option ℕ → Result Margin Fault
-margin_by_number value None = Err (no_margin value)
-margin_by_number value (Some n) = ok_or (margin_of n) faults.BadNumber
+-- a margin in seconds, from its number
+abbrev pub seconds_by_number : List ℕ → Option ℕ → Result Margin Fault
+seconds_by_number value None = Err (no_number value)
+seconds_by_number value (Some n) = ok_or (margin_of n) faults.BadNumber
 
 -- a number of seconds in the range of margins
-abbrev pub margin_in : List ℕ → Result Margin Fault
-margin_in value = margin_by_number value (number value)
+abbrev pub seconds_in : List ℕ → Result Margin Fault
+seconds_in value = seconds_by_number value (number value)
+
+-- a margin: '-1' for half of the lease, or a number of seconds
+abbrev pub margin_in : List ℕ → Result SafetyMargin Fault
+margin_in value = if bytes_eq value (codes "-1") then Ok margins.HalfOfLease else on_ok (seconds_in value) (λ margin. Ok (margins.Seconds margin))
 
 -- the option of this name and this value
 abbrev pub option_of : OptionName → List ℕ → Result MemberOption Fault

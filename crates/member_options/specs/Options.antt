@@ -1,11 +1,13 @@
 -- What the options of a member's line say, and how they are spelled.
-use Rattle.std.specs.Prelude.{ℕ, ℤ, pos, negsuc, ◌≡◌, ◌==◌, Bool, true, false, if◌then◌else◌, List, [], ◌∷◌, ◌++◌, Option, Some, None, codes}
+use Rattle.std.specs.Prelude.{ℕ, ℤ, pos, negsuc, ◌*◌, ◌≡◌, ◌==◌, Bool, true, false, if◌then◌else◌, List, [], ◌∷◌, ◌++◌, Option, Some, None, codes}
 use Rattle.std.specs.Fmt.{decimal, signed_decimal}
 use Rattle.std.specs.List.{filter, flat_map}
 use Rattle.std.specs.Str.{bytes_eq}
 use Rattle.pat_base.specs.Host.{host_bytes, local_host}
 use Rattle.pat_base.specs.declared.host.Host.{Host}
 use Rattle.pat_base.specs.declared.tags.Tags.{Tags}
+use Rattle.pat_base.specs.declared.ticks.Ticks.{Ticks}
+use Rattle.pat_base.specs.declared.ticks.TheConstants.{TICKS_OF_SECOND}
 use Rattle.leader_key.specs.declared.watchdog.Mode.{Mode}
 use Rattle.leader_key.specs.declared.watchdog.Mode.TheVariants as modes
 use Rattle.member_options.specs.Margins.{unsaid_margin}
@@ -17,8 +19,9 @@ use Rattle.member_options.specs.declared.member_option.MemberOption.TheVariants 
 use Rattle.member_options.specs.declared.member_option.SaidOptions.{SaidOptions}
 use Rattle.member_options.specs.declared.option_name.OptionName.{OptionName}
 use Rattle.member_options.specs.declared.option_name.OptionName.TheVariants as names
-use Rattle.member_options.specs.declared.ranges.Margin.{Margin}
 use Rattle.member_options.specs.declared.ranges.Priority.{Priority}
+use Rattle.member_options.specs.declared.ranges.SafetyMargin.{SafetyMargin}
+use Rattle.member_options.specs.declared.ranges.SafetyMargin.TheVariants as margins
 
 -- the name of an option
 abbrev pub option_name_text : OptionName → List ℕ
@@ -42,6 +45,11 @@ abbrev pub device_text : Bool → List ℕ
 device_text true = codes "ok"
 device_text false = codes "broken"
 
+-- the word of a margin: its seconds, or '-1' for half of the lease
+abbrev pub margin_text : SafetyMargin → List ℕ
+margin_text margins.HalfOfLease = codes "-1"
+margin_text (margins.Seconds margin) = decimal margin.seconds
+
 -- a name, '=' and a value
 abbrev pub name_and_value : OptionName → List ℕ → List ℕ
 name_and_value name value = option_name_text name ++ (61 ∷ value)
@@ -55,7 +63,7 @@ option_text options.NoLoadBalance = name_and_value names.NoLoadBalance (codes "t
 option_text (options.Priority priority) = name_and_value names.Priority (signed_decimal priority.number)
 option_text (options.Watchdog mode) = name_and_value names.Watchdog (mode_text mode)
 option_text (options.Device works) = name_and_value names.Device (device_text works)
-option_text (options.Margin margin) = name_and_value names.Margin (decimal margin.seconds)
+option_text (options.Margin margin) = name_and_value names.Margin (margin_text margin)
 
 -- words, each behind one blank
 abbrev pub behind_blanks : List (List ℕ) → List ℕ
@@ -160,9 +168,13 @@ abbrev pub works_or_default : Option Bool → Bool
 works_or_default None = true
 works_or_default (Some works) = works
 
+-- the margin of a member whose line says none
+abbrev pub default_safety_margin : SafetyMargin
+default_safety_margin = margins.Seconds default_margin
+
 -- the margin that is said, or the default
-abbrev pub margin_or_default : Option Margin → Margin
-margin_or_default None = default_margin
+abbrev pub margin_or_default : Option SafetyMargin → SafetyMargin
+margin_or_default None = default_safety_margin
 margin_or_default (Some margin) = margin
 
 -- what a line declares whose options say this
@@ -201,9 +213,19 @@ abbrev pub device_to_say : Bool → Option Bool
 device_to_say true = None
 device_to_say false = Some false
 
+-- a margin is the default
+abbrev pub is_default_margin : SafetyMargin → Bool
+is_default_margin margins.HalfOfLease = false
+is_default_margin (margins.Seconds margin) = margin.seconds == unsaid_margin
+
 -- what has to be said of a margin: any but the default
-abbrev pub margin_to_say : Margin → Option Margin
-margin_to_say margin = if margin.seconds == unsaid_margin then None else Some margin
+abbrev pub margin_to_say : SafetyMargin → Option SafetyMargin
+margin_to_say margin = if is_default_margin margin then None else Some margin
+
+-- a margin in ticks, none where it is half of the lease
+abbrev pub margin_span : SafetyMargin → Option Ticks
+margin_span margins.HalfOfLease = None
+margin_span (margins.Seconds margin) = Some (record { 0 = TICKS_OF_SECOND * margin.seconds })
 
 -- what has to be said of what is declared
 abbrev pub to_say : MemberOptions → SaidOptions

@@ -8,4 +8,4 @@ mod ranges;
 
 pub use member_option::MemberOptions;
 pub use options::options_in;
-pub use ranges::{Margin, Priority};
+pub use ranges::{Margin, Priority, SafetyMargin};

@@ -1,5 +1,5 @@
 //! What the options of a member's line say, and what they declare.
-use crate::{Margin, Priority};
+use crate::{Priority, SafetyMargin};
 use leader_key::Mode;
 use pat_base::{Host, Tags};
 
@@ -20,8 +20,8 @@ pub enum MemberOption {
     Watchdog(Mode),
     /// `device=ok`, `device=broken`: whether the watchdog's device works.
     Device(bool),
-    /// `margin=N`, in seconds.
-    Margin(Margin),
+    /// `margin=N`, in seconds, and `margin=-1`.
+    Margin(SafetyMargin),
 }
 
 /// What the options of a member's line say, with `None` or `false` for what none of them says.
@@ -42,7 +42,7 @@ pub struct SaidOptions {
     /// Whether the watchdog's device works.
     pub device_works: Option<bool>,
     /// How long before the end of a lease the watchdog's deadline lies.
-    pub margin: Option<Margin>,
+    pub margin: Option<SafetyMargin>,
 }
 
 /// What a script declares of a member beside its name: where it is reached, its tags (Patroni documentation, "YAML
@@ -58,5 +58,5 @@ pub struct MemberOptions {
     /// Whether the device of its watchdog works, as it does where no option says it.
     pub device_works: bool,
     /// How long before the end of a lease its watchdog's deadline lies: 5 seconds where no option says it.
-    pub margin: Margin,
+    pub margin: SafetyMargin,
 }

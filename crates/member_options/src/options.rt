@@ -2,11 +2,11 @@
 ghost use Rattle.std.specs.Prelude.{◌≡◌, Option, None, Some, Ok};
 ghost use Rattle.std.specs.Option.{option_copied};
 ghost use Rattle.member_options.specs.Options.{option_name_text, name_of_option, host_or_default, priority_or_default, tags_or_default, mode_or_default, works_or_default, margin_or_default, nothing_said, options_or_default};
-ghost use Rattle.member_options.specs.OptionReading.{option_name_of, cut_name, host_in, flag_in, mode_in, device_in, has_leading_zero, are_digits, is_decimal, is_whole, no_priority, priority_found, priority_in, no_margin, margin_in, option_of, known_option, option_in, is_said, saying, with_option, with_word, said_in, options_in};
+ghost use Rattle.member_options.specs.OptionReading.{option_name_of, cut_name, host_in, flag_in, mode_in, device_in, has_leading_zero, are_digits, is_decimal, is_whole, no_number, priority_found, priority_in, seconds_in, margin_in, option_of, known_option, option_in, is_said, saying, with_option, with_word, said_in, options_in};
 
 use crate::member_option::{MemberOption, MemberOptions, SaidOptions};
 use crate::option_name::OptionName;
-use crate::{Margin, Priority};
+use crate::{Margin, Priority, SafetyMargin};
 use leader_key::Mode;
 use pat_base::{Host, Tags};
 use script_words::{Fault, both, cut_word, first_at, number};
@@ -136,9 +136,9 @@ fn is_whole(word: &[u8]) -> bool
     }
 }
 
-/// Why a value is no priority: whole numbers are out of range.
-fn no_priority(value: &[u8]) -> Fault
-    ensures { result ≡ no_priority value.now }
+/// Why a value is no number in its range: whole numbers are out of it.
+fn no_number(value: &[u8]) -> Fault
+    ensures { result ≡ no_number value.now }
 {
     if is_whole(value) {
         Fault::BadNumber
@@ -160,34 +160,32 @@ fn priority_in(value: &[u8]) -> Result<Priority, Fault>
     ensures { result ≡ priority_in value.now }
 {
     match priority_found(value) {
-        None => Err(no_priority(value)),
+        None => Err(no_number(value)),
         Some(priority) => Ok(priority),
     }
 }
 
-/// Why a value is no margin: `-1` is still to be built, and other whole numbers are out of range.
-fn no_margin(value: &[u8]) -> Fault
-    ensures { result ≡ no_margin value.now }
-{
-    if value == b"-1".as_slice() {
-        Fault::NotBuilt
-    } else if is_whole(value) {
-        Fault::BadNumber
-    } else {
-        Fault::BadOption
-    }
-}
-
-fn margin_in(value: &[u8]) -> Result<Margin, Fault>
-    ensures { result ≡ margin_in value.now }
+/// So many seconds before the end of a lease.
+fn seconds_in(value: &[u8]) -> Result<Margin, Fault>
+    ensures { result ≡ seconds_in value.now }
 {
     let Some(n) = number(value) else {
-        return Err(no_margin(value));
+        return Err(no_number(value));
     };
     match Margin::new(n) {
         None => Err(Fault::BadNumber),
         Some(margin) => Ok(margin),
     }
+}
+
+/// Half of the lease, or so many seconds.
+fn margin_in(value: &[u8]) -> Result<SafetyMargin, Fault>
+    ensures { result ≡ margin_in value.now }
+{
+    if value == b"-1".as_slice() {
+        return Ok(SafetyMargin::HalfOfLease);
+    }
+    Ok(SafetyMargin::Seconds(seconds_in(value)?))
 }
 
 /// The option of this name and this value.
@@ -394,11 +392,11 @@ fn works_or_default(said: Option<bool>) -> bool
     }
 }
 
-fn margin_or_default(said: Option<Margin>) -> Margin
+fn margin_or_default(said: Option<SafetyMargin>) -> SafetyMargin
     ensures { result ≡ margin_or_default said }
 {
     match said {
-        None => Margin::unsaid(),
+        None => SafetyMargin::unsaid(),
         Some(margin) => margin,
     }
 }

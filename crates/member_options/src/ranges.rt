@@ -2,6 +2,8 @@
 ghost use Rattle.std.specs.Prelude.{◌≤◌, ◌≤ℤ◌, pos, negsuc};
 ghost use Rattle.member_options.specs.Margins.{longest_margin};
 
+use pat_base::{TICKS_OF_SECOND, Ticks};
+
 /// The longest margin, in seconds.
 const LONGEST_MARGIN: u64 = 15;
 
@@ -14,8 +16,50 @@ const UNSAID_PRIORITY: i64 = 1;
 /// The margin that no option says, in seconds.
 const UNSAID_MARGIN: u64 = 5;
 
-/// How long before the end of a lease the deadline of a watchdog lies, in seconds: at most 15 (Patroni documentation, "Watchdog
-/// support": `safety_margin`).
+/// How long before the end of a lease the deadline of a watchdog lies (Patroni documentation, "Watchdog support": `safety_margin`).
+#[derive(Clone, Copy, PartialEq, Eq)]
+pub enum SafetyMargin {
+    /// Half of the lease: `margin=-1`.
+    HalfOfLease,
+    /// So many seconds.
+    Seconds(Margin),
+}
+
+impl SafetyMargin {
+    ghost use Rattle.std.specs.Prelude.{◌≡◌, ◌≤◌, IfSome};
+    ghost use Rattle.leader_key.specs.Watchdog.{greatest_margin};
+    ghost use Rattle.member_options.specs.Options.{default_safety_margin, is_default_margin, margin_span};
+
+    /// The margin in ticks of 100 ms. `None` where it is half of the lease.
+    pub fn span(self) -> Option<Ticks>
+        ensures span { result ≡ margin_span self }
+        ensures short { IfSome result (λ span. span.0 ≤ greatest_margin) }
+    {
+        match self {
+            SafetyMargin::HalfOfLease => None,
+            SafetyMargin::Seconds(margin) => Some(Ticks(TICKS_OF_SECOND * margin.seconds)),
+        }
+    }
+
+    /// Whether it is that of a member whose line says none.
+    pub fn is_unsaid(self) -> bool
+        ensures { result ≡ is_default_margin self }
+    {
+        match self {
+            SafetyMargin::HalfOfLease => false,
+            SafetyMargin::Seconds(margin) => margin.seconds == UNSAID_MARGIN,
+        }
+    }
+
+    /// The margin of a member whose line says none: 5 seconds.
+    pub(crate) fn unsaid() -> Self
+        ensures { result ≡ default_safety_margin }
+    {
+        SafetyMargin::Seconds(Margin::unsaid())
+    }
+}
+
+/// A margin in seconds: at most 15.
 #[derive(Clone, Copy, PartialEq, Eq)]
 pub struct Margin {
     /// At most 15.
@@ -41,8 +85,8 @@ impl Margin {
         }
     }
 
-    /// The margin of a member whose line says none: 5 seconds.
-    pub(crate) fn unsaid() -> Self
+    /// The margin that no option says: 5 seconds.
+    fn unsaid() -> Self
         ensures { result ≡ default_margin }
     {
         Margin {

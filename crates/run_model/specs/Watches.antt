@@ -1,9 +1,9 @@
 -- What a head says of the watchdogs of its members, as the summary of a run reads it.
-use Rattle.std.specs.Prelude.{◌*◌, Bool, true, false, List, Some, map}
+use Rattle.std.specs.Prelude.{Bool, true, false, List, map}
 use Rattle.leader_key.specs.declared.watchdog.Mode.{Mode}
 use Rattle.leader_key.specs.declared.watchdog.Mode.TheVariants as modes
 use Rattle.script_model.specs.Script.{HeadText, MemberText}
-use Rattle.pat_base.specs.declared.ticks.TheConstants.{TICKS_OF_SECOND}
+use Rattle.member_options.specs.Options.{margin_span}
 use Rattle.summary_model.specs.declared.answers.WatchOf.{WatchOf}
 use Rattle.summary_model.specs.Sights.{SummaryFacts, summary_of}
 
@@ -18,7 +18,7 @@ declared_watch member = record {
   name = member.name;
   mode_off = is_off member.options.watchdog;
   device_works = member.options.device_works;
-  margin = Some (record { 0 = TICKS_OF_SECOND * member.options.margin.seconds });
+  margin = margin_span member.options.margin;
 }
 
 -- the watchdogs of a head's members, in order

@@ -5,7 +5,7 @@ ghost use Rattle.run_model.specs.Watches.{is_off, first_summary, declared_watch,
 
 use leader_key::Mode;
 use member_options::MemberOptions;
-use pat_base::{Name, TICKS_OF_SECOND, Ticks};
+use pat_base::Name;
 use script_model::Head;
 use std::alloc::{AllocError, Global};
 use summary::Summary;
@@ -50,7 +50,7 @@ fn declared_watch(name: Name, options: MemberOptions) -> WatchOf
         name,
         mode_off: is_off(options.watchdog),
         device_works: options.device_works,
-        margin: Some(Ticks(TICKS_OF_SECOND * options.margin.seconds)),
+        margin: options.margin.span(),
     }
 }
 

@@ -212,7 +212,7 @@ plain_line members words.Slow rest = on_ok (slow_in members rest) command
 plain_line members words.Cut rest = on_ok (two_ends members rest) (λ link. command (commands.Cut link.0 link.1))
 plain_line members words.Join rest = on_ok (two_ends members rest) (λ link. command (commands.Join link.0 link.1))
 plain_line members words.Trace rest = on_ok (one_word members switch_in rest) (λ on. command (commands.Trace on))
-plain_line members _ rest = Err faults.NotBuilt
+plain_line members _ rest = Err faults.BadWord
 
 -- the line of the body with this first word, and these words behind it
 abbrev pub line_of_words : List Name → Keyword → Option (List ℕ) → Result Line Fault

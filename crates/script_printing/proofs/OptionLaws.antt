@@ -2,14 +2,10 @@
 use Rattle.std.proofs.Common.{◌≡◌, ℕ, ◌<◌, ◌^◌, ℤ, pos, negsuc, Bool, false, cond, nat_eq, eq-eqb, of_z, w64, Some, None, List, [], ◌∷◌, ◌++◌, append_assoc, append-nil, refl, ap, ◌∙◌, sym, arith}
 use lib.Signed.{mag}
 use Rattle.std.proofs.lemmas.Bool.Decides.{nat_tests}
-use Rattle.member_options.specs.Margins.{unsaid_margin}
-use Rattle.member_options.specs.Options.{option_text, is_default_priority, margin_to_say, unsaid_options}
+use Rattle.member_options.specs.Options.{option_text, is_default_priority}
 use Rattle.member_options.specs.Ranges.{default_priority}
-use Rattle.member_options.specs.declared.member_option.MemberOptions.{MemberOptions}
-use Rattle.member_options.specs.declared.ranges.Margin.{Margin}
 use Rattle.member_options.specs.declared.ranges.Priority.{Priority}
 use Rattle.member_options.proofs.PriorityLaws.{default-number}
-use Rattle.member_options.proofs.RangeLaws.{default-seconds}
 use Rattle.member_options.specs.declared.member_option.MemberOption.{MemberOption}
 use Rattle.script_printing.specs.OptionWords.{words_of}
 
@@ -24,19 +20,6 @@ default-test (negsuc m) unsaid fits is = ap (λ (z : ℤ). nat_eq (of_z w64 (neg
 
 pub priority-test : (number : ℤ) (unsaid : Priority) → mag number < 2 ^ 63 → unsaid ≡ default_priority → nat_eq (of_z w64 number) (of_z w64 unsaid.number) ≡ is_default_priority number
 priority-test number unsaid fits is = default-test number unsaid.number fits (ap (λ (p : Priority). p.number) is ∙ default-number)
-
--- the margin that isn't said
-unsaid-seconds : (unsaid : MemberOptions) → unsaid ≡ unsaid_options → unsaid.margin.seconds ≡ unsaid_margin
-unsaid-seconds unsaid is = ap (λ (o : MemberOptions). o.margin.seconds) is ∙ default-seconds
-
-pub margin-unsaid : (margin : Margin) (unsaid : MemberOptions) → unsaid ≡ unsaid_options → margin.seconds ≡ unsaid.margin.seconds → None ≡ margin_to_say margin
-margin-unsaid margin unsaid is same = ap (λ (b : Bool). cond b None (Some margin)) (sym (eq-eqb margin.seconds unsaid_margin (same ∙ unsaid-seconds unsaid is)))
-
-other-margin : (seconds other : ℕ) → (seconds ≡ other → ⊥) → nat_eq seconds other ≡ false
-other-margin seconds other apart = grind (arith, nat_tests)
-
-pub margin-said : (margin : Margin) (unsaid : MemberOptions) → unsaid ≡ unsaid_options → (margin.seconds ≡ unsaid.margin.seconds → ⊥) → Some margin ≡ margin_to_say margin
-margin-said margin unsaid is apart = ap (λ (b : Bool). cond b None (Some margin)) (sym (other-margin margin.seconds unsaid_margin (λ same. apart (same ∙ sym (unsaid-seconds unsaid is)))))
 
 -- some options behind one that was written
 one-behind : (before after : List ℕ) (written rest : List MemberOption) → after ≡ before ++ words_of written → after ++ words_of rest ≡ before ++ words_of (written ++ rest)

@@ -5,7 +5,7 @@ ghost use Rattle.member_options.specs.declared.member_option.MemberOption.TheVar
 ghost use Rattle.script_printing.specs.OptionWords.{words_of};
 
 use leader_key::Mode;
-use member_options::{Margin, MemberOptions, Priority};
+use member_options::{MemberOptions, Priority, SafetyMargin};
 use pat_base::{Host, Tags};
 use std::alloc::AllocError;
 
@@ -145,22 +145,23 @@ fn write_device(text: &mut String, said: Option<bool>) -> Result<(), AllocError>
 }
 
 /// What has to be said of a margin: any but the default.
-fn margin_to_say(margin: Margin) -> Option<Margin>
+fn margin_to_say(margin: SafetyMargin) -> Option<SafetyMargin>
     ensures { result ≡ margin_to_say margin }
 {
-    if margin.seconds == MemberOptions::unsaid().margin.seconds {
+    if margin.is_unsaid() {
         None
     } else {
         Some(margin)
     }
 }
 
-fn write_margin(text: &mut String, said: Option<Margin>) -> Result<(), AllocError>
+fn write_margin(text: &mut String, said: Option<SafetyMargin>) -> Result<(), AllocError>
     ensures { OnOk result (string_bytes text.new ≡ string_bytes text.old ++ words_of (option_said options.Margin said)) }
 {
     match said {
         None => Ok(()),
-        Some(margin) => {
+        Some(SafetyMargin::HalfOfLease) => text.push_str(" margin=-1"),
+        Some(SafetyMargin::Seconds(margin)) => {
             let seconds = margin.seconds;
             write!(text, " margin={seconds}")
         }

@@ -1,7 +1,7 @@
 -- The faults of lines, their texts and their order.
 use Rattle.std.specs.Prelude.{ℕ, nat_le, if◌then◌else◌, List, codes, Result, Ok, Err}
 use Rattle.script_words.specs.declared.fault.Fault.{Fault}
-use Rattle.script_words.specs.declared.fault.Fault.TheVariants.{NotUtf8, TooLong, NoCluster, BadWord, NotBuilt, BadName, BadNumber, BadOption, Duplicate, UnknownName, NoMember, HeadLate, WordCount, BadConfig, SameEnds}
+use Rattle.script_words.specs.declared.fault.Fault.TheVariants.{NotUtf8, TooLong, NoCluster, BadWord, BadName, BadNumber, BadOption, Duplicate, UnknownName, NoMember, HeadLate, WordCount, BadConfig, SameEnds}
 
 -- what a fault is called
 abbrev pub text_of : Fault → List ℕ
@@ -9,7 +9,6 @@ text_of NotUtf8 = codes "not UTF-8"
 text_of TooLong = codes "line too long"
 text_of NoCluster = codes "no cluster line"
 text_of BadWord = codes "unknown line"
-text_of NotBuilt = codes "not built"
 text_of BadName = codes "bad name"
 text_of BadNumber = codes "bad number"
 text_of BadOption = codes "bad option"
@@ -27,17 +26,16 @@ rank_of NotUtf8 = 0
 rank_of TooLong = 1
 rank_of NoCluster = 2
 rank_of BadWord = 3
-rank_of NotBuilt = 4
-rank_of BadName = 5
-rank_of BadNumber = 6
-rank_of BadOption = 7
-rank_of Duplicate = 8
-rank_of UnknownName = 9
-rank_of NoMember = 10
-rank_of HeadLate = 11
-rank_of WordCount = 12
-rank_of BadConfig = 13
-rank_of SameEnds = 14
+rank_of BadName = 4
+rank_of BadNumber = 5
+rank_of BadOption = 6
+rank_of Duplicate = 7
+rank_of UnknownName = 8
+rank_of NoMember = 9
+rank_of HeadLate = 10
+rank_of WordCount = 11
+rank_of BadConfig = 12
+rank_of SameEnds = 13
 
 -- the fault that a line has of two
 abbrev pub earlier : Fault → Fault → Fault

@@ -15,8 +15,6 @@ pub enum Fault {
     NoCluster,
     /// The first word is none of a script's, or it is `member` for the seventeenth time.
     BadWord,
-    /// A first word or an option that is still to be built.
-    NotBuilt,
     /// A word that has to be a name isn't one.
     BadName,
     /// A word that has to be a number isn't one, or is out of its range.
@@ -49,7 +47,6 @@ pub fn fault_text(fault: Fault) -> &'static str
         Fault::TooLong => "line too long",
         Fault::NoCluster => "no cluster line",
         Fault::BadWord => "unknown line",
-        Fault::NotBuilt => "not built",
         Fault::BadName => "bad name",
         Fault::BadNumber => "bad number",
         Fault::BadOption => "bad option",
@@ -72,17 +69,16 @@ fn rank_of(fault: Fault) -> u8
         Fault::TooLong => 1,
         Fault::NoCluster => 2,
         Fault::BadWord => 3,
-        Fault::NotBuilt => 4,
-        Fault::BadName => 5,
-        Fault::BadNumber => 6,
-        Fault::BadOption => 7,
-        Fault::Duplicate => 8,
-        Fault::UnknownName => 9,
-        Fault::NoMember => 10,
-        Fault::HeadLate => 11,
-        Fault::WordCount => 12,
-        Fault::BadConfig => 13,
-        Fault::SameEnds => 14,
+        Fault::BadName => 4,
+        Fault::BadNumber => 5,
+        Fault::BadOption => 6,
+        Fault::Duplicate => 7,
+        Fault::UnknownName => 8,
+        Fault::NoMember => 9,
+        Fault::HeadLate => 10,
+        Fault::WordCount => 11,
+        Fault::BadConfig => 12,
+        Fault::SameEnds => 13,
     }
 }
 

@@ -9,7 +9,7 @@ use agent_model::{Machine, Replication, Who};
 use event_book::Member;
 use leader_key::Watchdog;
 use member_options::MemberOptions;
-use pat_base::{Name, TICKS_OF_SECOND, Ticks};
+use pat_base::{Name, Ticks};
 use pg_model::{Server, ServerStatus};
 
 /// A machine of these parts. `None` exactly where one of them is absent.
@@ -43,11 +43,10 @@ pub fn machine_from(
 fn watchdog_of(options: MemberOptions, deadline: Option<Ticks>) -> Watchdog
     ensures { result ≡ watchdog_of options deadline }
 {
-    let margin = Ticks(TICKS_OF_SECOND * options.margin.seconds);
     Watchdog::with_deadline(
         options.watchdog,
         options.device_works,
-        Some(margin),
+        options.margin.span(),
         deadline,
     )
 }
