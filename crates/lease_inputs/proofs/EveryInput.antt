@@ -224,7 +224,7 @@ open-to : (message : Message) (found : Option AgentProcess) → delivery_to_agen
 open-to message None e = absurd (gone-open e)
 open-to message (Some process) e = record { process = process; is = refl; fresh = open-by message process process.suspended (not process.running || is_stale message process) refl e }
 
-pub open-of : (message : Message) (found : Option AgentProcess) (cut : Bool) → cond cut deliveries.Cut (delivery_to_agent message found) ≡ deliveries.Open → IsOpen message found
+open-of : (message : Message) (found : Option AgentProcess) (cut : Bool) → cond cut deliveries.Cut (delivery_to_agent message found) ≡ deliveries.Open → IsOpen message found
 open-of message found true e = absurd (cut-open e)
 open-of message found false e = open-to message found e
 
@@ -238,6 +238,17 @@ not-not : (a b : Bool) → a ≡ true → (a && not b) ≡ false → b ≡ true
 not-not true true is e = refl
 not-not true false is e = absurd (both (sym e))
 not-not false b is e = absurd (both is)
+
+-- so it is for a message that comes to a member
+pub opened-for : (cluster : Cluster) (message : Message) (member : Member) → message.to ≡ ends.Member member → delivery_of cluster.facts.cuts cluster.facts.processes message ≡ deliveries.Open → IsOpen message (slice_get cluster.facts.processes member.id.number)
+opened-for cluster message member to open_is =
+    let cut : Bool = is_cut cluster.facts.cuts (link_of_message message) in
+    open-of message (slice_get cluster.facts.processes member.id.number) cut (ap (λ (end : LinkEnd). cond cut deliveries.Cut (delivery_to cluster.facts.processes message end)) (sym to) ∙ open_is)
+
+-- an answer is of the incarnation that asked
+pub answer-run : (message : Message) (found : Option AgentProcess) (open_for : IsOpen message found) → is_answer message.body ≡ true → message.incarnation ≡ open_for.process.incarnation
+answer-run message found open_for answered =
+    eq-from message.incarnation open_for.process.incarnation (not-not (is_answer message.body) (message.incarnation == open_for.process.incarnation) answered open_for.fresh)
 
 -- from whom it comes
 pub addressed-to : (from to : LinkEnd) (body : Body) (member : Member) → to ≡ ends.Member member → IsAddressed from to body → ((from ≡ ends.Store) × IsAnswer body) ⊎ IsPeerBody body
@@ -263,14 +274,13 @@ module _ (head : HeadText) (book : List Event) (cluster : Cluster) (number : ℕ
   sender = addressed-to message.message.from message.message.to message.message.body member to (good.matched.waiting.carried number message found).addressed
 
   pub opened : IsOpen message.message (slice_get cluster.facts.processes member.id.number)
-  opened = open-of message.message (slice_get cluster.facts.processes member.id.number) (is_cut cluster.facts.cuts (link_of_message message.message))
-      (ap (λ (end : LinkEnd). cond (is_cut cluster.facts.cuts (link_of_message message.message)) deliveries.Cut (delivery_to cluster.facts.processes message.message end)) (sym to) ∙ open_is)
+  opened = opened-for cluster message.message member to open_is
 
   pub answered-run : is_answer message.message.body ≡ true → (agent : AgentFacts) → slice_get cluster.agents member.id.number ≡ Some (Some agent) → message.message.incarnation ≡ agent.knows.incarnation
   answered-run answered agent here =
       let knows = good.matched.agents member.id.number agent here in
       let one : knows.found ≡ opened.process = some-is knows.found opened.process (sym knows.is ∙ opened.is) in
-      eq-from message.message.incarnation opened.process.incarnation (not-not (is_answer message.message.body) (message.message.incarnation == opened.process.incarnation) answered opened.fresh)
+      answer-run message.message (slice_get cluster.facts.processes member.id.number) opened answered
       ∙ sym (knows.incarnation ∙ ap (λ (p : AgentProcess). p.incarnation) one)
 
   pub same-run : IsAnswer message.message.body → (agent : AgentFacts) → slice_get cluster.agents member.id.number ≡ Some (Some agent) → message.message.incarnation ≡ agent.knows.incarnation

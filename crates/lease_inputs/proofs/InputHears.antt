@@ -337,7 +337,7 @@ mode-from mode (Some by) says heard all e = subst (HearsMode mode) (some-is (say
 
 mode-in : (mode : Bool) (cluster : Cluster) (carried : InFlightFacts) (body : Body) (heard : Heard) → IsModeTold mode body carried.snapshot → heard_in cluster carried body ≡ Some heard → HearsMode mode heard
 mode-in mode cluster carried bodies.Snapshot heard is e = subst (HearsMode mode) (some-is _ heard e) (mode-told mode cluster carried is)
-mode-in mode cluster carried (bodies.Granted request leased) heard is e = mode-granted mode cluster carried carried.grant heard is e
+mode-in mode cluster carried (bodies.Granted request leased_is) heard is e = mode-granted mode cluster carried carried.grant heard is e
 mode-in mode cluster carried (bodies.Refused request key found) heard is e = subst (HearsMode mode) (some-is _ heard e) tt
 mode-in mode cluster carried bodies.Ask heard is e = mode-from mode (member_at_end carried.message.from) (λ by. heards.Asked by carried.message.incarnation carried.message.sequence) heard (λ by. tt) e
 mode-in mode cluster carried (bodies.Answer answer) heard is e = subst (HearsMode mode) (some-is _ heard e) tt
@@ -405,7 +405,7 @@ module _ (head : HeadText) (past : Past) (cluster : Cluster) (matched : IsMatche
       else-heard (bodies.Answer answer) off from run sequence span e = heard-not _ from run sequence span refl e
       else-heard (bodies.FailsafeAnswer accepted) off from run sequence span e = from-not (member_at_end carried.message.from) (λ by. heards.FailsafeAnswered by carried.message.sequence accepted carried.sent) from run sequence span (λ by. refl) e
       else-heard (bodies.FailsafeRequest ttl) off from run sequence span e = both (sym off)
-      else-heard (bodies.Granted request leased) off from run sequence span e = else-granted carried.grant from run sequence span e
+      else-heard (bodies.Granted request leased_is) off from run sequence span e = else-granted carried.grant from run sequence span e
       else-heard _ off from run sequence span e = none-some _ e
 
   -- so what is heard by a message is told well

@@ -8,13 +8,17 @@ use Rattle.event_book.specs.declared.event.Event.{Event}
 use Rattle.event_book.specs.declared.event.EventKind.{EventKind}
 use Rattle.event_book.specs.declared.event.EventKind.TheVariants as kinds
 use Rattle.event_book.specs.declared.member.Member.{Member}
+use Rattle.event_book.specs.declared.message.Body.{Body}
+use Rattle.event_book.specs.declared.message.Body.TheVariants as bodies
 use Rattle.event_book.specs.Kinds.{AllAre}
+use Rattle.store_keys.specs.declared.txn.Txn.TheVariants as txns
 use Rattle.event_book.specs.Premises.{Taking, taken_after, taken_with}
 use Rattle.agent_model.specs.declared.heard.Heard.{Heard}
 use Rattle.agent_model.specs.declared.heard.Heard.TheVariants as heards
 use Rattle.agent_model.specs.declared.knowledge.Knowledge.{Knowledge}
 use Rattle.agent_model.specs.declared.output.Output.{Output}
 use Rattle.agent_model.specs.declared.output.Output.TheVariants as outputs
+use Rattle.agent_model.specs.declared.output.Target.TheVariants as targets
 use Rattle.agent_model.specs.Agents.{EndsAlone, Outcome}
 use Rattle.agent_model.specs.Outputs.{has_one, with_output}
 use Rattle.agent_model.specs.Reconciling.{reconciled}
@@ -52,6 +56,15 @@ taken-over past (event ∷ events) all = taken-over (past_after past event.kind)
 all-as : (P R : EventKind → Type 0) → ((kind : EventKind) → P kind → R kind) → (events : List Event) → AllAre P events → AllAre R events
 all-as P R weaker [] all = tt
 all-as P R weaker (event ∷ events) all = (weaker event.kind all.0, all-as P R weaker events all.1)
+
+-- what holds of silent outputs and of questions to the key store holds of what precedes an input
+pub fronts-hold : (P : Output → Type 0) → ((output : Output) → IsSilent output → P output) → ((sequence : ℕ) (body : Body) → P (outputs.Send targets.Store sequence body)) → (o b : Outcome) → Fronts o b → All P b.outputs
+fronts-hold P silent asks o b (Silent all) = All-weaker IsSilent P silent b.outputs all
+fronts-hold P silent asks o b (Released revision held alone role ended counted all) = All-weaker (IsReleaseOr (o.knows.sequence + 1) revision) P by b.outputs all
+  where
+    by : (output : Output) → IsReleaseOr (o.knows.sequence + 1) revision output → P output
+    by output (inl is) = silent output is
+    by output (inr is) = subst P (sym is) (asks (o.knows.sequence + 1) (bodies.Request (txns.Release revision)))
 
 -- ---- the holds of each output
 -- no hold is taken by this output
@@ -193,14 +206,6 @@ module _ (member : Member) (incarnation : ℕ) (message : HeardMessage) where
   silent-plain (outputs.FailsafeAnswer to run sequence accepted) silent = absurd silent
   silent-plain _ silent = tt
 
-  release-plain : (sequence revision : ℕ) (output : Output) → IsReleaseOr sequence revision output → IsPlain output
-  release-plain sequence revision output (inl silent) = silent-plain output silent
-  release-plain sequence revision output (inr is) = subst IsPlain (sym is) tt
-
-  fronts-plain : (o b : Outcome) → Fronts o b → All IsPlain b.outputs
-  fronts-plain o b (Silent all) = All-weaker IsSilent IsPlain silent-plain b.outputs all
-  fronts-plain o b (Released revision held alone role ended counted all) = All-weaker (IsReleaseOr (o.knows.sequence + 1) revision) IsPlain (release-plain (o.knows.sequence + 1) revision) b.outputs all
-
   -- ---- of any input
   abbrev is_asked : Heard → Bool
   is_asked (heards.FailsafeAsked from run sequence ttl) = true
@@ -237,6 +242,6 @@ module _ (member : Member) (incarnation : ℕ) (message : HeardMessage) where
         → taken_by_outputs clock (step now points heard o).outputs taken ≡ taken_by member.id.number clock (request_taken (has_one is_yes (step now points heard o).outputs) (request_heard flight number)) taken
     input-taken (heards.FailsafeAsked from run sequence ttl) asked stands = let is = asked from run sequence (ttl, refl) in
         let outs : List Output = (failsafe_asked now from run sequence ttl (reconciled now o)).outputs in
-        asked-taken clock now from run sequence is.ttl is.sent ttl (reconciled now o) taken (fronts-plain o (reconciled now o) (before-fronts now o (alone-of o alone) (subst (All IsSilent) (sym none) (All-nil IsSilent)))) is.counted is.incarnation
+        asked-taken clock now from run sequence is.ttl is.sent ttl (reconciled now o) taken (fronts-hold IsPlain silent-plain (λ number body. tt) o (reconciled now o) (before-fronts now o (alone-of o alone) (subst (All IsSilent) (sym none) (All-nil IsSilent)))) is.counted is.incarnation
         ∙ ap (λ (request : Option FailsafeRequest). taken_by member.id.number clock (request_taken (has_one is_yes outs) request) taken) (sym is.is)
     input-taken heard asked stands = unasked-so heard refl stands

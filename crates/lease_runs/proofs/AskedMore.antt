@@ -1,5 +1,5 @@
 -- What an input adds: failsafe requests under new numbers, a hold for one that was asked, its acknowledgement, and what an agent has counted.
-use Rattle.std.proofs.Common.{◌≡◌, ◌≢◌, ◌⊎◌, ◌+◌, ◌==◌, ◌&&◌, ◌||◌, ◌≤◌, ◌<◌, ℕ, zero, suc, nat_lt, bit_and, not, Bool, true, false, if◌then◌else◌, List, [], ◌∷◌, Option, Some, None, slice_get, refl, sym, subst, ap, ◌∙◌, arith, inl, inr}
+use Rattle.std.proofs.Common.{◌≡◌, ◌≢◌, ◌⊎◌, ◌==◌, ◌||◌, ◌≤◌, ◌<◌, ℕ, zero, suc, nat_lt, bit_and, not, Bool, true, false, if◌then◌else◌, List, ◌∷◌, Option, Some, None, slice_get, refl, sym, subst, ap, ◌∙◌, arith, inl, inr}
 use Rattle.std.specs.Int.Bits.{and_zero_r}
 use Rattle.std.proofs.lemmas.Bool.Decides.{nat_tests}
 use Rattle.pat_base.specs.Changes.{with_changed}
@@ -7,7 +7,6 @@ use Rattle.pat_base.specs.declared.member_id.MemberId.{MemberId}
 use Rattle.pat_base.specs.declared.member_set.MemberSet.{MemberSet}
 use Rattle.pat_base.specs.declared.ticks.Ticks.{Ticks}
 use Rattle.event_book.specs.declared.event.AgentEvent.TheVariants as agents
-use Rattle.event_book.specs.declared.event.Event.{Event}
 use Rattle.event_book.specs.declared.event.EventKind.{EventKind}
 use Rattle.event_book.specs.declared.event.EventKind.TheVariants as kinds
 use Rattle.event_book.specs.declared.event.MessageEvent.TheVariants as messages
@@ -16,22 +15,18 @@ use Rattle.event_book.specs.declared.member.Member.{Member}
 use Rattle.event_book.specs.declared.message.Message.{Message}
 use Rattle.event_book.specs.declared.reason.Basis.TheVariants as bases
 use Rattle.event_book.specs.Flight.{Flight, InFlightFacts, in_flight, launched}
-use Rattle.event_book.specs.Functions.{set_members}
-use Rattle.event_book.specs.Kinds.{AllAre}
-use Rattle.event_book.specs.Premises.{IsFedFrom, IsTaken, Moments, Taking, moments_after}
+use Rattle.event_book.specs.Premises.{IsTaken, Moments, Taking, moments_after}
 use Rattle.failsafe.specs.declared.asks.Ask.{Ask}
-use Rattle.failsafe.specs.Asks.{asked as ask_of, counts, earlier, has, heard as ask_heard, is_awaited, is_within, moment_of_all, earliest_or, with_acknowledgement, with_member}
+use Rattle.failsafe.specs.Asks.{asked as ask_of, earlier, has, heard as ask_heard, is_awaited, is_within, moment_of_all, earliest_or, with_acknowledgement}
 use Rattle.failsafe.proofs.Members.{has-nobody, has-with, within-has}
-use Rattle.agent_model.specs.declared.knowledge.PendingQuestion.{PendingQuestion}
 use Rattle.agent_model.specs.Agents.{AgentFacts, Outcome}
-use Rattle.cluster_model.specs.Cluster.{agent_after, agent_facts_after, cluster_after, cluster_over}
+use Rattle.cluster_model.specs.Cluster.{agent_after, agent_facts_after, cluster_after}
 use Rattle.cluster_model.specs.State.{Cluster}
 use Rattle.lease_law.proofs.Tools.{and-first, none-some, some-is}
 use Rattle.lease_book.specs.Flights.{Rises}
-use Rattle.lease_book.proofs.Entries.{in-with, in-without, rises-with, rises-without}
+use Rattle.lease_book.proofs.Entries.{in-with, in-without}
 use Rattle.lease_inputs.proofs.InputKinds.{IsOpening}
-use Rattle.lease_runs.proofs.Moments.{moments_over}
-use Rattle.lease_runs.proofs.AskedOnce.{AskOnce, AsksOnce, IsCounted, IsGiven, IsOther, KnowAsked, KnowsAsked, Request, changed-at, gone-sub, once-sub, request_of, sent-then, taking, yes_of}
+use Rattle.lease_runs.proofs.AskedOnce.{AskOnce, AsksOnce, IsCounted, IsGiven, KnowAsked, KnowsAsked, Request, changed-at, gone-sub, once-sub, request_of, sent-then, taking, yes_of}
 use Rattle.summary_model.specs.Telling.{IsEarliest}
 
 -- ---- holds
@@ -95,6 +90,11 @@ hold-taken moments cluster by from until run (suc before) counted new old = reco
     r = record { by = by.id.number; from = from.id.number; incarnation = run; sequence = suc before }
 
 -- ---- messages
+-- what is in flight behind the sending of a message
+flies-then : (cluster : Cluster) (number : ℕ) (message : Message) (i : ℕ) (c : InFlightFacts) → in_flight (cluster_after cluster (kinds.Message (messages.Sent number message))).facts.flight i ≡ Some c
+    → ((i ≢ number) × (in_flight cluster.facts.flight i ≡ Some c)) ⊎ ((i ≡ number) × (launched cluster.facts.clock cluster.facts.keys message ≡ c))
+flies-then cluster number message i c at = let one : InFlightFacts = launched cluster.facts.clock cluster.facts.keys message in sent-then cluster.facts.flight number one i c (sym (in-with cluster.facts.flight number one i) ∙ at)
+
 -- a request is sent that nobody has asked before
 pub request-sent : (moments : Moments) (cluster : Cluster) (number : ℕ) (message : Message) (r : Request) → request_of message ≡ Some r → yes_of message ≡ None → IsUnasked moments.taken cluster.facts.flight r → IsGiven moments.runs cluster.agents r
     → AsksOnce moments cluster → AsksOnce (moments_after moments (kinds.Message (messages.Sent number message))) (cluster_after cluster (kinds.Message (messages.Sent number message)))
@@ -102,35 +102,32 @@ request-sent moments cluster number message r is none new given old = record {
   runs = old.runs;
   agents = old.agents;
   asks = record {
-    once = λ i j c d s at there rc rd. elim (was i c at) [
-      | inl first ↦ elim (was j d there) [
+    once = λ i j c d s at there rc rd. elim (flies-then cluster number message i c at) [
+      | inl first ↦ elim (flies-then cluster number message j d there) [
         | inl second ↦ old.asks.once i j c d s first.1 second.1 rc rd
         | inr here ↦ absurd (new.flying i c first.1 (rc ∙ ap Some (is-new d s here.1 rd)))
       ]
-      | inr here ↦ elim (was j d there) [
+      | inr here ↦ elim (flies-then cluster number message j d there) [
         | inl second ↦ absurd (new.flying j d second.1 (rd ∙ ap Some (is-new c s here.1 rc)))
         | inr also ↦ here.0 ∙ sym also.0
       ]
     ];
-    fresh = λ i c s moment at rc taken_is. elim (was i c at) [
+    fresh = λ i c s moment at rc taken_is. elim (flies-then cluster number message i c at) [
       | inl first ↦ old.asks.fresh i c s moment first.1 rc taken_is
       | inr here ↦ new.held moment (subst (λ (x : Request). IsTaken moments.taken (taking x moment)) (is-new c s here.1 rc) taken_is)
     ];
     unique = old.asks.unique;
-    yes = λ i c s at yc. elim (was i c at) [
+    yes = λ i c s at yc. elim (flies-then cluster number message i c at) [
       | inl first ↦ old.asks.yes i c s first.1 yc
       | inr here ↦ absurd (none-some s (sym none ∙ ap (λ (x : InFlightFacts). yes_of x.message) here.1 ∙ yc))
     ];
-    asked = λ i c s at rc. elim (was i c at) [ inl first ↦ old.asks.asked i c s first.1 rc | inr here ↦ subst (IsGiven moments.runs cluster.agents) (sym (is-new c s here.1 rc)) given ];
+    asked = λ i c s at rc. elim (flies-then cluster number message i c at) [ inl first ↦ old.asks.asked i c s first.1 rc | inr here ↦ subst (IsGiven moments.runs cluster.agents) (sym (is-new c s here.1 rc)) given ];
     held = old.asks.held;
   };
 }
   where
     one : InFlightFacts
     one = launched cluster.facts.clock cluster.facts.keys message
-
-    was : (i : ℕ) (c : InFlightFacts) → in_flight (cluster_after cluster (kinds.Message (messages.Sent number message))).facts.flight i ≡ Some c → ((i ≢ number) × (in_flight cluster.facts.flight i ≡ Some c)) ⊎ ((i ≡ number) × (one ≡ c))
-    was i c at = sent-then cluster.facts.flight number one i c (sym (in-with cluster.facts.flight number one i) ∙ at)
 
     is-new : (c : InFlightFacts) (s : Request) → one ≡ c → request_of c.message ≡ Some s → s ≡ r
     is-new c s same rc = some-is s r (sym rc ∙ ap (λ (x : InFlightFacts). request_of x.message) (sym same) ∙ is)
@@ -142,30 +139,27 @@ yes-sent moments cluster number message r is none taken_is old = record {
   runs = old.runs;
   agents = old.agents;
   asks = record {
-    once = λ i j c d s at there rc rd. elim (was i c at) [
-      | inl first ↦ elim (was j d there) [
+    once = λ i j c d s at there rc rd. elim (flies-then cluster number message i c at) [
+      | inl first ↦ elim (flies-then cluster number message j d there) [
         | inl second ↦ old.asks.once i j c d s first.1 second.1 rc rd
         | inr here ↦ absurd (asks-not d s here.1 rd)
       ]
       | inr here ↦ absurd (asks-not c s here.1 rc)
     ];
-    fresh = λ i c s moment at rc held. elim (was i c at) [ inl first ↦ old.asks.fresh i c s moment first.1 rc held | inr here ↦ absurd (asks-not c s here.1 rc) ];
+    fresh = λ i c s moment at rc held. elim (flies-then cluster number message i c at) [ inl first ↦ old.asks.fresh i c s moment first.1 rc held | inr here ↦ absurd (asks-not c s here.1 rc) ];
     unique = old.asks.unique;
-    yes = λ i c s at yc. elim (was i c at) [
+    yes = λ i c s at yc. elim (flies-then cluster number message i c at) [
       | inl first ↦ old.asks.yes i c s first.1 yc
       | inr here ↦ subst (λ (n : ℕ). IsTaken moments.taken (taking s n)) (ap (λ (x : InFlightFacts). x.sent.0) here.1)
           (subst (λ (x : Request). IsTaken moments.taken (taking x cluster.facts.clock)) (some-is r s (sym is ∙ ap (λ (x : InFlightFacts). yes_of x.message) here.1 ∙ yc)) taken_is)
     ];
-    asked = λ i c s at rc. elim (was i c at) [ inl first ↦ old.asks.asked i c s first.1 rc | inr here ↦ absurd (asks-not c s here.1 rc) ];
+    asked = λ i c s at rc. elim (flies-then cluster number message i c at) [ inl first ↦ old.asks.asked i c s first.1 rc | inr here ↦ absurd (asks-not c s here.1 rc) ];
     held = old.asks.held;
   };
 }
   where
     one : InFlightFacts
     one = launched cluster.facts.clock cluster.facts.keys message
-
-    was : (i : ℕ) (c : InFlightFacts) → in_flight (cluster_after cluster (kinds.Message (messages.Sent number message))).facts.flight i ≡ Some c → ((i ≢ number) × (in_flight cluster.facts.flight i ≡ Some c)) ⊎ ((i ≡ number) × (one ≡ c))
-    was i c at = sent-then cluster.facts.flight number one i c (sym (in-with cluster.facts.flight number one i) ∙ at)
 
     asks-not : (c : InFlightFacts) (s : Request) → one ≡ c → request_of c.message ≡ Some s → ⊥
     asks-not c s same rc = none-some s (sym none ∙ ap (λ (x : InFlightFacts). request_of x.message) same ∙ rc)

@@ -1,5 +1,5 @@
 -- An agent that is woken, asked by an operator or reached by a message tells before each feed from when it is measured.
-use Rattle.std.proofs.Common.{ℕ, ◌≡◌, ◌⊎◌, ◌+◌, ◌++◌, ◌≤◌, ◌<◌, zero, suc, Bool, true, false, List, [], ◌∷◌, slice_get, Option, Some, None, All, option_map, refl, ◌∙◌, ap, sym, subst, arith, inl, inr}
+use Rattle.std.proofs.Common.{ℕ, ◌≡◌, ◌+◌, ◌++◌, ◌≤◌, ◌<◌, zero, suc, Bool, true, false, List, [], ◌∷◌, slice_get, Option, Some, None, All, option_map, refl, ◌∙◌, ap, sym, subst, arith, inl, inr}
 use Rattle.std.proofs.lemmas.List.Elements.{All-cons, All-head, All-nil, All-push, All-tail, All-weaker}
 use Rattle.pat_base.specs.declared.member_id.MemberId.{MemberId}
 use Rattle.pat_base.specs.declared.member_set.MemberSet.{MemberSet}
@@ -12,24 +12,18 @@ use Rattle.pat_base.specs.Changes.{with_changed}
 use Rattle.store_keys.specs.declared.action.OperatorAction.{OperatorAction}
 use Rattle.lease_store.specs.declared.granted.Granted.{Granted}
 use Rattle.wal_model.specs.declared.entry.HistoryPoint.{HistoryPoint}
-use Rattle.event_book.specs.declared.agent_process.AgentProcess.{AgentProcess}
-use Rattle.event_book.specs.declared.event.AgentEvent.{AgentEvent}
 use Rattle.event_book.specs.declared.event.AgentEvent.TheVariants as agents
 use Rattle.event_book.specs.declared.event.Event.{Event}
 use Rattle.event_book.specs.declared.event.EventKind.{EventKind}
 use Rattle.event_book.specs.declared.event.EventKind.TheVariants as kinds
 use Rattle.event_book.specs.declared.event.MessageEvent.TheVariants as messages
-use Rattle.event_book.specs.declared.event.WatchdogEvent.TheVariants as watchdogs
-use Rattle.event_book.specs.declared.link.LinkEnd.{LinkEnd}
 use Rattle.event_book.specs.declared.link.LinkEnd.TheVariants as ends
 use Rattle.event_book.specs.declared.member.Member.{Member}
-use Rattle.event_book.specs.declared.message.Body.{Body}
 use Rattle.event_book.specs.declared.message.Body.TheVariants as bodies
 use Rattle.event_book.specs.declared.message.Message.{Message}
 use Rattle.event_book.specs.declared.reason.Basis.TheVariants as bases
 use Rattle.event_book.specs.Flight.{InFlightFacts, in_flight}
 use Rattle.event_book.specs.Kinds.{AllAre}
-use Rattle.event_book.specs.Links.{is_cut}
 use Rattle.event_book.specs.Premises.{IsTaken, Moments, Taking, moments_after, taken_with}
 use Rattle.failsafe.specs.declared.asks.Ask.{Ask}
 use Rattle.failsafe.specs.Asks.{heard as ask_heard}
@@ -39,7 +33,6 @@ use Rattle.agent_model.specs.declared.knowledge.PendingQuestion.{PendingQuestion
 use Rattle.agent_model.specs.declared.machine.Machine.{Machine}
 use Rattle.agent_model.specs.declared.output.Output.{Output}
 use Rattle.agent_model.specs.declared.output.Output.TheVariants as outputs
-use Rattle.agent_model.specs.declared.output.Target.TheVariants as targets
 use Rattle.agent_model.specs.Agents.{AgentFacts, Outcome, outcome_from}
 use Rattle.agent_model.specs.Outputs.{with_output}
 use Rattle.agent_model.specs.Reconciling.{reconciled}
@@ -54,43 +47,38 @@ use Rattle.agent_roles.proofs.Staying.{input-ends}
 use Rattle.agent_roles.proofs.Unfed.{FeedsAlone, actions-feed-none, wakes-feed-none}
 use Rattle.agent_outputs.specs.Orders.{IsOfTable}
 use Rattle.agent_outputs.proofs.Orders.{step-carried-out}
-use Rattle.agent_questions.specs.Questions.{AsksAnew, SendsBetween}
+use Rattle.agent_questions.specs.Questions.{SendsBetween}
 use Rattle.agent_questions.proofs.Questions.{step-asks-anew}
 use Rattle.agent_lease_law.specs.Asking.{awaits_stay}
-use Rattle.agent_lease_law.proofs.Checking.{Counts, answered-step-goes, asked-step-goes, failsafe-answered-goes, failsafe-asked-step-goes, operated-step-goes, refused-step-goes}
-use Rattle.agent_lease_law.proofs.Sending.{Fronts, IsReleaseOr, IsSilent, Released, Silent, before-fronts}
-use Rattle.cluster_model.specs.declared.delivery.Delivery.TheVariants as deliveries
+use Rattle.agent_lease_law.proofs.Checking.{answered-step-goes, asked-step-goes, failsafe-answered-goes, failsafe-asked-step-goes, operated-step-goes, refused-step-goes}
+use Rattle.agent_lease_law.proofs.MaySend.{Fronts, IsSilent, before-fronts}
+use Rattle.lease_inputs.proofs.InputHolds.{fronts-hold}
 use Rattle.cluster_model.specs.declared.heard_message.HeardMessage.{HeardMessage}
-use Rattle.cluster_model.specs.Cluster.{agent_after, agent_facts_after, agent_facts_reached, agent_facts_reached_at, agent_facts_with, cluster_after, cluster_over}
+use Rattle.cluster_model.specs.Cluster.{agent_after, agent_facts_after, cluster_after, cluster_over}
 use Rattle.cluster_model.specs.Commands.{kinds_of}
-use Rattle.cluster_model.specs.Deliveries.{delivery_of, delivery_to, delivery_to_agent, is_answer, is_stale, link_of_message}
-use Rattle.cluster_model.specs.Hearing.{heard_from, heard_in, member_at_end, snapshot_in}
-use Rattle.cluster_model.specs.Inputs.{agent_at, moment_of, outcome_at, outcome_of, outcome_of_heard}
-use Rattle.cluster_model.specs.Machines.{machine_of, points_of}
-use Rattle.cluster_model.specs.Messages.{agent_message, hear_events, heard_message, input_events, no_message, operate_events, output_events, replying_events, wake_events_of}
+use Rattle.cluster_model.specs.Inputs.{moment_of}
+use Rattle.cluster_model.specs.Machines.{points_of}
+use Rattle.cluster_model.specs.Messages.{agent_message, output_events, replying_events}
 use Rattle.cluster_model.specs.Orders.{hold_taken}
 use Rattle.cluster_model.specs.Parts.{each, event_of, events_of}
 use Rattle.cluster_model.specs.State.{Cluster}
-use Rattle.lease_law.proofs.Runs.{assoc}
-use Rattle.lease_law.proofs.Tools.{eq-from, none-some, some-is}
+use Rattle.lease_law.proofs.Tools.{none-some}
 use Rattle.lease_book.specs.Flights.{Rises}
 use Rattle.lease_book.specs.Groups.{AreNumberedAbove}
 use Rattle.lease_book.proofs.Entries.{in-without}
 use Rattle.summary_model.specs.Telling.{AreMeasured, IsEarliest}
 use Rattle.cluster_model.proofs.Lists.{all-more}
 use Rattle.lease_inputs.specs.InputEvents.{IsOfInput, RunsAmong}
-use Rattle.lease_inputs.proofs.EveryInput.{agent-here, the-outcome, unchanged}
 use Rattle.lease_inputs.proofs.InputKinds.{IsOpening}
-use Rattle.lease_inputs.proofs.InputOutputs.{stays-output}
 use Rattle.lease_inputs.proofs.InputStays.{each-mine, item-here, stays-over}
 use Rattle.run_promise.proofs.Members.{members-over}
-use Rattle.lease_runs.proofs.AskedMore.{IsUnasked, counts-none, counts-one, fed-alone, fed-earliest, given-opened, hold-taken, opened, unheard-one, yes-sent}
-use Rattle.lease_runs.proofs.AskedOnce.{AsksOnce, IsCounted, IsGiven, IsOther, KnowsAsked, Request, gone-sub, request_of, taking, yes_of}
+use Rattle.lease_runs.proofs.AskedMore.{IsUnasked, counts-none, counts-one, fed-alone, fed-earliest, given-opened, hold-taken, opened, yes-sent}
+use Rattle.lease_runs.proofs.AskedOnce.{IsCounted, IsGiven, IsOther, KnowsAsked, Request, gone-sub, request_of, taking}
 use Rattle.lease_runs.proofs.Fencing.{AreDecided}
 use Rattle.lease_runs.proofs.Measuring.{Knows, Measures, knows-over, tells-none, told-send, told-then}
 use Rattle.lease_runs.proofs.Moments.{moments_over}
-use Rattle.lease_runs.proofs.MeasuredInputs.{AddsOnly, Feeds, IsHeardAt, Mid, Moved, each-append, each-told, moved-over, output-adds, quiet-adds}
-use Rattle.lease_runs.proofs.Staying.{BeginsTo, FeedsOnAll, FeedsOnNone, FeedsSo, FitsFrom, IsQuiet, PutsQuietly, StaysSo, WakesTo, all-quiet-fit, answered-puts, asked-puts, begins-fit, counted-feeds, counted-quiet, fronts-quiet, grant-puts, grant-stays, heard-members, operated-puts, read-puts, read-stays, refused-puts, wake-quiet, wake-stays}
+use Rattle.lease_runs.proofs.MeasuredInputs.{AddsOnly, Feeds, IsHeardAt, Mid, Moved, each-append, each-told, moved-over, quiet-adds}
+use Rattle.lease_runs.proofs.Staying.{BeginsTo, FeedsOnNone, FeedsSo, FitsFrom, IsQuiet, PutsQuietly, StaysSo, WakesTo, all-quiet-fit, answered-puts, asked-puts, begins-fit, counted-feeds, counted-quiet, fronts-quiet, grant-puts, grant-stays, heard-members, operated-puts, read-puts, read-stays, refused-puts, wake-quiet, wake-stays}
 
 -- ---- an event with which an input begins tells nothing that is measured, numbered or granted
 pub record Plainly (moments : Moments) (cluster : Cluster) (opening : EventKind) : Type 0 where
@@ -349,13 +337,8 @@ module _ (H : Type 0) (moments : Moments) (cluster : Cluster) (member : Member) 
     silent-feeds (outputs.Fed until) is = h
     silent-feeds _ is = tt
 
-    release-feeds : (revision : ℕ) (output : Output) → IsReleaseOr (agent.knows.sequence + 1) revision output → FeedsIt It acts it-stays output
-    release-feeds revision output (inl is) = silent-feeds output is
-    release-feeds revision output (inr is) = subst (FeedsIt It acts it-stays) (sym is) tt
-
-    front-feeds : Fronts Before b → All (FeedsIt It acts it-stays) b.outputs
-    front-feeds (Silent all) = All-weaker IsSilent (FeedsIt It acts it-stays) silent-feeds b.outputs all
-    front-feeds (Released revision held none role ended counted all) = All-weaker (IsReleaseOr (agent.knows.sequence + 1) revision) (FeedsIt It acts it-stays) (release-feeds revision) b.outputs all
+    front-feeds : All (FeedsIt It acts it-stays) b.outputs
+    front-feeds = fronts-hold (FeedsIt It acts it-stays) silent-feeds (λ number body. tt) Before b fronts
 
     abbrev Front : List Event
     Front = each (output_events member message) First b.outputs
@@ -370,7 +353,7 @@ module _ (H : Type 0) (moments : Moments) (cluster : Cluster) (member : Member) 
     Numbers outs = All IsOfTable outs × All (SendsBetween agent.knows.sequence (step Now Points It Before).knows.sequence) outs
 
     front-told : Numbers b.outputs → Measures Then First Front
-    front-told numbers = each-it It acts it-stays b.outputs (all-quiet-fit 0 b.outputs b-quiet) numbers.0 numbers.1 (front-feeds fronts)
+    front-told numbers = each-it It acts it-stays b.outputs (all-quiet-fit 0 b.outputs b-quiet) numbers.0 numbers.1 front-feeds
 
     module _ (tables : All IsOfTable b.outputs) (tells : Measures Then First Front) where
       adds : AllAre (AddsOnly IsOther) Front
@@ -463,7 +446,7 @@ module _ (H : Type 0) (moments : Moments) (cluster : Cluster) (member : Member) 
         refuses : Numbers (with_output (outputs.FailsafeAnswer from run sequence false) b.outputs) → Measures Then First (each (output_events member message) First (with_output (outputs.FailsafeAnswer from run sequence false) b.outputs))
         refuses numbers = each-it It acts it-stays (with_output (outputs.FailsafeAnswer from run sequence false) b.outputs)
             (all-quiet-fit 0 (with_output (outputs.FailsafeAnswer from run sequence false) b.outputs) (All-push IsQuiet b.outputs (outputs.FailsafeAnswer from run sequence false) b-quiet refl)) numbers.0 numbers.1
-            (All-push (FeedsIt It acts it-stays) b.outputs (outputs.FailsafeAnswer from run sequence false) (front-feeds fronts) tt)
+            (All-push (FeedsIt It acts it-stays) b.outputs (outputs.FailsafeAnswer from run sequence false) front-feeds tt)
 
   -- ---- an answer to a failsafe request
   pub told-answered : (from : MemberId) (sequence : ℕ) (accepted : Bool) (sent : Ticks) → H → Acts (heards.FailsafeAnswered from sequence accepted sent)

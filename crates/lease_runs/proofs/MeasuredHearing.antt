@@ -1,13 +1,10 @@
 -- What an agent hears of failsafe requests and of the answers to them is what was sent to it.
-use Rattle.std.proofs.Common.{ℕ, ◌≡◌, ◌==◌, ◌&&◌, ◌||◌, not, Bool, true, false, ◌++◌, cond, List, [], ◌∷◌, Option, Some, None, slice_get, option_map, refl, ◌∙◌, ap, sym, subst, inl, inr}
-use Rattle.pat_base.specs.declared.member_id.MemberId.{MemberId}
+use Rattle.std.proofs.Common.{ℕ, ◌≡◌, Bool, true, false, ◌++◌, [], Option, Some, None, slice_get, option_map, refl, ◌∙◌, ap, sym, subst}
 use Rattle.pat_base.specs.declared.ticks.Ticks.{Ticks}
 use Rattle.store_keys.specs.declared.action.OperatorAction.{OperatorAction}
 use Rattle.lease_store.specs.declared.granted.Granted.{Granted}
-use Rattle.event_book.specs.declared.agent_process.AgentProcess.{AgentProcess}
 use Rattle.event_book.specs.declared.event.AgentEvent.{AgentEvent}
 use Rattle.event_book.specs.declared.event.AgentEvent.TheVariants as agents
-use Rattle.event_book.specs.declared.event.Event.{Event}
 use Rattle.event_book.specs.declared.event.EventKind.{EventKind}
 use Rattle.event_book.specs.declared.event.EventKind.TheVariants as kinds
 use Rattle.event_book.specs.declared.event.MessageEvent.TheVariants as messages
@@ -18,7 +15,6 @@ use Rattle.event_book.specs.declared.message.Body.{Body}
 use Rattle.event_book.specs.declared.message.Body.TheVariants as bodies
 use Rattle.event_book.specs.declared.message.Message.{Message}
 use Rattle.event_book.specs.Flight.{InFlightFacts, in_flight}
-use Rattle.event_book.specs.Links.{is_cut}
 use Rattle.event_book.specs.Premises.{IsTaken, Moments, moments_after}
 use Rattle.agent_model.specs.declared.heard.Heard.{Heard}
 use Rattle.agent_model.specs.declared.heard.Heard.TheVariants as heards
@@ -26,25 +22,24 @@ use Rattle.agent_model.specs.declared.machine.Machine.{Machine}
 use Rattle.agent_model.specs.Agents.{AgentFacts, Outcome, outcome_from}
 use Rattle.agent_model.specs.Table.{step}
 use Rattle.cluster_model.specs.declared.delivery.Delivery.TheVariants as deliveries
-use Rattle.cluster_model.specs.Cluster.{agent_after, agent_facts_after, agent_facts_reached, agent_facts_reached_at, agent_facts_with, cluster_after}
-use Rattle.cluster_model.specs.Deliveries.{delivery_of, delivery_to, is_answer, is_stale, link_of_message}
+use Rattle.cluster_model.specs.Cluster.{agent_facts_after, agent_facts_reached, agent_facts_reached_at, agent_facts_with, cluster_after}
+use Rattle.cluster_model.specs.Deliveries.{delivery_of, is_answer}
 use Rattle.cluster_model.specs.Hearing.{heard_from, heard_in, member_at_end, snapshot_in}
 use Rattle.cluster_model.specs.Inputs.{agent_at, moment_of, outcome_at, outcome_of, outcome_of_heard}
 use Rattle.cluster_model.specs.Machines.{machine_of, points_of}
 use Rattle.cluster_model.specs.Messages.{hear_events, heard_message, input_events, no_message, operate_events, output_events, wake_events_of}
 use Rattle.cluster_model.specs.Parts.{each, event_of}
 use Rattle.cluster_model.specs.State.{Cluster}
-use Rattle.lease_law.proofs.Runs.{none-more}
-use Rattle.lease_law.proofs.Tools.{both, eq-from, none-some, put-here, some-is}
+use Rattle.lease_law.proofs.Tools.{both, none-some, put-here, some-is}
 use Rattle.lease_book.proofs.Entries.{in-without}
-use Rattle.lease_inputs.proofs.EveryInput.{agent-here, open-of, the-outcome, unchanged}
+use Rattle.lease_inputs.proofs.EveryInput.{agent-here, answer-run, opened-for, the-outcome, unchanged}
 use Rattle.lease_inputs.proofs.InputHears.{message-is}
 use Rattle.lease_inputs.proofs.InputKinds.{IsOpening}
 use Rattle.lease_runs.proofs.AskedMore.{unheard-one}
 use Rattle.event_book.specs.Functions.{put_at}
 use Rattle.lease_runs.proofs.AskedOnce.{Request, request_of, taking, yes_by, yes_in, yes_of}
 use Rattle.lease_runs.proofs.Measuring.{Knows, Measures}
-use Rattle.lease_runs.proofs.MeasuredAgents.{IsAskedBy, Plainly, told-answered, told-asked, told-granted, told-peer, told-position, told-read, told-refused, told-requested, told-woken}
+use Rattle.lease_runs.proofs.MeasuredAgents.{Plainly, told-answered, told-asked, told-granted, told-peer, told-position, told-read, told-refused, told-requested, told-woken}
 use Rattle.lease_runs.proofs.MeasuredInputs.{IsHeardAt}
 
 -- the failsafe request to this member that is heard, if one is
@@ -116,11 +111,6 @@ module _ (cluster : Cluster) (carried : InFlightFacts) (member : Member) (to : c
 
   says-so : (heard : Heard) → heard_from cluster carried ≡ Some heard → SaysSo heard
   says-so heard e = says-in carried.message.body refl heard e
-
-not-not : (a b : Bool) → a ≡ true → (a && not b) ≡ false → b ≡ true
-not-not true true is e = refl
-not-not true false is e = absurd (both (sym e))
-not-not false b is e = absurd (both is)
 
 -- whoever acknowledges, answers
 yes-answers : (message : Message) (r : Request) → yes_of message ≡ Some r → is_answer message.body ≡ true
@@ -196,9 +186,8 @@ module _ (moments : Moments) (cluster : Cluster) (number : ℕ) (message : InFli
     -- an answer comes in the run that asked
     same-run : is_answer message.message.body ≡ true → message.message.incarnation ≡ agent.knows.incarnation
     same-run answers =
-        let opened = open-of message.message (slice_get cluster.facts.processes member.id.number) (is_cut cluster.facts.cuts (link_of_message message.message))
-        (ap (λ (end : LinkEnd). cond (is_cut cluster.facts.cuts (link_of_message message.message)) deliveries.Cut (delivery_to cluster.facts.processes message.message end)) (sym to) ∙ through) in
-        eq-from message.message.incarnation opened.process.incarnation (not-not (is_answer message.message.body) (message.message.incarnation == opened.process.incarnation) answers opened.fresh)
+        let opened = opened-for cluster message.message member to through in
+        answer-run message.message (slice_get cluster.facts.processes member.id.number) opened answers
         ∙ knows.asks.runs member.id.number opened.process opened.is ∙ sym (knows.asks.agents member.id.number agent here).run_is
 
     gone : (n : ℕ) (c : InFlightFacts) → Some number ≡ Some n → in_flight (cluster_after cluster Arrived).facts.flight n ≡ Some c → ⊥

@@ -1,49 +1,35 @@
 -- Each input of an agent tells before each feed from when it is measured, and grants nothing.
 use Rattle.std.proofs.Common.{ℕ, ◌≡◌, ◌≢◌, ◌⊎◌, ◌+◌, ◌++◌, ◌≤◌, ◌<◌, nat_le, Bool, true, false, List, [], ◌∷◌, length, slice_get, Option, Some, None, All, option_map, refl, ◌∙◌, ap, sym, subst, arith, inl, inr}
-use Rattle.std.proofs.lemmas.List.Elements.{All-head, All-nil, All-tail, All-weaker}
+use Rattle.std.proofs.lemmas.List.Elements.{All-head, All-tail}
 use Rattle.pat_base.specs.declared.member_id.MemberId.{MemberId}
-use Rattle.pat_base.specs.declared.member_set.MemberSet.{MemberSet}
 use Rattle.pat_base.specs.declared.ticks.Ticks.{Ticks}
-use Rattle.store_keys.specs.declared.action.OperatorAction.{OperatorAction}
 use Rattle.event_book.specs.declared.agent_process.AgentProcess.{AgentProcess}
-use Rattle.event_book.specs.declared.event.AgentEvent.{AgentEvent}
 use Rattle.event_book.specs.declared.event.AgentEvent.TheVariants as agents
 use Rattle.event_book.specs.declared.event.Event.{Event}
 use Rattle.event_book.specs.declared.event.EventKind.{EventKind}
 use Rattle.event_book.specs.declared.event.EventKind.TheVariants as kinds
 use Rattle.event_book.specs.declared.event.MessageEvent.TheVariants as messages
 use Rattle.event_book.specs.declared.event.WatchdogEvent.TheVariants as watchdogs
-use Rattle.event_book.specs.declared.link.LinkEnd.{LinkEnd}
 use Rattle.event_book.specs.declared.link.LinkEnd.TheVariants as ends
 use Rattle.event_book.specs.declared.member.Member.{Member}
 use Rattle.event_book.specs.declared.message.Body.{Body}
 use Rattle.event_book.specs.declared.message.Body.TheVariants as bodies
 use Rattle.event_book.specs.declared.message.Message.{Message}
 use Rattle.event_book.specs.declared.reason.Basis.TheVariants as bases
-use Rattle.event_book.specs.Clock.{now_after}
 use Rattle.event_book.specs.Flight.{Flight, InFlightFacts, in_flight, launched}
 use Rattle.event_book.specs.Kinds.{AllAre}
 use Rattle.event_book.specs.Premises.{IsTaken, Moments, Taking, moments_after, taken_with}
-use Rattle.event_book.specs.Processes.{processes_after}
-use Rattle.agent_model.specs.declared.heard.Heard.{Heard}
-use Rattle.agent_model.specs.declared.heard.Heard.TheVariants as heards
-use Rattle.agent_model.specs.declared.machine.Machine.{Machine}
 use Rattle.agent_model.specs.declared.output.Output.{Output}
 use Rattle.agent_model.specs.declared.output.Output.TheVariants as outputs
 use Rattle.agent_model.specs.declared.output.Target.TheVariants as targets
-use Rattle.agent_model.specs.Agents.{AgentFacts, Outcome, outcome_from}
-use Rattle.agent_model.specs.Outputs.{with_output}
-use Rattle.agent_model.specs.Table.{step}
+use Rattle.agent_model.specs.Agents.{AgentFacts}
 use Rattle.agent_outputs.specs.Orders.{IsOfTable}
-use Rattle.agent_outputs.proofs.Orders.{step-carried-out}
 use Rattle.agent_questions.specs.Questions.{SendsBetween}
 use Rattle.cluster_model.specs.declared.heard_message.HeardMessage.{HeardMessage}
-use Rattle.cluster_model.specs.Cluster.{agent_facts_after, cluster_after, cluster_over}
-use Rattle.cluster_model.specs.Commands.{kinds_of}
+use Rattle.cluster_model.specs.Cluster.{cluster_after, cluster_over}
 use Rattle.cluster_model.specs.Limits.{most_in_flight}
-use Rattle.cluster_model.specs.Messages.{agent_message, lost_at_once, output_events, replying_events, send_events, sending_events}
-use Rattle.cluster_model.specs.Orders.{hold_taken}
-use Rattle.cluster_model.specs.Parts.{each, event_of, events_of}
+use Rattle.cluster_model.specs.Messages.{agent_message, lost_at_once, output_events, sending_events}
+use Rattle.cluster_model.specs.Parts.{each, events_of}
 use Rattle.cluster_model.specs.State.{Cluster}
 use Rattle.cluster_model.proofs.Lists.{all-more}
 use Rattle.lease_law.proofs.Runs.{assoc}
@@ -57,10 +43,10 @@ use Rattle.summary_model.specs.Telling.{AreMeasured, IsEarliest}
 use Rattle.lease_inputs.specs.InputEvents.{AnswersPeer, AnswersRequest, Asks, AsksPeer, ByFailsafe, ByGrant, IsFeedOf, IsMessageOf, IsOfInput, RunsAmong}
 use Rattle.lease_inputs.proofs.InputEvents.{output-mine}
 use Rattle.lease_inputs.proofs.InputOutputs.{output-numbered, runs-later, stays-output}
-use Rattle.lease_runs.proofs.AskedMore.{IsUnasked, hold-taken, request-sent, yes-sent}
-use Rattle.lease_runs.proofs.AskedOnce.{AsksOnce, IsGiven, IsNeutral, IsOther, Request, gone-sub, neutral-over, request_of, sent-then, taking, yes_of}
+use Rattle.lease_runs.proofs.AskedMore.{request-sent}
+use Rattle.lease_runs.proofs.AskedOnce.{IsNeutral, IsOther, Request, gone-sub, neutral-over, request_of, sent-then, taking}
 use Rattle.lease_runs.proofs.Fencing.{AreDecided, IsUngranted, ungranted-decided}
-use Rattle.lease_runs.proofs.Measuring.{IsPlain, IsUnfed, Knows, Measures, knows-over, measured-both, tells-none, told-plain, told-send, told-then, unfed-measured}
+use Rattle.lease_runs.proofs.Measuring.{IsUnfed, Knows, Measures, knows-over, tells-none, told-send, told-then, unfed-measured}
 use Rattle.lease_runs.proofs.Moments.{KnowsSending, moments_over, sending-by}
 use Rattle.lease_runs.proofs.Staying.{AsksNobody, FitsFrom, FitsOne, FitsSend, IsQuiet, next, next_send}
 

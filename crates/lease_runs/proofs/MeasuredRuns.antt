@@ -1,5 +1,5 @@
 -- Each run tells before each feed from when it is measured, and is fenced.
-use Rattle.std.proofs.Common.{◌≡◌, ◌++◌, ◌+◌, ℕ, zero, suc, List, [], ◌∷◌, Option, Some, None, option_map, slice_get, refl, ◌∙◌, ap, sym, subst, arith}
+use Rattle.std.proofs.Common.{◌≡◌, ◌+◌, ℕ, zero, suc, List, [], Option, Some, None, option_map, slice_get, refl, ◌∙◌, ap, sym, subst, arith}
 use Rattle.event_book.specs.declared.event.Event.{Event}
 use Rattle.event_book.specs.declared.member.Member.{Member}
 use Rattle.script_model.specs.Script.{HeadText, names_of}

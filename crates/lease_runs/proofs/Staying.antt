@@ -1,6 +1,6 @@
 -- What an input leaves of the acknowledgements that its agent waits for, what it asks of other members and promises them, and what it feeds on.
-use Rattle.std.proofs.Common.{◌≡◌, ◌⊎◌, ◌==◌, ◌+◌, ◌≤◌, ◌<◌, nat_le, ℕ, zero, suc, Bool, true, false, cond, List, [], ◌∷◌, Option, Some, None, All, refl, sym, subst, ap, ◌∙◌, arith, inl, inr}
-use Rattle.std.proofs.lemmas.List.Elements.{All-head, All-nil, All-push, All-tail, All-weaker}
+use Rattle.std.proofs.Common.{◌≡◌, ◌⊎◌, ◌==◌, ◌&&◌, not, ◌+◌, ◌≤◌, ◌<◌, nat_le, ℕ, zero, suc, Bool, true, false, cond, List, [], ◌∷◌, Option, Some, None, All, refl, sym, subst, ap, ◌∙◌, arith, inl, inr}
+use Rattle.std.proofs.lemmas.List.Elements.{All-head, All-push, All-tail, All-weaker}
 use Rattle.std.proofs.lemmas.Bool.Decides.{nat_tests}
 use Rattle.pat_base.specs.MemberId.{member_of}
 use Rattle.pat_base.specs.declared.member_id.MemberId.{MemberId}
@@ -19,8 +19,7 @@ use Rattle.event_book.specs.declared.message.Body.TheVariants as bodies
 use Rattle.event_book.specs.declared.reason.Reason.TheVariants.{FailsafeNotAcknowledged, WatchdogNotArmed}
 use Rattle.failsafe.specs.declared.asks.Ask.{Ask}
 use Rattle.failsafe.specs.Asks.{asked as ask_of, counts, has, heard as ask_heard, moment_of_all, with_acknowledgement}
-use Rattle.agent_model.specs.declared.heard.Heard.{Heard}
-use Rattle.agent_model.specs.declared.heard.Heard.TheVariants.{Wake, ReadAnswered, Granted as HeardGranted, Mismatch, Asked, Answered, FailsafeAsked, FailsafeAnswered, Operated as HearsOperator}
+use Rattle.agent_model.specs.declared.heard.Heard.TheVariants.{Wake, ReadAnswered, Granted as HeardGranted, Mismatch, Asked, Answered, FailsafeAnswered, Operated as HearsOperator}
 use Rattle.agent_model.specs.declared.knowledge.PendingQuestion.{PendingQuestion}
 use Rattle.agent_model.specs.declared.knowledge.Question.{Question}
 use Rattle.agent_model.specs.declared.knowledge.Question.TheVariants.{ComparingPositions, FindingCandidate, Creating, Reading, Renewing, Claiming, Syncing, StayingPrimary}
@@ -30,7 +29,7 @@ use Rattle.agent_model.specs.declared.output.Target.{Target}
 use Rattle.agent_model.specs.declared.output.Target.TheVariants as targets
 use Rattle.agent_model.specs.declared.why.Why.{Why}
 use Rattle.agent_model.specs.declared.why.Why.TheVariants.{HandOver, Lost}
-use Rattle.agent_model.specs.Acting.{arming, deadline_after, ending_server, is_refusing, lease_span, touching, waiting_no_more}
+use Rattle.agent_model.specs.Acting.{arming, comes_late, deadline_after, ending_server, is_refusing, lease_span, touching, waiting_no_more}
 use Rattle.agent_model.specs.Agents.{RoleFacts, Follower, Holder, Ready, Leader, Ending, Unleased, HasCounted, Outcome}
 use Rattle.agent_model.specs.Claiming.{begins_or_claims, claim_fails_as, postpones}
 use Rattle.agent_model.specs.Decisions.{arms, gives_back, granted, may_create, may_take, takes_key, takes_over}
@@ -38,23 +37,24 @@ use Rattle.agent_model.specs.HandingOver.{hands_over, judged_if_leading}
 use Rattle.agent_model.specs.Operators.{answering, given_up, learned, looked}
 use Rattle.agent_model.specs.Outputs.{with_output}
 use Rattle.agent_model.specs.Pausing.{is_paused, may_start_behind}
-use Rattle.agent_model.specs.Peers.{answered}
 use Rattle.agent_model.specs.Racing.{barred, creating, finds_free, judged, unheard}
 use Rattle.agent_model.specs.Reconciling.{has_ended, reconciled}
 use Rattle.agent_model.specs.Repairs.{repair_of}
 use Rattle.agent_model.specs.Snapshots.{follow_row, follows, led_by_another, read_answered, read_noted}
-use Rattle.agent_model.specs.StayingPrimary.{accepted_failsafe, asking_to_stay, awaits_failsafe, counting, failsafe_answered, failsafe_answered_for, fed_by_failsafe, is_staying, leader_unacknowledged, may_stay, others_known, requesting_all, requesting_first, requesting_one, seeks_to_stay, stays, stays_alone, stays_if, unacknowledged, unacknowledged_as}
+use Rattle.agent_model.specs.StayingPrimary.{accepted_failsafe, asking_to_stay, awaits_failsafe, counting, failsafe_answered_for, fed_by_failsafe, is_staying, leader_unacknowledged, may_stay, others_known, requesting_all, requesting_first, requesting_one, seeks_to_stay, stays, stays_alone, stays_if, unacknowledged_as}
 use Rattle.agent_model.specs.Table.{granted_any, step}
 use Rattle.agent_model.specs.Wake.{leader_out_of_reach, out_of_reach, out_of_reach_as, overdue, overdue_for, turn_noted, turned, unanswered, unleased_out_of_reach, woken}
-use Rattle.agent_model.proofs.Rows.{DutyRows, HandoverRows, ReplyRows, before-by, begins-or-claims-by, dropping, duties-of, follow-by, free-by, given-up-by, got-by, granted-any-by, granted-by, handover-by, if-cases, judged-by, leading_in_pause, led_on, looked-by, renewed-by, repaired-by, takes-in-pause-by, turn-by, wake-by}
+use Rattle.agent_model.proofs.Rows.{DutyRows, HandoverRows, ReplyRows, before-by, begins-or-claims-by, dropping, duties-of, follow-by, free-by, given-up-by, got-by, granted-any-by, granted-by, handover-by, if-cases, judged-by, judges-start-by, kept_on, leading_in_pause, led_on, looked-by, renewed-by, repaired-by, takes-in-pause-by, turn-by, wake-by}
 use Rattle.agent_roles.proofs.Fitting.{before-fits}
 use Rattle.agent_roles.proofs.Granting.{Told, both-true}
 use Rattle.agent_roles.proofs.Knowing.{IsAlone, before-onward}
 use Rattle.agent_roles.proofs.Living.{no-way}
-use Rattle.agent_roles.proofs.Staying.{before-waits}
+use Rattle.agent_roles.proofs.Staying.{before-leaves, before-waits}
 use Rattle.agent_lease_law.specs.Asking.{awaits_stay}
-use Rattle.agent_lease_law.proofs.Sending.{AllMay, AsksToStay, Fronts, Grounds, IsReleaseOr, IsSilent, MayAskMember, MayPut, Released, Silent, answered-may, asked-may, before-fronts, failsafe-answered-may, given-up-fronts, got-may, granted-may, operated-may, refused-may, staying, wake-may}
-use Rattle.lease_law.proofs.Tools.{some-is, none-some}
+use Rattle.agent_lease_law.proofs.MaySend.{AllMay, Fronts, Grounds, IsSilent, MayAskMember, MayPut, before-fronts}
+use Rattle.agent_lease_law.proofs.Sending.{answered-may, asked-may, got-may, granted-may, operated-may, refused-may}
+use Rattle.agent_lease_law.proofs.StayingSends.{AsksToStay, failsafe-answered-may, given-up-fronts, staying, wake-may}
+use Rattle.lease_inputs.proofs.InputHolds.{fronts-hold}
 
 -- ---- what is waited for
 -- an input waits for the acknowledgements that it waited for, or for none
@@ -141,6 +141,10 @@ granted-so now sequence grant snapshot o = let told : Outcome = Told snapshot o 
       leader = λ held _. let led : Outcome = led_on now waited.ttl grant.revision told in renewed-by (StaysSo o) now waited.ttl grant.revision told (inl refl) (duty-so now grant.revision o led refl);
       unleased = λ _. if-cases (StaysSo o) (is_refusing o.machine.watchdog.mode o.machine.watchdog.works) (ending_server now WatchdogNotArmed told) (takes_over now grant.revision (arming now waited.ttl told)) (λ _. inl refl) (λ _. inl refl);
       takes = λ _. takes-so now waited.ttl grant.revision o told refl;
+      keeps_late = λ held _. let kept : Outcome = kept_on grant.revision told in judges-start-by (StaysSo o) now grant.revision kept (inl refl) (duty-so now grant.revision o kept refl);
+      ends_late = λ _. inl refl;
+      refuses_late = λ _. inl refl;
+      returns_late = λ _. inl refl;
       leads_in_pause = λ renews _ held _. let led : Outcome = leading_in_pause renews grant.revision told in duties-of (StaysSo o) now grant.revision led (duty-so now grant.revision o led refl);
       unleased_in_pause = λ renews _ _. inl refl;
       takes_in_pause = λ renews _ _. takes-in-pause-by (StaysSo o) now renews grant.revision told (inl refl) (inl refl) (inl refl);
@@ -177,13 +181,8 @@ silent-quiet (outputs.HoldTaken until from sequence) e = absurd e
 silent-quiet (outputs.FailsafeAnswer to run sequence accepted) e = absurd e
 silent-quiet _ e = tt
 
-release-quiet : (sequence revision : ℕ) (output : Output) → IsReleaseOr sequence revision output → IsQuiet output
-release-quiet sequence revision output (inl silent) = silent-quiet output silent
-release-quiet sequence revision output (inr is) = subst IsQuiet (sym is) tt
-
 pub fronts-quiet : (o b : Outcome) → Fronts o b → All IsQuiet b.outputs
-fronts-quiet o b (Silent all) = All-weaker IsSilent IsQuiet silent-quiet b.outputs all
-fronts-quiet o b (Released revision held alone role ended counted all) = All-weaker (IsReleaseOr (o.knows.sequence + 1) revision) IsQuiet (release-quiet (o.knows.sequence + 1) revision) b.outputs all
+fronts-quiet o b fronts = fronts-hold IsQuiet silent-quiet (λ sequence body. tt) o b fronts
 
 -- an input begins to wait for the acknowledgements of these members, whom it asks under one number behind outputs that are quiet
 pub record BeginsTo (now : Ticks) (x : Outcome) : Type 0 where
@@ -389,21 +388,6 @@ FeedsSo o from sequence accepted sent _ = Unit {0}
 same-number : (n sequence : ℕ) → n == sequence ≡ true → n ≡ sequence
 same-number n sequence e = grind (arith, nat_tests)
 
-ended-ask : (why : Why) (held : ℕ) (x : Outcome) → (has_ended why held x).knows.failsafe ≡ x.knows.failsafe
-ended-ask HandOver held x = refl
-ended-ask Lost held x = refl
-
-before-ask : (now : Ticks) (o : Outcome) → (reconciled now o).knows.failsafe ≡ o.knows.failsafe
-before-ask now o = before-by (λ (x : Outcome). x.knows.failsafe ≡ o.knows.failsafe) now o (record {
-  kept = λ _. refl;
-  leader = λ _ _ _. refl;
-  ending = λ held why _ _. ended-ask why held o;
-  follower = λ _ _. refl;
-  holder = λ _ _ _. refl;
-  ready = λ _ _ _. refl;
-  unleased = λ _ _. refl;
-})
-
 pub heard-members : (ask : Ask) (from : MemberId) (sent : Ticks) → (ask_heard ask from true sent).members ≡ ask.members
 heard-members ask from sent = if-cases (λ (x : Ask). x.members ≡ ask.members) (counts ask from true) (with_acknowledgement ask from sent) ask (λ _. refl) (λ _. refl)
 
@@ -420,16 +404,8 @@ counted-feeds now points o alone silent from sequence accepted sent = by b.knows
     silent-so (outputs.FedByFailsafe until members fed since) e = absurd e
     silent-so _ e = tt
 
-    release-so : (revision : ℕ) (output : Output) → IsReleaseOr (o.knows.sequence + 1) revision output → FeedsSo o from sequence accepted sent output
-    release-so revision output (inl is) = silent-so output is
-    release-so revision output (inr is) = subst (FeedsSo o from sequence accepted sent) (sym is) tt
-
-    front : Fronts o b → P b
-    front (Silent all) = All-weaker IsSilent (FeedsSo o from sequence accepted sent) silent-so b.outputs all
-    front (Released revision held none role ended counted all) = All-weaker (IsReleaseOr (o.knows.sequence + 1) revision) (FeedsSo o from sequence accepted sent) (release-so revision) b.outputs all
-
     all : P b
-    all = front (before-fronts now o alone silent)
+    all = fronts-hold (FeedsSo o from sequence accepted sent) silent-so (λ number body. tt) o b (before-fronts now o alone silent)
 
     ends : (role : RoleFacts) → P (unacknowledged_as now role (waiting_no_more b))
     ends (Leader held) = All-push (FeedsSo o from sequence accepted sent) b.outputs (outputs.Stop FailsafeNotAcknowledged) all tt
@@ -447,7 +423,7 @@ counted-feeds now points o alone silent from sequence accepted sent = by b.knows
     counted-if waited is staying number accepts None e = all
     counted-if waited is staying number accepts (Some since) e =
         let x : Outcome = counting from sent b in
-        All-push (FeedsSo o from sequence accepted sent) (fed_by_failsafe (deadline_after now waited.ttl x.machine.watchdog) x.knows.failsafe.members waited.sequence since b.outputs) outputs.StaysByFailsafe
+        if-cases P (not (is_paused b.knows) && comes_late now waited b.machine) (waiting_no_more x) (stays now waited.ttl waited.sequence since x) (λ _. all) (λ _. All-push (FeedsSo o from sequence accepted sent) (fed_by_failsafe (deadline_after now waited.ttl x.machine.watchdog) x.knows.failsafe.members waited.sequence since b.outputs) outputs.StaysByFailsafe
         (subst (λ (n : ℕ). All (FeedsSo o from sequence accepted sent) (fed_by_failsafe (deadline_after now waited.ttl x.machine.watchdog) x.knows.failsafe.members n since b.outputs)) (sym number)
         (fed (deadline_after now waited.ttl x.machine.watchdog) x.knows.failsafe.members since (record {
           waited = waited;
@@ -456,9 +432,9 @@ counted-feeds now points o alone silent from sequence accepted sent = by b.knows
           sequence_is = number;
           fed_is = refl;
           accepts = accepts;
-          members_are = heard-members b.knows.failsafe from sent ∙ ap (λ (ask : Ask). ask.members) (before-ask now o);
-          all = ap (λ (ask : Ask). moment_of_all (ask_heard ask from true sent)) (sym (before-ask now o)) ∙ e;
-        }))) tt
+          members_are = heard-members b.knows.failsafe from sent ∙ ap (λ (ask : Ask). ask.members) (before-leaves now o).asked;
+          all = ap (λ (ask : Ask). moment_of_all (ask_heard ask from true sent)) (sym (before-leaves now o).asked) ∙ e;
+        }))) tt)
 
     accepted-by : (waited : PendingQuestion) → b.knows.waited ≡ Some waited → is_staying waited.question ≡ true → waited.sequence ≡ sequence → (role : RoleFacts) (test : Bool) → accepted ≡ test → P (accepted_failsafe now waited from test sent role b)
     accepted-by waited is staying number (Leader held) true accepts = counted-if waited is staying number accepts (moment_of_all (ask_heard b.knows.failsafe from true sent)) refl

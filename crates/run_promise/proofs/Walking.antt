@@ -32,7 +32,7 @@ use Rattle.cluster_model.specs.Limits.{most_rounds}
 use Rattle.cluster_model.specs.Messages.{answered_events, arrival_events_at, deliver_events, deliver_events_by, lose_events, message_events, message_events_by, request_events, request_events_if, request_events_of, visit_events, turn_events, turn_events_if, wake_events, wake_events_if, wake_events_of}
 use Rattle.cluster_model.specs.Next.{acknowledge_events, all_entries, asking_events, command_events, ctl_events, ctl_line_events, ctl_told_at, declared, next_events, promote_events, receive_events_at_most, receive_events_of, round_events, rounds_events, run_events, scheduled_events, step_events}
 use Rattle.cluster_model.specs.Parts.{each, event_of, for_some, is_empty}
-use Rattle.cluster_model.specs.Requests.{action_of, answer_at, asked_in_words, silence}
+use Rattle.cluster_model.specs.Requests.{answer_at, asked_in_words, silence}
 use Rattle.cluster_model.specs.State.{Cluster}
 use Rattle.cluster_model.specs.Ticking.{tick_events}
 use Rattle.lease_law.proofs.Tools.{and-first}
