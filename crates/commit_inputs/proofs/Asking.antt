@@ -52,7 +52,7 @@ use Rattle.lease_book.proofs.Flights.{asked-new, asked-there, none-requested, re
 use Rattle.commit_actions.specs.Flights.{SyncRequest}
 use Rattle.commit_actions.specs.Past.{Past, Query, SyncQuery, claim_request, past_after, past_over, publish_request, query_sent}
 use Rattle.run_promise.specs.Members.{member_count}
-use Rattle.lease_inputs.specs.Hearing.{IsHeardWell}
+use Rattle.lease_hearing.specs.Hearing.{IsHeardWell}
 use Rattle.lease_inputs.specs.InputEvents.{IsMessageOf, Asks, AsksPeer, AnswersPeer, AnswersRequest, IsOfInput}
 use Rattle.agent_questions.specs.Questions.{AsksAnew, AsksFor, IsPutBy, IsPutByBody, SendsBetween, WaitsOn, Same, Nothing, New}
 use Rattle.lease_parts.specs.Declaring.{declared_of}

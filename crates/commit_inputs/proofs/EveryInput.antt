@@ -48,9 +48,9 @@ use Rattle.run_promise.specs.Parts.{InputsUphold}
 use Rattle.run_promise.specs.Promise.{Upholds}
 use Rattle.lease_parts.specs.Volatile as run_volatile
 use Rattle.lease_parts.specs.Waiting.{IsAnswer}
-use Rattle.lease_inputs.specs.Hearing.{IsHeardWell}
+use Rattle.lease_hearing.specs.Hearing.{IsHeardWell}
 use Rattle.lease_inputs.proofs.EveryInput.{acted, agent-here, answered-run, kept-hearing, kept-operated, kept-wake, mode-asked, operated-well, sender, same-run, the-outcome, unchanged, wake-well}
-use Rattle.lease_inputs.proofs.InputHears.{heard-well, hears-by, peers-hear}
+use Rattle.lease_hearing.proofs.InputHears.{heard-well, hears-by, peers-hear}
 use Rattle.lease_inputs.proofs.InputKinds.{IsOpening}
 use Rattle.lease_inputs.proofs.InputSeen.{IsFound, can-feed, found-of}
 use Rattle.run_promise.proofs.Members.{numbered}
@@ -208,10 +208,10 @@ module _ (head : HeadText) (few : member_count head ≤ MOST_MEMBERS) (book : Li
   -- the law of the lease hears it
   hears-lease-by : ((m : ℕ) → works_of head m ≡ true) → (agent : AgentFacts) (machine : Machine) → IsFound cluster member machine → slice_get cluster.agents member.id.number ≡ Some (Some agent) → (heard : Heard) → heard_from cluster message ≡ Some heard
       → Hears (lease_past.state_of (declared_of head) (lease_past.past_of book) (run_volatile.volatile_of cluster)) member.id.number (Some number) heard (outcome_from agent.role agent.knows machine [])
-  hears-lease-by works agent machine machine_found here heard h = elim (sender head book cluster number message member good.lease found to open_is) [
-    | inl store ↦ hears-by head (lease_past.past_of book) cluster good.lease.matched (run_volatile.volatile_of cluster) member agent machine machine_found here (works member.id.number)
+  hears-lease-by works agent machine machine_found here heard h = let feeds = can-feed head (lease_past.past_of book) cluster member machine good.lease.matched machine_found (works member.id.number) in elim (sender head book cluster number message member good.lease found to open_is) [
+    | inl store ↦ hears-by head (lease_past.past_of book) cluster good.lease.matched (run_volatile.volatile_of cluster) member agent machine feeds here
         number message found store.0 to (run-same agent here store.1) message.message.body refl store.1 heard h
-    | inr peer ↦ peers-hear head (lease_past.past_of book) cluster good.lease.matched (run_volatile.volatile_of cluster) member agent machine machine_found (works member.id.number)
+    | inr peer ↦ peers-hear head (lease_past.past_of book) cluster good.lease.matched (run_volatile.volatile_of cluster) member agent machine feeds
         number message found to (λ answers. answered-run head book cluster number message member good.lease found to open_is answers agent here) message.message.body refl peer heard h
   ]
 

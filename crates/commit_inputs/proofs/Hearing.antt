@@ -55,7 +55,7 @@ use Rattle.commit_book.specs.Keys.{sync_key_of, sync_value}
 use Rattle.commit_book.proofs.Hearing.{heard-lease, heard-snapshot, heard-write}
 use Rattle.run_promise.specs.Members.{member_count}
 use Rattle.lease_parts.specs.Waiting.{IsAddressed, IsAnswer, IsPeerBody}
-use Rattle.lease_inputs.proofs.InputHears.{message-is, unpaused-told}
+use Rattle.lease_hearing.proofs.InputHears.{message-is, unpaused-told}
 use Rattle.commit_book.specs.Order.{NamesMembers}
 use Rattle.commit_parts.specs.Bridged.{CommitsBridged}
 use Rattle.commit_parts.specs.Modes.{IsSynchronousEntry, IsSynchronousTold, IsSynchronousValue}

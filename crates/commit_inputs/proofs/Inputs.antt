@@ -51,7 +51,7 @@ use Rattle.commit_servers.specs.Matching.{live_in}
 use Rattle.lease_parts.specs.Declaring.{declared_of, works_of}
 use Rattle.run_promise.specs.Members.{member_count}
 use Rattle.lease_parts.specs.Volatile as run_volatile
-use Rattle.lease_inputs.specs.Hearing.{IsHeardWell}
+use Rattle.lease_hearing.specs.Hearing.{IsHeardWell}
 use Rattle.lease_inputs.proofs.InputKinds.{IsOpening}
 use Rattle.cluster_model.proofs.Places.{get-elsewhere, get-here}
 use Rattle.commit_parts.specs.Bridged.{CommitsBridged}

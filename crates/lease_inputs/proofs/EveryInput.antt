@@ -57,9 +57,9 @@ use Rattle.lease_parts.specs.Volatile.{agent_now, volatile_of}
 use Rattle.lease_parts.specs.Waiting.{IsAddressed, IsAnswer, IsPeerBody}
 use Rattle.lease_parts.proofs.Actions.{action-kept, machines-kept}
 use Rattle.agent_roles.proofs.Knowing.{tells_pause, told_by}
-use Rattle.lease_inputs.specs.Hearing.{IsHeardWell}
-use Rattle.lease_inputs.proofs.InputHears.{calm-from, unpaused-told, heard-well, hears-by, peers-hear}
-use Rattle.lease_inputs.proofs.ModeRequests.{asked-mode}
+use Rattle.lease_hearing.specs.Hearing.{IsHeardWell}
+use Rattle.lease_hearing.proofs.InputHears.{calm-from, unpaused-told, heard-well, hears-by, peers-hear}
+use Rattle.lease_hearing.proofs.ModeRequests.{asked-mode}
 use Rattle.agent_lease_law.specs.Asking.{HearsFailsafe}
 use Rattle.agent_lease_law.specs.Modes.{IsModeRequested}
 use Rattle.lease_inputs.proofs.InputKept.{IsBegun, begun-by, input-kept, opening-addressed, opening-mode}
@@ -299,9 +299,9 @@ module _ (head : HeadText) (book : List Event) (cluster : Cluster) (number : ℕ
       (acted ∙ ap (λ (o : Option Outcome). agent_facts_with cluster.agents member o) (ap (outcome_of_heard cluster member) h ∙ the-outcome cluster member heard (Some agent) (Some machine) a m))
       (calm-from cluster message (unpaused-told cluster number message good.matched.unpaused found) heard h)
       (λ works. elim sender [
-        | inl store ↦ hears-by head (past_of book) cluster good.matched (volatile_of cluster) member agent machine machine_found here (works member.id.number)
+        | inl store ↦ hears-by head (past_of book) cluster good.matched (volatile_of cluster) member agent machine (can-feed head (past_of book) cluster member machine good.matched machine_found (works member.id.number)) here
             number message found store.0 to (same-run store.1 agent here) message.message.body refl store.1 heard h
-        | inr peer ↦ peers-hear head (past_of book) cluster good.matched (volatile_of cluster) member agent machine machine_found (works member.id.number)
+        | inr peer ↦ peers-hear head (past_of book) cluster good.matched (volatile_of cluster) member agent machine (can-feed head (past_of book) cluster member machine good.matched machine_found (works member.id.number))
             number message found to (λ answers. answered-run answers agent here) message.message.body refl peer heard h
       ])
 

@@ -42,7 +42,7 @@ use Rattle.lease_law.specs.Actions.{taken_by}
 use Rattle.lease_law.specs.Leases.{FailsafeRequest, Flying}
 use Rattle.lease_law.specs.Past.{Past, past_after, past_over}
 use Rattle.lease_law.proofs.Showing.{past-append}
-use Rattle.lease_inputs.specs.Hearing.{IsRequestHeard}
+use Rattle.lease_hearing.specs.Hearing.{IsRequestHeard}
 use Rattle.lease_inputs.specs.InputEvents.{IsOfInput, RunsAmong}
 use Rattle.lease_inputs.proofs.InputEvents.{output-mine}
 use Rattle.lease_inputs.proofs.InputKinds.{mine-taken}

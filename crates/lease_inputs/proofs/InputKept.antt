@@ -101,8 +101,8 @@ use Rattle.lease_inputs.proofs.InputMachines.{IsHeldFor, Mirrors, Resembles, mir
 use Rattle.lease_inputs.proofs.InputOutputs.{GoesBetween, each-basis, each-begins, each-between, each-fed, FedIn, IsFedAs, each-resembles, each-numbered, armed-more, moments-all}
 use Rattle.lease_inputs.proofs.InputSeen.{IsFound, margin-of, seen-of}
 use Rattle.lease_inputs.proofs.InputHolds.{each-taken, input-taken, taken_by_outputs}
-use Rattle.lease_inputs.proofs.SeenModes.{step-sees}
-use Rattle.lease_inputs.specs.Hearing.{IsHeardWell}
+use Rattle.lease_hearing.proofs.SeenModes.{step-sees}
+use Rattle.lease_hearing.specs.Hearing.{IsHeardWell}
 use Rattle.lease_inputs.proofs.InputStays.{Stays, each-mine, item-here, stays-over}
 use Rattle.lease_inputs.proofs.InputWaiting.{agents-after, knows-after, runs-after}
 use Rattle.cluster_model.proofs.Places.{get-elsewhere, length-changed}

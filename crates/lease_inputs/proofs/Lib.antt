@@ -5,9 +5,6 @@ pub mod InputOutputs
 pub mod InputStays
 pub mod InputWaiting
 pub mod InputSeen
-pub mod InputHears
 pub mod InputHolds
-pub mod SeenModes
-pub mod ModeRequests
 pub mod InputKept
 pub mod EveryInput

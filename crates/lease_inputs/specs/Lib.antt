@@ -1,2 +1,1 @@
 pub mod InputEvents
-pub mod Hearing

@@ -33,7 +33,7 @@ use Rattle.cluster_model.specs.State.{Cluster}
 use Rattle.lease_law.proofs.Tools.{both, none-some, put-here, some-is}
 use Rattle.lease_book.proofs.Entries.{in-without}
 use Rattle.lease_inputs.proofs.EveryInput.{agent-here, answer-run, opened-for, the-outcome, unchanged}
-use Rattle.lease_inputs.proofs.InputHears.{message-is}
+use Rattle.lease_hearing.proofs.InputHears.{message-is}
 use Rattle.lease_inputs.proofs.InputKinds.{IsOpening}
 use Rattle.lease_runs.proofs.AskedMore.{unheard-one}
 use Rattle.event_book.specs.Functions.{put_at}

@@ -29,7 +29,7 @@ use Rattle.agent_model.specs.declared.knowledge.PendingQuestion.{PendingQuestion
 use Rattle.agent_model.specs.declared.machine.Machine.{Machine}
 use Rattle.agent_model.specs.Agents.{AgentFacts, Outcome, outcome_from}
 use Rattle.agent_model.specs.Decisions.{asks_lease, is_decision, is_lease_of}
-use Rattle.agent_lease_law.specs.Lawful.{HearsAnswer, HearsGrant, HearsYes, Hears, request_in}
+use Rattle.agent_lease_law.specs.Lawful.{CanFeed, HearsAnswer, HearsGrant, HearsYes, Hears, request_in}
 use Rattle.agent_lease_law.specs.Modes.{HearsMode, TellsMode}
 use Rattle.lease_law.specs.Modes.{IsModeHeld, IsModeIn, IsModeTold, IsModeValue, TellMode}
 use Rattle.agent_roles.specs.Seen.{leader_entry_seen, failsafe_entry_seen}
@@ -49,10 +49,9 @@ use Rattle.lease_law.proofs.Tools.{and-first, both, none-some, some-is}
 use Rattle.lease_book.specs.Groups.{grant_if}
 use Rattle.lease_book.proofs.Hearing.{heard-acknowledgement, heard-failsafe_request, heard-snapshot, heard-granted}
 use Rattle.lease_parts.specs.Bridged.{IsMatched}
-use Rattle.lease_parts.specs.Declaring.{declared_of, works_of}
+use Rattle.lease_parts.specs.Declaring.{declared_of}
 use Rattle.lease_parts.specs.Waiting.{IsAnswer, IsKnownEnd, IsPeerBody}
-use Rattle.lease_inputs.specs.Hearing.{IsHeardWell, IsRequestHeard}
-use Rattle.lease_inputs.proofs.InputSeen.{IsFound, can-feed}
+use Rattle.lease_hearing.specs.Hearing.{IsHeardWell, IsRequestHeard}
 
 -- ---- the keys of a snapshot, as agents and as the law see them
 leader-by : (revision : ℕ) (value : Value) (expiry : Option Ticks) → IsLeased (Some (record { value = value; revision = revision; expiry = expiry }))
@@ -166,7 +165,7 @@ mode-told mode cluster carried is settings = mode-entry mode settings (find key_
 
 -- ---- what is heard
 module _ (head : HeadText) (past : Past) (cluster : Cluster) (matched : IsMatched head past cluster) (volatile_states : ℕ → VolatileState)
-    (member : Member) (agent : AgentFacts) (machine : Machine) (found : IsFound cluster member machine) (here : slice_get cluster.agents member.id.number ≡ Some (Some agent)) (works : works_of head member.id.number ≡ true)
+    (member : Member) (agent : AgentFacts) (machine : Machine) (feeds : CanFeed machine) (here : slice_get cluster.agents member.id.number ≡ Some (Some agent))
     (number : ℕ) (carried : InFlightFacts) (there : in_flight cluster.facts.flight number ≡ Some carried) (from : carried.message.from ≡ ends.Store) (to : carried.message.to ≡ ends.Member member)
     (incarnation : carried.message.incarnation ≡ agent.knows.incarnation) where
   abbrev Law : State
@@ -246,7 +245,7 @@ module _ (head : HeadText) (past : Past) (cluster : Cluster) (matched : IsMatche
               ttl = as_asked.1;
               sent = as_asked.0;
               failsafe = sym (failsafe-is (find key_cmp keys.Failsafe carried.snapshot));
-              feeds = can-feed head past cluster member machine matched found works;
+              feeds = feeds;
             };
       }
 
@@ -273,7 +272,7 @@ unheard law m number o incarnation sequence None heard e = absurd (none-some hea
 unheard law m number o incarnation sequence (Some by) heard e = subst (λ (h : Heard). Hears law m number h o) (some-is _ heard e) tt
 
 module _ (head : HeadText) (past : Past) (cluster : Cluster) (matched : IsMatched head past cluster) (volatile_states : ℕ → VolatileState)
-    (member : Member) (agent : AgentFacts) (machine : Machine) (found : IsFound cluster member machine) (works : works_of head member.id.number ≡ true)
+    (member : Member) (agent : AgentFacts) (machine : Machine) (feeds : CanFeed machine)
     (number : ℕ) (carried : InFlightFacts) (there : in_flight cluster.facts.flight number ≡ Some carried) (to : carried.message.to ≡ ends.Member member)
     (in_run : is_answer carried.message.body ≡ true → carried.message.incarnation ≡ agent.knows.incarnation) where
   abbrev Met : State
@@ -303,7 +302,7 @@ module _ (head : HeadText) (past : Past) (cluster : Cluster) (matched : IsMatche
     is = heard-acknowledgement past cluster.facts number carried by member carried.message.incarnation carried.message.sequence matched.flight there
         (message-is carried.message (ends.Member by) (ends.Member member) (bodies.FailsafeAnswer true) from to body)
         ∙ ap (λ (r : ℕ). Some (Acknowledged (record { member = member.id.number; incarnation = r; sequence = carried.message.sequence; by = by.id.number }))) (in_run (ap (λ (b : Body). is_answer b) body));
-    feeds = can-feed head past cluster member machine matched found works;
+    feeds = feeds;
   }
 
   said : (by : Member) → carried.message.from ≡ ends.Member by → (accepted : Bool) → carried.message.body ≡ bodies.FailsafeAnswer accepted → accepted ≡ true → HearsYes Met member.id.number (Some number) by.id carried.message.sequence Stood

@@ -1,0 +1,3 @@
+pub mod InputHears
+pub mod SeenModes
+pub mod ModeRequests
