@@ -1,7 +1,7 @@
-//! What an agent hears, as the law of the timed lease has it in flight; and that what it hears, and what it is asked, has failsafe mode as it
-//! is declared.
+//! What an agent hears by a message that comes, as the law of the timed lease has it in flight; and that no request and no input changes failsafe
+//! mode.
 #![tactic(auto)]
 
 mod laws;
 
-pub use laws::requests_keep_the_mode;
+pub use laws::{agents_see_the_mode, messages_are_heard_well, requests_keep_the_mode};

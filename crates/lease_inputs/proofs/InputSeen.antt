@@ -1,5 +1,5 @@
 -- What the law sees of a machine is what its agent finds of it.
-use Rattle.std.proofs.Common.{◌≡◌, ◌*◌, ◌≤◌, ℕ, Bool, true, List, Option, Some, None, IfSome, slice_get, option_map, is_some, refl, sym, subst, ap, ◌∙◌, arith}
+use Rattle.std.proofs.Common.{◌≡◌, ◌≤◌, ℕ, Bool, true, List, Option, Some, None, IfSome, slice_get, option_map, is_some, refl, sym, subst, ap, ◌∙◌, arith}
 use Rattle.std.proofs.lemmas.Option.{slice_get-map}
 use Rattle.pat_base.specs.declared.ticks.Ticks.{Ticks}
 use Rattle.member_options.specs.Options.{margin_span}

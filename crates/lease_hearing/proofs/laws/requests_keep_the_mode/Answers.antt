@@ -1,6 +1,5 @@
 use Rattle.lease_hearing.proofs.ModeRequests.{asked-mode}
-use Rattle.lease_hearing.proofs.SeenModes.{step-sees}
 use Rattle.lease_hearing.proofs.laws.requests_keep_the_mode.Goals as goal
 
 pub returns : goal.returns
-returns c = record { asked = asked-mode; seen = step-sees }
+returns c = asked-mode
