@@ -208,12 +208,14 @@ module _ (head : HeadText) (few : member_count head ≤ MOST_MEMBERS) (book : Li
   -- the law of the lease hears it
   hears-lease-by : ((m : ℕ) → works_of head m ≡ true) → (agent : AgentFacts) (machine : Machine) → IsFound cluster member machine → slice_get cluster.agents member.id.number ≡ Some (Some agent) → (heard : Heard) → heard_from cluster message ≡ Some heard
       → Hears (lease_past.state_of (declared_of head) (lease_past.past_of book) (run_volatile.volatile_of cluster)) member.id.number (Some number) heard (outcome_from agent.role agent.knows machine [])
-  hears-lease-by works agent machine machine_found here heard h = let feeds = can-feed head (lease_past.past_of book) cluster member machine good.lease.matched machine_found (works member.id.number) in elim (sender head book cluster number message member good.lease found to open_is) [
-    | inl store ↦ hears-by head (lease_past.past_of book) cluster good.lease.matched (run_volatile.volatile_of cluster) member agent machine feeds here
-        number message found store.0 to (run-same agent here store.1) message.message.body refl store.1 heard h
-    | inr peer ↦ peers-hear head (lease_past.past_of book) cluster good.lease.matched (run_volatile.volatile_of cluster) member agent machine feeds
-        number message found to (λ answers. answered-run head book cluster number message member good.lease found to open_is answers agent here) message.message.body refl peer heard h
-  ]
+  hears-lease-by works agent machine machine_found here heard h =
+      let feeds = can-feed head (lease_past.past_of book) cluster member machine good.lease.matched machine_found (works member.id.number) in
+      elim (sender head book cluster number message member good.lease found to open_is) [
+        | inl store ↦ hears-by head (lease_past.past_of book) cluster good.lease.matched (run_volatile.volatile_of cluster) member agent machine feeds here
+            number message found store.0 to (run-same agent here store.1) message.message.body refl store.1 heard h
+        | inr peer ↦ peers-hear head (lease_past.past_of book) cluster good.lease.matched (run_volatile.volatile_of cluster) member agent machine feeds
+            number message found to (λ answers. answered-run head book cluster number message member good.lease found to open_is answers agent here) message.message.body refl peer heard h
+      ]
 
   -- a member that asks is one that may be answered
   abbrev May : Heard → Type 0
