@@ -33,9 +33,9 @@ use Rattle.agent_roles.proofs.Living.{no-way}
 use Rattle.agent_model.proofs.Rows.{DutyRows, HandoverRows, ReplyRows, dropping, granted-any-by, kept_on, led_on, if-cases, judges-start-by, renewed-by, begins-or-claims-by, granted-when}
 use Rattle.agent_model.specs.Pausing.{is_paused}
 use Rattle.store_keys.specs.declared.txn.Expected.{Expected}
-use Rattle.agent_lease_law.proofs.MaySend.{Grounds, IsSilent, MayPut, AllMay, silently, silent-armed, silent-fed, IsReleaseOr, Fronts, IsMild, AllMild, handover-mild, checking-mild, before-fronts, postpones-silent, told-fronts}
-use Rattle.agent_lease_law.proofs.Sending.{silent-passing, Decides, learned-fronts, granted-none}
-use Rattle.agent_lease_law.proofs.MaySend.Fronts.{Silent, Released}
+use Rattle.agent_sending.proofs.MaySend.{Grounds, IsSilent, MayPut, AllMay, silently, silent-armed, silent-fed, IsReleaseOr, Fronts, IsMild, AllMild, handover-mild, checking-mild, before-fronts, postpones-silent, told-fronts}
+use Rattle.agent_sending.proofs.Sending.{silent-passing, Decides, learned-fronts, granted-none}
+use Rattle.agent_sending.proofs.MaySend.Fronts.{Silent, Released}
 
 begins-one : (P Q : Type 0) → (P → Q) → (output : Output) → BeginsOnly P output → BeginsOnly Q output
 begins-one P Q more outputs.Begin e = more e

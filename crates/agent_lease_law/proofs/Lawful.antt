@@ -33,7 +33,7 @@ use Rattle.agent_model.specs.StayingPrimary.{is_staying}
 use Rattle.agent_model.specs.Fits.{Fits}
 use Rattle.agent_lease_law.specs.Lawful.{StandsIn, query_in, IsSentBy, is_yes, request_heard, request_taken, IsInputOf}
 use Rattle.agent_lease_law.specs.Lawful.IsSentBy.{AsksStore, AsksMember, SaysYes}
-use Rattle.agent_lease_law.specs.Modes.{KeepsMode}
+use Rattle.agent_sending.specs.Modes.{KeepsMode}
 use Rattle.agent_roles.specs.Powers.{Acts, BringsNothing, DeadlineMay, LeavesMachine, leads, lease_of}
 use Rattle.agent_roles.specs.Powers.DeadlineMay.{Kept as DeadlineKept, Removed as DeadlineRemoved, Undone as DeadlineUndone}
 use Rattle.agent_roles.specs.Seen.{check_seen, lease_asked, leader_seen_if, failsafe_seen_if, agent_seen, moment_seen, hold_seen, machine_seen}
@@ -41,7 +41,7 @@ use Rattle.agent_roles.proofs.Knowing.{Onward}
 use Rattle.agent_roles.proofs.Fitting.{ready-ended}
 use Rattle.agent_roles.proofs.Leaving.{acts-before}
 use Rattle.agent_roles.proofs.Living.{no-way}
-use Rattle.agent_lease_law.proofs.MaySend.{Grounds, CarriesSetIf, MayTransact, MayAskStore, SendsNew, MayPut, AllMay}
+use Rattle.agent_sending.proofs.MaySend.{Grounds, CarriesSetIf, MayTransact, MayAskStore, SendsNew, MayPut, AllMay}
 
 -- what the law sees of an agent that stands in this state, and of one after an input
 abbrev pub was_of : Outcome → AgentSeen

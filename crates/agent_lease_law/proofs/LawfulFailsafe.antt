@@ -25,7 +25,7 @@ use Rattle.agent_model.specs.declared.knowledge.PendingQuestion.{PendingQuestion
 use Rattle.agent_model.specs.declared.output.Output.{Output}
 use Rattle.agent_model.specs.Agents.{RoleFacts, Follower, Holder, Ready, Leader, Ending, Unleased, Outcome, is_ready}
 use Rattle.agent_model.specs.Reconciling.{reconciled}
-use Rattle.agent_lease_law.specs.Modes.{KeepsMode}
+use Rattle.agent_sending.specs.Modes.{KeepsMode}
 use Rattle.agent_lease_law.specs.Lawful.{HearsRequest, HearsYes, is_yes, request_heard, request_in, request_taken, StandsIn, IsInputOf, IsLawfulAnd}
 use Rattle.agent_roles.specs.Powers.{BringsNothing, DeadlineMay, LeavesMachine, StaysByWord, leads}
 use Rattle.agent_roles.proofs.Leaving.WatchdogStays.{Same}
@@ -37,16 +37,16 @@ use Rattle.agent_roles.proofs.Bringing.{holding-brings, staying-brings, brings-t
 use Rattle.agent_roles.proofs.Fitting.{before-fits}
 use Rattle.agent_roles.proofs.Granting.{both-true}
 use Rattle.agent_roles.proofs.Knowing.{step-onward, IsAlone}
-use Rattle.agent_lease_law.proofs.Checking.{Counts, Goes, failsafe-answered-goes, failsafe-asked-step-goes}
+use Rattle.agent_sending.proofs.Checking.{Counts, Goes, failsafe-answered-goes, failsafe-asked-step-goes}
 use Rattle.agent_lease_law.proofs.Lawful.{AreLawfulGrounds, ready-left, takes-nothing, watchdog-left, was_of, acts-seen, seen-acts, watchdog-leaves, parted-by}
 use Rattle.agent_lease_law.proofs.LawfulGrants.{deadline-of}
 use Rattle.agent_roles.proofs.Leaving.{Stays, acts-before, behind, stays, before-leaves}
 use Rattle.agent_roles.proofs.Living.{no-way}
 use Rattle.agent_roles.proofs.Staying.{before-waits}
 use Rattle.agent_model.proofs.Rows.{failsafe-asked-by, if-cases}
-use Rattle.agent_lease_law.proofs.MaySend.Fronts.{Silent, Released}
-use Rattle.agent_lease_law.proofs.MaySend.{Fronts, Grounds, IsReleaseOr, before-fronts, IsSilent, AllMay}
-use Rattle.agent_lease_law.proofs.StayingSends.{failsafe-answered-may, failsafe-asked-may, staying}
+use Rattle.agent_sending.proofs.MaySend.Fronts.{Silent, Released}
+use Rattle.agent_sending.proofs.MaySend.{Fronts, Grounds, IsReleaseOr, before-fronts, IsSilent, AllMay}
+use Rattle.agent_sending.proofs.StayingSends.{failsafe-answered-may, failsafe-asked-may, staying}
 use Rattle.agent_lease_law.proofs.LawfulWaits.{Ungranted, ungranted-lawful, checks-waited, seen-check, goes-check, lawful-with, AsksLeases, later-deadline, leader-unready, failsafe-deadline, failsafe-basis}
 
 -- ---- a failsafe request

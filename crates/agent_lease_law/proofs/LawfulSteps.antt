@@ -40,7 +40,7 @@ use Rattle.agent_model.specs.declared.who.Who.{Who}
 use Rattle.agent_model.specs.Agents.{RoleFacts, EndsAlone, IsSoundAgent, Outcome, outcome_from, is_ready}
 use Rattle.agent_model.specs.Reconciling.{reconciled}
 use Rattle.agent_model.specs.Decisions.{asks_lease, is_lease_of}
-use Rattle.agent_lease_law.specs.Modes.{KeepsMode, MayTakeKey}
+use Rattle.agent_sending.specs.Modes.{KeepsMode, MayTakeKey}
 use Rattle.agent_lease_law.specs.Lawful.{CanFeed, StandsIn, HearsAnswer, TellsLease, HearsGrant, IsInputOf, MayPromote, IsLawfulAnd, IsLawfulFrom}
 use Rattle.agent_roles.specs.Powers.{AcknowledgesOperated, Acts, BringsNothing, DeadlineMay, LeavesMachine, IsAwaitedLease, StaysAlone, GrantMay, leads, lease_of}
 use Rattle.agent_roles.specs.Powers.DeadlineMay.{Kept as DeadlineKept, Removed as DeadlineRemoved, Undone as DeadlineUndone}
@@ -60,7 +60,7 @@ use Rattle.agent_roles.proofs.Bringing.{acting-brings, any-refused-brings, opera
 use Rattle.agent_roles.proofs.Fitting.{before-fits, ready-same}
 use Rattle.agent_roles.proofs.Granting.{both-true, awaited-lease, any-granted-may as grant-may}
 use Rattle.agent_roles.proofs.Knowing.{told-pause, any-granted-onward, any-refused-onward, looked-onward, operated-onward, IsAlone, alone-of, Onward, before-onward, wake-onward, got-onward, answered-onward, asked-onward, onward-then}
-use Rattle.agent_lease_law.proofs.Checking.{Begins as BeginsToStay, Goes, answered-step-goes, asked-step-goes, free-takes, got-step-goes, granted-step-goes, operated-step-goes, refused-step-goes, wake-goes}
+use Rattle.agent_sending.proofs.Checking.{Begins as BeginsToStay, Goes, answered-step-goes, asked-step-goes, free-takes, got-step-goes, granted-step-goes, operated-step-goes, refused-step-goes, wake-goes}
 use Rattle.agent_lease_law.proofs.Lawful.{AreLawfulGrounds, lease-only, ready-left, takes-nothing, watchdog-by, watchdog-left, was_of, acts-seen, seen-acts, watchdog-kept, watchdog-leaves, parted-by, lawful-of}
 use Rattle.agent_lease_law.proofs.LawfulGrants.{heard-leader, heard-failsafe, hears-grant, fed-of, entry-known, armable-before, late-before, new-deadline, free-of}
 use Rattle.agent_roles.proofs.Leaving.{given-up-fits, acts-before, stays, told-fits, leaves-then, before-leaves, read-leaves, refusal-leaves, asked-leaves, answered-leaves}
@@ -69,9 +69,9 @@ use Rattle.agent_roles.proofs.Staying.{before-waits, stays-unpaused}
 use Rattle.agent_model.proofs.Rows.{wake-by, looked-by}
 use Rattle.agent_lease_law.proofs.Behind.{BeginsOn, grant-begins, begins-weaker}
 use Rattle.agent_lease_law.proofs.Behind.BeginsOn.{WasReady, OnLease}
-use Rattle.agent_lease_law.proofs.MaySend.{Grounds, IsSilent, AllMay}
-use Rattle.agent_lease_law.proofs.StayingSends.{AsksToStay, staying, wake-may}
-use Rattle.agent_lease_law.proofs.Sending.{CreatesOnRead, operated-may, Decides, got-may, refused-may, granted-may as granted-sends, asked-may, answered-may}
+use Rattle.agent_sending.proofs.MaySend.{Grounds, IsSilent, AllMay}
+use Rattle.agent_sending.proofs.StayingSends.{AsksToStay, staying, wake-may}
+use Rattle.agent_sending.proofs.Sending.{CreatesOnRead, operated-may, Decides, got-may, refused-may, granted-may as granted-sends, asked-may, answered-may}
 use Rattle.agent_lease_law.proofs.LawfulWaits.{Ungranted, ungranted-lawful, checks-waited, seen-check, goes-check, lawful-with, without-grant, AsksLeases, span-of, later-deadline, settings-span, leader-leads, leader-unready, failsafe-deadline, failsafe-basis}
 use Rattle.agent_lease_law.proofs.LawfulFailsafe.{failsafe-asked-lawful, failsafe-answered-lawful}
 

@@ -18,19 +18,19 @@ use Rattle.agent_model.specs.Acting.{lease_span}
 use Rattle.agent_model.specs.declared.knowledge.Knowledge.{Knowledge}
 use Rattle.agent_model.specs.declared.knowledge.PendingQuestion.{PendingQuestion}
 use Rattle.agent_model.specs.Agents.{RoleFacts, Follower, Holder, Ready, Leader, Ending, Unleased, Outcome, is_leader, is_ready}
-use Rattle.agent_lease_law.specs.Modes.{KeepsMode}
+use Rattle.agent_sending.specs.Modes.{KeepsMode}
 use Rattle.agent_lease_law.specs.Lawful.{CanFeed, StandsIn, IsInputOf, MayPromote, IsLawfulAnd}
 use Rattle.agent_roles.specs.Powers.{BringsNothing, LeavesMachine, IsFedByFailsafe, leads}
 use Rattle.agent_roles.specs.Seen.{check_seen, leader_seen_if, moment_seen, failsafe_seen_if}
 use Rattle.store_keys.specs.declared.action.OperatorRequest.TheVariants as requests
 use Rattle.agent_roles.proofs.Knowing.{Onward}
-use Rattle.agent_lease_law.proofs.Checking.{Goes}
+use Rattle.agent_sending.proofs.Checking.{Goes}
 use Rattle.agent_lease_law.proofs.Lawful.{AreLawfulGrounds, ready-left, takes-nothing, was_of, seen-acts, watchdog-leaves, lawful-of}
 use Rattle.agent_lease_law.proofs.LawfulGrants.{fed-deadline}
 use Rattle.agent_roles.proofs.Living.{no-way}
 use Rattle.agent_lease_law.proofs.Behind.{nobody-begins}
-use Rattle.agent_lease_law.proofs.MaySend.{Grounds, AllMay}
-use Rattle.agent_lease_law.proofs.StayingSends.{staying}
+use Rattle.agent_sending.proofs.MaySend.{Grounds, AllMay}
+use Rattle.agent_sending.proofs.StayingSends.{staying}
 
 -- the grounds of an input that hears no grant, and acknowledges nothing: a create may expect what the law lets it
 abbrev pub Ungranted : State → ℕ → AgentInput → Outcome → Grounds

@@ -1,11 +1,6 @@
-pub mod MaySend
-pub mod StayingSends
-pub mod Sending
 pub mod Behind
-pub mod Checking
 pub mod Lawful
 pub mod LawfulGrants
 pub mod LawfulWaits
 pub mod LawfulFailsafe
 pub mod LawfulSteps
-pub mod Asking

@@ -24,7 +24,7 @@ use Rattle.agent_model.specs.Agents.{Outcome, is_ready}
 use Rattle.agent_model.specs.Outputs.{is_arming, is_feeding, has_one, OutputsBeginBehind}
 use Rattle.agent_model.specs.Pausing.{is_paused}
 use Rattle.agent_roles.specs.Powers.{IsAwaitedLease}
-use Rattle.agent_lease_law.specs.Modes.{KeepsMode, TellsMode}
+use Rattle.agent_sending.specs.Modes.{KeepsMode, TellsMode}
 use Rattle.agent_roles.specs.Seen.{leader_seen, failsafe_seen, moment_seen, machine_seen}
 
 -- the state of the law in which this agent stands at this moment: what it read has failsafe mode as it is declared, and doesn't pause the cluster;

@@ -3,6 +3,4 @@
 
 mod laws;
 
-pub use laws::{
-    inputs_are_lawful, starts_are_lawful, the_mode_is_kept, what_is_asked_is_waited_for,
-};
+pub use laws::{inputs_are_lawful, starts_are_lawful};

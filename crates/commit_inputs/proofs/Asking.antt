@@ -31,7 +31,7 @@ use Rattle.agent_model.specs.declared.output.Output.TheVariants as outputs
 use Rattle.agent_model.specs.declared.output.Target.TheVariants as targets
 use Rattle.agent_model.specs.Agents.{AgentFacts, Outcome, outcome_from}
 use Rattle.agent_commit_law.specs.Committing.{AsksInSynchronousMode, FollowsSynchronousMode}
-use Rattle.agent_lease_law.specs.Modes.{AsksMode}
+use Rattle.agent_sending.specs.Modes.{AsksMode}
 use Rattle.agent_model.specs.Decisions.{asks_sync}
 use Rattle.agent_model.specs.Table.{step}
 use Rattle.cluster_model.specs.declared.heard_message.HeardMessage.{HeardMessage}

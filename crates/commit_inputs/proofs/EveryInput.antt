@@ -22,7 +22,7 @@ use Rattle.lease_store.specs.declared.granted.Granted.{Granted}
 use Rattle.agent_model.specs.Agents.{AgentFacts, Outcome, outcome_from}
 use Rattle.agent_commit_law.specs.Committing.{HearsBelow, HearsSynchronousMode, HearsToCommit}
 use Rattle.agent_lease_law.specs.Lawful.{Hears}
-use Rattle.agent_lease_law.specs.Modes.{IsModeRequested}
+use Rattle.agent_sending.specs.Modes.{IsModeRequested}
 use Rattle.cluster_model.specs.declared.delivery.Delivery.TheVariants as deliveries
 use Rattle.cluster_model.specs.Cluster.{agent_facts_by, agent_facts_with, cluster_after}
 use Rattle.cluster_model.specs.Deliveries.{delivery_of}

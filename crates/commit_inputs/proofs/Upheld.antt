@@ -57,7 +57,7 @@ use Rattle.commit_servers.proofs.Kept.{keeps-now}
 use Rattle.lease_parts.specs.Bridged.{KnowsItself}
 use Rattle.lease_parts.specs.Declaring.{declared_of}
 use Rattle.run_promise.specs.Members.{member_count}
-use Rattle.agent_lease_law.specs.Modes.{AsksMode}
+use Rattle.agent_sending.specs.Modes.{AsksMode}
 use Rattle.agent_roles.specs.Asks.{IsAsk}
 use Rattle.lease_inputs.specs.InputEvents.{AnswersPeer, AnswersRequest, Asks, AsksPeer, IsMessageOf, IsOfInput}
 use Rattle.lease_parts.specs.Kept.{IsKept}

@@ -30,7 +30,7 @@ use Rattle.agent_model.specs.declared.machine.Machine.{Machine}
 use Rattle.agent_model.specs.Agents.{AgentFacts, Outcome, outcome_from}
 use Rattle.agent_model.specs.Decisions.{asks_lease, is_decision, is_lease_of}
 use Rattle.agent_lease_law.specs.Lawful.{CanFeed, HearsAnswer, HearsGrant, HearsYes, Hears, request_in}
-use Rattle.agent_lease_law.specs.Modes.{HearsMode, TellsMode}
+use Rattle.agent_sending.specs.Modes.{HearsMode, TellsMode}
 use Rattle.lease_law.specs.Modes.{IsModeHeld, IsModeIn, IsModeTold, IsModeValue, TellMode}
 use Rattle.agent_roles.specs.Seen.{leader_entry_seen, failsafe_entry_seen}
 use Rattle.agent_roles.proofs.Knowing.{tells_pause, told_by}

@@ -37,7 +37,7 @@ use Rattle.rest_answer.specs.Answers.{Acts, Replies, answer_by, decided}
 use Rattle.rest_answer.specs.Decisions.{asking_for, change_on}
 use Rattle.agent_model.specs.Agents.{Outcome}
 use Rattle.agent_model.specs.Views.{shown}
-use Rattle.agent_lease_law.specs.Modes.{IsModeRequested, TellsMode}
+use Rattle.agent_sending.specs.Modes.{IsModeRequested, TellsMode}
 use Rattle.cluster_model.specs.Requests.{answer_at}
 use Rattle.lease_law.proofs.Tools.{none-some}
 use Rattle.lease_parts.specs.Bridged.{SeesMode}

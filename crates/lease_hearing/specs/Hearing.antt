@@ -3,9 +3,9 @@ use Rattle.std.specs.Prelude.{ℕ, ◌≡◌, ◌<◌, Bool, List, Option, Some,
 use Rattle.pat_base.specs.declared.member_id.MemberId.{MemberId}
 use Rattle.event_book.specs.declared.member.Member.{Member}
 use Rattle.agent_model.specs.declared.heard.Heard.{Heard}
-use Rattle.agent_lease_law.specs.Asking.{HearsFailsafe}
+use Rattle.agent_sending.specs.Asking.{HearsFailsafe}
 use Rattle.agent_lease_law.specs.Lawful.{request_heard}
-use Rattle.agent_lease_law.specs.Modes.{HearsMode}
+use Rattle.agent_sending.specs.Modes.{HearsMode}
 use Rattle.cluster_model.specs.declared.heard_message.HeardMessage.{HeardMessage}
 use Rattle.lease_law.specs.Leases.{Flying}
 

@@ -13,7 +13,7 @@ ghost use Rattle.lease_law.specs.Past.{Past};
 ghost use Rattle.agent_model.specs.declared.heard.Heard.{Heard};
 ghost use Rattle.agent_model.specs.Agents.{Outcome};
 ghost use Rattle.agent_model.specs.Table.{step};
-ghost use Rattle.agent_lease_law.specs.Modes.{HearsMode, IsModeRequested};
+ghost use Rattle.agent_sending.specs.Modes.{HearsMode, IsModeRequested};
 ghost use Rattle.cluster_model.specs.Hearing.{heard_from};
 ghost use Rattle.cluster_model.specs.Messages.{heard_message};
 ghost use Rattle.cluster_model.specs.Requests.{answer_at};

@@ -60,8 +60,8 @@ use Rattle.agent_roles.proofs.Knowing.{tells_pause, told_by}
 use Rattle.lease_hearing.specs.Hearing.{IsHeardWell}
 use Rattle.lease_hearing.proofs.InputHears.{calm-from, unpaused-told, heard-well, hears-by, peers-hear}
 use Rattle.lease_hearing.proofs.ModeRequests.{asked-mode}
-use Rattle.agent_lease_law.specs.Asking.{HearsFailsafe}
-use Rattle.agent_lease_law.specs.Modes.{IsModeRequested}
+use Rattle.agent_sending.specs.Asking.{HearsFailsafe}
+use Rattle.agent_sending.specs.Modes.{IsModeRequested}
 use Rattle.lease_inputs.proofs.InputKept.{IsBegun, begun-by, input-kept, opening-addressed, opening-mode}
 use Rattle.lease_inputs.proofs.InputKinds.{IsOpening, opening-hands_off, opening-members}
 use Rattle.lease_inputs.proofs.InputSeen.{can-feed, found-of}

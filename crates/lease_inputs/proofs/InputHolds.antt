@@ -27,10 +27,10 @@ use Rattle.agent_model.specs.Table.{step}
 use Rattle.agent_model.proofs.Rows.{failsafe-asked-by}
 use Rattle.agent_roles.proofs.Knowing.{alone-of}
 use Rattle.agent_outputs.specs.Orders.{IsOfTable}
-use Rattle.agent_lease_law.specs.Asking.{HearsFailsafe, StandsOn}
+use Rattle.agent_sending.specs.Asking.{HearsFailsafe, StandsOn}
 use Rattle.agent_lease_law.specs.Lawful.{is_yes, request_heard, request_taken}
-use Rattle.agent_lease_law.proofs.MaySend.{Fronts, IsReleaseOr, IsSilent, before-fronts}
-use Rattle.agent_lease_law.proofs.MaySend.Fronts.{Silent, Released}
+use Rattle.agent_sending.proofs.MaySend.{Fronts, IsReleaseOr, IsSilent, before-fronts}
+use Rattle.agent_sending.proofs.MaySend.Fronts.{Silent, Released}
 use Rattle.cluster_model.specs.declared.heard_message.HeardMessage.{HeardMessage}
 use Rattle.cluster_model.specs.Cluster.{cluster_over}
 use Rattle.cluster_model.specs.Commands.{kinds_of}

@@ -33,10 +33,10 @@ use Rattle.agent_roles.specs.Seen.{agent_seen as role_seen, check_seen}
 use Rattle.lease_law.specs.States.{FailsafeCheck, is_ready as ready_seen}
 use Rattle.agent_model.specs.Agents.{RoleFacts, Follower, Holder, Ready, Leader, Ending, Unleased, is_ready, AgentFacts, Outcome, outcome_from, EndsAlone}
 use Rattle.agent_lease_law.specs.Lawful.{StandsIn, Hears, IsSentBy, AsksStore, AsksMember, SaysYes, IsInputOf, MayPromote, IsLawfulAnd, is_yes, request_heard, request_taken}
-use Rattle.agent_lease_law.specs.Modes.{AsksMode, KeepsMode}
-use Rattle.agent_lease_law.proofs.Asking.{input-asks-from, mode-asked-from}
-use Rattle.agent_lease_law.proofs.Checking.{mode-kept}
-use Rattle.agent_lease_law.specs.Asking.{StandsOn}
+use Rattle.agent_sending.specs.Modes.{AsksMode, KeepsMode}
+use Rattle.agent_sending.proofs.Asking.{input-asks-from, mode-asked-from}
+use Rattle.agent_sending.proofs.Checking.{mode-kept}
+use Rattle.agent_sending.specs.Asking.{StandsOn}
 use Rattle.std.proofs.lemmas.List.Elements.{All-weaker}
 use Rattle.cluster_model.specs.FailsafeDeadlines.{is_set_by_failsafe}
 use Rattle.cluster_model.proofs.Places.{there}

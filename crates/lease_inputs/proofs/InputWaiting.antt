@@ -15,7 +15,7 @@ use Rattle.agent_model.specs.declared.output.Output.TheVariants as outputs
 use Rattle.agent_model.specs.declared.output.Target.TheVariants as targets
 use Rattle.agent_model.specs.Agents.{AgentFacts, Outcome, EndsAlone}
 use Rattle.agent_lease_law.specs.Lawful.{query_in, IsSentBy, AsksStore, AsksMember, SaysYes}
-use Rattle.agent_lease_law.specs.Modes.{KeepsMode}
+use Rattle.agent_sending.specs.Modes.{KeepsMode}
 use Rattle.cluster_model.specs.Cluster.{agent_after}
 use Rattle.lease_law.specs.Leases.{Query, Read, Question, FailsafeRequest, Acknowledgement, Flying, Requested, FailsafeRequested, Acknowledged}
 use Rattle.lease_law.specs.Past.{lease_span, query_of}

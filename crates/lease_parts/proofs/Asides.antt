@@ -31,7 +31,7 @@ use Rattle.lease_book.specs.Flights.{IsCausal}
 use Rattle.lease_book.proofs.Flights.{flight-by}
 use Rattle.lease_parts.specs.Asides.{IsAside, IsAsideIn}
 use Rattle.lease_law.specs.Modes.{LeavesMode}
-use Rattle.agent_lease_law.specs.Modes.{KeepsMode}
+use Rattle.agent_sending.specs.Modes.{KeepsMode}
 use Rattle.lease_parts.specs.Bridged.{KnowsItself, KnowThemselves, IsMatched, SeesMode}
 use Rattle.lease_parts.specs.Declaring.{declared_of}
 use Rattle.lease_parts.proofs.Fitting.{failsafe-by}

@@ -29,7 +29,7 @@ use Rattle.lease_parts.specs.Declaring.{declared_of}
 use Rattle.run_promise.specs.Members.{declared_members, member_count}
 use Rattle.lease_parts.specs.Machines.{IsSameEverywhere, deadline_now, hold_now, live_now, run_in}
 use Rattle.lease_parts.specs.Volatile.{agent_now, volatile_of}
-use Rattle.agent_lease_law.specs.Modes.{KeepsMode}
+use Rattle.agent_sending.specs.Modes.{KeepsMode}
 use Rattle.cluster_model.specs.FailsafeDeadlines.{is_set_by_failsafe}
 use Rattle.lease_law.proofs.Modes.{mode-first}
 use Rattle.lease_parts.proofs.Fresh.{fresh-keeps, fresh-seen, fresh-sees}

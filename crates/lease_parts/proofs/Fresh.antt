@@ -6,7 +6,7 @@ use Rattle.std.proofs.lemmas.Nat.Bits.{bit_at-zero}
 use Rattle.std.specs.Int.{bit_at}
 use Rattle.agent_model.specs.declared.who.Who.{Who}
 use Rattle.cluster_view.specs.Snapshots.{SnapshotFacts}
-use Rattle.agent_lease_law.specs.Modes.{KeepsMode, TellsMode}
+use Rattle.agent_sending.specs.Modes.{KeepsMode, TellsMode}
 use Rattle.cluster_model.specs.Inputs.{starting_agent}
 use Rattle.lease_law.specs.States.{Agent, fresh_agent}
 use Rattle.lease_law.proofs.Tools.{none-some}

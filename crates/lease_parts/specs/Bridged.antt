@@ -8,7 +8,7 @@ use Rattle.event_book.specs.declared.event.Event.{Event}
 use Rattle.agent_model.specs.Agents.{AgentFacts}
 use Rattle.agent_model.specs.Pausing.{is_paused}
 use Rattle.cluster_model.specs.Starting.{options_of}
-use Rattle.agent_lease_law.specs.Modes.{KeepsMode, TellsMode}
+use Rattle.agent_sending.specs.Modes.{KeepsMode, TellsMode}
 use Rattle.agent_model.specs.declared.knowledge.Knowledge.{Knowledge}
 use Rattle.cluster_model.specs.FailsafeDeadlines.{is_set_by_failsafe}
 use Rattle.cluster_model.specs.State.{Cluster}

@@ -48,9 +48,9 @@ use Rattle.agent_outputs.specs.Orders.{IsOfTable}
 use Rattle.agent_outputs.proofs.Orders.{step-carried-out}
 use Rattle.agent_questions.specs.Questions.{SendsBetween}
 use Rattle.agent_questions.proofs.Questions.{step-asks-anew}
-use Rattle.agent_lease_law.specs.Asking.{awaits_stay}
-use Rattle.agent_lease_law.proofs.Checking.{answered-step-goes, asked-step-goes, failsafe-answered-goes, failsafe-asked-step-goes, operated-step-goes, refused-step-goes}
-use Rattle.agent_lease_law.proofs.MaySend.{Fronts, IsSilent, before-fronts}
+use Rattle.agent_sending.specs.Asking.{awaits_stay}
+use Rattle.agent_sending.proofs.Checking.{answered-step-goes, asked-step-goes, failsafe-answered-goes, failsafe-asked-step-goes, operated-step-goes, refused-step-goes}
+use Rattle.agent_sending.proofs.MaySend.{Fronts, IsSilent, before-fronts}
 use Rattle.lease_inputs.proofs.InputHolds.{fronts-hold}
 use Rattle.cluster_model.specs.declared.heard_message.HeardMessage.{HeardMessage}
 use Rattle.cluster_model.specs.Cluster.{agent_after, agent_facts_after, cluster_after, cluster_over}

@@ -50,10 +50,10 @@ use Rattle.agent_roles.proofs.Granting.{Told, both-true}
 use Rattle.agent_roles.proofs.Knowing.{IsAlone, before-onward}
 use Rattle.agent_roles.proofs.Living.{no-way}
 use Rattle.agent_roles.proofs.Staying.{before-leaves, before-waits}
-use Rattle.agent_lease_law.specs.Asking.{awaits_stay}
-use Rattle.agent_lease_law.proofs.MaySend.{AllMay, Fronts, Grounds, IsSilent, MayAskMember, MayPut, before-fronts}
-use Rattle.agent_lease_law.proofs.Sending.{answered-may, asked-may, got-may, granted-may, operated-may, refused-may}
-use Rattle.agent_lease_law.proofs.StayingSends.{AsksToStay, failsafe-answered-may, given-up-fronts, staying, wake-may}
+use Rattle.agent_sending.specs.Asking.{awaits_stay}
+use Rattle.agent_sending.proofs.MaySend.{AllMay, Fronts, Grounds, IsSilent, MayAskMember, MayPut, before-fronts}
+use Rattle.agent_sending.proofs.Sending.{answered-may, asked-may, got-may, granted-may, operated-may, refused-may}
+use Rattle.agent_sending.proofs.StayingSends.{AsksToStay, failsafe-answered-may, given-up-fronts, staying, wake-may}
 use Rattle.lease_inputs.proofs.InputHolds.{fronts-hold}
 
 -- ---- what is waited for

@@ -24,7 +24,7 @@ use Rattle.agent_model.specs.declared.output.Output.TheVariants as outputs
 use Rattle.agent_model.specs.declared.output.Target.TheVariants as targets
 use Rattle.agent_model.specs.Acting.{requiring, touching, starting_replica, arming, ending_server, is_refusing, waiting_no_more}
 use Rattle.agent_model.specs.Agents.{EndsAlone, RoleFacts, Follower, Ending, IsSoundAgent, Outcome, outcome_from}
-use Rattle.agent_lease_law.specs.Asking.{IsNumbered, IsAskedNow, AsksAsWaited, StandsOn, HearsFailsafe, FeedsAsAsked, awaits_stay}
+use Rattle.agent_sending.specs.Asking.{IsNumbered, IsAskedNow, AsksAsWaited, StandsOn, HearsFailsafe, FeedsAsAsked, awaits_stay}
 use Rattle.agent_model.specs.Reconciling.{reconciled}
 use Rattle.agent_model.specs.Claiming.{begins, claims, begins_or_claims, passing, postpones}
 use Rattle.agent_model.specs.StayingPrimary.{answering_failsafe, asking_to_stay, counting, holding_for, is_staying, leader_unacknowledged, others_known, stays, stays_alone}
@@ -50,11 +50,11 @@ use Rattle.store_keys.specs.declared.config_value.ConfigValue.{ConfigValue}
 use Rattle.store_keys.specs.declared.txn.Txn.TheVariants as txns
 use Rattle.event_book.specs.declared.message.Body.{Body}
 use Rattle.lease_law.specs.Modes.{IsModeAsked, IsModeSet}
-use Rattle.agent_lease_law.specs.Modes.{AsksMode, HearsMode, IsModeRequested}
-use Rattle.agent_lease_law.proofs.MaySend.{MayAskMember, MayAskStore, MayTransact, Grounds, IsSilent, silently, MayPut, AllMay, Fronts, before-fronts, overdue-none}
-use Rattle.agent_lease_law.proofs.StayingSends.{staying, failsafe-asked-may, failsafe-answered-may, wake-may, given-up-fronts}
-use Rattle.agent_lease_law.proofs.Sending.{got-none, got-may, refused-may, granted-may, answered-none, answered-may, asked-may, operated-may, looked-fronts, looked-later}
-use Rattle.agent_lease_law.proofs.MaySend.Fronts.{Silent, Released}
+use Rattle.agent_sending.specs.Modes.{AsksMode, HearsMode, IsModeRequested}
+use Rattle.agent_sending.proofs.MaySend.{MayAskMember, MayAskStore, MayTransact, Grounds, IsSilent, silently, MayPut, AllMay, Fronts, before-fronts, overdue-none}
+use Rattle.agent_sending.proofs.StayingSends.{staying, failsafe-asked-may, failsafe-answered-may, wake-may, given-up-fronts}
+use Rattle.agent_sending.proofs.Sending.{got-none, got-may, refused-may, granted-may, answered-none, answered-may, asked-may, operated-may, looked-fronts, looked-later}
+use Rattle.agent_sending.proofs.MaySend.Fronts.{Silent, Released}
 use Rattle.agent_roles.proofs.Fitting.{before-fits}
 use Rattle.agent_model.specs.Pausing.{may_start_behind, disabling_watchdog, running_without_key}
 

@@ -62,8 +62,8 @@ use Rattle.agent_roles.proofs.Granting.{Told, both-true}
 use Rattle.agent_roles.proofs.Knowing.{given-up-onward}
 use Rattle.agent_roles.proofs.Living.{no-way}
 use Rattle.agent_roles.proofs.Staying.{before-leaves, before-waits}
-use Rattle.agent_lease_law.specs.Modes.{KeepsMode, LeavesMode, MayTakeKey, TellsMode}
-use Rattle.agent_lease_law.proofs.Sending.{free-when}
+use Rattle.agent_sending.specs.Modes.{KeepsMode, LeavesMode, MayTakeKey, TellsMode}
+use Rattle.agent_sending.proofs.Sending.{free-when}
 
 -- what an agent knows that failsafe mode is about, beside what it waits for
 pub record ModeSeen : Type 0 where

@@ -20,7 +20,7 @@ use Rattle.agent_model.specs.declared.output.Output.TheVariants as outputs
 use Rattle.agent_model.specs.declared.output.Target.TheVariants as targets
 use Rattle.agent_model.specs.Acting.{deadline_after, lease_span, waiting_no_more}
 use Rattle.agent_model.specs.Agents.{RoleFacts, Follower, Holder, Ready, Leader, Ending, Unleased, Outcome}
-use Rattle.agent_lease_law.specs.Asking.{awaits_stay}
+use Rattle.agent_sending.specs.Asking.{awaits_stay}
 use Rattle.agent_model.specs.FailsafeKeys.{failsafe_compared}
 use Rattle.agent_model.specs.StayingPrimary.{answering_failsafe, asking_to_stay, counting, failsafe_answered, failsafe_asked, fed_by_failsafe, holding_for, is_staying, leader_unacknowledged, others_known, requesting_first, requesting_one, span_after, stays, stays_alone, unacknowledged, unacknowledged_as}
 use Rattle.agent_model.specs.Reconciling.{reconciled}
@@ -39,8 +39,8 @@ use Rattle.agent_roles.proofs.Staying.{before-leaves, before-waits}
 use Rattle.agent_roles.proofs.Living.{no-way}
 use Rattle.agent_model.proofs.Rows.{HandoverRows, dropping, given-up-by, if-cases, overdue-when, turn-by, wake-by, judged-by, failsafe-asked-by, failsafe-answered-by}
 use Rattle.agent_model.specs.Pausing.{is_paused}
-use Rattle.agent_lease_law.proofs.MaySend.{IsSilent, Grounds, MayPut, AllMay, silent-may, front, push, silently, IsReleaseOr, Fronts, IsMild, AllMild, mild-may, mild-all, mild-front, up-to, more-mild, judged-mild, handover-mild, before-fronts, released, fronts-may, postpones-silent, reads-new, overdue-none, told-fronts, ComparesAs, before-compares, CreatesAsCompared, creates-behind, front-of}
-use Rattle.agent_lease_law.proofs.MaySend.Fronts.{Silent, Released}
+use Rattle.agent_sending.proofs.MaySend.{IsSilent, Grounds, MayPut, AllMay, silent-may, front, push, silently, IsReleaseOr, Fronts, IsMild, AllMild, mild-may, mild-all, mild-front, up-to, more-mild, judged-mild, handover-mild, before-fronts, released, fronts-may, postpones-silent, reads-new, overdue-none, told-fronts, ComparesAs, before-compares, CreatesAsCompared, creates-behind, front-of}
+use Rattle.agent_sending.proofs.MaySend.Fronts.{Silent, Released}
 
 turn-mild : (G : Grounds) (now : Ticks) (o b : Outcome) → o.knows.sequence ≤ b.knows.sequence → AllMild G.creates o.knows.sequence b → AllMay G o (turned now b)
 turn-mild G now o b later mild = let noted : Outcome = record b { knows = turn_noted now b.knows } in let low : ℕ = o.knows.sequence in let high : ℕ = b.knows.sequence in let K : Option Expected → Type 0 = G.creates in

@@ -1,0 +1,5 @@
+pub mod MaySend
+pub mod StayingSends
+pub mod Sending
+pub mod Checking
+pub mod Asking
