@@ -32,7 +32,6 @@ use Rattle.agent_roles.proofs.Leaving.WatchdogStays.{Same}
 use Rattle.agent_roles.proofs.Acknowledging.{answer-leaves, request-leaves}
 use Rattle.agent_roles.specs.Seen.{check_seen, hold_seen}
 use Rattle.agent_model.specs.Peers.{asked}
-use Rattle.store_keys.specs.declared.action.OperatorRequest.TheVariants as requests
 use Rattle.agent_roles.proofs.Bringing.{holding-brings, staying-brings, brings-then, before-brings}
 use Rattle.agent_roles.proofs.Fitting.{before-fits}
 use Rattle.agent_roles.proofs.Granting.{both-true}

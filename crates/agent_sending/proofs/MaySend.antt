@@ -32,7 +32,6 @@ use Rattle.agent_roles.specs.Seen.{lease_asked, leader_seen_if}
 use Rattle.agent_model.specs.HandingOver.{asking_whom, checking}
 use Rattle.agent_model.specs.Operators.{answering}
 use Rattle.agent_model.specs.declared.operating.Told.{Told as Tells}
-use Rattle.store_keys.specs.declared.action.OperatorRequest.TheVariants as requests
 use Rattle.store_keys.specs.declared.config_value.ConfigValue.{ConfigValue}
 use Rattle.agent_model.specs.Racing.{judged, asking_others}
 use Rattle.agent_model.specs.Answers.{is_other, asking_one, asking_first}

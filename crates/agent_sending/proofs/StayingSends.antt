@@ -29,7 +29,6 @@ use Rattle.agent_model.specs.Outputs.{with_output}
 use Rattle.agent_roles.specs.Powers.{lease_of}
 use Rattle.agent_model.specs.HandingOver.{hands_over}
 use Rattle.agent_model.specs.Operators.{given_up}
-use Rattle.store_keys.specs.declared.action.OperatorRequest.TheVariants as requests
 use Rattle.agent_model.specs.Racing.{judged}
 use Rattle.pat_base.specs.declared.member_id.TheConstants.{MOST_MEMBERS}
 use Rattle.agent_model.specs.Peers.{awaits_others}
