@@ -21,7 +21,7 @@ use Rattle.cluster_view.specs.Snapshots.{SnapshotFacts}
 use Rattle.operator_answers.specs.declared.answer_text.Text.TheVariants as texts
 use Rattle.operator_answers.specs.Statuses.{service_unavailable, ok, internal_server_error}
 use Rattle.event_book.specs.declared.message.Body.TheVariants as bodies
-use Rattle.lease_law.proofs.Tools.{some-is, none-some}
+use Rattle.lease_model.proofs.Tools.{some-is, none-some}
 use Rattle.agent_model.specs.declared.heard.Heard.{Heard}
 use Rattle.agent_model.specs.declared.heard.Heard.TheVariants.{Wake, ReadAnswered, Granted as HeardGranted, Mismatch, Asked, Answered, FailsafeAsked, FailsafeAnswered, Operated as HearsOperator}
 use Rattle.agent_model.specs.declared.knowledge.Knowledge.{Knowledge}
@@ -53,7 +53,7 @@ use Rattle.agent_roles.proofs.Living.{no-way}
 use Rattle.agent_roles.proofs.Knowing.{before-onward, before-read}
 use Rattle.agent_answers.proofs.Replying.{Quiet, as-said, told-more, told-same, before-quiet, roused-quiet, got-quiet, refused-quiet, granted-quiet, answered-quiet, failsafe-quiet}
 use Rattle.agent_model.proofs.Judging.{if-true}
-use Rattle.agent_model.proofs.Rows.{before-by, if-cases, wake-by, failsafe-asked-by}
+use Rattle.agent_cases.proofs.Rows.{before-by, if-cases, wake-by, failsafe-asked-by}
 use Rattle.agent_model.specs.Views.{shown as view_shown}
 use Rattle.failsafe.specs.Holding.{may_hold}
 

@@ -14,7 +14,7 @@ use Rattle.pat_base.specs.declared.ticks.Ticks.{Ticks}
 use Rattle.wal_model.specs.declared.entry.HistoryPoint.{HistoryPoint}
 use Rattle.cluster_view.specs.Naming.{candidate_of}
 use Rattle.cluster_view.specs.Snapshots.{SnapshotFacts, entry_in, settings_by, settings_of_entry, settings_in}
-use Rattle.lease_law.proofs.Tools.{some-is, none-some}
+use Rattle.lease_model.proofs.Tools.{some-is, none-some}
 use Rattle.agent_model.specs.declared.knowledge.Knowledge.{Knowledge}
 use Rattle.agent_model.specs.declared.knowledge.Question.{Question}
 use Rattle.agent_model.specs.declared.knowledge.Question.TheVariants.{Reading, ComparingPositions, Creating, Renewing, Claiming, Syncing, FindingCandidate, StayingPrimary}
@@ -41,7 +41,7 @@ use Rattle.agent_model.specs.Table.{refused_any}
 use Rattle.agent_model.specs.Wake.{leader_out_of_reach, out_of_reach_as, unanswered, overdue_for, overdue, turned, woken, out_of_reach}
 use Rattle.agent_roles.proofs.Granting.{both-true}
 use Rattle.agent_roles.proofs.Living.{no-way}
-use Rattle.agent_model.proofs.Rows.{ReplyRows, if-cases, before-by, turn-by, wake-by, got-by, refused-by, follow-by, repaired-by, free-by, judged-by, handover-by, looked-by, given-up-by, operator-granted-by, refused-any-by, operated-by, failsafe-answered-by, failsafe-asked-by}
+use Rattle.agent_cases.proofs.Rows.{ReplyRows, if-cases, before-by, turn-by, wake-by, got-by, refused-by, follow-by, repaired-by, free-by, judged-by, handover-by, looked-by, given-up-by, operator-granted-by, refused-any-by, operated-by, failsafe-answered-by, failsafe-asked-by}
 use Rattle.agent_model.specs.Pausing.{is_paused, may_start_behind}
 
 -- nothing is waited for

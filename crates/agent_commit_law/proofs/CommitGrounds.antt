@@ -16,7 +16,7 @@ use Rattle.pg_model.specs.Facts.{entries_of}
 use Rattle.cluster_view.specs.KeyValues.{sync_by, sync_of_entry, sync_in}
 use Rattle.cluster_view.specs.Naming.{is_standby}
 use Rattle.cluster_view.specs.Snapshots.{SnapshotFacts, entry_in}
-use Rattle.lease_law.proofs.Tools.{some-is, none-some, eq-from}
+use Rattle.lease_model.proofs.Tools.{some-is, none-some, eq-from}
 use Rattle.event_book.specs.Functions.{set_members}
 use Rattle.sync_state.specs.Published.{standbys_of, published_in}
 use Rattle.sync_state.specs.Standbys.{required_members, noted_position}
@@ -51,7 +51,7 @@ use Rattle.agent_roles.proofs.Leaving.{before-leaves}
 use Rattle.agent_roles.proofs.Knowing.{Onward, before-onward}
 use Rattle.agent_roles.proofs.Staying.{before-waits}
 use Rattle.agent_roles.proofs.Living.{no-way}
-use Rattle.agent_model.proofs.Rows.{before-by, if-cases}
+use Rattle.agent_cases.proofs.Rows.{before-by, if-cases}
 use Rattle.agent_model.specs.Acting.{disarming}
 
 -- what stands after what comes before an input

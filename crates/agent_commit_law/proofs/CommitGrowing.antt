@@ -12,7 +12,7 @@ use Rattle.cluster_view.specs.declared.view.LeaderView.{LeaderView}
 use Rattle.cluster_view.specs.KeyValues.{config_in}
 use Rattle.cluster_view.specs.Snapshots.{SnapshotFacts}
 use Rattle.event_book.specs.Functions.{set_members}
-use Rattle.lease_law.proofs.Tools.{both as no-both, none-some, not-false}
+use Rattle.lease_model.proofs.Tools.{both as no-both, none-some, not-false}
 use Rattle.commit_actions.specs.Keys.{Confirmers, Nobody, All, AtLeast, Narrows}
 use Rattle.commit_actions.specs.Past.{confirmers_in}
 use Rattle.cluster_view.specs.Naming.{is_one_of}

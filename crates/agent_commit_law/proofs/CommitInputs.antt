@@ -20,7 +20,7 @@ use Rattle.event_book.specs.declared.message.Body.{Body}
 use Rattle.event_book.specs.declared.message.Body.TheVariants as bodies
 use Rattle.event_book.specs.declared.reason.Reason.TheVariants.{LeaderKeyLost, StartTooLong, WatchdogNotArmed}
 use Rattle.event_book.specs.Functions.{set_members}
-use Rattle.lease_law.proofs.Tools.{some-is, none-some, not-false}
+use Rattle.lease_model.proofs.Tools.{some-is, none-some, not-false}
 use Rattle.sync_state.specs.Published.{published_in}
 use Rattle.sync_state.specs.Sets.{both, either}
 use Rattle.commit_actions.specs.Keys.{strict_quorum}
@@ -77,7 +77,7 @@ use Rattle.agent_commit_law.proofs.CommitSteps.{confirmed_at, wanted_at, require
 use Rattle.agent_roles.proofs.Granting.{Told}
 use Rattle.agent_roles.proofs.Living.{no-way}
 use Rattle.agent_roles.proofs.Knowing.{Onward, before-onward, wake-onward, looked-onward, got-onward, any-granted-onward, any-refused-onward, operated-onward, answered-onward, asked-onward, holding-onward, staying-onward, onward-then}
-use Rattle.agent_model.proofs.Rows.{FailoverRows, dropping, before-by, got-by, if-cases, looked-by, passing-by}
+use Rattle.agent_cases.proofs.Rows.{FailoverRows, dropping, before-by, got-by, if-cases, looked-by, passing-by}
 use Rattle.agent_model.specs.Pausing.{is_paused}
 use Rattle.agent_roles.proofs.Staying.{stays-unpaused}
 

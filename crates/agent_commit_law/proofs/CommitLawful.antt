@@ -5,7 +5,7 @@ use Rattle.pat_base.specs.declared.lsn.Lsn.{Lsn}
 use Rattle.pat_base.specs.ServerState.{live}
 use Rattle.pat_base.specs.declared.ticks.Ticks.{Ticks}
 use Rattle.cluster_view.specs.Snapshots.{SnapshotFacts}
-use Rattle.lease_law.proofs.Tools.{some-is, none-some}
+use Rattle.lease_model.proofs.Tools.{some-is, none-some}
 use Rattle.sync_state.specs.Standbys.{noted_position}
 use Rattle.commit_actions.specs.Flights.{SyncRequest}
 use Rattle.commit_actions.specs.Keys.{SyncKey}

@@ -15,7 +15,7 @@ use Rattle.store_keys.specs.declared.value.HistoryRow.{HistoryRow}
 use Rattle.store_keys.specs.declared.value.MemberInfo.{MemberInfo}
 use Rattle.failsafe.specs.Asks.{has}
 use Rattle.event_book.specs.declared.message.Body.{Body}
-use Rattle.lease_law.proofs.Tools.{none-some, not-false}
+use Rattle.lease_model.proofs.Tools.{none-some, not-false}
 use Rattle.event_book.specs.declared.message.Body.TheVariants as bodies
 use Rattle.commit_actions.specs.Flights.{SyncRequest}
 use Rattle.commit_actions.specs.Past.{create_query, renew_query, query_of}
@@ -32,7 +32,7 @@ use Rattle.agent_commit_law.specs.Committing.{request_in, request_of_body, reque
 use Rattle.agent_model.specs.StayingPrimary.{fed_by_failsafe, requesting_first, requesting_one}
 use Rattle.agent_model.specs.HandingOver.{asking_whom}
 use Rattle.agent_model.specs.Outputs.{with_output, has_one}
-use Rattle.agent_model.proofs.Rows.{if-cases, passing-by}
+use Rattle.agent_cases.proofs.Rows.{if-cases, passing-by}
 
 -- a renewal carries a set for the failsafe key only where it may
 abbrev pub MayCarrySet : Bool → Option MemberSet → Type 0

@@ -9,7 +9,7 @@ use Rattle.pat_base.specs.declared.server_state.State.TheVariants as states
 use Rattle.pat_base.specs.declared.ticks.Ticks.{Ticks}
 use Rattle.pat_base.specs.ServerState.{live}
 use Rattle.lease_store.specs.declared.granted.Granted.{Granted}
-use Rattle.lease_law.proofs.Tools.{not-false}
+use Rattle.lease_model.proofs.Tools.{not-false}
 use Rattle.store_keys.specs.declared.txn.Txn.{Txn}
 use Rattle.store_keys.specs.declared.txn.Txn.TheVariants as txns
 use Rattle.pg_model.specs.declared.status.ServerStatus.{ServerStatus}
@@ -68,7 +68,7 @@ use Rattle.agent_roles.proofs.Fitting.{ended-for}
 use Rattle.agent_roles.proofs.Granting.{Told, one-before, one-last}
 use Rattle.agent_roles.proofs.Knowing.{before-onward, granted-onward, onward-then}
 use Rattle.agent_roles.proofs.Living.{no-way}
-use Rattle.agent_model.proofs.Rows.{FailoverRows, dropping}
+use Rattle.agent_cases.proofs.Rows.{FailoverRows, dropping}
 use Rattle.agent_model.specs.Pausing.{is_paused}
 use Rattle.agent_roles.proofs.Staying.{stays-unpaused}
 

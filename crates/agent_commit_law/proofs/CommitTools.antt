@@ -14,7 +14,7 @@ use Rattle.pat_base.specs.declared.server_state.Required.TheVariants as required
 use Rattle.pat_base.proofs.MemberBits.{within_both}
 use Rattle.store_keys.specs.declared.config.Config.{Config}
 use Rattle.cluster_view.specs.declared.view.LeaderView.{LeaderView}
-use Rattle.lease_law.proofs.Tools.{both as no-both, not-false, le-from}
+use Rattle.lease_model.proofs.Tools.{both as no-both, not-false, le-from}
 use Rattle.event_book.specs.Functions.{set_members}
 use Rattle.sync_state.specs.Sets.{nobody, both, either, is_within, set_of}
 use Rattle.sync_state.specs.Standbys.{required_members, noted_position, has_confirmed, confirmed_in}
@@ -23,7 +23,7 @@ use Rattle.commit_actions.specs.Keys.{Confirmers, Nobody, All, count, Overlaps, 
 use Rattle.commit_actions.specs.Past.{confirmers_in}
 use Rattle.commit_actions.proofs.Counting.{none-of, count-empty}
 use Rattle.agent_model.specs.Synchronous.{is_strict, unnamed, waiting_for}
-use Rattle.agent_model.proofs.Rows.{if-cases}
+use Rattle.agent_cases.proofs.Rows.{if-cases}
 
 -- one set is within another
 abbrev pub IsWithin : (ℕ → Bool) → (ℕ → Bool) → Type 0

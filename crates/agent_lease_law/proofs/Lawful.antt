@@ -13,11 +13,11 @@ use Rattle.cluster_view.specs.Snapshots.{SnapshotFacts}
 use Rattle.event_book.specs.declared.message.Body.{Body}
 use Rattle.event_book.specs.declared.message.Body.TheVariants as bodies
 use Rattle.leader_key.specs.Watchdog.{WatchdogFacts}
-use Rattle.lease_law.specs.Leases.{LeaderSeen, FailsafeKey, FailsafeRequest, Query, Read, Flying}
-use Rattle.lease_law.specs.States.{Agent as AgentSeen, FailsafeCheck, Machine as MachineSeen, State, is_ready as law_ready, Acts as LawActs}
-use Rattle.lease_law.specs.Inputs.{AgentInput, HeardLeader, HeardFailsafe, FedKnown, WatchdogMay, Kept, Removed, Undone, Owns, MayAcknowledge, MayCarryIf, MayCreate, MayQuery, MayRequestFailsafe, MaySend, MayTake, ContinuesCheck, BeginsCheck, IsLawful}
-use Rattle.lease_law.specs.Past.{members_if, query_of}
-use Rattle.lease_law.proofs.Tools.{some-is, none-some}
+use Rattle.lease_model.specs.Leases.{LeaderSeen, FailsafeKey, FailsafeRequest, Query, Read, Flying}
+use Rattle.lease_model.specs.States.{Agent as AgentSeen, FailsafeCheck, Machine as MachineSeen, State, is_ready as law_ready, Acts as LawActs}
+use Rattle.lease_model.specs.Inputs.{AgentInput, HeardLeader, HeardFailsafe, FedKnown, WatchdogMay, Kept, Removed, Undone, Owns, MayAcknowledge, MayCarryIf, MayCreate, MayQuery, MayRequestFailsafe, MaySend, MayTake, ContinuesCheck, BeginsCheck, IsLawful}
+use Rattle.lease_model.specs.Past.{members_if, query_of}
+use Rattle.lease_model.proofs.Tools.{some-is, none-some}
 use Rattle.agent_model.specs.declared.output.Output.{Output}
 use Rattle.agent_model.specs.declared.output.Output.TheVariants as outputs
 use Rattle.agent_model.specs.declared.output.Target.TheVariants as targets

@@ -10,11 +10,11 @@ use Rattle.event_book.specs.Watchdogs.{prolonged_to}
 use Rattle.failsafe.specs.Asks.{counts, earliest_or, has, heard as ask_heard, is_within, moment_of_all, with_acknowledgement}
 use Rattle.failsafe.specs.declared.asks.Ask.{Ask}
 use Rattle.failsafe.proofs.Members.{has-with, numbers-same, within-has}
-use Rattle.lease_law.specs.Leases.{FailsafeRequest, Acknowledgement, Flying}
-use Rattle.lease_law.specs.States.{FailsafeCheck, Machine as MachineSeen, State}
-use Rattle.lease_law.specs.Inputs.{AgentInput, HeardYes, IsDeadline, WatchdogMay, SetByFailsafe, MayAcknowledge, MayTake, ContinuesCheck, BeginsCheck}
+use Rattle.lease_model.specs.Leases.{FailsafeRequest, Acknowledgement, Flying}
+use Rattle.lease_model.specs.States.{FailsafeCheck, Machine as MachineSeen, State}
+use Rattle.lease_model.specs.Inputs.{AgentInput, HeardYes, IsDeadline, WatchdogMay, SetByFailsafe, MayAcknowledge, MayTake, ContinuesCheck, BeginsCheck}
 use Rattle.event_book.specs.Functions.{set_members}
-use Rattle.lease_law.proofs.Tools.{some-is, none-some}
+use Rattle.lease_model.proofs.Tools.{some-is, none-some}
 use Rattle.agent_model.specs.declared.heard.Heard.TheVariants.{FailsafeAsked, FailsafeAnswered}
 use Rattle.agent_model.specs.declared.output.Output.TheVariants as outputs
 use Rattle.agent_model.specs.StayingPrimary.{accepted_failsafe, awaits_failsafe, failsafe_answered, failsafe_answered_for, failsafe_asked, is_staying, span_after, unacknowledged_as}
@@ -42,7 +42,7 @@ use Rattle.agent_lease_law.proofs.LawfulGrants.{deadline-of}
 use Rattle.agent_roles.proofs.Leaving.{Stays, acts-before, behind, stays, before-leaves}
 use Rattle.agent_roles.proofs.Living.{no-way}
 use Rattle.agent_roles.proofs.Staying.{before-waits}
-use Rattle.agent_model.proofs.Rows.{failsafe-asked-by, if-cases}
+use Rattle.agent_cases.proofs.Rows.{failsafe-asked-by, if-cases}
 use Rattle.agent_sending.proofs.MaySend.Fronts.{Silent, Released}
 use Rattle.agent_sending.proofs.MaySend.{Fronts, Grounds, IsReleaseOr, before-fronts, IsSilent, AllMay}
 use Rattle.agent_sending.proofs.StayingSends.{failsafe-answered-may, failsafe-asked-may, staying}

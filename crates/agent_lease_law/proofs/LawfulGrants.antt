@@ -8,11 +8,11 @@ use Rattle.store_keys.specs.declared.value.KeyEntry.{KeyEntry}
 use Rattle.cluster_view.specs.Snapshots.{SnapshotFacts, failsafe_by, failsafe_of_entry}
 use Rattle.leader_key.specs.declared.watchdog.Mode.{Mode}
 use Rattle.leader_key.specs.Watchdog.{WatchdogFacts, IsLeaseSpan, greatest_margin, timeout_of, is_armable, is_late, fed}
-use Rattle.lease_law.specs.Leases.{LeaderSeen, FailsafeKey}
-use Rattle.lease_law.specs.States.{Machine as MachineSeen, State}
-use Rattle.lease_law.specs.Inputs.{HeardGrant, HeardLeader, HeardFailsafe, IsDeadline, Fed}
+use Rattle.lease_model.specs.Leases.{LeaderSeen, FailsafeKey}
+use Rattle.lease_model.specs.States.{Machine as MachineSeen, State}
+use Rattle.lease_model.specs.Inputs.{HeardGrant, HeardLeader, HeardFailsafe, IsDeadline, Fed}
 use Rattle.event_book.specs.Functions.{set_members}
-use Rattle.lease_law.proofs.Tools.{some-is, none-some}
+use Rattle.lease_model.proofs.Tools.{some-is, none-some}
 use Rattle.agent_model.specs.declared.knowledge.Knowledge.{Knowledge}
 use Rattle.agent_model.specs.declared.knowledge.PendingQuestion.{PendingQuestion}
 use Rattle.agent_model.specs.Acting.{comes_late, is_hold_active}

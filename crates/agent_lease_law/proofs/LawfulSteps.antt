@@ -18,11 +18,11 @@ use Rattle.failsafe.specs.declared.asks.Ask.{Ask}
 use Rattle.failsafe.specs.Listing.{without_member}
 use Rattle.failsafe.proofs.Members.{differ, has-nobody, numbers-same}
 use Rattle.failsafe.proofs.Present.{without-has}
-use Rattle.lease_law.specs.Leases.{FailsafeKey}
-use Rattle.lease_law.specs.States.{Agent as AgentSeen, FailsafeCheck, Machine as MachineSeen, State}
-use Rattle.lease_law.specs.Inputs.{AgentInput, HeardFailsafe, FedKnown, WatchdogMay, SetByGrant, SetAlone, Owns, MayCreate, MayRequestFailsafe, ContinuesCheck, BeginsCheck}
+use Rattle.lease_model.specs.Leases.{FailsafeKey}
+use Rattle.lease_model.specs.States.{Agent as AgentSeen, FailsafeCheck, Machine as MachineSeen, State}
+use Rattle.lease_model.specs.Inputs.{AgentInput, HeardFailsafe, FedKnown, WatchdogMay, SetByGrant, SetAlone, Owns, MayCreate, MayRequestFailsafe, ContinuesCheck, BeginsCheck}
 use Rattle.event_book.specs.Functions.{set_members}
-use Rattle.lease_law.proofs.Tools.{some-is, none-some}
+use Rattle.lease_model.proofs.Tools.{some-is, none-some}
 use Rattle.agent_model.specs.declared.heard.Heard.{Heard}
 use Rattle.agent_model.specs.declared.heard.Heard.TheVariants.{Wake, ReadAnswered, Granted as HeardGranted, Mismatch, Asked, Answered, FailsafeAsked, FailsafeAnswered, Operated as HearsOperator}
 use Rattle.agent_model.specs.declared.knowledge.FailsafeRead.{FailsafeRead}
@@ -65,7 +65,7 @@ use Rattle.agent_lease_law.proofs.LawfulGrants.{heard-leader, heard-failsafe, he
 use Rattle.agent_roles.proofs.Leaving.{given-up-fits, acts-before, stays, told-fits, leaves-then, before-leaves, read-leaves, refusal-leaves, asked-leaves, answered-leaves}
 use Rattle.agent_roles.proofs.Living.{no-way}
 use Rattle.agent_roles.proofs.Staying.{before-waits, stays-unpaused}
-use Rattle.agent_model.proofs.Rows.{wake-by, looked-by}
+use Rattle.agent_cases.proofs.Rows.{wake-by, looked-by}
 use Rattle.agent_lease_law.proofs.Behind.{BeginsOn, grant-begins, begins-weaker}
 use Rattle.agent_lease_law.proofs.Behind.BeginsOn.{WasReady, OnLease}
 use Rattle.agent_sending.proofs.MaySend.{Grounds, IsSilent, AllMay}

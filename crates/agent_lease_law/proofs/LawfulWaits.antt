@@ -8,11 +8,11 @@ use Rattle.leader_key.specs.Watchdog.{IsLeaseSpan, WatchdogFacts, greatest_margi
 use Rattle.store_keys.specs.declared.config.Config.{Config}
 use Rattle.failsafe.specs.Asks.{has}
 use Rattle.failsafe.specs.declared.asks.Ask.{Ask}
-use Rattle.lease_law.specs.Leases.{LeaderSeen, FailsafeKey, FailsafeRequest}
-use Rattle.lease_law.specs.States.{FailsafeCheck, State}
-use Rattle.lease_law.specs.Inputs.{AgentInput, HeardLeader, HeardFailsafe, WatchdogMay, MayCreate, MayTake, ContinuesCheck, BeginsCheck}
+use Rattle.lease_model.specs.Leases.{LeaderSeen, FailsafeKey, FailsafeRequest}
+use Rattle.lease_model.specs.States.{FailsafeCheck, State}
+use Rattle.lease_model.specs.Inputs.{AgentInput, HeardLeader, HeardFailsafe, WatchdogMay, MayCreate, MayTake, ContinuesCheck, BeginsCheck}
 use Rattle.event_book.specs.Functions.{set_members}
-use Rattle.lease_law.proofs.Tools.{some-is, none-some}
+use Rattle.lease_model.proofs.Tools.{some-is, none-some}
 use Rattle.agent_model.specs.StayingPrimary.{is_staying}
 use Rattle.agent_model.specs.Acting.{lease_span}
 use Rattle.agent_model.specs.declared.knowledge.Knowledge.{Knowledge}

@@ -8,10 +8,10 @@ use Rattle.cluster_view.specs.Snapshots.{SnapshotFacts}
 use Rattle.event_book.specs.declared.message.Body.{Body}
 use Rattle.event_book.specs.declared.message.Body.TheVariants as bodies
 use Rattle.leader_key.specs.Watchdog.{HasMargin, is_armable}
-use Rattle.lease_law.specs.Leases.{Query, Read, Grant, Answer, FailsafeRequest, Flying, Requested, Answered, FailsafeRequested, Acknowledged}
-use Rattle.lease_law.specs.States.{State, Acts}
-use Rattle.lease_law.specs.Inputs.{AgentInput, Fed, IsLawful}
-use Rattle.lease_law.specs.Past.{query_of}
+use Rattle.lease_model.specs.Leases.{Query, Read, Grant, Answer, FailsafeRequest, Flying, Requested, Answered, FailsafeRequested, Acknowledged}
+use Rattle.lease_model.specs.States.{State, Acts}
+use Rattle.lease_model.specs.Inputs.{AgentInput, Fed, IsLawful}
+use Rattle.lease_model.specs.Past.{query_of}
 use Rattle.agent_model.specs.declared.heard.Heard.{Heard}
 use Rattle.agent_model.specs.declared.heard.Heard.TheVariants as heards
 use Rattle.agent_model.specs.declared.knowledge.Knowledge.{Knowledge}

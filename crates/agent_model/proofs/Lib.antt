@@ -1,4 +1,2 @@
 pub mod Judging
 pub mod Waiting
-pub mod Rows
-pub mod Bounds

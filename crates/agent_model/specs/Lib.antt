@@ -3,7 +3,6 @@ pub mod Agents
 pub mod Answers
 pub mod Asked
 pub mod Reconciling
-pub mod Bounds
 pub mod Claiming
 pub mod Decisions
 pub mod FailsafeKeys

@@ -5,7 +5,6 @@
 mod answers;
 mod heard;
 mod knowledge;
-mod laws;
 mod machine;
 mod operating;
 mod output;
@@ -15,7 +14,6 @@ mod why;
 pub use answers::Answers;
 pub use heard::Heard;
 pub use knowledge::{FailsafeRead, Knowledge, PendingQuestion, Question, Settling, SyncRead};
-pub use laws::inputs_are_small;
 pub use machine::{Machine, Replication};
 pub use operating::{Operating, Operation, Told};
 pub use output::{Output, Repair, Target};

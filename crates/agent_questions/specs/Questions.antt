@@ -17,7 +17,7 @@ use Rattle.agent_model.specs.declared.output.Target.{Target}
 use Rattle.agent_model.specs.declared.output.Target.TheVariants as targets
 use Rattle.agent_model.specs.Decisions.{asks_lease, asks_sync}
 use Rattle.agent_roles.specs.Asks.{IsAsk, IsQuestion}
-use Rattle.lease_law.specs.Past.{lease_span, query_of}
+use Rattle.lease_model.specs.Past.{lease_span, query_of}
 
 -- the span of the lease that a message asks for, in ticks; 0 where it asks for none
 abbrev pub span_asked : Body → ℕ

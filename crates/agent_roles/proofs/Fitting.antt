@@ -9,7 +9,7 @@ use Rattle.agent_model.specs.Decisions.{may_create}
 use Rattle.agent_model.specs.Reconciling.{has_ended, reconciled}
 use Rattle.agent_model.specs.Fits.{Fits}
 use Rattle.agent_roles.proofs.Living.{no-way}
-use Rattle.agent_model.proofs.Rows.{before-by}
+use Rattle.agent_cases.proofs.Rows.{before-by}
 
 abbrev FitsIn : Outcome → Type 0
 FitsIn o = Fits o.role (live o.machine.server.state)

@@ -30,7 +30,7 @@ use Rattle.agent_model.specs.Table.{refused_any}
 use Rattle.store_keys.specs.declared.action.OperatorRequest.{OperatorRequest}
 use Rattle.agent_roles.proofs.Bringing.{acting-brings, same-role, got-brings, refused-brings, answer-brings}
 use Rattle.agent_roles.proofs.Living.{no-way}
-use Rattle.agent_model.proofs.Rows.{HandoverRows, ReplyRows, looked-by, given-up-by, refused-any-by, before-by, turn-by, got-by, refused-by, follow-by, free-by, repaired-by, judged-by, answered-by}
+use Rattle.agent_cases.proofs.Rows.{HandoverRows, ReplyRows, looked-by, given-up-by, refused-any-by, before-by, turn-by, got-by, refused-by, follow-by, free-by, repaired-by, judged-by, answered-by}
 use Rattle.agent_model.specs.Pausing.{may_start_behind}
 
 -- a watchdog stays, or loses its deadline where an agent in this role, over a server in this state, doesn't act

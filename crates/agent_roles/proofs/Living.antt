@@ -9,7 +9,7 @@ use Rattle.pg_model.specs.declared.status.ServerStatus.{ServerStatus}
 use Rattle.pg_model.specs.Facts.{is_up, is_down, is_replica}
 use Rattle.pg_model.specs.Running.{is_primary, moment_after}
 use Rattle.pg_model.specs.Status.{status_stopping, status_ending, status_starting, status_started, status_replica_started, status_following, status_restarted_in, status_restarted, status_wiped}
-use Rattle.agent_model.proofs.Rows.{if-cases}
+use Rattle.agent_cases.proofs.Rows.{if-cases}
 
 pub no-way : false ≡ true → ⊥
 no-way e = cc

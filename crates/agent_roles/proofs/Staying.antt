@@ -14,7 +14,7 @@ use Rattle.agent_model.specs.Snapshots.{informed}
 use Rattle.agent_model.specs.Table.{step}
 use Rattle.agent_roles.proofs.Knowing.{alone-of, ends-of, step-onward, told-pause, before-read}
 use Rattle.agent_roles.proofs.Living.{no-way}
-use Rattle.agent_model.proofs.Rows.{before-by}
+use Rattle.agent_cases.proofs.Rows.{before-by}
 use Rattle.agent_model.specs.Pausing.{is_paused}
 use Rattle.cluster_view.specs.KeyValues.{config_in}
 use Rattle.store_keys.specs.declared.config.Config.{Config}

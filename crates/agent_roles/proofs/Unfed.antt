@@ -25,7 +25,7 @@ use Rattle.agent_model.specs.declared.why.Why.{Why}
 use Rattle.agent_model.specs.declared.why.Why.TheVariants.{HandOver, Lost}
 use Rattle.agent_model.specs.Acting.{deadline_after, disarmed, lease_span, waiting_no_more}
 use Rattle.agent_model.specs.Agents.{RoleFacts, Follower, Holder, Ready, Leader, Ending, Unleased, Outcome, outcome_from}
-use Rattle.agent_model.proofs.Rows.{HandoverRows, given-up-by, handover-by, judged-by, operated-by}
+use Rattle.agent_cases.proofs.Rows.{HandoverRows, given-up-by, handover-by, judged-by, operated-by}
 use Rattle.agent_model.specs.Reconciling.{reconciled, before_as, has_ended}
 use Rattle.agent_model.specs.Claiming.{claim_fails_as}
 use Rattle.agent_model.specs.Decisions.{may_create}

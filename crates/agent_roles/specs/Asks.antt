@@ -1,7 +1,7 @@
 -- What an agent may ask: the key store, and other members.
 use Rattle.event_book.specs.declared.message.Body.{Body}
 use Rattle.event_book.specs.declared.message.Body.TheVariants as bodies
-use Rattle.lease_law.specs.Stores.{IsSpannedTxn}
+use Rattle.lease_model.specs.Stores.{IsSpannedTxn}
 
 -- a question to the key store: a read, or a request, of which a create asks for a lease of at least one tick
 abbrev pub IsQuestion : Body → Type 0

@@ -7,10 +7,10 @@ use Rattle.store_keys.specs.declared.key.Key.TheVariants as keys
 use Rattle.store_keys.specs.declared.value.KeyEntry.{KeyEntry}
 use Rattle.cluster_view.specs.declared.snapshot.LeaderEntry.{LeaderEntry}
 use Rattle.cluster_view.specs.Snapshots.{SnapshotFacts, entry_in, leader_in, failsafe_by}
-use Rattle.lease_law.specs.Leases.{LeaderSeen, FailsafeKey}
+use Rattle.lease_model.specs.Leases.{LeaderSeen, FailsafeKey}
 use Rattle.event_book.specs.Functions.{set_members}
 use Rattle.failsafe.specs.declared.asks.Ask.{Ask}
-use Rattle.lease_law.specs.States.{FailsafeCheck, Agent as AgentSeen, Machine as MachineSeen}
+use Rattle.lease_model.specs.States.{FailsafeCheck, Agent as AgentSeen, Machine as MachineSeen}
 use Rattle.agent_model.specs.declared.knowledge.FailsafeRead.{FailsafeRead}
 use Rattle.agent_model.specs.StayingPrimary.{is_staying}
 use Rattle.agent_model.specs.declared.knowledge.Knowledge.{Knowledge}

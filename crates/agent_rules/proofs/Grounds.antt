@@ -1,7 +1,7 @@
 -- Each input has its grounds, by the rows of the decision table.
 use Rattle.std.proofs.Common.{ℕ, ◌≡◌, ◌⊎◌, ◌+◌, ◌&&◌, Bool, true, false, if◌then◌else◌, List, [], Option, Some, None, All, Contains, refl, sym, subst, ap, ◌∙◌, inl, inr, zero, suc}
 use Rattle.std.proofs.lemmas.List.Elements.{All-push, All-nil, All-contains}
-use Rattle.lease_law.proofs.Tools.{none-some}
+use Rattle.lease_model.proofs.Tools.{none-some}
 use Rattle.pat_base.specs.MemberId.{member_of}
 use Rattle.pat_base.specs.declared.member_id.MemberId.{MemberId}
 use Rattle.pat_base.specs.declared.member_set.MemberSet.{MemberSet}
@@ -53,7 +53,7 @@ use Rattle.agent_model.specs.Snapshots.{follow_row, follows, read_answered, info
 use Rattle.agent_model.specs.Synchronous.{expected_of, unnamed}
 use Rattle.agent_model.specs.Table.{step, granted_any}
 use Rattle.agent_model.specs.Wake.{overdue, turned, woken}
-use Rattle.agent_model.proofs.Rows.{HandoverRows, ReplyRows, DutyRows, WritesSync, kept_on, led_on, leading_in_pause, if-cases, before-by, looked-by, given-up-by, granted-any-by, refused-any-by, judges-start-by, duties-of, passing-by, overdue-when, turn-by, wake-by, got-when, refused-when, answered-when, granted-when, follow-by, free-by, judged-by, failsafe-answered-by, failsafe-asked-by, asked-to-hold-by}
+use Rattle.agent_cases.proofs.Rows.{HandoverRows, ReplyRows, DutyRows, WritesSync, kept_on, led_on, leading_in_pause, if-cases, before-by, looked-by, given-up-by, granted-any-by, refused-any-by, judges-start-by, duties-of, passing-by, overdue-when, turn-by, wake-by, got-when, refused-when, answered-when, granted-when, follow-by, free-by, judged-by, failsafe-answered-by, failsafe-asked-by, asked-to-hold-by}
 use Rattle.agent_model.specs.StayingPrimary.{counting, failsafe_answered, failsafe_asked, fed_by_failsafe, others_known, requesting_first, requesting_one, span_after, stays}
 use Rattle.agent_roles.specs.Powers.{lease_of}
 use Rattle.agent_roles.proofs.Living.{no-way}

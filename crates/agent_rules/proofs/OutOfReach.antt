@@ -2,7 +2,7 @@
 use Rattle.std.proofs.Common.{ℕ, ◌≡◌, ◌⊎◌, ◌≤◌, ◌||◌, ◌&&◌, ◌==◌, eq-eqb, nat_le, Bool, true, false, cond, List, Option, Some, None, refl, sym, subst, ap, ◌∙◌, arith, inl, inr}
 use Rattle.std.proofs.lemmas.Bool.Decides.{nat_tests}
 use Rattle.std.proofs.lemmas.List.Elements.{Contains-push}
-use Rattle.lease_law.proofs.Tools.{none-some, some-is}
+use Rattle.lease_model.proofs.Tools.{none-some, some-is}
 use Rattle.pat_base.specs.ServerState.{live}
 use Rattle.pat_base.specs.declared.member_id.MemberId.{MemberId}
 use Rattle.pat_base.specs.declared.peer_answer.PeerAnswer.{PeerAnswer}
@@ -38,7 +38,7 @@ use Rattle.agent_model.specs.Acting.{touching}
 use Rattle.agent_model.specs.StayingPrimary.{accepted_failsafe, failsafe_answered, failsafe_answered_for, is_staying, leader_unacknowledged, may_stay, others_known, seeks_to_stay, unacknowledged, unacknowledged_as}
 use Rattle.agent_model.specs.Table.{step}
 use Rattle.agent_model.specs.Wake.{has_turn, is_due, is_overdue, finds_ended, leader_out_of_reach, overdue, overdue_for, out_of_reach, out_of_reach_as, roused, turned, unanswered}
-use Rattle.agent_model.proofs.Rows.{HandoverRows, DutyRows, kept_on, led_on, leading_in_pause, if-cases, before-by, looked-by, given-up-by, granted-any-by, refused-any-by, operated-by, judges-start-by, renewed-by, duties-of, begins-or-claims-by, takes-in-pause-by, overdue-by, turn-by, wake-by, got-by, refused-by, answered-by, granted-by, follow-by, repaired-by, free-by, judged-by, failsafe-answered-by, failsafe-asked-by}
+use Rattle.agent_cases.proofs.Rows.{HandoverRows, DutyRows, kept_on, led_on, leading_in_pause, if-cases, before-by, looked-by, given-up-by, granted-any-by, refused-any-by, operated-by, judges-start-by, renewed-by, duties-of, begins-or-claims-by, takes-in-pause-by, overdue-by, turn-by, wake-by, got-by, refused-by, answered-by, granted-by, follow-by, repaired-by, free-by, judged-by, failsafe-answered-by, failsafe-asked-by}
 use Rattle.agent_roles.proofs.Living.{no-way}
 use Rattle.agent_rules.specs.OutOfReach.{asks_to_lead, AsksToStay, EndsServer, IsOutOfReach, HasNoAnswer, IsUnacknowledged, WaitsForTurn, turn_of}
 

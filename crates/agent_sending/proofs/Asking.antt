@@ -12,8 +12,8 @@ use Rattle.cluster_view.specs.Snapshots.{SnapshotFacts}
 use Rattle.event_book.specs.declared.agent_note.AgentNote.TheVariants as agent_notes
 use Rattle.event_book.specs.declared.message.Body.TheVariants as bodies
 use Rattle.event_book.specs.declared.reason.Reason.TheVariants.{StartTooLong, WatchdogNotArmed}
-use Rattle.lease_law.specs.Past.{query_of, lease_span as span_asked}
-use Rattle.lease_law.proofs.Tools.{some-is, none-some}
+use Rattle.lease_model.specs.Past.{query_of, lease_span as span_asked}
+use Rattle.lease_model.proofs.Tools.{some-is, none-some}
 use Rattle.agent_model.specs.declared.heard.Heard.{Heard}
 use Rattle.agent_model.specs.declared.heard.Heard.TheVariants.{Wake, ReadAnswered, Granted as HeardGranted, Mismatch, Asked, Answered, FailsafeAsked, FailsafeAnswered, Operated as HearsOperator}
 use Rattle.agent_model.specs.declared.knowledge.Knowledge.{Knowledge}
@@ -44,12 +44,12 @@ use Rattle.agent_roles.proofs.Granting.{Told}
 use Rattle.agent_roles.proofs.Knowing.{IsAlone, alone-of, before-onward, given-up-onward}
 use Rattle.agent_roles.proofs.Staying.{before-waits}
 use Rattle.agent_roles.proofs.Living.{no-way}
-use Rattle.agent_model.proofs.Rows.{kept_on, led_on, if-cases, judges-start-by, renewed-by, begins-or-claims-by, overdue-by, turn-by, wake-by, got-by, refused-by, follow-by, repaired-by, free-by, granted-by, judged-by, answered-by, failsafe-asked-by, failsafe-answered-by, HandoverRows, ReplyRows, dropping, granted-any-by, refused-any-by, given-up-by, looked-by, operated-by, DutyRows, duties-of, leading_in_pause, takes-in-pause-by}
+use Rattle.agent_cases.proofs.Rows.{kept_on, led_on, if-cases, judges-start-by, renewed-by, begins-or-claims-by, overdue-by, turn-by, wake-by, got-by, refused-by, follow-by, repaired-by, free-by, granted-by, judged-by, answered-by, failsafe-asked-by, failsafe-answered-by, HandoverRows, ReplyRows, dropping, granted-any-by, refused-any-by, given-up-by, looked-by, operated-by, DutyRows, duties-of, leading_in_pause, takes-in-pause-by}
 use Rattle.store_keys.specs.declared.action.OperatorRequest.TheVariants as requests
 use Rattle.store_keys.specs.declared.config_value.ConfigValue.{ConfigValue}
 use Rattle.store_keys.specs.declared.txn.Txn.TheVariants as txns
 use Rattle.event_book.specs.declared.message.Body.{Body}
-use Rattle.lease_law.specs.Modes.{IsModeAsked, IsModeSet}
+use Rattle.lease_model.specs.Modes.{IsModeAsked, IsModeSet}
 use Rattle.agent_sending.specs.Modes.{AsksMode, HearsMode, IsModeRequested}
 use Rattle.agent_sending.proofs.MaySend.{MayAskMember, MayAskStore, MayTransact, Grounds, IsSilent, silently, MayPut, AllMay, Fronts, before-fronts, overdue-none}
 use Rattle.agent_sending.proofs.StayingSends.{staying, failsafe-asked-may, failsafe-answered-may, wake-may, given-up-fronts}

@@ -23,7 +23,7 @@ use Rattle.event_book.specs.Functions.{set_members}
 use Rattle.event_book.specs.declared.reason.Reason.TheVariants.{WatchdogNotArmed}
 use Rattle.failsafe.specs.Asks.{asked as ask_of, heard as ask_heard, moment_of_all}
 use Rattle.failsafe.specs.declared.asks.Ask.{Ask}
-use Rattle.lease_law.proofs.Tools.{some-is, none-some}
+use Rattle.lease_model.proofs.Tools.{some-is, none-some}
 use Rattle.agent_model.specs.declared.heard.Heard.{Heard}
 use Rattle.agent_model.specs.declared.heard.Heard.TheVariants.{Wake, ReadAnswered, Granted as HeardGranted, Mismatch, Asked, Answered, FailsafeAsked, FailsafeAnswered, Operated as HearsOperator}
 use Rattle.agent_model.specs.declared.knowledge.FailsafeRead.{FailsafeRead}
@@ -57,7 +57,7 @@ use Rattle.agent_model.specs.StayingPrimary.{accepted_failsafe, asking_to_stay, 
 use Rattle.agent_model.specs.Table.{granted_any, refused_any, step}
 use Rattle.agent_model.specs.Views.{view_of}
 use Rattle.agent_model.specs.Wake.{leader_out_of_reach, overdue, reading, turn_noted, turned, unleased_out_of_reach, woken}
-use Rattle.agent_model.proofs.Rows.{HandoverRows, ReplyRows, DutyRows, GrantWhen, dropping, looked-by, given-up-by, granted-any-by, refused-any-by, operated-by, kept_on, led_on, if-cases, judges-start-by, renewed-by, takes-late-by, begins-or-claims-by, before-by, overdue-when, turn-by, wake-by, got-by, refused-by, follow-by, repaired-by, judged-by, answered-when, failsafe-asked-by, duties-of, leading_in_pause, takes-in-pause-by}
+use Rattle.agent_cases.proofs.Rows.{HandoverRows, ReplyRows, DutyRows, GrantWhen, dropping, looked-by, given-up-by, granted-any-by, refused-any-by, operated-by, kept_on, led_on, if-cases, judges-start-by, renewed-by, takes-late-by, begins-or-claims-by, before-by, overdue-when, turn-by, wake-by, got-by, refused-by, follow-by, repaired-by, judged-by, answered-when, failsafe-asked-by, duties-of, leading_in_pause, takes-in-pause-by}
 use Rattle.agent_roles.proofs.Granting.{Told, both-true}
 use Rattle.agent_roles.proofs.Knowing.{given-up-onward}
 use Rattle.agent_roles.proofs.Living.{no-way}

@@ -42,7 +42,7 @@ use Rattle.agent_roles.proofs.Granting.{Told}
 use Rattle.agent_roles.proofs.Knowing.{IsAlone}
 use Rattle.agent_roles.proofs.Leaving.{rests-by}
 use Rattle.agent_roles.proofs.Living.{no-way}
-use Rattle.agent_model.proofs.Rows.{HandoverRows, ReplyRows, if-cases, before-by, judged-by}
+use Rattle.agent_cases.proofs.Rows.{HandoverRows, ReplyRows, if-cases, before-by, judged-by}
 use Rattle.agent_model.specs.Pausing.{disabling_told}
 
 -- an output that sends nothing but an answer of how far the server is, takes no hold, feeds no watchdog on acknowledgements, and by which no server comes

@@ -20,7 +20,7 @@ use Rattle.event_book.specs.declared.message.Body.{Body}
 use Rattle.event_book.specs.declared.message.Body.TheVariants as bodies
 use Rattle.event_book.specs.declared.reason.Reason.TheVariants.{LeaderKeyLost, StartTooLong, WatchdogNotArmed}
 use Rattle.event_book.specs.Functions.{set_members}
-use Rattle.lease_law.specs.Leases.{LeaderSeen}
+use Rattle.lease_model.specs.Leases.{LeaderSeen}
 use Rattle.agent_model.specs.declared.output.Repair.{Repair}
 use Rattle.agent_model.specs.Repairs.{repair_of, repairing}
 use Rattle.agent_model.specs.declared.knowledge.Settling.{Settling}
@@ -62,13 +62,13 @@ use Rattle.agent_model.specs.Racing.{bar_of, barred, can_start, finds_free, free
 use Rattle.agent_model.specs.Answers.{all_answered}
 use Rattle.agent_model.specs.Peers.{asked, awaits_others, keeping, answered}
 use Rattle.agent_roles.proofs.Granting.{Told, both-true}
-use Rattle.lease_law.proofs.Tools.{none-some, some-is}
+use Rattle.lease_model.proofs.Tools.{none-some, some-is}
 use Rattle.agent_roles.proofs.Knowing.{IsAlone, before-onward, known-listed}
 use Rattle.agent_roles.proofs.Staying.{before-leaves, before-waits}
 use Rattle.agent_roles.proofs.Fitting.{ended-for}
 use Rattle.agent_roles.proofs.Leaving.{rests-by, told-fits}
 use Rattle.agent_roles.proofs.Living.{no-way, primary-live, restart-live, wipe-live}
-use Rattle.agent_model.proofs.Rows.{asked-to-hold-by, HandoverRows, dropping, looked-by, granted-any-by, refused-any-by, WritesSync, kept_on, led_on, if-cases, judges-start-by, renewed-by, passing-by, begins-or-claims-by, got-by, refused-by, follow-by, repaired-by, granted-by, answered-when, DutyRows, duties-of, leading_in_pause, takes-in-pause-by}
+use Rattle.agent_cases.proofs.Rows.{asked-to-hold-by, HandoverRows, dropping, looked-by, granted-any-by, refused-any-by, WritesSync, kept_on, led_on, if-cases, judges-start-by, renewed-by, passing-by, begins-or-claims-by, got-by, refused-by, follow-by, repaired-by, granted-by, answered-when, DutyRows, duties-of, leading_in_pause, takes-in-pause-by}
 use Rattle.agent_model.specs.Pausing.{is_paused, may_start_behind, disabling_watchdog, running_without_key}
 use Rattle.agent_sending.proofs.MaySend.{IsSilent, Grounds, CarriesSet, CarriesSetIf, MayTransact, MayAskStore, MayPut, AllMay, front, push, silently, silent-armed, silent-fed, silent-disabled, IsReleaseOr, Fronts, IsMild, AllMild, mild-all, mild-front, judged-mild, others-mild, handover-mild, checking-mild, before-fronts, released, fronts-may, postpones-silent, told-fronts, before-compares, CreatesAsCompared, creates-behind, sends, told-may, front-of}
 use Rattle.agent_sending.proofs.MaySend.Fronts.{Silent, Released}

@@ -5,7 +5,7 @@ use Rattle.pat_base.specs.declared.member_set.MemberSet.{MemberSet}
 use Rattle.pat_base.specs.declared.ticks.Ticks.{Ticks}
 use Rattle.store_keys.specs.declared.txn.Txn.{Txn}
 use Rattle.event_book.specs.declared.message.Body.TheVariants as bodies
-use Rattle.lease_law.specs.Past.{query_of, lease_span as span_asked}
+use Rattle.lease_model.specs.Past.{query_of, lease_span as span_asked}
 use Rattle.agent_model.specs.declared.heard.Heard.{Heard}
 use Rattle.agent_model.specs.declared.heard.Heard.TheVariants.{FailsafeAsked}
 use Rattle.agent_model.specs.declared.knowledge.Knowledge.{Knowledge}

@@ -3,7 +3,7 @@ use Rattle.std.specs.Prelude.{◌≡◌, Bool, true, Some}
 use Rattle.store_keys.specs.declared.action.OperatorRequest.{OperatorRequest}
 use Rattle.store_keys.specs.declared.action.OperatorRequest.TheVariants as requests
 use Rattle.store_keys.specs.declared.config.Config.{Config}
-use Rattle.lease_law.specs.Modes.{IsModeAsked}
+use Rattle.lease_model.specs.Modes.{IsModeAsked}
 use Rattle.agent_model.specs.declared.output.Output.{Output}
 use Rattle.agent_model.specs.declared.output.Output.TheVariants as outputs
 use Rattle.cluster_view.specs.Snapshots.{SnapshotFacts, settings_in}

@@ -22,7 +22,7 @@ use Rattle.agent_roles.specs.Powers.{IsAwaitedLease}
 use Rattle.agent_model.specs.Snapshots.{informed}
 use Rattle.agent_model.specs.Operators.{looked, is_asked_for, awaits_number, grants_operator, operator_granted}
 use Rattle.agent_model.specs.Table.{prepared, step, granted_any}
-use Rattle.lease_law.proofs.Tools.{none-some, some-is}
+use Rattle.lease_model.proofs.Tools.{none-some, some-is}
 use Rattle.agent_model.proofs.Judging.{if-false}
 use Rattle.agent_succession.proofs.FreeKey.{free-alone, free-asks, last-won, late-won}
 use Rattle.agent_model.specs.Pausing.{is_paused, is_wanted_by}

@@ -49,7 +49,7 @@ use Rattle.agent_model.proofs.Judging.{if-true, if-false}
 use Rattle.agent_roles.proofs.Knowing.{creates-active}
 use Rattle.agent_roles.proofs.Staying.{before-waits}
 use Rattle.agent_roles.proofs.Living.{no-way}
-use Rattle.agent_model.proofs.Rows.{if-cases, given-up-by}
+use Rattle.agent_cases.proofs.Rows.{if-cases, given-up-by}
 
 no-key-free : (now : Ticks) (role : RoleFacts) (o : Outcome) → may_create role ≡ true → no_key now role o ≡ finds_free now o
 no-key-free now Follower o may = refl

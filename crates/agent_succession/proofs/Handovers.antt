@@ -8,7 +8,7 @@ use Rattle.pat_base.specs.declared.member_id.MemberId.{MemberId}
 use Rattle.pat_base.specs.declared.peer_answer.PeerAnswer.{PeerAnswer}
 use Rattle.pat_base.specs.declared.ticks.Ticks.{Ticks}
 use Rattle.store_keys.specs.declared.value.FailoverKey.{FailoverKey}
-use Rattle.lease_law.proofs.Tools.{le-from, none-some, some-is}
+use Rattle.lease_model.proofs.Tools.{le-from, none-some, some-is}
 use Rattle.cluster_view.specs.Naming.{is_standby}
 use Rattle.leader_race.specs.Eligibility.{may_fail_over}
 use Rattle.leader_race.specs.Peers.{earlier, first_of, member_where}
@@ -23,7 +23,7 @@ use Rattle.agent_succession.specs.Handovers.{HandsOverTo, MayLeadNext}
 use Rattle.agent_model.specs.Outputs.{with_output}
 use Rattle.agent_roles.proofs.Granting.{both-true}
 use Rattle.agent_roles.proofs.Living.{no-way}
-use Rattle.agent_model.proofs.Rows.{clearing-by, if-cases}
+use Rattle.agent_cases.proofs.Rows.{clearing-by, if-cases}
 
 -- ---- of the members whose answers pass, the first is one of them
 record IsOneOf (passes : PeerAnswer → Bool) (answers : List PeerAnswer) (member : MemberId) : Type 0 where

@@ -2,7 +2,7 @@
 use Rattle.std.proofs.Common.{◌≡◌, ◌⊎◌, ℕ, zero, suc, ◌+◌, ◌≤◌, ◌<◌, ◌==◌, nat_le, ◌&&◌, ◌||◌, not, Bool, true, false, refl, ◌∙◌, ap, sym, arith, inl, inr}
 use Rattle.std.proofs.lemmas.Bool.Decides.{nat_tests}
 use Rattle.commit_actions.specs.Keys.{Confirmers, Nobody, All, AtLeast, one_if, count, AllBut, Meets, Overlaps, MayPublish, Added, Counted, Confirmed, Narrows}
-use Rattle.lease_law.proofs.Tools.{both, not-false, le-from, gt-from}
+use Rattle.lease_model.proofs.Tools.{both, not-false, le-from, gt-from}
 
 pub count-none : (n : ℕ) → count n (λ m. false) ≡ 0
 count-none zero = refl

@@ -1,7 +1,7 @@
 -- Small tools.
 use Rattle.std.proofs.Common.{◌≡◌, ◌⊎◌, ℕ, ◌||◌, Bool, true, false, Option, Some, None, refl, ◌∙◌, sym, inl, inr}
 use Rattle.event_book.specs.Functions.{put_at}
-use Rattle.lease_law.proofs.Tools.{some-is, none-some, put-all, dropped}
+use Rattle.lease_model.proofs.Tools.{some-is, none-some, put-all, dropped}
 use Rattle.commit_actions.specs.Functions.{forget}
 
 pub some-none : {A : Type 0} (x : A) → ◌≡◌ {A = Option A} (Some x) None → ⊥

@@ -29,8 +29,8 @@ use Rattle.event_book.specs.Logs.{Logs, logs_after}
 use Rattle.event_book.specs.Required.{required_after, confirmed_after}
 use Rattle.event_book.specs.Writers.{writes_after}
 use Rattle.sync_order.specs.Grown.{grown_after}
-use Rattle.lease_law.specs.Leases.{LeaderKey, FailsafeKey}
-use Rattle.lease_law.specs.Past.{leader_after, failsafe_after, revision_after}
+use Rattle.lease_model.specs.Leases.{LeaderKey, FailsafeKey}
+use Rattle.lease_model.specs.Past.{leader_after, failsafe_after, revision_after}
 use Rattle.commit_actions.specs.Keys.{SyncKey, Confirmers, Nobody, All}
 use Rattle.commit_actions.specs.Flights.{Aim, ClaimSync, PublishStandbys, CreateLeader, SyncRequest, Flying, Requested, LeaseGranted, SyncGranted, SnapshotSent, RaceAnswered}
 use Rattle.commit_actions.specs.States.{Agent, Machine, State}

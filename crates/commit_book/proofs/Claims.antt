@@ -1,6 +1,6 @@
 -- A claim that the key store grants names its sender.
 use Rattle.std.proofs.Common.{ℕ, ◌≡◌, ◌&&◌, Bool, true, false, Option, Some, None, ap, subst}
-use Rattle.lease_law.proofs.Tools.{and-first, both, eq-from}
+use Rattle.lease_model.proofs.Tools.{and-first, both, eq-from}
 use Rattle.commit_actions.specs.Actions.{at_revision, is_as_read, is_granted, is_leader_as_read}
 use Rattle.commit_actions.specs.Carried.{IsAsRead, IsSound, NamesMember}
 use Rattle.commit_actions.specs.Flights.{Aim, ClaimSync, Requested, SyncRequest}

@@ -17,10 +17,10 @@ use Rattle.store_keys.specs.declared.value.Value.TheVariants as values
 use Rattle.lease_store.proofs.Answering.{present_found}
 use Rattle.lease_store.proofs.Keeping.{find_present, kind_found}
 use Rattle.event_book.specs.Facts.{Facts}
-use Rattle.lease_law.specs.Leases.{LeaderKey}
-use Rattle.lease_law.specs.Stores.{leader_key_of, IsLeased, is_granted as grants}
+use Rattle.lease_model.specs.Leases.{LeaderKey}
+use Rattle.lease_model.specs.Stores.{leader_key_of, IsLeased, is_granted as grants}
 use Rattle.lease_law.proofs.SameStore.{present-endless}
-use Rattle.lease_law.proofs.Tools.{both}
+use Rattle.lease_model.proofs.Tools.{both}
 use Rattle.lease_book.proofs.Flights.{snapshot-leader}
 use Rattle.commit_actions.specs.Actions.{at_revision, is_as_read}
 use Rattle.commit_actions.specs.Keys.{SyncKey}

@@ -20,9 +20,9 @@ use Rattle.event_book.specs.declared.message.Body.TheVariants as bodies
 use Rattle.event_book.specs.Flight.{InFlightFacts, in_flight}
 use Rattle.event_book.specs.Facts.{Facts}
 use Rattle.event_book.specs.Functions.{put_at}
-use Rattle.lease_law.specs.Showing.{granted_events, refused_events, read_events}
-use Rattle.lease_law.specs.Stores.{IsSpannedTxn, is_granted as is_grant}
-use Rattle.lease_law.proofs.Tools.{both, put-all}
+use Rattle.lease_model.specs.Showing.{granted_events, refused_events, read_events}
+use Rattle.lease_model.specs.Stores.{IsSpannedTxn, is_granted as is_grant}
+use Rattle.lease_model.proofs.Tools.{both, put-all}
 use Rattle.commit_actions.specs.Actions.{Action, Create, Decide, Note, OtherWrite, Release, Renew, SendSnapshot, IsAllowed, IsNumbered, MayRenew, is_granted}
 use Rattle.commit_book.specs.Books.{IsShown, AreAllowed, book_of}
 use Rattle.commit_actions.specs.Flights.{Flying}

@@ -23,8 +23,8 @@ use Rattle.event_book.specs.Flight.{InFlightFacts, in_flight, without_message, l
 use Rattle.event_book.specs.Facts.{Facts, facts_after, start_of}
 use Rattle.event_book.specs.Functions.{put_at}
 use Rattle.event_book.specs.Logs.{Logs}
-use Rattle.lease_law.specs.Leases.{LeaderKey, FailsafeKey}
-use Rattle.lease_law.proofs.Tools.{some-is, none-some, put-all, put-here, put-there, dropped}
+use Rattle.lease_model.specs.Leases.{LeaderKey, FailsafeKey}
+use Rattle.lease_model.proofs.Tools.{some-is, none-some, put-all, put-here, put-there, dropped}
 use Rattle.lease_book.proofs.Entries.{in-with, in-without, rises-with, rises-without}
 use Rattle.lease_book.proofs.Flights.{snapshot-leader, snapshot-failsafe}
 use Rattle.commit_actions.specs.Keys.{SyncKey}

@@ -2,14 +2,14 @@
 use Rattle.std.proofs.Common.{◌≡◌, ℕ, ◌≤◌, true, false, List, [], ◌∷◌, Option, Some, None, refl, ◌∙◌, ap, sym, arith, inl, inr}
 use Rattle.event_book.specs.declared.event.Event.{Event}
 use Rattle.event_book.specs.Clock.{now_after}
-use Rattle.lease_law.specs.Leases.{LeaderKey, FailsafeKey}
-use Rattle.lease_law.specs.States as lease
-use Rattle.lease_law.specs.Inputs.{Fed}
+use Rattle.lease_model.specs.Leases.{LeaderKey, FailsafeKey}
+use Rattle.lease_model.specs.States as lease
+use Rattle.lease_model.specs.Inputs.{Fed}
 use Rattle.event_book.specs.Premises.{IsOnTime}
-use Rattle.lease_law.specs.Carried as lease_carried
-use Rattle.lease_law.specs.Past as lease_past
+use Rattle.lease_model.specs.Carried as lease_carried
+use Rattle.lease_model.specs.Past as lease_past
 use Rattle.lease_law.proofs.Fed.{fed-ok, newcomer}
-use Rattle.lease_law.proofs.Tools.{none-some, both}
+use Rattle.lease_model.proofs.Tools.{none-some, both}
 use Rattle.commit_actions.specs.States.{Machine, is_ready, Acts}
 use Rattle.commit_actions.specs.Past.{Past, past_after, past_over, leader_revision, is_keyless}
 

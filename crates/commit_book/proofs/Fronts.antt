@@ -16,7 +16,7 @@ use Rattle.event_book.specs.Kept.{KeepsCommits, WritersHold}
 use Rattle.event_book.specs.Logs.{Logs, entries_at, entries_found, logs_after, logs_over}
 use Rattle.event_book.specs.Writers.{writes_after, writes_over}
 use Rattle.lease_law.proofs.Runs.{no-cons, head-is, tail-is, cuts}
-use Rattle.lease_law.proofs.Tools.{none-some, some-is}
+use Rattle.lease_model.proofs.Tools.{none-some, some-is}
 use Rattle.commit_actions.specs.Actions.{IsAllowed}
 use Rattle.commit_actions.specs.Carried.{IsSound}
 use Rattle.commit_actions.specs.Past.{Setup, Past, past_after, past_over, first_past, VolatileState, log_found, confirmers_of, position_of, state_of}

@@ -28,11 +28,11 @@ use Rattle.event_book.specs.declared.message.Body.TheVariants as bodies
 use Rattle.event_book.specs.Flight.{InFlightFacts, in_flight}
 use Rattle.event_book.specs.Facts.{Facts, facts_after, facts_over, start_of}
 use Rattle.event_book.specs.Logs.{Logs}
-use Rattle.lease_law.specs.Leases.{LeaderKey}
-use Rattle.lease_law.specs.Past.{extended_by}
+use Rattle.lease_model.specs.Leases.{LeaderKey}
+use Rattle.lease_model.specs.Past.{extended_by}
 use Rattle.event_book.specs.Kinds.{AllAre}
-use Rattle.lease_law.specs.Showing.{granted_events, refused_events, read_events}
-use Rattle.lease_law.specs.Stores.{IsSpannedTxn, IsSpanned}
+use Rattle.lease_model.specs.Showing.{granted_events, refused_events, read_events}
+use Rattle.lease_model.specs.Stores.{IsSpannedTxn, IsSpanned}
 use Rattle.lease_book.proofs.Groups.{members-spanned}
 use Rattle.lease_book.specs.Groups.{IsMemberEnd, IsOfMembers, IsNumberedAbove, AreNumberedAbove}
 use Rattle.commit_actions.specs.Past.{Past, Query, first_past, leader_revision, past_after, past_over, query_of}

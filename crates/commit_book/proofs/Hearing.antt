@@ -11,8 +11,8 @@ use Rattle.event_book.specs.declared.message.Body.TheVariants as bodies
 use Rattle.event_book.specs.declared.message.Message.{Message}
 use Rattle.event_book.specs.Flight.{InFlightFacts, in_flight, grant_for}
 use Rattle.event_book.specs.Facts.{Facts}
-use Rattle.lease_law.specs.Stores.{leader_key_of, failsafe_key_of}
-use Rattle.lease_law.proofs.Tools.{both}
+use Rattle.lease_model.specs.Stores.{leader_key_of, failsafe_key_of}
+use Rattle.lease_model.proofs.Tools.{both}
 use Rattle.lease_book.specs.Flights.{revision_of}
 use Rattle.commit_actions.specs.Keys.{SyncKey}
 use Rattle.commit_actions.specs.Flights.{Aim, ClaimSync, CreateLeader, PublishStandbys, SyncRequest, Flying, LeaseGranted, SyncGranted}

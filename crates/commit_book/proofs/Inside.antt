@@ -14,7 +14,7 @@ use Rattle.event_book.specs.Required.{required_after}
 use Rattle.event_book.specs.Writers.{writes_after}
 use Rattle.sync_order.specs.Grown.{grown_after}
 use Rattle.lease_law.proofs.Runs.{head-is, no-cons, tail-is}
-use Rattle.lease_law.proofs.Tools.{both}
+use Rattle.lease_model.proofs.Tools.{both}
 use Rattle.commit_actions.specs.Actions.{IsAllowed}
 use Rattle.commit_book.specs.Books.{IsShown, Transition}
 use Rattle.commit_actions.specs.Carried.{IsSound}

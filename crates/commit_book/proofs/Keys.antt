@@ -24,7 +24,7 @@ use Rattle.event_book.specs.declared.member.Member.{Member}
 use Rattle.event_book.specs.Facts.{Facts, facts_after, start_of}
 use Rattle.event_book.specs.Logs.{Logs}
 use Rattle.event_book.specs.Functions.{set_members}
-use Rattle.lease_law.specs.Stores.{IsEndless, IsSameStore, IsSpanned}
+use Rattle.lease_model.specs.Stores.{IsEndless, IsSameStore, IsSpanned}
 use Rattle.lease_law.proofs.SameStore.{present-endless, same-by, same-first}
 use Rattle.commit_actions.specs.Keys.{SyncKey, strict_quorum}
 use Rattle.commit_actions.specs.Stored.{quorum_of, quorum_written}

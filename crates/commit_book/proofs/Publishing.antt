@@ -2,7 +2,7 @@
 use Rattle.std.proofs.Common.{arith, ℕ, ◌≡◌, ◌<◌, ◌≤◌, ◌+◌, ◌&&◌, not, Bool, true, false, Option, Some, None, slice_get, refl, ◌∙◌, ap, sym, subst, inl, inr}
 use Rattle.pat_base.specs.declared.server_state.Required.{Required}
 use Rattle.pat_base.specs.declared.server_state.Required.TheVariants as requireds
-use Rattle.lease_law.proofs.Tools.{both, none-some, some-is}
+use Rattle.lease_model.proofs.Tools.{both, none-some, some-is}
 use Rattle.commit_actions.specs.Carried.{IsSound}
 use Rattle.commit_actions.specs.Flights.{Aim, ClaimSync, CreateLeader, PublishStandbys, SyncRequest}
 use Rattle.commit_actions.specs.Inputs.{AgentInput, Does, HasConfirmed, IsLawful, Publishes, Sending, Idling, Racing, HearingAnswer, WinningRace, CreatingLeader, Arming, TakingOver, ChangingRequired, Publishing, Promoting, SettlingRequired}

@@ -14,10 +14,10 @@ use Rattle.event_book.specs.declared.link.LinkEnd.TheVariants as ends
 use Rattle.event_book.specs.declared.message.Body.{Body}
 use Rattle.event_book.specs.declared.message.Body.TheVariants as bodies
 use Rattle.event_book.specs.Logs.{Logs}
-use Rattle.lease_law.specs.Leases.{LeaderKey}
-use Rattle.lease_law.specs.Past.{extended_by, leader_granted, query_of as lease_query_of}
+use Rattle.lease_model.specs.Leases.{LeaderKey}
+use Rattle.lease_model.specs.Past.{extended_by, leader_granted, query_of as lease_query_of}
 use Rattle.lease_law.proofs.Uncontended.{key-known}
-use Rattle.lease_law.proofs.Tools.{some-is, none-some, both, put-all}
+use Rattle.lease_model.proofs.Tools.{some-is, none-some, both, put-all}
 use Rattle.commit_actions.specs.Actions.{MayRenew}
 use Rattle.commit_actions.specs.Past.{Setup, Past, VolatileState, Query, CarryQuery, OtherQuery, query_of, query_sent, is_holder, was_live_by_txn, was_live_by_message, was_live_by_grant, past_after, first_past, leader_revision, state_of}
 use Rattle.commit_book.specs.Renewals.{ComparesGiven, AreCarriedLive}

@@ -34,10 +34,10 @@ use Rattle.event_book.specs.declared.member.ServerOf.{ServerOf}
 use Rattle.pat_base.specs.Changes.{changed_at, with_changed}
 use Rattle.event_book.specs.Functions.{put_at}
 use Rattle.event_book.specs.Logs.{Logs, logs_by, log_received, log_copied}
-use Rattle.lease_law.specs.Leases.{LeaderKey}
-use Rattle.lease_law.specs.States.{leader_kept}
-use Rattle.lease_law.specs.Outcomes.{failsafe_carried}
-use Rattle.lease_law.specs.Past.{extended_by, members_if}
+use Rattle.lease_model.specs.Leases.{LeaderKey}
+use Rattle.lease_model.specs.States.{leader_kept}
+use Rattle.lease_model.specs.Outcomes.{failsafe_carried}
+use Rattle.lease_model.specs.Past.{extended_by, members_if}
 use Rattle.commit_actions.specs.Functions.{forget}
 use Rattle.commit_actions.specs.Keys.{SyncKey, Confirmers}
 use Rattle.commit_actions.specs.Flights.{Flying, SyncRequest, Requested, RaceAnswered}
@@ -46,10 +46,10 @@ use Rattle.commit_actions.specs.Inputs.{Sending, AgentInput}
 use Rattle.commit_actions.specs.Actions.{Commit, Acknowledge, Receive, Confirm, Rewind, Clone, Wipe, Accept, Cease, End, Create, Renew, Expire, Release, OtherWrite, SendSnapshot, Decide, Lose, AnswerRace, Start, Kill, Note, Input, with_machine, with_log, send, machine_after, fresh_agent, is_none, is_as_read, is_granted, failsafe_revision_if, with_decision, decide_at}
 use Rattle.commit_actions.specs.Past.{Setup, Past, past_after, past_over, VolatileState, log_found, front_to, confirmers_of, position_in, position_of, machine_of, state_of, Query, renew_query, lease_grant_of, LeaseQuery, SyncQuery, OtherQuery, leader_revision, claim_request, publish_request, create_request, revision_in, grant_in_flight_of, snapshot_of, race_answer_of, is_keyless, is_leaderless, key_holder, failsafe_revision_of}
 use Rattle.commit_book.specs.Books.{IsShown}
-use Rattle.lease_law.specs.Showing.{granted_events, refused_events, read_events}
+use Rattle.lease_model.specs.Showing.{granted_events, refused_events, read_events}
 use Rattle.commit_book.specs.Showing.{event_at, decided_events, IsOwn, AreOwn, with_server_down, carries_set, IsOtherTxn, IsIdle, AreIdle}
 use Rattle.commit_book.specs.ShownActions.{ActionsAreShown}
-use Rattle.lease_law.proofs.Tools.{none-some, put-all, put-here, put-there}
+use Rattle.lease_model.proofs.Tools.{none-some, put-all, put-here, put-there}
 
 -- one item of a list is changed
 changed-here : {A : Type 0} (items : List A) (k : ℕ) (f : A → A) (x : A) → slice_get items k ≡ Some x → slice_get (with_changed items k f) k ≡ Some (f x)

@@ -18,10 +18,10 @@ use Rattle.event_book.specs.declared.event.EventKind.TheVariants as kinds
 use Rattle.event_book.specs.declared.event.StoreEvent.TheVariants as stores
 use Rattle.event_book.specs.declared.member.Member.{Member}
 use Rattle.event_book.specs.Facts.{Facts, facts_after, facts_over}
-use Rattle.lease_law.specs.Stores.{IsEndless}
+use Rattle.lease_model.specs.Stores.{IsEndless}
 use Rattle.event_book.specs.Functions.{set_members}
 use Rattle.lease_law.proofs.SameStore.{present-endless}
-use Rattle.lease_law.proofs.Tools.{none-some, some-is}
+use Rattle.lease_model.proofs.Tools.{none-some, some-is}
 use Rattle.commit_actions.specs.Keys.{SyncKey}
 use Rattle.commit_actions.specs.Stored.{key_seen}
 use Rattle.commit_actions.specs.Past.{Past, past_after, past_over, sync_after_grant}

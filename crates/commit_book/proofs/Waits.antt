@@ -10,9 +10,9 @@ use Rattle.event_book.specs.declared.message.Body.TheVariants as bodies
 use Rattle.event_book.specs.Flight.{InFlightFacts, in_flight}
 use Rattle.event_book.specs.Facts.{Facts}
 use Rattle.event_book.specs.Functions.{put_at}
-use Rattle.lease_law.specs.Leases.{Question, Requested}
-use Rattle.lease_law.specs.Past as lease_past
-use Rattle.lease_law.proofs.Tools.{put-here, put-there}
+use Rattle.lease_model.specs.Leases.{Question, Requested}
+use Rattle.lease_model.specs.Past as lease_past
+use Rattle.lease_model.proofs.Tools.{put-here, put-there}
 use Rattle.std.proofs.lemmas.Bool.{cases_eq}
 use Rattle.lease_book.specs.Flights as bridge_flights
 use Rattle.lease_book.specs.Groups.{IsNumberedAbove}

@@ -12,7 +12,7 @@ use Rattle.event_book.specs.declared.link.LinkEnd.TheVariants as ends
 use Rattle.event_book.specs.declared.member.Member.{Member}
 use Rattle.event_book.specs.declared.message.Body.TheVariants as bodies
 use Rattle.event_book.specs.Facts.{Facts, facts_over}
-use Rattle.lease_law.specs.Showing.{granted_events}
+use Rattle.lease_model.specs.Showing.{granted_events}
 use Rattle.commit_actions.specs.Actions.{Action, Create, Decide, Note, OtherWrite, Release, Renew, SendSnapshot, IsNumbered}
 use Rattle.commit_book.specs.Books.{Transition, AreAllowed, book_of}
 use Rattle.commit_actions.specs.Past.{Setup, Past, VolatileState, past_over}

@@ -10,7 +10,7 @@ use Rattle.event_book.specs.declared.event.MessageEvent.TheVariants as messages
 use Rattle.event_book.specs.declared.link.LinkEnd.TheVariants as ends
 use Rattle.event_book.specs.declared.member.Member.{Member}
 use Rattle.event_book.specs.declared.message.Body.TheVariants as bodies
-use Rattle.lease_law.specs.Showing.{granted_events}
+use Rattle.lease_model.specs.Showing.{granted_events}
 use Rattle.lease_book.specs.Example.{asked_and_granted}
 use Rattle.commit_actions.specs.Keys.{strict_quorum}
 use Rattle.commit_actions.specs.Flights.{SyncGrant}

@@ -13,7 +13,7 @@ use Rattle.event_book.specs.declared.message.Body.{Body}
 use Rattle.event_book.specs.declared.message.Body.TheVariants as bodies
 use Rattle.event_book.specs.Flight.{InFlightFacts, in_flight, grant_for}
 use Rattle.event_book.specs.Facts.{Facts, facts_after}
-use Rattle.lease_law.specs.Stores.{leader_key_of, failsafe_key_of, IsSpanned}
+use Rattle.lease_model.specs.Stores.{leader_key_of, failsafe_key_of, IsSpanned}
 use Rattle.lease_book.specs.Flights.{revision_of, Rises}
 use Rattle.commit_actions.specs.Flights.{Aim, ClaimSync, CreateLeader, PublishStandbys, SyncRequest, Flying}
 use Rattle.commit_actions.specs.Actions.{sync_key_by}

@@ -1,12 +1,12 @@
 -- What the law of one writer gives to this one.
 use Rattle.std.specs.Prelude.{ℕ, ◌≡◌, ◌≤◌, true, false, List, Option, Some, None}
 use Rattle.event_book.specs.declared.event.Event.{Event}
-use Rattle.lease_law.specs.Leases.{LeaderKey, FailsafeKey}
-use Rattle.lease_law.specs.States as lease
-use Rattle.lease_law.specs.Inputs.{Fed}
+use Rattle.lease_model.specs.Leases.{LeaderKey, FailsafeKey}
+use Rattle.lease_model.specs.States as lease
+use Rattle.lease_model.specs.Inputs.{Fed}
 use Rattle.event_book.specs.Premises.{IsOnTime}
-use Rattle.lease_law.specs.Carried as lease_carried
-use Rattle.lease_law.specs.Past as lease_past
+use Rattle.lease_model.specs.Carried as lease_carried
+use Rattle.lease_model.specs.Past as lease_past
 use Rattle.commit_actions.specs.States.{Machine, is_ready, Acts}
 use Rattle.commit_actions.specs.Past.{Past, past_over, leader_revision, is_keyless}
 

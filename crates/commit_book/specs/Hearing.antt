@@ -5,7 +5,7 @@ use Rattle.store_keys.specs.declared.key.Key.TheVariants as keys
 use Rattle.lease_store.specs.KeyOrder.{key_cmp}
 use Rattle.event_book.specs.declared.member.Member.{Member}
 use Rattle.event_book.specs.Flight.{InFlightFacts}
-use Rattle.lease_law.specs.Stores.{failsafe_key_of}
+use Rattle.lease_model.specs.Stores.{failsafe_key_of}
 use Rattle.commit_actions.specs.Actions.{sync_key_by}
 use Rattle.commit_actions.specs.Flights.{Aim, Flying, LeaseGranted, SnapshotSent, SyncGranted}
 use Rattle.commit_actions.specs.Past.{Past, failsafe_revision_of}

@@ -7,8 +7,8 @@ use Rattle.store_keys.specs.declared.value.Value.{Value}
 use Rattle.store_keys.specs.declared.value.Value.TheVariants as values
 use Rattle.lease_store.specs.KeyOrder.{key_cmp}
 use Rattle.event_book.specs.Facts.{Facts}
-use Rattle.lease_law.specs.Past as lease_past
-use Rattle.lease_law.specs.Stores.{IsEndless, IsSameStore}
+use Rattle.lease_model.specs.Past as lease_past
+use Rattle.lease_model.specs.Stores.{IsEndless, IsSameStore}
 use Rattle.commit_actions.specs.Keys.{SyncKey}
 use Rattle.commit_actions.specs.Stored.{key_seen}
 use Rattle.commit_actions.specs.Past.{Past}

@@ -3,7 +3,7 @@ use Rattle.std.specs.Prelude.{ℕ, ◌≡◌, ◌≤◌, true, Some}
 use Rattle.event_book.specs.declared.event.EventKind.{EventKind}
 use Rattle.event_book.specs.declared.event.EventKind.TheVariants as kinds
 use Rattle.event_book.specs.declared.event.MessageEvent.TheVariants.{Sent}
-use Rattle.lease_law.specs.Leases.{LeaderKey}
+use Rattle.lease_model.specs.Leases.{LeaderKey}
 use Rattle.commit_actions.specs.Past.{Past, CarryQuery, query_sent}
 
 -- a renewal that is sent, and carries a set, compares a revision that was given before: it was read

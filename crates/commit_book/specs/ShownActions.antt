@@ -28,8 +28,8 @@ use Rattle.pat_base.specs.declared.peer_answer.PeerAnswer.{PeerAnswer}
 use Rattle.event_book.specs.declared.member.Member.{Member}
 use Rattle.event_book.specs.declared.member.ServerOf.{ServerOf}
 use Rattle.event_book.specs.Functions.{put_at}
-use Rattle.lease_law.specs.Leases.{LeaderKey}
-use Rattle.lease_law.specs.States.{leader_kept}
+use Rattle.lease_model.specs.Leases.{LeaderKey}
+use Rattle.lease_model.specs.States.{leader_kept}
 use Rattle.commit_actions.specs.Functions.{forget}
 use Rattle.commit_actions.specs.Flights.{SyncRequest, Requested}
 use Rattle.commit_actions.specs.States.{Agent}
@@ -37,7 +37,7 @@ use Rattle.commit_actions.specs.Inputs.{Sending}
 use Rattle.commit_actions.specs.Actions.{Commit, Acknowledge, Receive, Confirm, Rewind, Clone, Wipe, Accept, Cease, End, Create, Renew, Expire, Release, OtherWrite, SendSnapshot, Decide, Lose, AnswerRace, Start, Kill, Note, Input, send, fresh_agent, is_as_read, is_granted}
 use Rattle.commit_actions.specs.Past.{Setup, Past, past_over, renew_query, VolatileState, log_found, front_to, confirmers_of, LeaseQuery, SyncQuery, OtherQuery, leader_revision, claim_request, publish_request, create_request, revision_in, is_keyless, is_leaderless}
 use Rattle.commit_book.specs.Books.{IsShown}
-use Rattle.lease_law.specs.Showing.{granted_events, refused_events, read_events}
+use Rattle.lease_model.specs.Showing.{granted_events, refused_events, read_events}
 use Rattle.commit_book.specs.Showing.{event_at, decided_events, AreOwn, with_server_down, carries_set, IsOtherTxn, AreIdle}
 
 -- for each action, the events that show it, and on which condition

@@ -1,6 +1,6 @@
 -- Requests by their names: the member that asks, its incarnation and the number in that one. lease_law reads the name of each one.
 use Rattle.std.specs.Prelude.{ℕ, ◌≡◌, Option, Some}
-use Rattle.lease_law.specs.Leases.{Question}
+use Rattle.lease_model.specs.Leases.{Question}
 use Rattle.commit_actions.specs.Past.{Query}
 
 -- a request of this name that was asked is this one, as commits read it

@@ -6,7 +6,7 @@ ghost use Rattle.event_book.specs.declared.event.Event.{Event};
 ghost use Rattle.event_book.specs.declared.event.EventKind.{EventKind};
 ghost use Rattle.event_book.specs.Kept.{KeepsCommits};
 ghost use Rattle.event_book.specs.Logs.{Logs};
-ghost use Rattle.lease_law.specs.Leases.{LeaderKey};
+ghost use Rattle.lease_model.specs.Leases.{LeaderKey};
 ghost use Rattle.commit_actions.specs.Actions.{IsAllowed, MayRenew};
 ghost use Rattle.commit_book.specs.Books.{Transition, IsShown, ChangeOnce, AreAllowed, AllHaveBytes, KeepsNow, book_of, first_volatile_states};
 ghost use Rattle.commit_actions.specs.Carried.{IsSound};

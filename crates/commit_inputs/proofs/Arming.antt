@@ -9,11 +9,11 @@ use Rattle.agent_commit_law.specs.Committing.{ArmsOn}
 use Rattle.agent_lease_law.specs.Lawful.{Hears}
 use Rattle.cluster_model.specs.Inputs.{moment_of}
 use Rattle.cluster_model.specs.State.{Cluster}
-use Rattle.lease_law.specs.Inputs.{Fed, HeardGrant}
-use Rattle.lease_law.specs.Leases.{Answer, Answered, Flying, Grant}
-use Rattle.lease_law.specs.Past as lease_past
-use Rattle.lease_law.specs.States as lease
-use Rattle.lease_law.proofs.Tools.{both, some-is}
+use Rattle.lease_model.specs.Inputs.{Fed, HeardGrant}
+use Rattle.lease_model.specs.Leases.{Answer, Answered, Flying, Grant}
+use Rattle.lease_model.specs.Past as lease_past
+use Rattle.lease_model.specs.States as lease
+use Rattle.lease_model.proofs.Tools.{both, some-is}
 use Rattle.commit_actions.specs.Inputs.{ArmsAlone}
 use Rattle.commit_actions.specs.Past.{leader_revision}
 use Rattle.commit_actions.specs.States.{State}

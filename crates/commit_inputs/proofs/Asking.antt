@@ -41,10 +41,10 @@ use Rattle.cluster_model.specs.Machines.{points_of}
 use Rattle.cluster_model.specs.Messages.{output_events}
 use Rattle.cluster_model.specs.Parts.{each}
 use Rattle.cluster_model.specs.State.{Cluster}
-use Rattle.lease_law.specs.Leases.{Flying, Read, Requested, Question as Asked}
-use Rattle.lease_law.specs.Past as lease_past
+use Rattle.lease_model.specs.Leases.{Flying, Read, Requested, Question as Asked}
+use Rattle.lease_model.specs.Past as lease_past
 use Rattle.event_book.specs.Kinds.{AllAre}
-use Rattle.lease_law.proofs.Tools.{eq-from, ne-from, none-some, put-here, put-there, some-is}
+use Rattle.lease_model.proofs.Tools.{eq-from, ne-from, none-some, put-here, put-there, some-is}
 use Rattle.std.proofs.lemmas.Bool.{cases_eq}
 use Rattle.lease_book.specs.Flights as bridge_flights
 use Rattle.lease_book.specs.Groups.{AreNumberedAbove, IsNumberedAbove}

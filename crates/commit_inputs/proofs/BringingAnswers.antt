@@ -28,7 +28,7 @@ use Rattle.cluster_model.specs.Inputs.{moment_of}
 use Rattle.cluster_model.specs.Machines.{points_of}
 use Rattle.cluster_model.specs.Parts.{each}
 use Rattle.cluster_model.specs.State.{Cluster}
-use Rattle.lease_law.proofs.Tools.{none-some, some-is}
+use Rattle.lease_model.proofs.Tools.{none-some, some-is}
 use Rattle.commit_actions.specs.Actions.{Input, IsNumbered, act}
 use Rattle.commit_actions.specs.Past.{Past, Setup, log_found, past_over, state_of}
 use Rattle.commit_actions.specs.States.{State}

@@ -38,8 +38,8 @@ use Rattle.cluster_model.specs.Limits.{most_in_flight}
 use Rattle.cluster_model.specs.Messages.{agent_message, lost_at_once, send_events, sending_events}
 use Rattle.cluster_model.specs.Parts.{each, event_of, events_of}
 use Rattle.cluster_model.specs.State.{Cluster}
-use Rattle.lease_law.specs.Leases.{LeaderKey}
-use Rattle.lease_law.proofs.Tools.{put-all, put-here, put-there}
+use Rattle.lease_model.specs.Leases.{LeaderKey}
+use Rattle.lease_model.proofs.Tools.{put-all, put-here, put-there}
 use Rattle.commit_actions.proofs.Counting.{none-less}
 use Rattle.commit_actions.specs.Stored.{quorum_written}
 use Rattle.commit_actions.specs.Keys.{strict_quorum}

@@ -25,7 +25,7 @@ use Rattle.cluster_model.specs.Cluster.{cluster_over}
 use Rattle.cluster_model.specs.Inputs.{moment_of}
 use Rattle.cluster_model.specs.Messages.{begin_events}
 use Rattle.cluster_model.specs.State.{Cluster}
-use Rattle.lease_law.proofs.Tools.{both, put-here, put-there}
+use Rattle.lease_model.proofs.Tools.{both, put-here, put-there}
 use Rattle.commit_actions.specs.Actions.{Input}
 use Rattle.commit_actions.specs.Past.{Past, Setup, VolatileState, past_over}
 use Rattle.commit_book.proofs.Fronts.{past-append}

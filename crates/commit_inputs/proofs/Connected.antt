@@ -18,7 +18,7 @@ use Rattle.agent_model.specs.Agents.{AgentFacts, outcome_from}
 use Rattle.agent_commit_law.specs.Committing.{GrowsByConnected, ListsMember}
 use Rattle.cluster_model.specs.Machines.{connected_end, connected_ends, is_connected, machine_from, machine_of, nothing_confirmed, replication_of}
 use Rattle.cluster_model.specs.State.{Cluster}
-use Rattle.lease_law.proofs.Tools.{none-some}
+use Rattle.lease_model.proofs.Tools.{none-some}
 use Rattle.commit_actions.specs.Past.{confirmers_in, confirmers_of}
 use Rattle.commit_servers.specs.Sound.{WaitsForMembers}
 use Rattle.commit_servers.proofs.Acting.{required-at}

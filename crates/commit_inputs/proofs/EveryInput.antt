@@ -33,8 +33,8 @@ use Rattle.cluster_model.specs.Messages.{hear_events, heard_message, input_event
 use Rattle.cluster_model.specs.Parts.{event_of}
 use Rattle.cluster_model.specs.Requests.{action_of}
 use Rattle.cluster_model.specs.State.{Cluster}
-use Rattle.lease_law.specs.Past as lease_past
-use Rattle.lease_law.proofs.Tools.{none-some, some-is}
+use Rattle.lease_model.specs.Past as lease_past
+use Rattle.lease_model.proofs.Tools.{none-some, some-is}
 use Rattle.commit_actions.specs.Actions.{IsNumbered, Lose, Note}
 use Rattle.commit_book.specs.Books.{IsShown}
 use Rattle.commit_actions.specs.Inputs.{AgentInput}

@@ -38,11 +38,11 @@ use Rattle.agent_commit_law.proofs.CommitTools.{no-members}
 use Rattle.agent_roles.proofs.Granting.{both-true}
 use Rattle.cluster_model.specs.Hearing.{heard_from, heard_in, member_at_end, snapshot_in}
 use Rattle.cluster_model.specs.State.{Cluster}
-use Rattle.lease_law.specs.Leases.{FailsafeKey, LeaderKey}
-use Rattle.lease_law.specs.Past as lease_past
+use Rattle.lease_model.specs.Leases.{FailsafeKey, LeaderKey}
+use Rattle.lease_model.specs.Past as lease_past
 use Rattle.event_book.specs.Functions.{set_members}
-use Rattle.lease_law.specs.Stores.{failsafe_key_of, leader_key_of}
-use Rattle.lease_law.proofs.Tools.{and-first, eq-from, none-some, not-false, some-is}
+use Rattle.lease_model.specs.Stores.{failsafe_key_of, leader_key_of}
+use Rattle.lease_model.proofs.Tools.{and-first, eq-from, none-some, not-false, some-is}
 use Rattle.lease_book.proofs.Hearing.{heard-granted}
 use Rattle.commit_actions.specs.Actions.{sync_key_by}
 use Rattle.commit_actions.specs.Flights.{Flying, LeaseGranted, SnapshotSent, SyncGranted, SyncRequest}

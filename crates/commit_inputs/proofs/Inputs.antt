@@ -34,9 +34,9 @@ use Rattle.cluster_model.specs.Machines.{machine_of, points_of}
 use Rattle.cluster_model.specs.Messages.{output_events}
 use Rattle.cluster_model.specs.Parts.{each}
 use Rattle.cluster_model.specs.State.{Cluster}
-use Rattle.lease_law.specs.Leases.{LeaderKey}
-use Rattle.lease_law.specs.Past as lease_past
-use Rattle.lease_law.proofs.Tools.{none-some, put-all}
+use Rattle.lease_model.specs.Leases.{LeaderKey}
+use Rattle.lease_model.specs.Past as lease_past
+use Rattle.lease_model.proofs.Tools.{none-some, put-all}
 use Rattle.commit_actions.specs.Actions.{Input, send}
 use Rattle.commit_book.specs.Books.{AllLeaveCommits, ChangeOnce, IsShown}
 use Rattle.commit_actions.specs.Functions.{forget}

@@ -43,7 +43,7 @@ use Rattle.cluster_model.specs.State.{Cluster}
 use Rattle.cluster_model.specs.declared.heard_message.HeardMessage.{HeardMessage}
 use Rattle.cluster_model.specs.Messages.{output_events}
 use Rattle.event_book.specs.Kinds.{AllAre}
-use Rattle.lease_law.proofs.Tools.{some-is}
+use Rattle.lease_model.proofs.Tools.{some-is}
 use Rattle.lease_book.specs.Groups.{IsOfMembers}
 use Rattle.commit_actions.specs.Keys.{strict_quorum}
 use Rattle.commit_actions.specs.Actions.{IsNumbered}

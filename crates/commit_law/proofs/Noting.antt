@@ -4,7 +4,7 @@ use Rattle.wal_model.specs.declared.entry.Entry.{Entry}
 use Rattle.wal_model.specs.Log.{end_of}
 use Rattle.pg_model.specs.Facts.{entries_of}
 use Rattle.event_book.specs.Functions.{put_at}
-use Rattle.lease_law.proofs.Tools.{both, none-some, not-false, put-all, some-is}
+use Rattle.lease_model.proofs.Tools.{both, none-some, not-false, put-all, some-is}
 use Rattle.commit_actions.specs.Keys.{Confirmers, Nobody, All, AtLeast, Narrows}
 use Rattle.commit_actions.specs.States.{Agent, Machine, State}
 use Rattle.commit_actions.specs.Inputs.{AgentInput, Does, IsLawful, KeepsRole, Idling, Racing, HearingAnswer, WinningRace, CreatingLeader, Arming, TakingOver, ChangingRequired, Publishing, Promoting, SettlingRequired}

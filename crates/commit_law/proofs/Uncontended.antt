@@ -8,7 +8,7 @@ use Rattle.commit_actions.specs.States.{Agent, Machine, State, is_ready, Acts, I
 use Rattle.commit_actions.specs.Inputs.{IsUnled}
 use Rattle.commit_actions.specs.Actions.{IsNumbered}
 use Rattle.commit_actions.specs.Carried.{IsComplete, IsSyncKeyKept, IsConfirmed, AreNear, IsAimKept, IsTurnKept, IsSound}
-use Rattle.lease_law.proofs.Tools.{none-some, not-false, put-all}
+use Rattle.lease_model.proofs.Tools.{none-some, not-false, put-all}
 use Rattle.commit_actions.proofs.Counting.{but-sub, meets-sub}
 
 -- an agent that has just started

@@ -22,7 +22,7 @@ use Rattle.cluster_model.specs.Orders.{server_at}
 use Rattle.cluster_model.specs.Parts.{event_of, events_of, for_some}
 use Rattle.cluster_model.specs.State.{Cluster}
 use Rattle.wal_model.specs.Lacking.{lacks_in}
-use Rattle.lease_law.proofs.Tools.{none-some, some-is}
+use Rattle.lease_model.proofs.Tools.{none-some, some-is}
 use Rattle.commit_actions.specs.Actions.{Note}
 use Rattle.commit_book.specs.Books.{IsShown}
 use Rattle.commit_actions.specs.Past.{Past, Setup, VolatileState, past_over}

@@ -42,8 +42,8 @@ use Rattle.cluster_model.specs.Messages.{agent_message, lost_at_once, output_eve
 use Rattle.cluster_model.specs.Parts.{each, event_of, events_of}
 use Rattle.cluster_model.specs.Requests.{config_text_of, told_kind}
 use Rattle.cluster_model.specs.State.{Cluster}
-use Rattle.lease_law.specs.Leases.{LeaderKey}
-use Rattle.lease_law.proofs.Tools.{none-some, put-all}
+use Rattle.lease_model.specs.Leases.{LeaderKey}
+use Rattle.lease_model.proofs.Tools.{none-some, put-all}
 use Rattle.commit_book.specs.Books.{AllLeaveCommits}
 use Rattle.commit_actions.specs.Flights.{Flying}
 use Rattle.commit_actions.specs.Past.{Past, create_query, flying_of, past_after, past_over, query_in_flight_of, query_of, renew_query, request_in_flight_of, was_live_by_message, was_live_by_txn}

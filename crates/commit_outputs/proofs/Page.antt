@@ -26,7 +26,7 @@ use Rattle.cluster_model.specs.Commands.{kinds_of}
 use Rattle.cluster_model.specs.Orders.{is_same_required, require_of, required_names}
 use Rattle.cluster_model.specs.Parts.{event_of, events_of}
 use Rattle.cluster_model.specs.State.{Cluster}
-use Rattle.lease_law.proofs.Tools.{both}
+use Rattle.lease_model.proofs.Tools.{both}
 use Rattle.commit_actions.specs.Past.{Past, VolatileState, confirmers_in, confirmers_of, past_after, past_over}
 use Rattle.commit_book.specs.Flights.{IsSameFlight, flying_if}
 use Rattle.commit_servers.specs.Acting.{Fits}

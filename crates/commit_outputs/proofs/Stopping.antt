@@ -19,7 +19,7 @@ use Rattle.cluster_model.specs.Commands.{kinds_of}
 use Rattle.cluster_model.specs.Orders.{stop_of}
 use Rattle.cluster_model.specs.Parts.{event_of, events_of}
 use Rattle.cluster_model.specs.State.{Cluster}
-use Rattle.lease_law.proofs.Tools.{both, some-is}
+use Rattle.lease_model.proofs.Tools.{both, some-is}
 use Rattle.commit_actions.specs.Actions.{End, Note}
 use Rattle.commit_book.specs.Books.{IsShown}
 use Rattle.commit_actions.specs.Past.{Past, Setup, VolatileState, machine_of, state_of}

@@ -12,8 +12,8 @@ use Rattle.agent_model.specs.Agents.{AgentFacts}
 use Rattle.cluster_model.specs.Cluster.{cluster_after}
 use Rattle.cluster_model.specs.Parts.{event_of}
 use Rattle.cluster_model.specs.State.{Cluster}
-use Rattle.lease_law.specs.Past as lease_past
-use Rattle.lease_law.proofs.Tools.{none-some, put-all, some-is}
+use Rattle.lease_model.specs.Past as lease_past
+use Rattle.lease_model.proofs.Tools.{none-some, put-all, some-is}
 use Rattle.commit_actions.specs.Actions.{Kill}
 use Rattle.commit_actions.specs.Past.{Past, Setup, VolatileState, past_after}
 use Rattle.commit_actions.specs.States.{Agent}

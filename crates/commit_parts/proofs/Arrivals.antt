@@ -25,12 +25,12 @@ use Rattle.cluster_model.specs.Limits.{most_in_flight}
 use Rattle.cluster_model.specs.Messages.{answer_events, arrival_events_at, decision_events, lost_at_once, published_names}
 use Rattle.cluster_model.specs.Parts.{event_of, events_of}
 use Rattle.cluster_model.specs.State.{Cluster}
-use Rattle.lease_law.specs.Leases.{Question}
-use Rattle.lease_law.specs.Past as lease_past
+use Rattle.lease_model.specs.Leases.{Question}
+use Rattle.lease_model.specs.Past as lease_past
 use Rattle.event_book.specs.Kinds.{AllAre}
-use Rattle.lease_law.specs.Showing.{granted_events, read_events, refused_events}
-use Rattle.lease_law.specs.Stores.{IsSpannedTxn, is_granted as is_grant}
-use Rattle.lease_law.proofs.Tools.{put-there}
+use Rattle.lease_model.specs.Showing.{granted_events, read_events, refused_events}
+use Rattle.lease_model.specs.Stores.{IsSpannedTxn, is_granted as is_grant}
+use Rattle.lease_model.proofs.Tools.{put-there}
 use Rattle.agent_commit_law.specs.Committing.{IsSynchronousBody, IsSynchronousTxn}
 use Rattle.commit_actions.specs.Keys.{strict_quorum}
 use Rattle.commit_actions.specs.Actions.{Action, IsNumbered}

@@ -13,8 +13,8 @@ use Rattle.agent_model.specs.Agents.{AgentFacts}
 use Rattle.agent_commit_law.proofs.CommitInputs.{fresh-asks, fresh-seen}
 use Rattle.cluster_model.specs.Machines.{who_of}
 use Rattle.cluster_model.specs.Starting.{cluster_of, first_agent, options_of}
-use Rattle.lease_law.specs.Past as lease_past
-use Rattle.lease_law.proofs.Tools.{none-some, some-is}
+use Rattle.lease_model.specs.Past as lease_past
+use Rattle.lease_model.proofs.Tools.{none-some, some-is}
 use Rattle.commit_actions.specs.Actions.{fresh_agent}
 use Rattle.commit_book.specs.Books.{first_volatile_states}
 use Rattle.commit_actions.specs.Carried.{IsSound}

@@ -6,7 +6,7 @@ use Rattle.event_book.specs.declared.event.MessageEvent.TheVariants.{Sent, Deliv
 use Rattle.event_book.specs.declared.message.Message.{Message}
 use Rattle.event_book.specs.Facts.{Facts, facts_after}
 use Rattle.event_book.specs.Flight.{Flight, InFlightFacts, in_flight, launched}
-use Rattle.lease_law.proofs.Tools.{none-some, some-is}
+use Rattle.lease_model.proofs.Tools.{none-some, some-is}
 use Rattle.lease_book.specs.Flights.{Rises}
 use Rattle.lease_book.proofs.Entries.{in-with, in-without}
 

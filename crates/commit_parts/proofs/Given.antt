@@ -10,10 +10,10 @@ use Rattle.agent_model.specs.Agents.{AgentFacts}
 use Rattle.agent_commit_law.specs.Committing.{committer_seen}
 use Rattle.script_model.specs.Script.{HeadText}
 use Rattle.cluster_model.specs.State.{Cluster}
-use Rattle.lease_law.specs.Leases.{FailsafeKey, LeaderKey, Question}
-use Rattle.lease_law.specs.Past as lease_past
-use Rattle.lease_law.specs.States as lease
-use Rattle.lease_law.proofs.Tools.{both, none-some, some-is}
+use Rattle.lease_model.specs.Leases.{FailsafeKey, LeaderKey, Question}
+use Rattle.lease_model.specs.Past as lease_past
+use Rattle.lease_model.specs.States as lease
+use Rattle.lease_model.proofs.Tools.{both, none-some, some-is}
 use Rattle.lease_book.proofs.Hearing.{heard-asked}
 use Rattle.commit_actions.specs.Actions.{IsAllowed, IsNumbered, SendSnapshot}
 use Rattle.commit_actions.specs.Past.{is_keyless, is_leaderless, leader_revision}

@@ -4,7 +4,7 @@ use Rattle.script_model.specs.Script.{HeadText}
 use Rattle.event_book.specs.declared.event.Event.{Event}
 use Rattle.cluster_model.specs.Cluster.{cluster_after, cluster_over}
 use Rattle.cluster_model.specs.State.{Cluster}
-use Rattle.lease_law.specs.Past as lease_past
+use Rattle.lease_model.specs.Past as lease_past
 use Rattle.event_book.specs.Kinds.{AllAre}
 use Rattle.lease_law.proofs.Showing.{past-append as lease-append}
 use Rattle.commit_actions.specs.Keys.{strict_quorum}

@@ -26,7 +26,7 @@ use Rattle.event_book.specs.declared.message.Body.TheVariants as bodies
 use Rattle.event_book.specs.Facts.{Facts, facts_after, start_of}
 use Rattle.event_book.specs.Flight.{InFlightFacts, in_flight, snapshot_for}
 use Rattle.lease_law.proofs.Configurations.{SetsConfig, config-after}
-use Rattle.lease_law.proofs.Tools.{none-some}
+use Rattle.lease_model.proofs.Tools.{none-some}
 use Rattle.lease_book.specs.Flights.{Rises}
 use Rattle.summary_model.specs.Claims.{HasMode, KeepsMode}
 use Rattle.commit_parts.specs.Modes.{IsSynchronousEntry, IsSynchronousIn, IsSynchronousTold, IsSynchronous}

@@ -8,8 +8,8 @@ use Rattle.agent_model.specs.Agents.{AgentFacts}
 use Rattle.cluster_model.specs.Cluster.{cluster_after, cluster_over}
 use Rattle.cluster_model.specs.Parts.{event_of}
 use Rattle.cluster_model.specs.State.{Cluster}
-use Rattle.lease_law.specs.Leases.{Question as Asked}
-use Rattle.lease_law.specs.Past as lease_past
+use Rattle.lease_model.specs.Leases.{Question as Asked}
+use Rattle.lease_model.specs.Past as lease_past
 use Rattle.lease_law.proofs.Runs.{assoc}
 use Rattle.lease_law.proofs.Showing.{past-append as lease-append}
 use Rattle.commit_actions.specs.Keys.{strict_quorum}

@@ -5,7 +5,7 @@ use Rattle.event_book.specs.declared.link.LinkEnd.TheVariants as ends
 use Rattle.event_book.specs.declared.message.Body.{Body}
 use Rattle.event_book.specs.declared.message.Body.TheVariants as bodies
 use Rattle.event_book.specs.Functions.{put_at}
-use Rattle.lease_law.proofs.Tools.{none-some, put-all, some-is}
+use Rattle.lease_model.proofs.Tools.{none-some, put-all, some-is}
 use Rattle.commit_actions.specs.Actions.{Accept, Action, Cease, Clone, Commit, Confirm, Decide, End, Input, IsAllowed, IsNumbered, Kill, Receive, Rewind, Start, Wipe, act, fresh_agent, machine_after}
 use Rattle.commit_book.specs.Books.{AreAllowed, Transition, book_of}
 use Rattle.commit_actions.specs.Inputs.{AgentInput, IsLawful}

@@ -16,7 +16,7 @@ use Rattle.store_keys.specs.declared.txn.Txn.TheVariants as txns
 use Rattle.store_keys.specs.declared.value.KeyEntry.{KeyEntry}
 use Rattle.lease_store.specs.KeyOrder.{key_cmp}
 use Rattle.lease_law.proofs.Runs.{head-is, no-cons, tail-is}
-use Rattle.lease_law.proofs.Tools.{both, none-some, some-is}
+use Rattle.lease_model.proofs.Tools.{both, none-some, some-is}
 use Rattle.commit_actions.specs.Keys.{SyncKey, IsOfQuorum}
 use Rattle.agent_commit_law.specs.Committing.{IsSynchronousBody, IsSynchronousTxn}
 use Rattle.event_book.specs.Facts.{Facts}

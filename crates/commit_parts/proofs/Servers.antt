@@ -21,7 +21,7 @@ use Rattle.cluster_model.specs.Next.{acknowledge_events, confirm_events, receive
 use Rattle.cluster_model.specs.Parts.{event_of, events_of, for_some}
 use Rattle.cluster_model.specs.State.{Cluster}
 use Rattle.cluster_model.specs.Streaming.{confirm_of, source_of}
-use Rattle.lease_law.specs.Past as lease_past
+use Rattle.lease_model.specs.Past as lease_past
 use Rattle.event_book.specs.Kinds.{AllAre}
 use Rattle.commit_actions.specs.Keys.{strict_quorum}
 use Rattle.commit_actions.specs.Past.{Past, Setup, past_after, past_over}

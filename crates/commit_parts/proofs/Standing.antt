@@ -22,7 +22,7 @@ use Rattle.member_options.specs.declared.member_option.MemberOptions.{MemberOpti
 use Rattle.script_model.specs.Script.{HeadText}
 use Rattle.cluster_model.specs.Machines.{connected_end, connected_ends, is_connected, machine_from, machine_of, nothing_confirmed, replication_of}
 use Rattle.cluster_model.specs.State.{Cluster}
-use Rattle.lease_law.proofs.Tools.{none-some, some-is}
+use Rattle.lease_model.proofs.Tools.{none-some, some-is}
 use Rattle.commit_actions.specs.Keys.{strict_quorum}
 use Rattle.commit_actions.specs.Past.{Past, log_found, confirmers_in, confirmers_of, position_in, position_of}
 use Rattle.commit_actions.specs.States.{HasLog}

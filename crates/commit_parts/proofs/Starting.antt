@@ -22,10 +22,10 @@ use Rattle.cluster_model.specs.Machines.{machine_of, who_of}
 use Rattle.cluster_model.specs.Next.{agent_start_events, agent_start_events_of}
 use Rattle.cluster_model.specs.Parts.{event_of, events_of, for_some}
 use Rattle.cluster_model.specs.State.{Cluster}
-use Rattle.lease_law.specs.Past as lease_past
+use Rattle.lease_model.specs.Past as lease_past
 use Rattle.event_book.specs.Premises as lease_premises
 use Rattle.event_book.specs.Kinds.{AllAre}
-use Rattle.lease_law.proofs.Tools.{none-some, some-is}
+use Rattle.lease_model.proofs.Tools.{none-some, some-is}
 use Rattle.commit_actions.specs.Keys.{strict_quorum}
 use Rattle.commit_actions.specs.Actions.{Start, fresh_agent}
 use Rattle.commit_actions.specs.Past.{Past, Setup, VolatileState, past_after, past_over, runs_after}

@@ -12,8 +12,8 @@ use Rattle.agent_model.specs.Agents.{AgentFacts}
 use Rattle.cluster_model.specs.Cluster.{agent_facts_after, cluster_after}
 use Rattle.cluster_model.specs.Parts.{event_of}
 use Rattle.cluster_model.specs.State.{Cluster}
-use Rattle.lease_law.specs.Past as lease_past
-use Rattle.lease_law.proofs.Tools.{eq-from}
+use Rattle.lease_model.specs.Past as lease_past
+use Rattle.lease_model.proofs.Tools.{eq-from}
 use Rattle.commit_actions.specs.Past.{Past, Setup, VolatileState, past_after}
 use Rattle.commit_actions.specs.States.{Agent, State}
 use Rattle.commit_book.specs.Flights.{AreCausal}

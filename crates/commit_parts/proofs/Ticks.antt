@@ -19,9 +19,9 @@ use Rattle.cluster_model.specs.Parts.{each, event_of, events_of, for_some}
 use Rattle.cluster_model.specs.State.{Cluster}
 use Rattle.cluster_model.specs.Ticking.{completion_events, expiries_of, expiry_of, leader_expiry, next_expiries, reset_events, reset_of, tick_events}
 use Rattle.leader_key.specs.Watchdog.{is_due_at}
-use Rattle.lease_law.specs.Leases.{LeaderKey}
+use Rattle.lease_model.specs.Leases.{LeaderKey}
 use Rattle.event_book.specs.Kinds.{AllAre}
-use Rattle.lease_law.specs.States.{kept_if, leader_kept}
+use Rattle.lease_model.specs.States.{kept_if, leader_kept}
 use Rattle.commit_actions.specs.Actions.{Expire, Kill, Note}
 use Rattle.commit_book.specs.Books.{AreAllowed, Transition}
 use Rattle.commit_actions.specs.Past.{Past, Setup, VolatileState, past_after}

@@ -5,7 +5,7 @@ use Rattle.event_book.specs.declared.event.Event.{Event}
 use Rattle.cluster_model.specs.Cluster.{cluster_over}
 use Rattle.cluster_model.specs.Starting.{cluster_of}
 use Rattle.cluster_model.specs.State.{Cluster}
-use Rattle.lease_law.specs.Past as lease_past
+use Rattle.lease_model.specs.Past as lease_past
 use Rattle.commit_law.specs.Noted.{AreNoted}
 use Rattle.commit_book.specs.Books.{KeepsNow}
 use Rattle.commit_actions.specs.Keys.{strict_quorum}

@@ -24,7 +24,7 @@ use Rattle.event_book.specs.declared.message.Body.TheVariants as bodies
 use Rattle.event_book.specs.Facts.{facts_over}
 use Rattle.event_book.specs.Required.{confirmed_over, required_over}
 use Rattle.event_book.specs.Functions.{set_members}
-use Rattle.lease_law.proofs.Tools.{none-some, some-is}
+use Rattle.lease_model.proofs.Tools.{none-some, some-is}
 use Rattle.cluster_model.specs.Cluster.{cluster_after, cluster_over}
 use Rattle.cluster_model.specs.Starting.{cluster_of}
 use Rattle.cluster_model.specs.State.{Cluster}

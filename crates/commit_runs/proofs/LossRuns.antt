@@ -49,7 +49,7 @@ use Rattle.commit_servers.proofs.Repairing.{repair-follow}
 use Rattle.run_promise.specs.Members.{IsDeclared}
 use Rattle.run_promise.specs.Parts.{PartsUphold}
 use Rattle.run_promise.specs.Promise.{Upholds, UpholdsAlways}
-use Rattle.lease_law.proofs.Tools.{both}
+use Rattle.lease_model.proofs.Tools.{both}
 use Rattle.cluster_model.proofs.Founds.{holds-if, holds-then, repaired-holds, told-holds}
 use Rattle.lease_inputs.proofs.InputStays.{item-here}
 use Rattle.cluster_model.proofs.Lists.{HoldsIf}

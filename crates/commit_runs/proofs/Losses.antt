@@ -16,7 +16,7 @@ use Rattle.cluster_model.specs.Cluster.{cluster_after, cluster_over}
 use Rattle.cluster_model.specs.State.{Cluster}
 use Rattle.event_book.specs.Kinds.{AllAre}
 use Rattle.lease_law.proofs.Runs.{assoc, none-more}
-use Rattle.lease_law.proofs.Tools.{both}
+use Rattle.lease_model.proofs.Tools.{both}
 use Rattle.commit_actions.specs.Past.{Past, past_after, past_over}
 use Rattle.commit_servers.specs.Matching.{IsSameServers}
 use Rattle.commit_servers.proofs.Matching.{same-by}

@@ -33,7 +33,7 @@ use Rattle.event_book.specs.declared.member.ServerOf.{ServerOf}
 use Rattle.event_book.specs.Facts.{Facts, facts_after}
 use Rattle.event_book.specs.Clock.{now_after}
 use Rattle.event_book.specs.Writers.{writes_now, BeginsKind}
-use Rattle.lease_law.proofs.Tools.{some-is, both}
+use Rattle.lease_model.proofs.Tools.{some-is, both}
 use Rattle.commit_actions.specs.Actions.{Commit, Acknowledge, Receive, Confirm, Rewind, Clone, Wipe, Accept, End, Note, CopiesFrom, MayAcknowledge}
 use Rattle.commit_actions.specs.Keys.{Meets}
 use Rattle.commit_actions.specs.Past.{Setup, Past, VolatileState, front_to, log_found, confirmers_in, confirmers_of, position_in, position_of, past_after, state_of}

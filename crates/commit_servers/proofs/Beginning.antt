@@ -19,7 +19,7 @@ use Rattle.cluster_model.specs.Losing.{beginning_kinds, loss_if}
 use Rattle.cluster_model.specs.Parts.{events_of}
 use Rattle.cluster_model.specs.State.{Cluster}
 use Rattle.wal_model.specs.Lacking.{lacks_in}
-use Rattle.lease_law.proofs.Tools.{put-all, put-here, put-there}
+use Rattle.lease_model.proofs.Tools.{put-all, put-here, put-there}
 use Rattle.commit_actions.specs.Actions.{Kill}
 use Rattle.commit_book.specs.Books.{IsShown}
 use Rattle.commit_actions.specs.Past.{Setup, Past, VolatileState, machine_of, past_after, state_of}

@@ -9,7 +9,7 @@ use Rattle.pg_cluster.specs.Servers.{entry_at, entry_for}
 use Rattle.event_book.specs.declared.member.Member.{Member}
 use Rattle.event_book.specs.Facts.{Facts}
 use Rattle.cluster_model.specs.ServerCommands.{commit_of}
-use Rattle.lease_law.proofs.Tools.{le-from}
+use Rattle.lease_model.proofs.Tools.{le-from}
 use Rattle.commit_servers.specs.Happening.{MayHappen}
 
 commit-by : (facts : Facts) (member : Member) (bytes : ℕ) (s : ServerFacts) (test : Bool) → 1 ≤ bytes → slice_get facts.servers member.id.number ≡ Some s

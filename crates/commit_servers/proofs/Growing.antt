@@ -16,7 +16,7 @@ use Rattle.event_book.specs.declared.event.EventKind.TheVariants as kinds
 use Rattle.event_book.specs.declared.event.ReplicationEvent.TheVariants as replications
 use Rattle.event_book.specs.Logs.{Logs, entries_found}
 use Rattle.event_book.specs.Functions.{set_members}
-use Rattle.lease_law.proofs.Tools.{both, put-all}
+use Rattle.lease_model.proofs.Tools.{both, put-all}
 use Rattle.cluster_model.proofs.Places.{get-elsewhere, get-here}
 use Rattle.sync_order.specs.Grown.{grown_of, is_within, listed}
 use Rattle.commit_actions.specs.Actions.{IsAllowed}

@@ -23,7 +23,7 @@ use Rattle.event_book.specs.Acknowledged.{commits_after}
 use Rattle.event_book.specs.Clock.{now_after}
 use Rattle.event_book.specs.Facts.{Facts, facts_after}
 use Rattle.event_book.specs.Servers.{becomes_copy, copied_by, cut_to, goes_back, loses_log, received_by, servers_after, servers_by, servers_by_log, servers_by_replication, servers_by_watchdog, starts_as_primary, starts_as_replica, stops}
-use Rattle.lease_law.proofs.Tools.{some-is, both}
+use Rattle.lease_model.proofs.Tools.{some-is, both}
 use Rattle.commit_actions.specs.States.{HasLog}
 use Rattle.commit_servers.specs.Sound.{IsServerSound, AreServersSound}
 use Rattle.commit_servers.specs.Happening.{Appends, Takes, Receives, Rewinds, Copies, Wipes, IsLiveAt, HasDataAt, MayHappenToLog, MayHappenToServer, MayBeReplicated, MayHappen, LeavesSound}

@@ -19,7 +19,7 @@ use Rattle.event_book.specs.Facts.{Facts}
 use Rattle.event_book.specs.Servers.{begun_in, replica_starts_in, servers_by, servers_after}
 use Rattle.event_book.proofs.Changed.{same-if}
 use Rattle.event_book.proofs.Parts.{logged-kept, replicated-kept}
-use Rattle.lease_law.proofs.Tools.{put-all}
+use Rattle.lease_model.proofs.Tools.{put-all}
 use Rattle.commit_actions.specs.Past.{VolatileState}
 use Rattle.commit_book.specs.Showing.{with_server_down}
 use Rattle.commit_servers.specs.Matching.{live_now, live_in, IsLiveAs, IsLiveAhead, volatile_after}

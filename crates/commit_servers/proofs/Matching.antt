@@ -20,7 +20,7 @@ use Rattle.event_book.specs.Servers.{servers_after}
 use Rattle.event_book.specs.Acknowledged.{acknowledged_after}
 use Rattle.event_book.specs.Writers.{writes_in, writes_now, writes_after, writes_by_server, writes_by_watchdog, BeginsKind, BeginsServer}
 use Rattle.event_book.proofs.Told.{count-of, logs-of, required-of, confirmed-of, writes-of, writes-same}
-use Rattle.lease_law.proofs.Tools.{put-all}
+use Rattle.lease_model.proofs.Tools.{put-all}
 use Rattle.commit_actions.specs.Past.{Past, first_past, past_after}
 use Rattle.commit_servers.specs.Matching.{IsSameServers}
 

@@ -29,7 +29,7 @@ use Rattle.cluster_model.specs.Parts.{events_of, for_some}
 use Rattle.cluster_model.specs.ServerCommands.{promote_kinds}
 use Rattle.cluster_model.specs.State.{Cluster}
 use Rattle.wal_model.specs.Lacking.{lacks_in}
-use Rattle.lease_law.proofs.Tools.{both}
+use Rattle.lease_model.proofs.Tools.{both}
 use Rattle.commit_servers.specs.Sound.{WaitsForMembers}
 use Rattle.commit_servers.specs.Happening.{AllLeaveSound, LeavesSound}
 use Rattle.commit_servers.proofs.Following.{unless-some}

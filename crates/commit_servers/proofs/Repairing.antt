@@ -27,7 +27,7 @@ use Rattle.cluster_model.specs.Orders.{copying, repair_by, repair_over, rewindin
 use Rattle.cluster_model.specs.Parts.{events_of}
 use Rattle.cluster_model.specs.State.{Cluster}
 use Rattle.cluster_model.specs.Streaming.{link_of_members}
-use Rattle.lease_law.proofs.Tools.{both}
+use Rattle.lease_model.proofs.Tools.{both}
 use Rattle.commit_servers.specs.Happening.{MayFollow, MayHappen, Rewinds, Copies}
 use Rattle.commit_servers.proofs.Following.{follow-if, mapped-some, unless-some}
 

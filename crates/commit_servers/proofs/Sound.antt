@@ -21,7 +21,7 @@ use Rattle.pg_model.specs.Replication.{appended, confirming, received_from, requ
 use Rattle.pg_model.specs.Rewinding.{cloned, rewound_to}
 use Rattle.pg_model.specs.Running.{completed, crashed, crashed_state, is_primary, moment_after, promoted, replica_started, started, stopped, stopping, wiped, ticked_unless_live}
 use Rattle.event_book.specs.Servers.{begun_in, replica_starts_in, starts_as_primary, starts_as_replica, stops, stops_quietly}
-use Rattle.lease_law.proofs.Tools.{both}
+use Rattle.lease_model.proofs.Tools.{both}
 use Rattle.commit_actions.specs.States.{HasLog}
 use Rattle.commit_law.proofs.Prefixes.{end-append, end-le, received-prefix}
 use Rattle.commit_servers.specs.Sound.{AreUpTo, StandsIn, AllStandIn, WaitsForMembers, IsServerSound}

@@ -33,7 +33,7 @@ use Rattle.cluster_model.specs.Cluster.{cluster_after}
 use Rattle.cluster_model.specs.Next.{all_entries, confirm_events, receive_events, receive_events_at_most, receive_events_of}
 use Rattle.cluster_model.specs.State.{Cluster}
 use Rattle.cluster_model.specs.Streaming.{confirm_of, end_unless_confirmed, is_confirmed, link_of_members, source_at, source_for, source_named, source_of, unconfirmed_end}
-use Rattle.lease_law.proofs.Tools.{both}
+use Rattle.lease_model.proofs.Tools.{both}
 use Rattle.commit_law.proofs.Prefixes.{received-prefix}
 use Rattle.commit_servers.specs.Sound.{AreServersSound}
 use Rattle.commit_servers.specs.Happening.{AreInPlace, MayFollow, MayHappen, Receives}

@@ -46,7 +46,7 @@ pub enum Body {
     },
     /// An agent's answer to `FailsafeRequest`.
     FailsafeAnswer {
-        yes: bool,
+        accepted: bool,
     },
 }
 

@@ -1,7 +1,7 @@
 //! Agents.
 ghost use Rattle.std.specs.Prelude.{ℕ, ◌≡◌, ◌≤◌, ◌<◌, ◌+◌, ◌-◌, ◌^◌, [], Some, None, false, nat_le, option_copied};
 ghost use Rattle.pat_base.specs.declared.ticks.Ticks.{Ticks};
-ghost use Rattle.lease_law.specs.States.{start_machine};
+ghost use Rattle.lease_model.specs.States.{start_machine};
 ghost use Rattle.agent_model.specs.declared.machine.Machine.{Machine};
 ghost use Rattle.agent_model.specs.declared.heard.Heard.TheVariants as heards;
 ghost use Rattle.agent_model.specs.Agents.{AgentFacts, RoleFacts, IsSound, IsWithin, Follower, word_of, fresh_knowledge, outcome_from, most_messages};
@@ -9,7 +9,7 @@ ghost use Rattle.pat_base.specs.Moments.{latest};
 ghost use Rattle.agent_turn.specs.Roles.{role_of};
 ghost use Rattle.agent_rows.specs.Inputs.{IsSpannedInput};
 ghost use Rattle.agent_commit_law.specs.Committing.{CommitsFrom};
-ghost use Rattle.agent_model.specs.Bounds.{IsSmall};
+ghost use Rattle.agent_cases.specs.Bounds.{IsSmall};
 ghost use Rattle.agent_succession.specs.FreeKey.{AsksWhereFree, AsksWhereWon, BeginsWhereGranted};
 ghost use Rattle.agent_answers.specs.OperatorAnswers.{told_in, AnswersOneAtMost, HaveCauses, TellsDecision, WaitsAsAsked};
 ghost use Rattle.agent_model.specs.Reconciling.{reconciled};

@@ -7,7 +7,7 @@ use Rattle.commit_actions.specs.Flights.{ClaimSync, PublishStandbys, CreateLeade
 use Rattle.commit_actions.specs.States.{Race, Machine, State, Acts, Reaches, is_ready}
 use Rattle.commit_actions.specs.Inputs.{AgentInput, WasLeaderless, Idling, Racing, HearingAnswer, WinningRace, CreatingLeader, Arming, ChangingRequired, Publishing, Promoting}
 use Rattle.commit_actions.specs.Actions.{Action, Commit, Acknowledge, Receive, Confirm, Accept, End, Renew, Expire, SendSnapshot, Decide, AnswerRace, Input, act, IsAllowed, MayRenew, MayFollow, state_after, start_with, fresh_agent}
-use Rattle.lease_law.proofs.Tools.{some-is, both, eq-from, put-all}
+use Rattle.lease_model.proofs.Tools.{some-is, both, eq-from, put-all}
 use Rattle.commit_actions.proofs.Tools.{or-cases}
 use Rattle.commit_law.proofs.Prefixes.{prefix-self}
 use Rattle.law_examples.proofs.ExampleSynchronous.{base, first, idle, leading, resting, sending, claim0, arms0, begins0, same-waits, new-waits, stays, numbered}

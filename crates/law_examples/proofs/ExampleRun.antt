@@ -17,17 +17,17 @@ use Rattle.event_book.specs.declared.member.ServerOf.{ServerOf}
 use Rattle.event_book.specs.declared.message.Body.TheVariants as bodies
 use Rattle.event_book.specs.Functions.{put_at}
 use Rattle.event_book.specs.Writers.{writes_over, AcceptsWrites}
-use Rattle.lease_law.specs.Leases.{Create, Question, Grant, Answer, Flying, Requested, Answered}
-use Rattle.lease_law.specs.States.{Agent, Declared, State, Acts, fresh_agent}
-use Rattle.lease_law.specs.Inputs.{AgentInput, FedKnown, Removed, SetByGrant, MaySend, IsLawful}
-use Rattle.lease_law.specs.Actions.{Deliver, Input, act}
-use Rattle.lease_law.specs.Past.{Past, past_of, VolatileState, state_of}
-use Rattle.lease_law.specs.Books.{Transition, first_volatile_states, book_of}
+use Rattle.lease_model.specs.Leases.{Create, Question, Grant, Answer, Flying, Requested, Answered}
+use Rattle.lease_model.specs.States.{Agent, Declared, State, Acts, fresh_agent}
+use Rattle.lease_model.specs.Inputs.{AgentInput, FedKnown, Removed, SetByGrant, MaySend, IsLawful}
+use Rattle.lease_model.specs.Actions.{Deliver, Input, act}
+use Rattle.lease_model.specs.Past.{Past, past_of, VolatileState, state_of}
+use Rattle.lease_model.specs.Books.{Transition, first_volatile_states, book_of}
 use Rattle.event_book.specs.Premises.{IsTimely}
-use Rattle.lease_law.specs.Feeds.{ShowsFeed}
-use Rattle.lease_law.specs.Claims.{IsArmedIn, AreLawful}
-use Rattle.lease_law.specs.Showing.{input_of}
-use Rattle.lease_law.proofs.Tools.{some-is, none-some, both, put-all}
+use Rattle.lease_model.specs.Feeds.{ShowsFeed}
+use Rattle.lease_model.specs.Claims.{IsArmedIn, AreLawful}
+use Rattle.lease_model.specs.Showing.{input_of}
+use Rattle.lease_model.proofs.Tools.{some-is, none-some, both, put-all}
 use Rattle.lease_law.proofs.Showing.{input-shown-of}
 
 abbrev pub declared : Declared

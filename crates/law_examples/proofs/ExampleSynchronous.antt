@@ -8,7 +8,7 @@ use Rattle.commit_actions.specs.Flights.{ClaimSync, PublishStandbys, SyncRequest
 use Rattle.commit_actions.specs.States.{Agent, Machine, State, Acts, Reaches}
 use Rattle.commit_actions.specs.Inputs.{AgentInput, KeepsTurn, Idling, Arming, ChangingRequired, Publishing, Promoting}
 use Rattle.commit_actions.specs.Actions.{Action, Commit, Acknowledge, Receive, Confirm, Accept, End, Create, Renew, Expire, SendSnapshot, Decide, Input, act, IsAllowed, MayRenew, MayFollow, state_after, start_with, fresh_agent, IsNumbered, MayReceive, MayConfirm, MayAcknowledge}
-use Rattle.lease_law.proofs.Tools.{some-is, none-some, both, not-false, eq-from, put-all}
+use Rattle.lease_model.proofs.Tools.{some-is, none-some, both, not-false, eq-from, put-all}
 use Rattle.commit_law.proofs.Prefixes.{prefix-self}
 
 abbrev pub base : Entry

@@ -3,10 +3,10 @@ ghost use Rattle.std.specs.Prelude.{◌≡◌, true, false, List, [], ◌∷◌,
 ghost use Rattle.commit_actions.specs.Actions.{Action, MayFollow, start_with, state_after};
 ghost use Rattle.commit_actions.specs.States.{State};
 ghost use Rattle.event_book.specs.Writers.{AcceptsWrites};
-ghost use Rattle.lease_law.specs.Books.{Transition, first_volatile_states, book_of};
-ghost use Rattle.lease_law.specs.Claims.{AreLawful};
+ghost use Rattle.lease_model.specs.Books.{Transition, first_volatile_states, book_of};
+ghost use Rattle.lease_model.specs.Claims.{AreLawful};
 ghost use Rattle.event_book.specs.Premises.{IsTimely};
-ghost use Rattle.lease_law.specs.States.{Declared};
+ghost use Rattle.lease_model.specs.States.{Declared};
 ghost use Rattle.store_keys.specs.declared.value.MemberInfo.{MemberInfo};
 ghost use Rattle.pat_base.specs.declared.name.Name.{Name};
 

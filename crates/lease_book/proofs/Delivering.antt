@@ -13,12 +13,12 @@ use Rattle.event_book.specs.declared.member.Member.{Member}
 use Rattle.event_book.specs.declared.message.Body.TheVariants as bodies
 use Rattle.event_book.specs.Flight.{InFlightFacts, in_flight}
 use Rattle.event_book.specs.Facts.{Facts, facts_over}
-use Rattle.lease_law.specs.Actions.{Deliver}
-use Rattle.lease_law.specs.Books.{IsShown}
-use Rattle.lease_law.specs.Past.{Past, VolatileState, first_past, past_of}
-use Rattle.lease_law.specs.States.{Declared}
-use Rattle.lease_law.specs.Stores.{IsSpannedTxn}
-use Rattle.lease_law.specs.Showing.{granted_events, refused_events, read_events}
+use Rattle.lease_model.specs.Actions.{Deliver}
+use Rattle.lease_model.specs.Books.{IsShown}
+use Rattle.lease_model.specs.Past.{Past, VolatileState, first_past, past_of}
+use Rattle.lease_model.specs.States.{Declared}
+use Rattle.lease_model.specs.Stores.{IsSpannedTxn}
+use Rattle.lease_model.specs.Showing.{granted_events, refused_events, read_events}
 use Rattle.lease_law.proofs.Delivering.{granted-shown, refused_outcome-shown, read-shown}
 use Rattle.lease_law.proofs.Showing.{past-append}
 use Rattle.lease_book.specs.Flights.{AreCausal, IsSameBook}

@@ -8,7 +8,7 @@ use Rattle.std.specs.declared.cmp.Ordering.TheVariants.{Less, Equal, Greater}
 use Rattle.std.specs.BTreeMap.{insert_entry, is_at}
 use Rattle.event_book.specs.Flight.{InFlightFacts, Flight, in_flight, without_message}
 use Rattle.event_book.specs.Functions.{put_at}
-use Rattle.lease_law.proofs.Tools.{eq-from, ne-from}
+use Rattle.lease_model.proofs.Tools.{eq-from, ne-from}
 use Rattle.lease_book.specs.Flights.{Rises}
 
 below-equal : (i k : ℕ) → nat_lt i k ≡ true → (i == k) ≡ true → ⊥

@@ -5,8 +5,8 @@ use Rattle.store_keys.specs.Settings.{Settings}
 use Rattle.store_keys.specs.declared.value.MemberInfo.{MemberInfo}
 use Rattle.event_book.specs.declared.member.Member.{Member}
 use Rattle.event_book.specs.Facts.{start_of}
-use Rattle.lease_law.specs.Leases.{Answered}
-use Rattle.lease_law.specs.Past.{first_past, past_of}
+use Rattle.lease_model.specs.Leases.{Answered}
+use Rattle.lease_model.specs.Past.{first_past, past_of}
 use Rattle.lease_book.specs.Flights.{AreCausal}
 use Rattle.lease_book.specs.Example.{asked_and_granted, answer_flying}
 

@@ -27,12 +27,12 @@ use Rattle.event_book.specs.declared.message.Message.{Message}
 use Rattle.event_book.specs.Flight.{InFlightFacts, Flight, in_flight, without_message, launched, snapshot_for, grant_for}
 use Rattle.event_book.specs.Facts.{Facts, facts_after, start_of}
 use Rattle.event_book.specs.Functions.{put_at}
-use Rattle.lease_law.specs.Leases.{LeaderKey, FailsafeKey, Read, Question, Grant, FailsafeRequest, Acknowledgement, Flying, Requested, Answered, FailsafeRequested, Acknowledged}
-use Rattle.lease_law.specs.Outcomes.{seen_of}
-use Rattle.lease_law.specs.Past.{Past, first_past, query_of, lease_span, grant_of, answer_of, question_in_flight_of, answer_in_flight_of, peer_in_flight_of, flying_of, asked_with, past_after}
-use Rattle.lease_law.specs.Stores.{leader_value, leader_key_of, failsafe_key_of, IsSameStore}
+use Rattle.lease_model.specs.Leases.{LeaderKey, FailsafeKey, Read, Question, Grant, FailsafeRequest, Acknowledgement, Flying, Requested, Answered, FailsafeRequested, Acknowledged}
+use Rattle.lease_model.specs.Outcomes.{seen_of}
+use Rattle.lease_model.specs.Past.{Past, first_past, query_of, lease_span, grant_of, answer_of, question_in_flight_of, answer_in_flight_of, peer_in_flight_of, flying_of, asked_with, past_after}
+use Rattle.lease_model.specs.Stores.{leader_value, leader_key_of, failsafe_key_of, IsSameStore}
 use Rattle.lease_law.proofs.SameStore.{ge-from, present-endless}
-use Rattle.lease_law.proofs.Tools.{some-is, none-some, put-all, put-here, put-there, dropped, answered-requested}
+use Rattle.lease_model.proofs.Tools.{some-is, none-some, put-all, put-here, put-there, dropped, answered-requested}
 use Rattle.std.proofs.lemmas.Bool.{cases_eq}
 use Rattle.lease_book.specs.Flights.{past_at_sending, flying_carried, flying_if, AnswersBody, Answers, IsSameFlight, IsCausal}
 use Rattle.lease_book.proofs.Entries.{in-with, in-without, rises-with, rises-without}

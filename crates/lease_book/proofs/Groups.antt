@@ -20,13 +20,13 @@ use Rattle.event_book.specs.declared.message.Body.{Body}
 use Rattle.event_book.specs.declared.message.Body.TheVariants as bodies
 use Rattle.event_book.specs.Flight.{InFlightFacts, in_flight}
 use Rattle.event_book.specs.Facts.{Facts, facts_after, facts_over, start_of}
-use Rattle.lease_law.specs.Leases.{Question}
-use Rattle.lease_law.specs.Claims.{BeginsBehind}
+use Rattle.lease_model.specs.Leases.{Question}
+use Rattle.lease_model.specs.Claims.{BeginsBehind}
 use Rattle.store_keys.specs.Settings.{Settings}
-use Rattle.lease_law.specs.Past.{Past, first_past, query_of, past_after, past_over}
+use Rattle.lease_model.specs.Past.{Past, first_past, query_of, past_after, past_over}
 use Rattle.event_book.specs.Kinds.{AllAre}
-use Rattle.lease_law.specs.Stores.{IsSpannedTxn, IsSpanned}
-use Rattle.lease_law.specs.Showing.{granted_events, refused_events, read_events}
+use Rattle.lease_model.specs.Stores.{IsSpannedTxn, IsSpanned}
+use Rattle.lease_model.specs.Showing.{granted_events, refused_events, read_events}
 use Rattle.lease_law.proofs.SameStore.{same-first, same-by}
 use Rattle.lease_book.specs.Flights.{is_leasing, Answers, IsSameFlight, IsCausal, AreCausal, IsSameBook}
 use Rattle.lease_book.specs.Groups.{IsMemberEnd, IsOfMembers, IsNumberedAbove, AreNumberedAbove}

@@ -13,10 +13,10 @@ use Rattle.event_book.specs.declared.message.Body.TheVariants as bodies
 use Rattle.event_book.specs.declared.message.Message.{Message}
 use Rattle.event_book.specs.Flight.{InFlightFacts, in_flight, grant_for}
 use Rattle.event_book.specs.Facts.{Facts}
-use Rattle.lease_law.specs.Leases.{Read, Question, Grant, Requested, Answered, FailsafeRequested, Acknowledged}
-use Rattle.lease_law.specs.Outcomes.{seen_of}
-use Rattle.lease_law.specs.Past.{Past, query_of, flying_of, grant_of}
-use Rattle.lease_law.specs.Stores.{leader_key_of, failsafe_key_of}
+use Rattle.lease_model.specs.Leases.{Read, Question, Grant, Requested, Answered, FailsafeRequested, Acknowledged}
+use Rattle.lease_model.specs.Outcomes.{seen_of}
+use Rattle.lease_model.specs.Past.{Past, query_of, flying_of, grant_of}
+use Rattle.lease_model.specs.Stores.{leader_key_of, failsafe_key_of}
 use Rattle.lease_book.specs.Flights.{revision_of, past_at_sending, flying_if, Answers, IsSameFlight}
 use Rattle.lease_book.specs.Groups.{grant_if, CarriesGrant}
 

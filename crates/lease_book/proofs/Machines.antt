@@ -26,10 +26,10 @@ use Rattle.event_book.specs.Servers.{servers_after}
 use Rattle.event_book.specs.Watchdogs.{deadlines_after, deadlines_by, holds_after, holds_by, prolonged_to}
 use Rattle.event_book.specs.Writers.{writes_in, writes_after, writes_over}
 use Rattle.event_book.proofs.Told.{count-of, writes-of, writes-same}
-use Rattle.lease_law.specs.Past.{Past, first_past, past_after, past_over, past_of, deadline_after, deadline_by, hold_after, hold_by}
+use Rattle.lease_model.specs.Past.{Past, first_past, past_after, past_over, past_of, deadline_after, deadline_by, hold_after, hold_by}
 use Rattle.event_book.specs.Premises.{runs_after}
 use Rattle.event_book.specs.Kinds.{AllAre}
-use Rattle.lease_law.proofs.Tools.{put-all, put-here, put-there}
+use Rattle.lease_model.proofs.Tools.{put-all, put-here, put-there}
 use Rattle.std.proofs.lemmas.Bool.{cases_eq}
 use Rattle.lease_book.specs.Machines.{deadline_if, hold_if, run_if, IsSameMachines, FeedsByGrants}
 

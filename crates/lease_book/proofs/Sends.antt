@@ -8,10 +8,10 @@ use Rattle.event_book.specs.declared.link.LinkEnd.{LinkEnd}
 use Rattle.event_book.specs.declared.link.LinkEnd.TheVariants as ends
 use Rattle.event_book.specs.declared.message.Body.{Body}
 use Rattle.event_book.specs.Flight.{sent_after}
-use Rattle.lease_law.specs.Leases.{Flying}
-use Rattle.lease_law.specs.Past.{Past, first_past, flying_of, past_after, past_over}
+use Rattle.lease_model.specs.Leases.{Flying}
+use Rattle.lease_model.specs.Past.{Past, first_past, flying_of, past_after, past_over}
 use Rattle.event_book.specs.Kinds.{AllAre}
-use Rattle.lease_law.proofs.Tools.{put-all, put-here, put-there, dropped}
+use Rattle.lease_model.proofs.Tools.{put-all, put-here, put-there, dropped}
 use Rattle.lease_book.specs.Groups.{IsMemberEnd, IsNumberedAbove, AreNumberedAbove}
 use Rattle.lease_book.specs.Sending.{SendsOnly}
 use Rattle.lease_book.proofs.Flights.{flying-same}

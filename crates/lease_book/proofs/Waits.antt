@@ -12,9 +12,9 @@ use Rattle.event_book.specs.declared.message.Body.TheVariants as bodies
 use Rattle.event_book.specs.declared.message.Message.{Message}
 use Rattle.event_book.specs.Flight.{InFlightFacts, in_flight}
 use Rattle.event_book.specs.Facts.{Facts}
-use Rattle.lease_law.specs.Leases.{Read, Question, Flying, Requested}
-use Rattle.lease_law.specs.Past.{Past, query_of, grant_of, answer_of, question_in_flight_of, answer_in_flight_of, peer_in_flight_of, flying_of, asked_with, past_after}
-use Rattle.lease_law.proofs.Tools.{answered-requested}
+use Rattle.lease_model.specs.Leases.{Read, Question, Flying, Requested}
+use Rattle.lease_model.specs.Past.{Past, query_of, grant_of, answer_of, question_in_flight_of, answer_in_flight_of, peer_in_flight_of, flying_of, asked_with, past_after}
+use Rattle.lease_model.proofs.Tools.{answered-requested}
 use Rattle.std.proofs.lemmas.Bool.{cases_eq}
 use Rattle.lease_book.specs.Flights.{IsSameFlight}
 use Rattle.lease_book.specs.Groups.{CarriesGrant}

@@ -9,8 +9,8 @@ use Rattle.event_book.specs.declared.event.MessageEvent.TheVariants as messages
 use Rattle.event_book.specs.declared.link.LinkEnd.TheVariants as ends
 use Rattle.event_book.specs.declared.member.Member.{Member}
 use Rattle.event_book.specs.declared.message.Body.TheVariants as bodies
-use Rattle.lease_law.specs.Leases.{Answer}
-use Rattle.lease_law.specs.Showing.{granted_events}
+use Rattle.lease_model.specs.Leases.{Answer}
+use Rattle.lease_model.specs.Showing.{granted_events}
 
 -- a create with a lease of 300 ticks, which expects nothing of other keys
 abbrev pub create_of : MemberInfo → Txn

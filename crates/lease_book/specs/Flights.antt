@@ -14,9 +14,9 @@ use Rattle.event_book.specs.declared.message.Body.{Body}
 use Rattle.event_book.specs.declared.message.Body.TheVariants as bodies
 use Rattle.event_book.specs.Flight.{InFlightFacts, Flight, in_flight, grant_for}
 use Rattle.event_book.specs.Facts.{Facts, facts_after}
-use Rattle.lease_law.specs.Leases.{Query, Create, Renew, Question, Flying, Requested}
-use Rattle.lease_law.specs.Past.{Past, first_past, flying_of, past_after}
-use Rattle.lease_law.specs.Stores.{leader_key_of, failsafe_key_of, IsSpanned, IsSameStore}
+use Rattle.lease_model.specs.Leases.{Query, Create, Renew, Question, Flying, Requested}
+use Rattle.lease_model.specs.Past.{Past, first_past, flying_of, past_after}
+use Rattle.lease_model.specs.Stores.{leader_key_of, failsafe_key_of, IsSpanned, IsSameStore}
 
 -- the revision of a grant, 0 where there is none
 abbrev pub revision_of : Option Granted → ℕ

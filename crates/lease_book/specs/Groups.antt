@@ -12,10 +12,10 @@ use Rattle.event_book.specs.declared.link.LinkEnd.{LinkEnd}
 use Rattle.event_book.specs.declared.link.LinkEnd.TheVariants as ends
 use Rattle.event_book.specs.declared.member.Member.{Member}
 use Rattle.event_book.specs.Flight.{InFlightFacts, sent_after}
-use Rattle.lease_law.specs.Leases.{FailsafeKey, Question, Grant, Answered}
-use Rattle.lease_law.specs.Outcomes.{seen_of}
-use Rattle.lease_law.specs.Past.{Past, lease_span}
-use Rattle.lease_law.specs.Stores.{leader_key_of, failsafe_key_of}
+use Rattle.lease_model.specs.Leases.{FailsafeKey, Question, Grant, Answered}
+use Rattle.lease_model.specs.Outcomes.{seen_of}
+use Rattle.lease_model.specs.Past.{Past, lease_span}
+use Rattle.lease_model.specs.Stores.{leader_key_of, failsafe_key_of}
 use Rattle.lease_book.specs.Flights.{IsAnswerTo}
 
 -- this end of a link is a member

@@ -8,7 +8,7 @@ use Rattle.event_book.specs.declared.event.WatchdogEvent.TheVariants as watchdog
 use Rattle.event_book.specs.declared.reason.Basis.TheVariants as bases
 use Rattle.event_book.specs.Facts.{Facts}
 use Rattle.event_book.specs.Writers.{writes_in}
-use Rattle.lease_law.specs.Past.{Past}
+use Rattle.lease_model.specs.Past.{Past}
 
 -- the deadline of a watchdog, if it is there and armed
 abbrev pub deadline_if : Option (Option Ticks) → Option ℕ

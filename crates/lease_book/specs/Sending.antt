@@ -4,8 +4,8 @@ use Rattle.event_book.specs.declared.event.EventKind.{EventKind}
 use Rattle.event_book.specs.declared.event.EventKind.TheVariants as kinds
 use Rattle.event_book.specs.declared.event.MessageEvent.TheVariants.{Sent}
 use Rattle.event_book.specs.declared.message.Message.{Message}
-use Rattle.lease_law.specs.Leases.{Flying}
-use Rattle.lease_law.specs.Past.{first_past, flying_of}
+use Rattle.lease_model.specs.Leases.{Flying}
+use Rattle.lease_model.specs.Past.{first_past, flying_of}
 use Rattle.lease_book.specs.Groups.{IsMemberEnd}
 
 -- what the law reads of a message that a member sends at this moment

@@ -5,7 +5,7 @@ use Rattle.event_book.specs.declared.event.EventKind.TheVariants as kinds
 use Rattle.event_book.specs.declared.event.MessageEvent.TheVariants.{Sent}
 use Rattle.event_book.specs.declared.link.LinkEnd.{LinkEnd}
 use Rattle.event_book.specs.declared.link.LinkEnd.TheVariants as ends
-use Rattle.lease_law.specs.Leases.{Question}
+use Rattle.lease_model.specs.Leases.{Question}
 
 -- a question of this name that was asked is this one
 abbrev pub IsAskedOnce : (ℕ → Option Question) → Question → Type 0

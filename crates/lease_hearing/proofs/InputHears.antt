@@ -31,7 +31,7 @@ use Rattle.agent_model.specs.Agents.{AgentFacts, Outcome, outcome_from}
 use Rattle.agent_model.specs.Decisions.{asks_lease, is_decision, is_lease_of}
 use Rattle.agent_lease_law.specs.Lawful.{CanFeed, HearsAnswer, HearsGrant, HearsYes, Hears, request_in}
 use Rattle.agent_sending.specs.Modes.{HearsMode, TellsMode}
-use Rattle.lease_law.specs.Modes.{IsModeHeld, IsModeIn, IsModeTold, IsModeValue, TellMode}
+use Rattle.lease_model.specs.Modes.{IsModeHeld, IsModeIn, IsModeTold, IsModeValue, TellMode}
 use Rattle.agent_roles.specs.Seen.{leader_entry_seen, failsafe_entry_seen}
 use Rattle.agent_roles.proofs.Knowing.{tells_pause, told_by}
 use Rattle.pat_base.specs.declared.member_id.MemberId.{MemberId}
@@ -39,13 +39,13 @@ use Rattle.cluster_model.specs.Deliveries.{is_answer}
 use Rattle.cluster_model.specs.Hearing.{member_at_end, heard_from, heard_in, snapshot_in}
 use Rattle.cluster_model.specs.Messages.{heard_message}
 use Rattle.cluster_model.specs.State.{Cluster}
-use Rattle.lease_law.specs.Leases.{Acknowledged}
-use Rattle.lease_law.specs.Outcomes.{seen_of}
-use Rattle.lease_law.specs.Past.{Past, VolatileState, state_of, lease_span}
-use Rattle.lease_law.specs.Pauses.{AreUnpaused, IsUnpausedHeld, IsUnpausedIn, IsUnpausedValue, NobodyPauses}
-use Rattle.lease_law.specs.States.{State}
-use Rattle.lease_law.specs.Stores.{IsLeased, leader_key_of, failsafe_key_of}
-use Rattle.lease_law.proofs.Tools.{and-first, both, none-some, some-is}
+use Rattle.lease_model.specs.Leases.{Acknowledged}
+use Rattle.lease_model.specs.Outcomes.{seen_of}
+use Rattle.lease_model.specs.Past.{Past, VolatileState, state_of, lease_span}
+use Rattle.lease_model.specs.Pauses.{AreUnpaused, IsUnpausedHeld, IsUnpausedIn, IsUnpausedValue, NobodyPauses}
+use Rattle.lease_model.specs.States.{State}
+use Rattle.lease_model.specs.Stores.{IsLeased, leader_key_of, failsafe_key_of}
+use Rattle.lease_model.proofs.Tools.{and-first, both, none-some, some-is}
 use Rattle.lease_book.specs.Groups.{grant_if}
 use Rattle.lease_book.proofs.Hearing.{heard-acknowledgement, heard-failsafe_request, heard-snapshot, heard-granted}
 use Rattle.lease_parts.specs.Bridged.{IsMatched}

@@ -39,7 +39,7 @@ use Rattle.agent_model.specs.Agents.{Outcome}
 use Rattle.agent_model.specs.Views.{shown}
 use Rattle.agent_sending.specs.Modes.{IsModeRequested, TellsMode}
 use Rattle.cluster_model.specs.Requests.{answer_at}
-use Rattle.lease_law.proofs.Tools.{none-some}
+use Rattle.lease_model.proofs.Tools.{none-some}
 use Rattle.lease_parts.specs.Bridged.{SeesMode}
 
 same-ok : {A E : Type 0} (x y : A) → ◌≡◌ {A = Result A E} (Ok x) (Ok y) → x ≡ y

@@ -7,7 +7,7 @@ use Rattle.agent_sending.specs.Asking.{HearsFailsafe}
 use Rattle.agent_lease_law.specs.Lawful.{request_heard}
 use Rattle.agent_sending.specs.Modes.{HearsMode}
 use Rattle.cluster_model.specs.declared.heard_message.HeardMessage.{HeardMessage}
-use Rattle.lease_law.specs.Leases.{Flying}
+use Rattle.lease_model.specs.Leases.{Flying}
 
 -- the message that is heard, if one of this number is, is this failsafe request of one of these members: it comes of the incarnation that asks, and its
 -- number counts from 1

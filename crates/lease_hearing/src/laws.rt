@@ -9,7 +9,7 @@ ghost use Rattle.script_model.specs.Script.{HeadText};
 ghost use Rattle.event_book.specs.declared.link.LinkEnd.TheVariants as ends;
 ghost use Rattle.event_book.specs.declared.member.Member.{Member};
 ghost use Rattle.event_book.specs.Flight.{InFlightFacts, in_flight};
-ghost use Rattle.lease_law.specs.Past.{Past};
+ghost use Rattle.lease_model.specs.Past.{Past};
 ghost use Rattle.agent_model.specs.declared.heard.Heard.{Heard};
 ghost use Rattle.agent_model.specs.Agents.{Outcome};
 ghost use Rattle.agent_model.specs.Table.{step};

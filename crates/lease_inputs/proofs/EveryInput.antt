@@ -41,12 +41,12 @@ use Rattle.cluster_model.specs.Machines.{machine_of, points_of}
 use Rattle.cluster_model.specs.Messages.{hear_events, heard_message, input_events, no_message, operate_events, wake_events_of}
 use Rattle.cluster_model.specs.Parts.{event_of}
 use Rattle.cluster_model.specs.State.{Cluster}
-use Rattle.lease_law.specs.Actions.{Lose, Note}
-use Rattle.lease_law.specs.Books.{IsShown}
-use Rattle.lease_law.specs.Past.{Past, VolatileState, first_past, past_of, state_of}
-use Rattle.lease_law.specs.States.{State}
+use Rattle.lease_model.specs.Actions.{Lose, Note}
+use Rattle.lease_model.specs.Books.{IsShown}
+use Rattle.lease_model.specs.Past.{Past, VolatileState, first_past, past_of, state_of}
+use Rattle.lease_model.specs.States.{State}
 use Rattle.lease_law.proofs.Showing.{past-append}
-use Rattle.lease_law.proofs.Tools.{both, eq-from, none-some, some-is}
+use Rattle.lease_model.proofs.Tools.{both, eq-from, none-some, some-is}
 use Rattle.lease_parts.specs.Bridged.{Bridged, IsMatched, SeesMode}
 use Rattle.lease_parts.specs.Declaring.{declared_of}
 use Rattle.run_promise.specs.Members.{declared_members, member_count, IsDeclared}

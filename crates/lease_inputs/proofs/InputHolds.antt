@@ -24,7 +24,7 @@ use Rattle.agent_model.specs.Outputs.{has_one, with_output}
 use Rattle.agent_model.specs.Reconciling.{reconciled}
 use Rattle.agent_model.specs.StayingPrimary.{failsafe_asked, span_after}
 use Rattle.agent_model.specs.Table.{step}
-use Rattle.agent_model.proofs.Rows.{failsafe-asked-by}
+use Rattle.agent_cases.proofs.Rows.{failsafe-asked-by}
 use Rattle.agent_roles.proofs.Knowing.{alone-of}
 use Rattle.agent_outputs.specs.Orders.{IsOfTable}
 use Rattle.agent_sending.specs.Asking.{HearsFailsafe, StandsOn}
@@ -38,9 +38,9 @@ use Rattle.cluster_model.specs.Messages.{output_events}
 use Rattle.cluster_model.specs.Orders.{hold_taken}
 use Rattle.cluster_model.specs.Parts.{each, events_of}
 use Rattle.cluster_model.specs.State.{Cluster}
-use Rattle.lease_law.specs.Actions.{taken_by}
-use Rattle.lease_law.specs.Leases.{FailsafeRequest, Flying}
-use Rattle.lease_law.specs.Past.{Past, past_after, past_over}
+use Rattle.lease_model.specs.Actions.{taken_by}
+use Rattle.lease_model.specs.Leases.{FailsafeRequest, Flying}
+use Rattle.lease_model.specs.Past.{Past, past_after, past_over}
 use Rattle.lease_law.proofs.Showing.{past-append}
 use Rattle.lease_hearing.specs.Hearing.{IsRequestHeard}
 use Rattle.lease_inputs.specs.InputEvents.{IsOfInput, RunsAmong}

@@ -30,7 +30,7 @@ use Rattle.agent_model.specs.declared.output.Output.TheVariants as outputs
 use Rattle.agent_model.specs.declared.output.Target.TheVariants as targets
 use Rattle.agent_model.specs.declared.knowledge.Knowledge.{Knowledge}
 use Rattle.agent_roles.specs.Seen.{agent_seen as role_seen, check_seen}
-use Rattle.lease_law.specs.States.{FailsafeCheck, is_ready as ready_seen}
+use Rattle.lease_model.specs.States.{FailsafeCheck, is_ready as ready_seen}
 use Rattle.agent_model.specs.Agents.{RoleFacts, Follower, Holder, Ready, Leader, Ending, Unleased, is_ready, AgentFacts, Outcome, outcome_from, EndsAlone}
 use Rattle.agent_lease_law.specs.Lawful.{StandsIn, Hears, IsSentBy, AsksStore, AsksMember, SaysYes, IsInputOf, MayPromote, IsLawfulAnd, is_yes, request_heard, request_taken}
 use Rattle.agent_sending.specs.Modes.{AsksMode, KeepsMode}
@@ -41,7 +41,7 @@ use Rattle.std.proofs.lemmas.List.Elements.{All-weaker}
 use Rattle.cluster_model.specs.FailsafeDeadlines.{is_set_by_failsafe}
 use Rattle.cluster_model.proofs.Places.{there}
 use Rattle.agent_roles.specs.Asks.{IsAsk}
-use Rattle.lease_law.specs.Modes.{IsModeAsked, LeavesMode}
+use Rattle.lease_model.specs.Modes.{IsModeAsked, LeavesMode}
 use Rattle.cluster_model.specs.Deliveries.{is_answer}
 use Rattle.agent_model.specs.declared.output.Target.{Target}
 use Rattle.agent_outputs.specs.Orders.{IsOfTable}
@@ -60,25 +60,25 @@ use Rattle.cluster_model.specs.Machines.{points_of}
 use Rattle.cluster_model.specs.Messages.{output_events}
 use Rattle.cluster_model.specs.Parts.{each}
 use Rattle.cluster_model.specs.State.{Cluster}
-use Rattle.lease_law.specs.Leases.{FailsafeRequest, Grant, Question, Requested}
+use Rattle.lease_model.specs.Leases.{FailsafeRequest, Grant, Question, Requested}
 use Rattle.event_book.specs.Premises.{IsOnTime, IsTimely}
-use Rattle.lease_law.specs.Actions.{Input}
-use Rattle.lease_law.specs.Books.{IsShown}
-use Rattle.lease_law.specs.Claims.{BeginsBehind, MayBeginBehind, ShowsIt, IsArmedIn}
-use Rattle.lease_law.specs.Inputs.{AgentInput, Fed, HeardGrant, Kept, Removed, SetAlone, SetByFailsafe, SetByGrant, Undone, WatchdogMay}
-use Rattle.lease_law.specs.Past.{Past, VolatileState, first_past, past_after, past_of, past_over, state_of, machine_of as machine_told}
-use Rattle.lease_law.specs.Feeds.{IsFedBy, IsFedOn, KeepsClockAndRuns, KeepsMomentOf}
-use Rattle.lease_law.specs.Actions.{taken_by}
+use Rattle.lease_model.specs.Actions.{Input}
+use Rattle.lease_model.specs.Books.{IsShown}
+use Rattle.lease_model.specs.Claims.{BeginsBehind, MayBeginBehind, ShowsIt, IsArmedIn}
+use Rattle.lease_model.specs.Inputs.{AgentInput, Fed, HeardGrant, Kept, Removed, SetAlone, SetByFailsafe, SetByGrant, Undone, WatchdogMay}
+use Rattle.lease_model.specs.Past.{Past, VolatileState, first_past, past_after, past_of, past_over, state_of, machine_of as machine_told}
+use Rattle.lease_model.specs.Feeds.{IsFedBy, IsFedOn, KeepsClockAndRuns, KeepsMomentOf}
+use Rattle.lease_model.specs.Actions.{taken_by}
 use Rattle.failsafe.specs.declared.asks.Ask.{Ask}
 use Rattle.agent_model.specs.declared.knowledge.PendingQuestion.{PendingQuestion}
 use Rattle.agent_model.specs.StayingPrimary.{is_staying}
 use Rattle.pat_base.specs.declared.member_set.MemberSet.{MemberSet}
 use Rattle.event_book.specs.Kinds.{AllAre}
-use Rattle.lease_law.specs.Showing.{IsOwn, input_of}
-use Rattle.lease_law.specs.States.{Acts, Agent, Machine as MachineSeen, State}
+use Rattle.lease_model.specs.Showing.{IsOwn, input_of}
+use Rattle.lease_model.specs.States.{Acts, Agent, Machine as MachineSeen, State}
 use Rattle.lease_law.proofs.Feeding.{input-in-time}
 use Rattle.lease_law.proofs.Showing.{input-shown-of, past-append}
-use Rattle.lease_law.proofs.Tools.{none-some, some-is, put-here, not-false, put-there}
+use Rattle.lease_model.proofs.Tools.{none-some, some-is, put-here, not-false, put-there}
 use Rattle.lease_book.specs.Groups.{IsOfMembers as IsFromMembers, AreNumberedAbove}
 use Rattle.lease_book.specs.Sending.{SendsOnly}
 use Rattle.lease_book.proofs.Groups.{own-causal}

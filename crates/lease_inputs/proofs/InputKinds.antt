@@ -22,14 +22,14 @@ use Rattle.agent_model.specs.declared.output.Target.TheVariants as targets
 use Rattle.agent_lease_law.specs.Lawful.{query_in}
 use Rattle.agent_roles.specs.Asks.{IsAsk}
 use Rattle.cluster_model.specs.Messages.{agent_message}
-use Rattle.lease_law.specs.Leases.{Query, Read, Question, Flying, Requested, FailsafeRequested, Acknowledged}
+use Rattle.lease_model.specs.Leases.{Query, Read, Question, Flying, Requested, FailsafeRequested, Acknowledged}
 use Rattle.event_book.specs.Premises.{Taking, taken_after, IsHandsOffKind}
-use Rattle.lease_law.specs.Past.{Past, first_past, flying_of, past_after, past_over, query_of}
-use Rattle.lease_law.specs.Feeds.{KeepsMomentOf}
+use Rattle.lease_model.specs.Past.{Past, first_past, flying_of, past_after, past_over, query_of}
+use Rattle.lease_model.specs.Feeds.{KeepsMomentOf}
 use Rattle.event_book.specs.Kinds.{AllAre}
-use Rattle.lease_law.specs.Showing.{IsOwn}
-use Rattle.lease_law.specs.Stores.{IsSpanned}
-use Rattle.lease_law.proofs.Tools.{some-is}
+use Rattle.lease_model.specs.Showing.{IsOwn}
+use Rattle.lease_model.specs.Stores.{IsSpanned}
+use Rattle.lease_model.proofs.Tools.{some-is}
 use Rattle.std.proofs.lemmas.Bool.{cases_eq}
 use Rattle.lease_book.specs.Groups.{IsMemberEnd, IsOfMembers as IsFromMembers, IsNumberedAbove}
 use Rattle.lease_book.specs.Sending.{SendsOnly, flying_from}

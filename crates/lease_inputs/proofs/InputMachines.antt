@@ -58,7 +58,7 @@ use Rattle.cluster_model.specs.Requests.{told_kind}
 use Rattle.cluster_model.specs.State.{Cluster}
 use Rattle.cluster_model.proofs.Founds.{repaired-holds, told-holds}
 use Rattle.cluster_model.proofs.Lists.{HoldsIf}
-use Rattle.lease_law.proofs.Tools.{none-some}
+use Rattle.lease_model.proofs.Tools.{none-some}
 use Rattle.lease_parts.proofs.Quiet.{live-kept}
 use Rattle.lease_parts.specs.Machines.{live_in, live_now}
 use Rattle.lease_inputs.proofs.InputStays.{item-here}

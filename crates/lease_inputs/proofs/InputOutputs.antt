@@ -48,11 +48,11 @@ use Rattle.cluster_model.specs.Messages.{agent_message, lost_at_once, send_event
 use Rattle.cluster_model.specs.Orders.{server_at}
 use Rattle.cluster_model.specs.Parts.{each, events_of, for_some}
 use Rattle.cluster_model.specs.State.{Cluster}
-use Rattle.lease_law.specs.Claims.{BeginsBehind, IsArmedIn}
-use Rattle.lease_law.specs.Feeds.{KeepsMomentOf, IsFedBy}
+use Rattle.lease_model.specs.Claims.{BeginsBehind, IsArmedIn}
+use Rattle.lease_model.specs.Feeds.{KeepsMomentOf, IsFedBy}
 use Rattle.event_book.specs.Kinds.{AllAre}
 use Rattle.lease_law.proofs.Runs.{assoc, none-more}
-use Rattle.lease_law.proofs.Tools.{none-some, some-is}
+use Rattle.lease_model.proofs.Tools.{none-some, some-is}
 use Rattle.lease_book.specs.Groups.{IsNumberedAbove, AreNumberedAbove}
 use Rattle.cluster_model.proofs.Lists.{all-both, all-front, all-back, all-kinds}
 use Rattle.lease_inputs.specs.InputEvents.{IsMessageOf, Asks, AsksPeer, AnswersPeer, AnswersRequest, ByGrant, ByFailsafe, IsFeedOf, IsOfInput, IsToBegin, RunsAmong}

@@ -19,8 +19,8 @@ use Rattle.cluster_model.specs.Machines.{machine_from, machine_of, replication_o
 use Rattle.agent_model.specs.declared.machine.Replication.{Replication}
 use Rattle.cluster_model.specs.State.{Cluster}
 use Rattle.cluster_model.specs.Streaming.{source_of}
-use Rattle.lease_law.specs.Past.{Past}
-use Rattle.lease_law.proofs.Tools.{none-some, some-is}
+use Rattle.lease_model.specs.Past.{Past}
+use Rattle.lease_model.proofs.Tools.{none-some, some-is}
 use Rattle.lease_parts.specs.Bridged.{IsMatched}
 use Rattle.lease_parts.specs.Declaring.{declared_of, margin_said, works_of, works_said}
 use Rattle.lease_parts.specs.Machines.{deadline_now, hold_now, run_in}

@@ -17,9 +17,9 @@ use Rattle.agent_model.specs.Agents.{AgentFacts, Outcome, EndsAlone}
 use Rattle.agent_lease_law.specs.Lawful.{query_in, IsSentBy, AsksStore, AsksMember, SaysYes}
 use Rattle.agent_sending.specs.Modes.{KeepsMode}
 use Rattle.cluster_model.specs.Cluster.{agent_after}
-use Rattle.lease_law.specs.Leases.{Query, Read, Question, FailsafeRequest, Acknowledgement, Flying, Requested, FailsafeRequested, Acknowledged}
-use Rattle.lease_law.specs.Past.{lease_span, query_of}
-use Rattle.lease_law.proofs.Tools.{eq-from, ne-from, none-some, some-is}
+use Rattle.lease_model.specs.Leases.{Query, Read, Question, FailsafeRequest, Acknowledgement, Flying, Requested, FailsafeRequested, Acknowledged}
+use Rattle.lease_model.specs.Past.{lease_span, query_of}
+use Rattle.lease_model.proofs.Tools.{eq-from, ne-from, none-some, some-is}
 use Rattle.lease_book.specs.Waiting.{IsLastAsked, IsLastRun}
 use Rattle.lease_parts.specs.Bridged.{KnowsItself, KnowThemselves, SeesMode}
 use Rattle.lease_parts.specs.Machines.{run_in}

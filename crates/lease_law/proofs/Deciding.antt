@@ -20,11 +20,11 @@ use Rattle.lease_store.specs.Keys.{key_in, present}
 use Rattle.lease_store.specs.Decision.{Decision, Grant as Granting, Refusal as Refusing, compares_of, compare_if, found_in, is_as_expected, decision_if, decision_by, decision_on}
 use Rattle.lease_store.proofs.Keeping.{kind_found}
 use Rattle.event_book.specs.Facts.{Facts}
-use Rattle.lease_law.specs.Leases.{LeaderKey, FailsafeKey, Create, Renew, Release, Write}
-use Rattle.lease_law.specs.Outcomes.{is_as_read, create_if, create_on, renew_if, renew_on, release_if, release_on, outcome_of}
-use Rattle.lease_law.specs.Past.{Past, members_if, query_of}
-use Rattle.lease_law.specs.Stores.{leader_key_of, failsafe_key_of, IsLeased, IsSameStore, is_granted, outcome_by}
-use Rattle.lease_law.proofs.Tools.{both}
+use Rattle.lease_model.specs.Leases.{LeaderKey, FailsafeKey, Create, Renew, Release, Write}
+use Rattle.lease_model.specs.Outcomes.{is_as_read, create_if, create_on, renew_if, renew_on, release_if, release_on, outcome_of}
+use Rattle.lease_model.specs.Past.{Past, members_if, query_of}
+use Rattle.lease_model.specs.Stores.{leader_key_of, failsafe_key_of, IsLeased, IsSameStore, is_granted, outcome_by}
+use Rattle.lease_model.proofs.Tools.{both}
 use Rattle.lease_law.proofs.SameStore.{ge-from, present-endless}
 
 turned-by : (b c : Bool) (m n : ℕ) → (m == n) ≡ b → (n == m) ≡ c → b ≡ c

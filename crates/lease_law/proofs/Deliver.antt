@@ -3,12 +3,12 @@ use Rattle.std.proofs.Common.{◌≡◌, ◌⊎◌, ℕ, ◌+◌, ◌≤◌, ◌
 use Rattle.store_keys.specs.declared.txn.Expected.{Expected}
 use Rattle.store_keys.specs.declared.txn.Expected.TheVariants.{Absent, Revision}
 use Rattle.event_book.specs.Functions.{put_at}
-use Rattle.lease_law.specs.Leases.{LeaderKey, LeaderSeen, FailsafeKey, Query, Create, Renew, Release, Write, Read, Question, Grant, Answer, FailsafeRequest, Acknowledgement, Flying, Requested, Answered, FailsafeRequested, Acknowledged}
-use Rattle.lease_law.specs.States.{Machine, State, Acts}
-use Rattle.lease_law.specs.Outcomes.{seen_of, Outcome, is_as_read, create_if, create_on, failsafe_carried, renew_if, renew_on, release_if, release_on, write_if, outcome_of, shown_if, outcome_answer, with_outcome, with_question, delivered}
-use Rattle.lease_law.specs.Inputs.{Waits}
-use Rattle.lease_law.proofs.Tools.{some-is, none-some, both, not-false, and-first, eq-from, put-all, dropped, answered-requested, answered-failsafe_requested, answered-acknowledged, answered-is}
-use Rattle.lease_law.specs.Carried.{Covers, Spans, HoldsCover, IsGuarded, IsVouched, IsAtRest, IsQueryKept, IsQuestionKept, IsAnswerKept, IsPresent, IsFresh, IsToken, IsSound}
+use Rattle.lease_model.specs.Leases.{LeaderKey, LeaderSeen, FailsafeKey, Query, Create, Renew, Release, Write, Read, Question, Grant, Answer, FailsafeRequest, Acknowledgement, Flying, Requested, Answered, FailsafeRequested, Acknowledged}
+use Rattle.lease_model.specs.States.{Machine, State, Acts}
+use Rattle.lease_model.specs.Outcomes.{seen_of, Outcome, is_as_read, create_if, create_on, failsafe_carried, renew_if, renew_on, release_if, release_on, write_if, outcome_of, shown_if, outcome_answer, with_outcome, with_question, delivered}
+use Rattle.lease_model.specs.Inputs.{Waits}
+use Rattle.lease_model.proofs.Tools.{some-is, none-some, both, not-false, and-first, eq-from, put-all, dropped, answered-requested, answered-failsafe_requested, answered-acknowledged, answered-is}
+use Rattle.lease_model.specs.Carried.{Covers, Spans, HoldsCover, IsGuarded, IsVouched, IsAtRest, IsQueryKept, IsQuestionKept, IsAnswerKept, IsPresent, IsFresh, IsToken, IsSound}
 use Rattle.lease_law.proofs.Onward.{KeyAfter, FAfter, f-same, request-after, answer-after, agent-after, present-fewer, spans-fewer}
 
 -- what a grant hands out

@@ -19,16 +19,16 @@ use Rattle.event_book.specs.declared.event.MessageEvent.TheVariants as messages
 use Rattle.event_book.specs.declared.member.Member.{Member}
 use Rattle.event_book.specs.Facts.{Facts}
 use Rattle.event_book.specs.Writers.{writes_over}
-use Rattle.lease_law.specs.Leases.{LeaderKey, FailsafeKey, Read, Question, Grant, Answer, FailsafeRequest, Acknowledgement, Flying, Requested, Answered, FailsafeRequested, Acknowledged}
+use Rattle.lease_model.specs.Leases.{LeaderKey, FailsafeKey, Read, Question, Grant, Answer, FailsafeRequest, Acknowledgement, Flying, Requested, Answered, FailsafeRequested, Acknowledged}
 use Rattle.event_book.specs.Premises.{Taking}
-use Rattle.lease_law.specs.States.{Machine, Declared, State}
-use Rattle.lease_law.specs.Outcomes.{Outcome, refused_outcome, outcome_of, with_outcome, with_question, delivered}
-use Rattle.lease_law.specs.Actions.{Action, Tick, Deliver, Lose, Input, Start, Kill, Crash, Note, act}
-use Rattle.lease_law.specs.Past.{Past, query_of, grant_of, flying_of, asked_with, asked_by, past_flight_by, past_after, past_over, first_past, past_of, VolatileState, machine_of, state_of}
-use Rattle.lease_law.specs.Books.{Transition, IsShown}
-use Rattle.lease_law.specs.Stores.{IsSameStore, lease_given, granted_outcome, is_granted, outcome_by}
-use Rattle.lease_law.specs.Showing.{granted_events, refused_events, read_events}
-use Rattle.lease_law.proofs.Tools.{put-all, dropped, put-here, put-there}
+use Rattle.lease_model.specs.States.{Machine, Declared, State}
+use Rattle.lease_model.specs.Outcomes.{Outcome, refused_outcome, outcome_of, with_outcome, with_question, delivered}
+use Rattle.lease_model.specs.Actions.{Action, Tick, Deliver, Lose, Input, Start, Kill, Crash, Note, act}
+use Rattle.lease_model.specs.Past.{Past, query_of, grant_of, flying_of, asked_with, asked_by, past_flight_by, past_after, past_over, first_past, past_of, VolatileState, machine_of, state_of}
+use Rattle.lease_model.specs.Books.{Transition, IsShown}
+use Rattle.lease_model.specs.Stores.{IsSameStore, lease_given, granted_outcome, is_granted, outcome_by}
+use Rattle.lease_model.specs.Showing.{granted_events, refused_events, read_events}
+use Rattle.lease_model.proofs.Tools.{put-all, dropped, put-here, put-there}
 use Rattle.lease_law.proofs.Runs.{writes-past}
 use Rattle.lease_law.proofs.Showing.{state-eq, past-append}
 use Rattle.lease_law.proofs.Deciding.{outcome-decision_if}

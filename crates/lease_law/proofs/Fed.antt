@@ -1,12 +1,12 @@
 -- What an input does with the watchdog: who acts after it, and what guards it.
 use Rattle.std.proofs.Common.{◌≡◌, ◌⊎◌, ℕ, ◌+◌, ◌≤◌, ◌<◌, Bool, true, false, List, Option, Some, None, refl, ◌∙◌, ap, sym, subst, arith, inl, inr}
-use Rattle.lease_law.specs.Leases.{LeaderKey, FailsafeKey, Query, Renew, Release, Question, Grant, Requested}
+use Rattle.lease_model.specs.Leases.{LeaderKey, FailsafeKey, Query, Renew, Release, Question, Grant, Requested}
 use Rattle.event_book.specs.Premises.{Taking, IsOnTime}
-use Rattle.lease_law.specs.States.{FailsafeCheck, Agent, Machine, State, Acts}
-use Rattle.lease_law.specs.Inputs.{AgentInput, HeardGrant, HeardYes, IsDeadline, Fed, FedKnown, AllYes, WatchdogMay, Kept, Removed, SetByGrant, SetByFailsafe, SetAlone, Undone, Owns, MayCarry, MayCarryIf, MayQuery, MayAsk, IsLawful, IsInTime}
-use Rattle.lease_law.proofs.Tools.{some-is, none-some, not-false}
+use Rattle.lease_model.specs.States.{FailsafeCheck, Agent, Machine, State, Acts}
+use Rattle.lease_model.specs.Inputs.{AgentInput, HeardGrant, HeardYes, IsDeadline, Fed, FedKnown, AllYes, WatchdogMay, Kept, Removed, SetByGrant, SetByFailsafe, SetAlone, Undone, Owns, MayCarry, MayCarryIf, MayQuery, MayAsk, IsLawful, IsInTime}
+use Rattle.lease_model.proofs.Tools.{some-is, none-some, not-false}
 use Rattle.std.proofs.lemmas.Bool.{cases_eq}
-use Rattle.lease_law.specs.Carried.{Spans, IsGuarded, IsThere, ActsAlone, IsAtRest, HasTaken, IsPresent, IsSound}
+use Rattle.lease_model.specs.Carried.{Spans, IsGuarded, IsThere, ActsAlone, IsAtRest, HasTaken, IsPresent, IsSound}
 use Rattle.lease_law.proofs.Onward.{spans-sub, holds-grow}
 
 -- a deadline that is set in time is ahead, and not after the end of the lease

@@ -14,14 +14,14 @@ use Rattle.event_book.specs.declared.message.Body.{Body}
 use Rattle.event_book.specs.declared.message.Body.TheVariants as bodies
 use Rattle.event_book.specs.Clock.{now_after}
 use Rattle.event_book.specs.Functions.{put_at}
-use Rattle.lease_law.specs.Leases.{Question, Grant, Answer, Flying, Requested, Answered}
+use Rattle.lease_model.specs.Leases.{Question, Grant, Answer, Flying, Requested, Answered}
 use Rattle.event_book.specs.Premises.{Taking, IsTaken, IsOnTime, moments_sent_after, taken_with, taken_after, runs_after, Moments, IsFeedInTime, IsKindInTime, AreInTime, IsTimely}
-use Rattle.lease_law.specs.States.{Declared}
-use Rattle.lease_law.specs.Inputs.{AgentInput, IsInTime}
-use Rattle.lease_law.specs.Past.{Past, grant_of, answer_of, question_in_flight_of, answer_in_flight_of, peer_in_flight_of, flying_of, past_flight_by, past_after, past_over, first_past, past_of, VolatileState, state_of}
-use Rattle.lease_law.specs.Feeds.{KeepsClockAndRuns, KeepsMomentOf, IsFedBy, IsFedOn, ShowsFeed}
+use Rattle.lease_model.specs.States.{Declared}
+use Rattle.lease_model.specs.Inputs.{AgentInput, IsInTime}
+use Rattle.lease_model.specs.Past.{Past, grant_of, answer_of, question_in_flight_of, answer_in_flight_of, peer_in_flight_of, flying_of, past_flight_by, past_after, past_over, first_past, past_of, VolatileState, state_of}
+use Rattle.lease_model.specs.Feeds.{KeepsClockAndRuns, KeepsMomentOf, IsFedBy, IsFedOn, ShowsFeed}
 use Rattle.event_book.specs.Kinds.{AllAre}
-use Rattle.lease_law.proofs.Tools.{some-is, none-some, put-all, dropped, put-here, put-there}
+use Rattle.lease_model.proofs.Tools.{some-is, none-some, put-all, dropped, put-here, put-there}
 
 abbrev moments_of : Past → Moments
 moments_of past = record { clock = past.clock; sent = past.sent; taken = past.taken; runs = past.runs }

@@ -2,13 +2,13 @@
 use Rattle.std.proofs.Common.{◌≡◌, ◌⊎◌, ℕ, ◌+◌, ◌≤◌, Bool, true, false, List, Option, Some, None, refl, ◌∙◌, ap, sym, subst, arith, inl, inr}
 use Rattle.store_keys.specs.declared.txn.Expected.TheVariants.{Absent, Revision}
 use Rattle.event_book.specs.Functions.{put_at}
-use Rattle.lease_law.specs.Leases.{LeaderSeen, FailsafeKey, Query, Create, Renew, Release, Write, Read, Question, Grant, Answer, FailsafeRequest, Acknowledgement, Requested, Answered, FailsafeRequested, Acknowledged}
+use Rattle.lease_model.specs.Leases.{LeaderSeen, FailsafeKey, Query, Create, Renew, Release, Write, Read, Question, Grant, Answer, FailsafeRequest, Acknowledgement, Requested, Answered, FailsafeRequested, Acknowledged}
 use Rattle.event_book.specs.Premises.{Taking, IsTaken}
-use Rattle.lease_law.specs.States.{FailsafeCheck, Agent, Machine, State, is_ready, Acts}
-use Rattle.lease_law.specs.Inputs.{AgentInput, Waits, HeardLeader, HeardFailsafe, WatchdogMay, Owns, MayQuery, ContinuesCheck, BeginsCheck, IsLawful, IsInTime}
-use Rattle.lease_law.specs.Actions.{taken_by, with_input}
-use Rattle.lease_law.proofs.Tools.{some-is, none-some, not-false, put-all}
-use Rattle.lease_law.specs.Carried.{Spans, IsGuarded, IsFailsafeVouched, IsVouched, IsAtRest, IsQueryKept, IsNumbered, IsQuestionKept, AwaitsIt, IsFailsafeRequestKept, HasTaken, IsTakingKept, IsFailsafeCheckKept, IsAgentKept, IsFresh, IsToken, IsSound}
+use Rattle.lease_model.specs.States.{FailsafeCheck, Agent, Machine, State, is_ready, Acts}
+use Rattle.lease_model.specs.Inputs.{AgentInput, Waits, HeardLeader, HeardFailsafe, WatchdogMay, Owns, MayQuery, ContinuesCheck, BeginsCheck, IsLawful, IsInTime}
+use Rattle.lease_model.specs.Actions.{taken_by, with_input}
+use Rattle.lease_model.proofs.Tools.{some-is, none-some, not-false, put-all}
+use Rattle.lease_model.specs.Carried.{Spans, IsGuarded, IsFailsafeVouched, IsVouched, IsAtRest, IsQueryKept, IsNumbered, IsQuestionKept, AwaitsIt, IsFailsafeRequestKept, HasTaken, IsTakingKept, IsFailsafeCheckKept, IsAgentKept, IsFresh, IsToken, IsSound}
 use Rattle.lease_law.proofs.Onward.{spans-sub, holds-grow}
 use Rattle.lease_law.proofs.Fed.{sole-new, was-acting, may-renew, may-release, sends-of, spans-input, spans-listed, took-same, said-yes, informed-there, watchdog-guards, watchdog-unheard, watchdog-carrier}
 

@@ -1,4 +1,3 @@
-pub mod Tools
 pub mod Starting
 pub mod Onward
 pub mod Deliver

@@ -7,13 +7,13 @@ use Rattle.event_book.specs.declared.event.EventKind.TheVariants as kinds
 use Rattle.event_book.specs.declared.event.MessageEvent.TheVariants as messages
 use Rattle.event_book.specs.declared.event.StoreEvent.TheVariants as stores
 use Rattle.event_book.specs.declared.event.WatchdogEvent.TheVariants as watchdogs
-use Rattle.lease_law.specs.Leases.{Flying}
-use Rattle.lease_law.specs.States.{Declared, State, is_due, tick_machine}
-use Rattle.lease_law.specs.Actions.{Action, Tick, Deliver, Lose, Input, Start, Kill, Crash, Note, act}
-use Rattle.lease_law.specs.Past.{Past, past_after, past_over, first_past, past_of, VolatileState, machine_of, state_of}
+use Rattle.lease_model.specs.Leases.{Flying}
+use Rattle.lease_model.specs.States.{Declared, State, is_due, tick_machine}
+use Rattle.lease_model.specs.Actions.{Action, Tick, Deliver, Lose, Input, Start, Kill, Crash, Note, act}
+use Rattle.lease_model.specs.Past.{Past, past_after, past_over, first_past, past_of, VolatileState, machine_of, state_of}
 use Rattle.event_book.specs.Kinds.{AllAre}
-use Rattle.lease_law.specs.Books.{Transition, IsShown}
-use Rattle.lease_law.specs.Showing.{IsLocal, IsLocalAction}
+use Rattle.lease_model.specs.Books.{Transition, IsShown}
+use Rattle.lease_model.specs.Showing.{IsLocal, IsLocalAction}
 use Rattle.lease_law.proofs.Showing.{past-append}
 use Rattle.lease_law.proofs.Delivering.{parts-shown}
 

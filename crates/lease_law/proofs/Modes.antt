@@ -32,7 +32,7 @@ use Rattle.event_book.specs.declared.message.Body.TheVariants as bodies
 use Rattle.event_book.specs.Flight.{InFlightFacts, Flight, snapshot_for, launched, flight_by}
 use Rattle.event_book.specs.Facts.{Facts, facts_after, start_of}
 use Rattle.lease_law.proofs.Configurations.{SetsConfig, config-after}
-use Rattle.lease_law.specs.Modes.{IsModeHeld, IsModeIn, IsModeTold, TellMode, IsDeclaredMode, IsModeSet, LeavesMode}
+use Rattle.lease_model.specs.Modes.{IsModeHeld, IsModeIn, IsModeTold, TellMode, IsDeclaredMode, IsModeSet, LeavesMode}
 
 pub mode-first : (first : Settings) (names : List Name) (base : ℕ) → IsDeclaredMode first.config.failsafe_mode (start_of first names base)
 mode-first first names base = record { store = refl; flight = tt; kept = kept_first first }

@@ -1,9 +1,9 @@
 -- What is said of keys and revisions stays true as they go on: a key that is there is the old one, or has a new revision.
 use Rattle.std.proofs.Common.{◌≡◌, ◌⊎◌, ℕ, ◌≤◌, ◌<◌, Bool, Option, Some, None, arith, inl, inr}
 use Rattle.store_keys.specs.declared.txn.Expected.TheVariants.{Absent, Revision}
-use Rattle.lease_law.specs.Leases.{LeaderKey, FailsafeKey, Query, Create, Renew, Release, Write, Read, Question, Grant, Answer, Flying, Requested}
-use Rattle.lease_law.specs.States.{Agent, Machine}
-use Rattle.lease_law.specs.Carried.{Spans, HoldsCover, IsThere, IsFailsafeVouched, IsListed, IsVouched, IsQueryKept, IsQuestionKept, IsAnswerKept, IsAgentKept, IsPresent}
+use Rattle.lease_model.specs.Leases.{LeaderKey, FailsafeKey, Query, Create, Renew, Release, Write, Read, Question, Grant, Answer, Flying, Requested}
+use Rattle.lease_model.specs.States.{Agent, Machine}
+use Rattle.lease_model.specs.Carried.{Spans, HoldsCover, IsThere, IsFailsafeVouched, IsListed, IsVouched, IsQueryKept, IsQuestionKept, IsAnswerKept, IsAgentKept, IsPresent}
 
 pub record KeyAfter (key : Option LeaderKey) (top : ℕ) (key' : Option LeaderKey) (top' : ℕ) : Type 0 where
   pub grows : top ≤ top'

@@ -9,12 +9,12 @@ use Rattle.event_book.specs.declared.event.WatchdogEvent.{WatchdogEvent}
 use Rattle.event_book.specs.declared.event.WatchdogEvent.TheVariants as watchdogs
 use Rattle.event_book.specs.Functions.{put_at}
 use Rattle.event_book.specs.Writers.{writes_by_server, writes_by_watchdog, writes_after, writes_over, HasOneWriter, BeginsServer, BeginsKind, Begins}
-use Rattle.lease_law.specs.States.{Declared, State, Acts}
-use Rattle.lease_law.specs.Actions.{Action, Tick, Deliver, Lose, Input, Start, Kill, Crash, Note, act, IsLawfulAction, IsInTimeAction, MayBegin, state_after, IsAllowed}
-use Rattle.lease_law.specs.Past.{Past, past_after, past_over, first_past, past_of, VolatileState, state_of}
-use Rattle.lease_law.specs.Books.{Transition, IsShown, AreAllowed, first_volatile_states, book_of, volatile_states_over}
-use Rattle.lease_law.proofs.Tools.{both, put-all}
-use Rattle.lease_law.specs.Carried.{IsSound, IsCarried}
+use Rattle.lease_model.specs.States.{Declared, State, Acts}
+use Rattle.lease_model.specs.Actions.{Action, Tick, Deliver, Lose, Input, Start, Kill, Crash, Note, act, IsLawfulAction, IsInTimeAction, MayBegin, state_after, IsAllowed}
+use Rattle.lease_model.specs.Past.{Past, past_after, past_over, first_past, past_of, VolatileState, state_of}
+use Rattle.lease_model.specs.Books.{Transition, IsShown, AreAllowed, first_volatile_states, book_of, volatile_states_over}
+use Rattle.lease_model.proofs.Tools.{both, put-all}
+use Rattle.lease_model.specs.Carried.{IsSound, IsCarried}
 use Rattle.lease_law.proofs.Starting.{good-start}
 use Rattle.lease_law.proofs.Deliver.{inv-deliver}
 use Rattle.lease_law.proofs.Uncontended.{inv-kill, inv-crash, inv-started, inv-lose, inv-tick}

@@ -24,12 +24,12 @@ use Rattle.event_book.specs.declared.event.EventKind.TheVariants as kinds
 use Rattle.event_book.specs.declared.event.StoreEvent.TheVariants as stores
 use Rattle.event_book.specs.declared.member.Member.{Member}
 use Rattle.event_book.specs.Facts.{Facts, facts_after, start_of}
-use Rattle.lease_law.specs.Leases.{LeaderKey, FailsafeKey}
-use Rattle.lease_law.specs.States.{kept_if, leader_kept}
-use Rattle.lease_law.specs.Outcomes.{failsafe_carried, renewed}
-use Rattle.lease_law.specs.Past.{Past, members_if, query_of, extended_by, leader_granted, failsafe_granted, past_after, first_past}
-use Rattle.lease_law.proofs.Tools.{some-is, none-some, le-from, gt-from}
-use Rattle.lease_law.specs.Stores.{leader_value, leader_key_of, failsafe_key_of, IsLeased, IsEndless, IsSpannedTxn, IsSpanned, IsSameStore}
+use Rattle.lease_model.specs.Leases.{LeaderKey, FailsafeKey}
+use Rattle.lease_model.specs.States.{kept_if, leader_kept}
+use Rattle.lease_model.specs.Outcomes.{failsafe_carried, renewed}
+use Rattle.lease_model.specs.Past.{Past, members_if, query_of, extended_by, leader_granted, failsafe_granted, past_after, first_past}
+use Rattle.lease_model.proofs.Tools.{some-is, none-some, le-from, gt-from}
+use Rattle.lease_model.specs.Stores.{leader_value, leader_key_of, failsafe_key_of, IsLeased, IsEndless, IsSpannedTxn, IsSpanned, IsSameStore}
 
 pub same-first : (first : Settings) (names : List Name) (base : ℕ) → IsSameStore first_past (start_of first names base)
 same-first first names base = record { clock = refl; revision = refl; leader = refl; failsafe = refl; kept = kept_first first; leased = tt; endless = tt; present = λ key e. absurd (none-some key e) }

@@ -10,15 +10,15 @@ use Rattle.event_book.specs.declared.event.WatchdogEvent.TheVariants as watchdog
 use Rattle.event_book.specs.declared.event.AgentEvent.TheVariants as agents
 use Rattle.event_book.specs.Functions.{put_at}
 use Rattle.event_book.specs.Writers.{writes_over}
-use Rattle.lease_law.specs.Leases.{LeaderKey, FailsafeKey, FailsafeRequest, Flying}
+use Rattle.lease_model.specs.Leases.{LeaderKey, FailsafeKey, FailsafeRequest, Flying}
 use Rattle.event_book.specs.Premises.{Taking}
-use Rattle.lease_law.specs.States.{Agent, Machine, Declared, State}
-use Rattle.lease_law.specs.Actions.{Input, taken_by, state_after}
+use Rattle.lease_model.specs.States.{Agent, Machine, Declared, State}
+use Rattle.lease_model.specs.Actions.{Input, taken_by, state_after}
 use Rattle.event_book.specs.Watchdogs.{is_acknowledged}
-use Rattle.lease_law.specs.Past.{Past, past_after, past_over, first_past, past_of, VolatileState, machine_of, state_of}
+use Rattle.lease_model.specs.Past.{Past, past_after, past_over, first_past, past_of, VolatileState, machine_of, state_of}
 use Rattle.event_book.specs.Kinds.{AllAre}
-use Rattle.lease_law.specs.Showing.{IsOwnWatchdog, IsOwn, input_of}
-use Rattle.lease_law.proofs.Tools.{put-all}
+use Rattle.lease_model.specs.Showing.{IsOwnWatchdog, IsOwn, input_of}
+use Rattle.lease_model.proofs.Tools.{put-all}
 use Rattle.lease_law.proofs.Runs.{writes-past}
 
 -- all but messages and m's own machine is as before

@@ -1,11 +1,11 @@
 -- The empty book meets what is carried.
 use Rattle.std.proofs.Common.{◌≡◌, ℕ, [], Option, Some, None, refl, ◌∙◌, ap, subst, arith, inl, inr}
-use Rattle.lease_law.specs.Leases.{Requested, Answered, FailsafeRequested, Acknowledged}
-use Rattle.lease_law.specs.States.{Agent, Declared, Acts, fresh_agent}
-use Rattle.lease_law.specs.Past.{past_of, machine_of, first_past, first_volatile_state, state_of}
-use Rattle.lease_law.specs.Books.{first_volatile_states}
-use Rattle.lease_law.specs.Carried.{IsAgentKept, IsSound, IsCarried}
-use Rattle.lease_law.proofs.Tools.{some-is, none-some, both}
+use Rattle.lease_model.specs.Leases.{Requested, Answered, FailsafeRequested, Acknowledged}
+use Rattle.lease_model.specs.States.{Agent, Declared, Acts, fresh_agent}
+use Rattle.lease_model.specs.Past.{past_of, machine_of, first_past, first_volatile_state, state_of}
+use Rattle.lease_model.specs.Books.{first_volatile_states}
+use Rattle.lease_model.specs.Carried.{IsAgentKept, IsSound, IsCarried}
+use Rattle.lease_model.proofs.Tools.{some-is, none-some, both}
 
 rests-at-start : (m : ℕ) → Acts (machine_of first_past first_volatile_state m) → ⊥
 rests-at-start m (inl e) = both e

@@ -2,15 +2,15 @@
 use Rattle.std.proofs.Common.{◌≡◌, ℕ, false, List, [], ◌∷◌, ◌++◌, ◌∙◌, ap, sym, subst, inl, inr}
 use Rattle.event_book.specs.declared.event.Event.{Event}
 use Rattle.event_book.specs.Writers.{HasOneWriter, BeginsKind, Begins}
-use Rattle.lease_law.specs.States.{Declared, State}
-use Rattle.lease_law.specs.Inputs.{AgentInput, IsInTime}
-use Rattle.lease_law.specs.Actions.{Action, Tick, Deliver, Lose, Input, Start, Kill, Crash, Note, IsInTimeAction, MayArm, MayBegin, IsAllowed}
-use Rattle.lease_law.specs.Past.{VolatileState, past_of, state_of}
-use Rattle.lease_law.specs.Books.{Transition, first_volatile_states, book_of}
-use Rattle.lease_law.specs.Carried.{IsCarried}
+use Rattle.lease_model.specs.States.{Declared, State}
+use Rattle.lease_model.specs.Inputs.{AgentInput, IsInTime}
+use Rattle.lease_model.specs.Actions.{Action, Tick, Deliver, Lose, Input, Start, Kill, Crash, Note, IsInTimeAction, MayArm, MayBegin, IsAllowed}
+use Rattle.lease_model.specs.Past.{VolatileState, past_of, state_of}
+use Rattle.lease_model.specs.Books.{Transition, first_volatile_states, book_of}
+use Rattle.lease_model.specs.Carried.{IsCarried}
 use Rattle.event_book.specs.Premises.{IsTimely}
-use Rattle.lease_law.specs.Claims.{MayBeginArmed, MayBeginBehind, BeginsBehind, ShowsIt, IsLawfulTransition, AreLawful}
-use Rattle.lease_law.proofs.Tools.{not-false}
+use Rattle.lease_model.specs.Claims.{MayBeginArmed, MayBeginBehind, BeginsBehind, ShowsIt, IsLawfulTransition, AreLawful}
+use Rattle.lease_model.proofs.Tools.{not-false}
 use Rattle.lease_law.proofs.Starting.{good-start}
 use Rattle.lease_law.proofs.Falling.{timely-front}
 use Rattle.lease_law.proofs.Feeding.{grant-in-time, input-in-time}

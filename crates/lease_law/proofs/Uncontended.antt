@@ -2,11 +2,11 @@
 use Rattle.std.proofs.Common.{◌≡◌, ◌⊎◌, ℕ, ◌+◌, ◌≤◌, ◌<◌, nat_le, Bool, true, false, Option, Some, None, refl, ◌∙◌, ap, sym, subst, arith, inl, inr}
 use Rattle.store_keys.specs.declared.txn.Expected.TheVariants.{Absent, Revision}
 use Rattle.event_book.specs.Functions.{put_at}
-use Rattle.lease_law.specs.Leases.{LeaderKey, FailsafeKey, Query, Create, Renew, Release, Write, Read, Question, Grant, Flying, Requested, Answered, FailsafeRequested, Acknowledged}
+use Rattle.lease_model.specs.Leases.{LeaderKey, FailsafeKey, Query, Create, Renew, Release, Write, Read, Question, Grant, Flying, Requested, Answered, FailsafeRequested, Acknowledged}
 use Rattle.event_book.specs.Premises.{Taking}
-use Rattle.lease_law.specs.States.{FailsafeCheck, Agent, Machine, State, is_ready, Acts, is_due, tick_machine, kept_if, leader_kept, state_after_tick, deadline_if, fresh_agent, start_machine, kill_machine, crash_machine}
-use Rattle.lease_law.proofs.Tools.{some-is, none-some, both, not-false, le-from, gt-from, put-all, dropped}
-use Rattle.lease_law.specs.Carried.{Spans, AwaitsIt, IsTakingKept, IsGuarded, IsQueryKept, IsNumbered, IsAgentKept, IsPresent, IsFresh, IsSound}
+use Rattle.lease_model.specs.States.{FailsafeCheck, Agent, Machine, State, is_ready, Acts, is_due, tick_machine, kept_if, leader_kept, state_after_tick, deadline_if, fresh_agent, start_machine, kill_machine, crash_machine}
+use Rattle.lease_model.proofs.Tools.{some-is, none-some, both, not-false, le-from, gt-from, put-all, dropped}
+use Rattle.lease_model.specs.Carried.{Spans, AwaitsIt, IsTakingKept, IsGuarded, IsQueryKept, IsNumbered, IsAgentKept, IsPresent, IsFresh, IsSound}
 use Rattle.lease_law.proofs.Onward.{KeyAfter, f-same, request-after, answer-after, agent-after, present-fewer, spans-fewer, holds-grow}
 
 -- an agent that has just started

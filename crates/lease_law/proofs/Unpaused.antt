@@ -33,7 +33,7 @@ use Rattle.event_book.specs.Flight.{InFlightFacts, Flight, snapshot_for, launche
 use Rattle.event_book.specs.Facts.{Facts, facts_after, start_of}
 use Rattle.lease_law.proofs.Configurations.{SetsConfig, config-after}
 use Rattle.event_book.specs.Premises.{IsUnpaused, IsHandsOffKind}
-use Rattle.lease_law.specs.Pauses.{IsUnpausedHeld, IsUnpausedIn, AreUnpaused, NobodyPauses}
+use Rattle.lease_model.specs.Pauses.{IsUnpausedHeld, IsUnpausedIn, AreUnpaused, NobodyPauses}
 
 pub pauses-first : (first : Settings) (names : List Name) (base : ℕ) → first.config.pause ≡ false → NobodyPauses (start_of first names base)
 pauses-first first names base unpaused = record { store = unpaused; flight = tt; kept = kept_first first }

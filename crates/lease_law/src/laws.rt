@@ -14,21 +14,21 @@ ghost use Rattle.event_book.specs.declared.event.EventKind.TheVariants.{Tick as 
 ghost use Rattle.event_book.specs.declared.event.EventKind.{EventKind};
 ghost use Rattle.event_book.specs.declared.event.MessageEvent.TheVariants.{Lost};
 ghost use Rattle.event_book.specs.declared.member.Member.{Member};
-ghost use Rattle.lease_law.specs.Actions.{Action, Tick, Deliver, Lose, Input, act, IsAllowed, MayBegin, taken_by};
-ghost use Rattle.lease_law.specs.Books.{Transition, IsShown, AreAllowed, first_volatile_states, book_of, volatile_states_over};
-ghost use Rattle.lease_law.specs.Carried.{IsCarried};
-ghost use Rattle.lease_law.specs.Claims.{AreLawful, BeginsBehind, IsLawfulTransition, MayBeginBehind};
+ghost use Rattle.lease_model.specs.Actions.{Action, Tick, Deliver, Lose, Input, act, IsAllowed, MayBegin, taken_by};
+ghost use Rattle.lease_model.specs.Books.{Transition, IsShown, AreAllowed, first_volatile_states, book_of, volatile_states_over};
+ghost use Rattle.lease_model.specs.Carried.{IsCarried};
+ghost use Rattle.lease_model.specs.Claims.{AreLawful, BeginsBehind, IsLawfulTransition, MayBeginBehind};
 ghost use Rattle.event_book.specs.Functions.{put_at};
-ghost use Rattle.lease_law.specs.Leases.{FailsafeRequest, Requested, Read};
-ghost use Rattle.lease_law.specs.Outcomes.{outcome_of};
-ghost use Rattle.lease_law.specs.Past.{Past, VolatileState, first_past, past_after, past_of, past_over, machine_of, query_of, state_of};
-ghost use Rattle.lease_law.specs.Pauses.{NobodyPauses};
-ghost use Rattle.lease_law.specs.Modes.{IsDeclaredMode, LeavesMode};
+ghost use Rattle.lease_model.specs.Leases.{FailsafeRequest, Requested, Read};
+ghost use Rattle.lease_model.specs.Outcomes.{outcome_of};
+ghost use Rattle.lease_model.specs.Past.{Past, VolatileState, first_past, past_after, past_of, past_over, machine_of, query_of, state_of};
+ghost use Rattle.lease_model.specs.Pauses.{NobodyPauses};
+ghost use Rattle.lease_model.specs.Modes.{IsDeclaredMode, LeavesMode};
 ghost use Rattle.event_book.specs.Premises.{IsTimely, IsHandsOff, IsHandsOffKind};
 ghost use Rattle.event_book.specs.Kinds.{AllAre};
-ghost use Rattle.lease_law.specs.States.{Declared, is_due, tick_machine};
-ghost use Rattle.lease_law.specs.Stores.{IsSameStore, IsSpanned, is_granted, outcome_by};
-ghost use Rattle.lease_law.specs.Showing.{IsOwn, IsLocal, IsLocalAction, input_of, granted_events, refused_events, read_events};
+ghost use Rattle.lease_model.specs.States.{Declared, is_due, tick_machine};
+ghost use Rattle.lease_model.specs.Stores.{IsSameStore, IsSpanned, is_granted, outcome_by};
+ghost use Rattle.lease_model.specs.Showing.{IsOwn, IsLocal, IsLocalAction, input_of, granted_events, refused_events, read_events};
 ghost use Rattle.event_book.specs.Writers.{Begins, HasOneWriter};
 
 /// At most one server accepts writes.

@@ -10,16 +10,16 @@ use Rattle.event_book.specs.Writers.{writes_in, writes_now, writes_over}
 use Rattle.cluster_model.specs.Cluster.{cluster_over}
 use Rattle.script_model.specs.Script.{HeadText}
 use Rattle.cluster_model.specs.State.{Cluster}
-use Rattle.lease_law.specs.Actions.{Action, Tick, Deliver, Lose, Input, Start, Kill, Crash, Note, act, IsLawfulAction}
-use Rattle.lease_law.specs.Claims.{BeginsBehind, MayBeginBehind, ShowsIt}
-use Rattle.lease_law.specs.Past.{Past, past_of, first_past, machine_of, state_of}
+use Rattle.lease_model.specs.Actions.{Action, Tick, Deliver, Lose, Input, Start, Kill, Crash, Note, act, IsLawfulAction}
+use Rattle.lease_model.specs.Claims.{BeginsBehind, MayBeginBehind, ShowsIt}
+use Rattle.lease_model.specs.Past.{Past, past_of, first_past, machine_of, state_of}
 use Rattle.event_book.specs.Kinds.{AllAre}
-use Rattle.lease_law.specs.Showing.{IsLocal, IsLocalAction}
-use Rattle.lease_law.specs.States.{Machine, State as Lease}
+use Rattle.lease_model.specs.Showing.{IsLocal, IsLocalAction}
+use Rattle.lease_model.specs.States.{Machine, State as Lease}
 use Rattle.lease_law.proofs.LocalActions.{local-shown}
 use Rattle.lease_law.proofs.Runs.{one-front-of, transition-kept, writes-past}
 use Rattle.lease_law.proofs.Showing.{past-append}
-use Rattle.lease_law.proofs.Tools.{both}
+use Rattle.lease_model.proofs.Tools.{both}
 use Rattle.lease_law.proofs.Timely.{transition-allowed, front-timely}
 use Rattle.lease_book.proofs.Groups.{begins-front}
 use Rattle.lease_parts.specs.Asides.{IsAside}

@@ -18,19 +18,19 @@ use Rattle.agent_model.specs.Agents.{AgentFacts}
 use Rattle.cluster_model.specs.Cluster.{agent_facts_after, cluster_after, cluster_over}
 use Rattle.script_model.specs.Script.{HeadText}
 use Rattle.cluster_model.specs.State.{Cluster}
-use Rattle.lease_law.specs.Claims.{BeginsBehind}
-use Rattle.lease_law.specs.Past.{Past, past_after, past_over, past_of, first_past}
+use Rattle.lease_model.specs.Claims.{BeginsBehind}
+use Rattle.lease_model.specs.Past.{Past, past_after, past_over, past_of, first_past}
 use Rattle.event_book.specs.Premises.{IsHandsOffKind}
 use Rattle.event_book.specs.Kinds.{AllAre}
-use Rattle.lease_law.specs.Stores.{IsSpanned}
+use Rattle.lease_model.specs.Stores.{IsSpanned}
 use Rattle.lease_law.proofs.SameStore.{same-by}
 use Rattle.lease_law.proofs.Showing.{past-append}
-use Rattle.lease_law.proofs.Tools.{eq-from}
+use Rattle.lease_model.proofs.Tools.{eq-from}
 use Rattle.lease_law.proofs.Unpaused.{pauses-by}
 use Rattle.lease_book.specs.Flights.{IsCausal}
 use Rattle.lease_book.proofs.Flights.{flight-by}
 use Rattle.lease_parts.specs.Asides.{IsAside, IsAsideIn}
-use Rattle.lease_law.specs.Modes.{LeavesMode}
+use Rattle.lease_model.specs.Modes.{LeavesMode}
 use Rattle.agent_sending.specs.Modes.{KeepsMode}
 use Rattle.lease_parts.specs.Bridged.{KnowsItself, KnowThemselves, IsMatched, SeesMode}
 use Rattle.lease_parts.specs.Declaring.{declared_of}

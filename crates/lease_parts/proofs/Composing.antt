@@ -6,7 +6,7 @@ use Rattle.event_book.specs.Writers.{HasOneWriter}
 use Rattle.cluster_model.specs.Cluster.{cluster_over}
 use Rattle.cluster_model.specs.Parts.{events_then, for_some}
 use Rattle.cluster_model.specs.State.{Cluster}
-use Rattle.lease_law.specs.Actions.{Note}
+use Rattle.lease_model.specs.Actions.{Note}
 use Rattle.lease_law.proofs.Falling.{timely-front, hands-off-front}
 use Rattle.lease_law.proofs.Runs.{none-more, one-front-of}
 use Rattle.lease_parts.specs.Bridged.{Bridged}

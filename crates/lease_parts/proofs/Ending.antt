@@ -18,10 +18,10 @@ use Rattle.cluster_model.specs.Cluster.{cluster_after}
 use Rattle.script_model.specs.Script.{HeadText}
 use Rattle.cluster_model.specs.Parts.{event_of}
 use Rattle.cluster_model.specs.State.{Cluster}
-use Rattle.lease_law.specs.Actions.{Kill, Crash, Lose}
-use Rattle.lease_law.specs.Claims.{MayBeginBehind}
-use Rattle.lease_law.specs.Past.{past_of, state_of}
-use Rattle.lease_law.specs.States.{crash_machine, kill_machine}
+use Rattle.lease_model.specs.Actions.{Kill, Crash, Lose}
+use Rattle.lease_model.specs.Claims.{MayBeginBehind}
+use Rattle.lease_model.specs.Past.{past_of, state_of}
+use Rattle.lease_model.specs.States.{crash_machine, kill_machine}
 use Rattle.lease_law.proofs.LocalActions.{loss-shown}
 use Rattle.lease_parts.specs.Bridged.{Bridged}
 use Rattle.lease_parts.specs.Declaring.{declared_of}

@@ -15,13 +15,13 @@ use Rattle.member_options.specs.declared.member_option.MemberOptions.{MemberOpti
 use Rattle.script_model.specs.Script.{HeadText, names_of}
 use Rattle.cluster_model.specs.Machines.{who_of}
 use Rattle.cluster_model.specs.Starting.{cluster_of, first_agent, options_of}
-use Rattle.lease_law.specs.Books.{first_volatile_states}
-use Rattle.lease_law.specs.Carried.{IsCarried}
-use Rattle.lease_law.specs.Past.{VolatileState, first_past, past_of, state_of}
-use Rattle.lease_law.specs.States.{Agent, fresh_agent}
+use Rattle.lease_model.specs.Books.{first_volatile_states}
+use Rattle.lease_model.specs.Carried.{IsCarried}
+use Rattle.lease_model.specs.Past.{VolatileState, first_past, past_of, state_of}
+use Rattle.lease_model.specs.States.{Agent, fresh_agent}
 use Rattle.lease_law.proofs.SameStore.{same-first}
 use Rattle.lease_law.proofs.Starting.{good-start}
-use Rattle.lease_law.proofs.Tools.{none-some, some-is}
+use Rattle.lease_model.proofs.Tools.{none-some, some-is}
 use Rattle.lease_law.proofs.Unpaused.{pauses-first}
 use Rattle.lease_book.proofs.Flights.{flight-first}
 use Rattle.lease_parts.specs.Bridged.{Bridged, KnowsItself, KnowThemselves, SeesMode}

@@ -20,17 +20,17 @@ use Rattle.cluster_model.specs.Cluster.{cluster_after, cluster_over}
 use Rattle.script_model.specs.Script.{HeadText}
 use Rattle.cluster_model.specs.Starting.{options_of}
 use Rattle.cluster_model.specs.State.{Cluster}
-use Rattle.lease_law.specs.Past.{Past, past_after, past_over}
-use Rattle.lease_law.specs.Pauses.{NobodyPauses}
+use Rattle.lease_model.specs.Past.{Past, past_after, past_over}
+use Rattle.lease_model.specs.Pauses.{NobodyPauses}
 use Rattle.event_book.specs.Premises.{IsHandsOffKind}
 use Rattle.event_book.specs.Kinds.{AllAre}
-use Rattle.lease_law.specs.Stores.{IsLeased}
-use Rattle.lease_law.proofs.Tools.{dropped, put-all, some-is}
+use Rattle.lease_model.specs.Stores.{IsLeased}
+use Rattle.lease_model.proofs.Tools.{dropped, put-all, some-is}
 use Rattle.lease_law.proofs.Unpaused.{pauses-by}
 use Rattle.lease_book.specs.Flights.{IsSameBook, AreCausal}
 use Rattle.lease_book.proofs.Entries.{in-with, in-without}
 use Rattle.lease_book.proofs.Groups.{book-by}
-use Rattle.lease_law.specs.Modes.{AskMode, IsModeAsked, LeavesMode}
+use Rattle.lease_model.specs.Modes.{AskMode, IsModeAsked, LeavesMode}
 use Rattle.lease_law.proofs.Modes.{mode-by}
 use Rattle.lease_parts.specs.Bridged.{FitsFailsafe, IsMatched, KnowThemselves}
 use Rattle.lease_parts.specs.Declaring.{declared_of}

@@ -8,8 +8,8 @@ use Rattle.agent_model.specs.declared.who.Who.{Who}
 use Rattle.cluster_view.specs.Snapshots.{SnapshotFacts}
 use Rattle.agent_sending.specs.Modes.{KeepsMode, TellsMode}
 use Rattle.cluster_model.specs.Inputs.{starting_agent}
-use Rattle.lease_law.specs.States.{Agent, fresh_agent}
-use Rattle.lease_law.proofs.Tools.{none-some}
+use Rattle.lease_model.specs.States.{Agent, fresh_agent}
+use Rattle.lease_model.proofs.Tools.{none-some}
 use Rattle.lease_parts.specs.AgentSeen.{agent_seen}
 
 -- of failsafe mode it takes nothing to be on

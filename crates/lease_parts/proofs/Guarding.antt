@@ -4,11 +4,11 @@ use Rattle.script_model.specs.Script.{HeadText}
 use Rattle.event_book.specs.declared.event.Event.{Event}
 use Rattle.cluster_model.specs.FailsafeDeadlines.{is_set_by_failsafe}
 use Rattle.cluster_model.specs.State.{Cluster}
-use Rattle.lease_law.specs.Leases.{FailsafeKey}
-use Rattle.lease_law.specs.Past.{Past, machine_of, past_of}
-use Rattle.lease_law.specs.States.{Acts}
-use Rattle.lease_law.specs.Carried.{Covers, HoldsCover, IsGuarded as IsGuardedBy}
-use Rattle.lease_law.proofs.Tools.{none-some}
+use Rattle.lease_model.specs.Leases.{FailsafeKey}
+use Rattle.lease_model.specs.Past.{Past, machine_of, past_of}
+use Rattle.lease_model.specs.States.{Acts}
+use Rattle.lease_model.specs.Carried.{Covers, HoldsCover, IsGuarded as IsGuardedBy}
+use Rattle.lease_model.proofs.Tools.{none-some}
 use Rattle.lease_parts.specs.Bridged.{Bridged, IsMatched}
 use Rattle.lease_parts.specs.Declaring.{declared_of}
 use Rattle.lease_parts.specs.Guarding.{HasKeyUntil, HaveHoldsUntil, IsGuarded}

@@ -23,9 +23,9 @@ use Rattle.event_book.specs.Servers.{servers_after}
 use Rattle.event_book.specs.Watchdogs.{is_acknowledged, deadlines_after, deadlines_by, holds_after, holds_by, prolonged_to}
 use Rattle.event_book.specs.Writers.{writes_in, writes_now, writes_after, writes_by_server, writes_by_watchdog, BeginsKind, BeginsServer}
 use Rattle.event_book.proofs.Told.{count-of, writes-of, writes-same}
-use Rattle.lease_law.specs.Past.{Past, past_after, deadline_after, deadline_by, by_failsafe_after, by_failsafe_by, hold_after, hold_by}
+use Rattle.lease_model.specs.Past.{Past, past_after, deadline_after, deadline_by, by_failsafe_after, by_failsafe_by, hold_after, hold_by}
 use Rattle.event_book.specs.Premises.{runs_after}
-use Rattle.lease_law.proofs.Tools.{put-all}
+use Rattle.lease_model.proofs.Tools.{put-all}
 use Rattle.lease_parts.specs.Machines.{deadline_now, deadline_in, hold_now, hold_in, run_now, run_in, IsSameEverywhere, IsSized, IsWithinMembers}
 use Rattle.cluster_model.specs.FailsafeDeadlines.{failsafe_deadlines_after, failsafe_deadlines_by, is_set_by_failsafe}
 use Rattle.cluster_model.proofs.Places.{get-changed, length-changed, there}

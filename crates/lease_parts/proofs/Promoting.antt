@@ -4,7 +4,7 @@ use Rattle.event_book.specs.declared.event.Event.{Event}
 use Rattle.event_book.specs.Writers.{HasOneWriter}
 use Rattle.script_model.specs.Script.{HeadText}
 use Rattle.cluster_model.specs.State.{Cluster}
-use Rattle.lease_law.specs.Actions.{Note}
+use Rattle.lease_model.specs.Actions.{Note}
 use Rattle.event_book.specs.Premises.{AreHandsOff, IsHandsOffKind}
 use Rattle.lease_law.proofs.Runs.{head-is, one-front-of}
 use Rattle.lease_parts.specs.Bridged.{Bridged}

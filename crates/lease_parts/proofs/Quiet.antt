@@ -17,8 +17,8 @@ use Rattle.cluster_model.specs.Cluster.{cluster_after}
 use Rattle.script_model.specs.Script.{HeadText}
 use Rattle.cluster_model.specs.Parts.{event_of, events_of}
 use Rattle.cluster_model.specs.State.{Cluster}
-use Rattle.lease_law.specs.Actions.{Note}
-use Rattle.lease_law.specs.Showing.{IsLocal}
+use Rattle.lease_model.specs.Actions.{Note}
+use Rattle.lease_model.specs.Showing.{IsLocal}
 use Rattle.cluster_model.proofs.Lists.{AllKinds}
 use Rattle.lease_parts.specs.Asides.{IsAside, IsQuiet}
 use Rattle.lease_parts.specs.Bridged.{Bridged}

@@ -1,8 +1,8 @@
 -- Machines of the law that are the same part by part.
 use Rattle.std.proofs.Common.{ℕ, ◌≡◌, ◌≢◌, Bool, Option}
 use Rattle.event_book.specs.Functions.{put_at}
-use Rattle.lease_law.specs.States.{Agent, Machine}
-use Rattle.lease_law.proofs.Tools.{put-all}
+use Rattle.lease_model.specs.States.{Agent, Machine}
+use Rattle.lease_model.proofs.Tools.{put-all}
 
 pub machine-same : (live live' : Bool) (d d' : Option ℕ) (b b' : Bool) (h h' : ℕ) (agent agent' : Option Agent) (r r' : ℕ) → live ≡ live' → d ≡ d' → b ≡ b' → h ≡ h' → agent ≡ agent' → r ≡ r' →
     ◌≡◌ {A = Machine} (record { live = live; deadline = d; by_failsafe = b; hold = h; agent = agent; runs = r }) (record { live = live'; deadline = d'; by_failsafe = b'; hold = h'; agent = agent'; runs = r' })

@@ -25,12 +25,12 @@ use Rattle.cluster_model.specs.Next.{agent_start_events, agent_start_events_of}
 use Rattle.cluster_model.specs.Parts.{event_of, events_of}
 use Rattle.cluster_model.specs.Starting.{options_of}
 use Rattle.cluster_model.specs.State.{Cluster}
-use Rattle.lease_law.specs.Actions.{Start}
-use Rattle.lease_law.specs.Claims.{MayBeginBehind}
-use Rattle.lease_law.specs.Past.{Past, first_past, past_after, past_of, state_of}
+use Rattle.lease_model.specs.Actions.{Start}
+use Rattle.lease_model.specs.Claims.{MayBeginBehind}
+use Rattle.lease_model.specs.Past.{Past, first_past, past_after, past_of, state_of}
 use Rattle.event_book.specs.Kinds.{AllAre}
-use Rattle.lease_law.specs.Showing.{IsLocal}
-use Rattle.lease_law.specs.States.{State, deadline_if, fresh_agent, start_machine}
+use Rattle.lease_model.specs.Showing.{IsLocal}
+use Rattle.lease_model.specs.States.{State, deadline_if, fresh_agent, start_machine}
 use Rattle.lease_parts.specs.Asides.{IsAside}
 use Rattle.lease_parts.specs.Bridged.{Bridged, IsMatched}
 use Rattle.lease_parts.specs.Declaring.{declared_of}

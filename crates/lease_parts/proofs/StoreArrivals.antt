@@ -22,21 +22,21 @@ use Rattle.cluster_model.specs.Messages.{answer_events, arrival_events_at, decis
 use Rattle.pat_base.specs.declared.name.Name.{Name}
 use Rattle.cluster_model.specs.Parts.{event_of, events_of}
 use Rattle.cluster_model.specs.State.{Cluster}
-use Rattle.lease_law.specs.Actions.{Deliver}
-use Rattle.lease_law.specs.Books.{IsShown}
-use Rattle.lease_law.specs.Claims.{BeginsBehind, MayBeginBehind}
-use Rattle.lease_law.specs.Leases.{Question}
-use Rattle.lease_law.specs.Past.{Past, VolatileState, first_past, past_of, past_over, state_of}
+use Rattle.lease_model.specs.Actions.{Deliver}
+use Rattle.lease_model.specs.Books.{IsShown}
+use Rattle.lease_model.specs.Claims.{BeginsBehind, MayBeginBehind}
+use Rattle.lease_model.specs.Leases.{Question}
+use Rattle.lease_model.specs.Past.{Past, VolatileState, first_past, past_of, past_over, state_of}
 use Rattle.event_book.specs.Premises.{AreHandsOff}
 use Rattle.event_book.specs.Kinds.{AllAre}
-use Rattle.lease_law.specs.Showing.{granted_events, read_events, refused_events}
-use Rattle.lease_law.specs.Stores.{IsSpannedTxn}
+use Rattle.lease_model.specs.Showing.{granted_events, read_events, refused_events}
+use Rattle.lease_model.specs.Stores.{IsSpannedTxn}
 use Rattle.lease_law.proofs.Showing.{past-append}
 use Rattle.lease_book.specs.Flights.{AreCausal, IsSameBook}
 use Rattle.lease_book.specs.Waiting.{IsLastRun}
 use Rattle.lease_book.proofs.Delivering.{granted-delivery, read-delivery, refused-delivery}
 use Rattle.lease_book.proofs.Groups.{granted-causal, read-causal, refused-causal}
-use Rattle.lease_law.specs.Modes.{IsModeAsked, IsModeSet}
+use Rattle.lease_model.specs.Modes.{IsModeAsked, IsModeSet}
 use Rattle.lease_parts.specs.Bridged.{Bridged, IsMatched, KnowThemselves}
 use Rattle.lease_parts.specs.Declaring.{declared_of}
 use Rattle.run_promise.specs.Members.{declared_members}

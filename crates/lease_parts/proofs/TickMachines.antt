@@ -25,8 +25,8 @@ use Rattle.event_book.specs.declared.event.ReplicationEvent.TheVariants as repli
 use Rattle.cluster_model.specs.Parts.{each, events_of, for_some}
 use Rattle.cluster_model.specs.State.{Cluster}
 use Rattle.cluster_model.specs.Ticking.{completion_events, reset_events, reset_of}
-use Rattle.lease_law.specs.States.{Machine, is_due, tick_machine}
-use Rattle.lease_law.proofs.Tools.{eq-from, ne-from}
+use Rattle.lease_model.specs.States.{Machine, is_due, tick_machine}
+use Rattle.lease_model.proofs.Tools.{eq-from, ne-from}
 use Rattle.cluster_model.proofs.Lists.{AllKinds}
 use Rattle.lease_parts.specs.Asides.{IsQuiet}
 use Rattle.lease_parts.specs.Machines.{deadline_in, deadline_now, live_now, run_now}

@@ -30,12 +30,12 @@ use Rattle.pat_base.specs.ServerState.{live}
 use Rattle.pat_base.specs.declared.server_state.State.{State}
 use Rattle.pat_base.specs.declared.server_state.State.TheVariants as states
 use Rattle.std.specs.Prelude.{nat_le}
-use Rattle.lease_law.specs.Actions.{Tick}
-use Rattle.lease_law.specs.Claims.{MayBeginBehind}
-use Rattle.lease_law.specs.Past.{past_of, state_of}
+use Rattle.lease_model.specs.Actions.{Tick}
+use Rattle.lease_model.specs.Claims.{MayBeginBehind}
+use Rattle.lease_model.specs.Past.{past_of, state_of}
 use Rattle.event_book.specs.Kinds.{AllAre}
-use Rattle.lease_law.specs.Showing.{IsLocal}
-use Rattle.lease_law.specs.States.{Machine, is_due, tick_machine}
+use Rattle.lease_model.specs.Showing.{IsLocal}
+use Rattle.lease_model.specs.States.{Machine, is_due, tick_machine}
 use Rattle.lease_law.proofs.LocalActions.{tick-shown}
 use Rattle.cluster_model.proofs.Lists.{AllKinds, all-both, kinds-both}
 use Rattle.lease_parts.specs.Asides.{IsAside, IsAsideIn, IsQuiet}

@@ -20,10 +20,10 @@ use Rattle.member_options.specs.declared.member_option.MemberOptions.{MemberOpti
 use Rattle.script_model.specs.Script.{HeadText}
 use Rattle.cluster_model.specs.Starting.{cluster_of, first_agent, options_of}
 use Rattle.cluster_model.specs.State.{Cluster}
-use Rattle.lease_law.specs.Leases.{Question}
-use Rattle.lease_law.specs.Past.{Past, first_past, past_after}
+use Rattle.lease_model.specs.Leases.{Question}
+use Rattle.lease_model.specs.Past.{Past, first_past, past_after}
 use Rattle.event_book.specs.Premises.{runs_after}
-use Rattle.lease_law.proofs.Tools.{eq-from, none-some, put-all, some-is}
+use Rattle.lease_model.proofs.Tools.{eq-from, none-some, put-all, some-is}
 use Rattle.lease_book.specs.Waiting.{IsLastRun}
 use Rattle.lease_book.proofs.Waits.{run-new}
 use Rattle.lease_parts.specs.Asides.{IsAsideIn}

@@ -12,11 +12,11 @@ use Rattle.agent_sending.specs.Modes.{KeepsMode, TellsMode}
 use Rattle.agent_model.specs.declared.knowledge.Knowledge.{Knowledge}
 use Rattle.cluster_model.specs.FailsafeDeadlines.{is_set_by_failsafe}
 use Rattle.cluster_model.specs.State.{Cluster}
-use Rattle.lease_law.specs.Carried.{IsCarried}
-use Rattle.lease_law.specs.Past.{Past, past_of, state_of}
-use Rattle.lease_law.specs.Modes.{AskMode, IsDeclaredMode}
-use Rattle.lease_law.specs.Pauses.{NobodyPauses}
-use Rattle.lease_law.specs.Stores.{IsSameStore}
+use Rattle.lease_model.specs.Carried.{IsCarried}
+use Rattle.lease_model.specs.Past.{Past, past_of, state_of}
+use Rattle.lease_model.specs.Modes.{AskMode, IsDeclaredMode}
+use Rattle.lease_model.specs.Pauses.{NobodyPauses}
+use Rattle.lease_model.specs.Stores.{IsSameStore}
 use Rattle.lease_parts.specs.Declaring.{declared_of}
 use Rattle.run_promise.specs.Members.{declared_members, member_count}
 use Rattle.lease_parts.specs.Machines.{IsSameEverywhere, IsSized}

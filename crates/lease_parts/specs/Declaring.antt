@@ -2,7 +2,7 @@
 use Rattle.std.specs.Prelude.{ℕ, Bool, true, Option, Some, None, slice_get}
 use Rattle.script_model.specs.Script.{HeadText, MemberText}
 use Rattle.leader_key.specs.Watchdog.{is_armable}
-use Rattle.lease_law.specs.States.{Declared}
+use Rattle.lease_model.specs.States.{Declared}
 use Rattle.member_options.specs.Options.{margin_span}
 use Rattle.agent_roles.specs.Seen.{moment_seen}
 

@@ -6,8 +6,8 @@ use Rattle.lease_store.specs.KeyOrder.{key_cmp}
 use Rattle.event_book.specs.Facts.{Facts}
 use Rattle.cluster_model.specs.FailsafeDeadlines.{is_set_by_failsafe}
 use Rattle.cluster_model.specs.State.{Cluster}
-use Rattle.lease_law.specs.Leases.{FailsafeKey, LeaderKey}
-use Rattle.lease_law.specs.Stores.{failsafe_key_of, leader_key_of}
+use Rattle.lease_model.specs.Leases.{FailsafeKey, LeaderKey}
+use Rattle.lease_model.specs.Stores.{failsafe_key_of, leader_key_of}
 use Rattle.lease_parts.specs.Machines.{deadline_in, hold_in}
 
 -- the leader key is there, is this member's, and lasts at least until then

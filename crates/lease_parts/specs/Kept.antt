@@ -6,10 +6,10 @@ use Rattle.event_book.specs.Writers.{HasOneWriter}
 use Rattle.cluster_model.specs.Cluster.{cluster_over}
 use Rattle.cluster_model.specs.State.{Cluster}
 use Rattle.event_book.specs.Premises.{ArePremisesMet}
-use Rattle.lease_law.specs.Actions.{Action, IsLawfulAction}
-use Rattle.lease_law.specs.Books.{IsShown}
-use Rattle.lease_law.specs.Claims.{ShowsIt}
-use Rattle.lease_law.specs.Past.{past_of, state_of}
+use Rattle.lease_model.specs.Actions.{Action, IsLawfulAction}
+use Rattle.lease_model.specs.Books.{IsShown}
+use Rattle.lease_model.specs.Claims.{ShowsIt}
+use Rattle.lease_model.specs.Past.{past_of, state_of}
 use Rattle.lease_parts.specs.Bridged.{Bridged, IsMatched}
 use Rattle.run_promise.specs.Promise.{Promise, Upholds, UpholdsAlways}
 use Rattle.lease_parts.specs.Volatile.{volatile_of}

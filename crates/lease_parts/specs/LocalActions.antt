@@ -1,8 +1,8 @@
 -- Actions that change machines alone.
 use Rattle.std.specs.Prelude.{ℕ}
 use Rattle.event_book.specs.Functions.{put_at}
-use Rattle.lease_law.specs.Actions.{Action, Start, Kill, Crash}
-use Rattle.lease_law.specs.States.{Machine, start_machine, kill_machine, crash_machine}
+use Rattle.lease_model.specs.Actions.{Action, Start, Kill, Crash}
+use Rattle.lease_model.specs.States.{Machine, start_machine, kill_machine, crash_machine}
 
 -- the machines after such an action
 abbrev pub machines_by_action : Action → (ℕ → Machine) → ℕ → Machine

@@ -11,7 +11,7 @@ use Rattle.event_book.specs.declared.event.ServerEvent.TheVariants as servers
 use Rattle.event_book.specs.declared.event.WatchdogEvent.TheVariants as watchdogs
 use Rattle.event_book.specs.Facts.{Facts}
 use Rattle.event_book.specs.Writers.{writes_in}
-use Rattle.lease_law.specs.Past.{Past}
+use Rattle.lease_model.specs.Past.{Past}
 
 -- whether there is such a server, and it accepts writes, or will when its start is complete
 abbrev pub live_now : Option ServerFacts → Bool

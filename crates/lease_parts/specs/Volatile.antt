@@ -3,8 +3,8 @@ use Rattle.std.specs.Prelude.{ℕ, Option, Some, None, option_map, slice_get}
 use Rattle.agent_model.specs.Agents.{AgentFacts}
 use Rattle.cluster_model.specs.FailsafeDeadlines.{is_set_by_failsafe}
 use Rattle.cluster_model.specs.State.{Cluster}
-use Rattle.lease_law.specs.Past.{VolatileState}
-use Rattle.lease_law.specs.States.{Agent, Machine, fresh_agent}
+use Rattle.lease_model.specs.Past.{VolatileState}
+use Rattle.lease_model.specs.States.{Agent, Machine, fresh_agent}
 use Rattle.lease_parts.specs.AgentSeen.{agent_seen}
 use Rattle.lease_parts.specs.Machines.{live_in, deadline_in, hold_in, run_in}
 

@@ -16,9 +16,9 @@ use Rattle.agent_model.specs.Agents.{AgentFacts, EndsAlone}
 use Rattle.agent_model.specs.Decisions.{asks_lease}
 use Rattle.cluster_model.specs.Deliveries.{is_answer}
 use Rattle.cluster_model.specs.State.{Cluster}
-use Rattle.lease_law.specs.Leases.{Question}
-use Rattle.lease_law.specs.Past.{Past, lease_span}
-use Rattle.lease_law.specs.Stores.{IsLeased}
+use Rattle.lease_model.specs.Leases.{Question}
+use Rattle.lease_model.specs.Past.{Past, lease_span}
+use Rattle.lease_model.specs.Stores.{IsLeased}
 use Rattle.agent_roles.specs.Asks.{IsQuestion}
 use Rattle.lease_book.specs.Waiting.{IsLastAsked, IsLastRun}
 use Rattle.lease_parts.specs.Machines.{run_in}

@@ -22,7 +22,7 @@ use Rattle.failsafe.proofs.Members.{has-nobody, has-with, within-has}
 use Rattle.agent_model.specs.Agents.{AgentFacts, Outcome}
 use Rattle.cluster_model.specs.Cluster.{agent_after, agent_facts_after, cluster_after}
 use Rattle.cluster_model.specs.State.{Cluster}
-use Rattle.lease_law.proofs.Tools.{and-first, none-some, some-is}
+use Rattle.lease_model.proofs.Tools.{and-first, none-some, some-is}
 use Rattle.lease_book.specs.Flights.{Rises}
 use Rattle.lease_book.proofs.Entries.{in-with, in-without}
 use Rattle.lease_inputs.proofs.InputKinds.{IsOpening}

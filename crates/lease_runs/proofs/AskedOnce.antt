@@ -37,7 +37,7 @@ use Rattle.cluster_model.specs.Inputs.{starting_agent}
 use Rattle.cluster_model.specs.Machines.{who_of}
 use Rattle.cluster_model.specs.State.{Cluster}
 use Rattle.cluster_model.proofs.Places.{get-changed}
-use Rattle.lease_law.proofs.Tools.{eq-from, none-some, put-here, put-there, some-is}
+use Rattle.lease_model.proofs.Tools.{eq-from, none-some, put-here, put-there, some-is}
 use Rattle.lease_book.specs.Flights.{Rises}
 use Rattle.lease_book.specs.Groups.{AreNumberedAbove}
 use Rattle.lease_book.proofs.Entries.{in-with, in-without}

@@ -10,8 +10,8 @@ use Rattle.cluster_model.specs.Cluster.{cluster_over}
 use Rattle.cluster_model.specs.Next.{run_events}
 use Rattle.cluster_model.specs.Starting.{cluster_of}
 use Rattle.event_book.specs.Premises.{IsTimely, IsHandsOff}
-use Rattle.lease_law.specs.Modes.{IsDeclaredMode}
-use Rattle.lease_law.specs.States.{Acts}
+use Rattle.lease_model.specs.Modes.{IsDeclaredMode}
+use Rattle.lease_model.specs.States.{Acts}
 use Rattle.lease_parts.specs.Bridged.{Bridged}
 use Rattle.lease_parts.specs.Declaring.{declared_of, works_of}
 use Rattle.lease_parts.specs.Guarding.{IsGuarded}

@@ -39,7 +39,7 @@ use Rattle.agent_model.specs.StayingPrimary.{awaits_lease, is_staying, span_afte
 use Rattle.agent_model.specs.Views.{shown}
 use Rattle.failsafe.specs.Holding.{may_hold}
 use Rattle.agent_model.specs.Table.{step}
-use Rattle.agent_model.proofs.Rows.{failsafe-asked-by}
+use Rattle.agent_cases.proofs.Rows.{failsafe-asked-by}
 use Rattle.agent_roles.proofs.Knowing.{IsAlone, alone-of, step-onward}
 use Rattle.agent_roles.proofs.Living.{no-way}
 use Rattle.agent_roles.proofs.Staying.{input-ends}
@@ -61,7 +61,7 @@ use Rattle.cluster_model.specs.Messages.{agent_message, output_events, replying_
 use Rattle.cluster_model.specs.Orders.{hold_taken}
 use Rattle.cluster_model.specs.Parts.{each, event_of, events_of}
 use Rattle.cluster_model.specs.State.{Cluster}
-use Rattle.lease_law.proofs.Tools.{none-some}
+use Rattle.lease_model.proofs.Tools.{none-some}
 use Rattle.lease_book.specs.Flights.{Rises}
 use Rattle.lease_book.specs.Groups.{AreNumberedAbove}
 use Rattle.lease_book.proofs.Entries.{in-without}

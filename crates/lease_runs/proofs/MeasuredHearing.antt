@@ -30,7 +30,7 @@ use Rattle.cluster_model.specs.Machines.{machine_of, points_of}
 use Rattle.cluster_model.specs.Messages.{hear_events, heard_message, input_events, no_message, operate_events, output_events, wake_events_of}
 use Rattle.cluster_model.specs.Parts.{each, event_of}
 use Rattle.cluster_model.specs.State.{Cluster}
-use Rattle.lease_law.proofs.Tools.{both, none-some, put-here, some-is}
+use Rattle.lease_model.proofs.Tools.{both, none-some, put-here, some-is}
 use Rattle.lease_book.proofs.Entries.{in-without}
 use Rattle.lease_inputs.proofs.EveryInput.{agent-here, answer-run, opened-for, the-outcome, unchanged}
 use Rattle.lease_hearing.proofs.InputHears.{message-is}

@@ -33,7 +33,7 @@ use Rattle.cluster_model.specs.Parts.{each, events_of}
 use Rattle.cluster_model.specs.State.{Cluster}
 use Rattle.cluster_model.proofs.Lists.{all-more}
 use Rattle.lease_law.proofs.Runs.{assoc}
-use Rattle.lease_law.proofs.Tools.{none-some, put-there, some-is}
+use Rattle.lease_model.proofs.Tools.{none-some, put-there, some-is}
 use Rattle.run_promise.proofs.Upholding.{over-append}
 use Rattle.agent_roles.specs.Asks.{IsAsk}
 use Rattle.lease_book.specs.Flights.{Rises}

@@ -12,7 +12,7 @@ use Rattle.cluster_model.specs.Ticking.{tick_events}
 use Rattle.event_book.specs.Premises.{Moments, first_moments}
 use Rattle.event_book.specs.declared.agent_process.AgentProcess.{AgentProcess}
 use Rattle.event_book.specs.Processes.{first_processes, running_in}
-use Rattle.lease_law.proofs.Tools.{none-some, some-is}
+use Rattle.lease_model.proofs.Tools.{none-some, some-is}
 use Rattle.run_promise.specs.Members.{declared_members, member_count}
 use Rattle.std.proofs.lemmas.Option.{slice_get-map}
 use Rattle.cluster_model.specs.Requests.{action_of}

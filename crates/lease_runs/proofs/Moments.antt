@@ -10,7 +10,7 @@ use Rattle.event_book.specs.Functions.{put_at}
 use Rattle.cluster_model.specs.Cluster.{cluster_after, cluster_over}
 use Rattle.cluster_model.specs.State.{Cluster}
 use Rattle.event_book.specs.Premises.{Moments, moments_after}
-use Rattle.lease_law.proofs.Tools.{dropped, put-all, put-here, put-there, some-is}
+use Rattle.lease_model.proofs.Tools.{dropped, put-all, put-here, put-there, some-is}
 use Rattle.std.proofs.lemmas.Bool.{cases_eq}
 use Rattle.lease_book.specs.Flights.{Rises}
 use Rattle.lease_book.specs.Groups.{AreNumberedAbove, IsNumberedAbove}

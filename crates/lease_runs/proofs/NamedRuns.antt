@@ -37,7 +37,7 @@ use Rattle.cluster_model.specs.Starting.{cluster_of}
 use Rattle.cluster_model.specs.State.{Cluster}
 use Rattle.cluster_model.proofs.Founds.{holds-mapped}
 use Rattle.cluster_model.proofs.Lists.{all-more}
-use Rattle.lease_law.proofs.Tools.{none-some}
+use Rattle.lease_model.proofs.Tools.{none-some}
 use Rattle.run_promise.specs.Members.{declared_members, IsDeclared}
 use Rattle.lease_parts.specs.Machines.{run_in, run_now}
 use Rattle.run_promise.specs.Parts.{PartsUphold}

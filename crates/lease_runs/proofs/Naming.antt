@@ -15,7 +15,7 @@ use Rattle.event_book.specs.Kinds.{AllAre}
 use Rattle.cluster_model.specs.Cluster.{cluster_after, cluster_over}
 use Rattle.cluster_model.specs.State.{Cluster}
 use Rattle.cluster_model.proofs.Lists.{all-both, all-more}
-use Rattle.lease_law.proofs.Tools.{dropped, put-all, some-is}
+use Rattle.lease_model.proofs.Tools.{dropped, put-all, some-is}
 use Rattle.lease_book.specs.Flights.{Rises}
 use Rattle.lease_book.proofs.Entries.{in-with, in-without, rises-with, rises-without}
 use Rattle.run_promise.specs.Members.{declared_members, IsDeclared}

@@ -16,7 +16,7 @@ use Rattle.event_book.specs.declared.member.Member.{Member}
 use Rattle.event_book.specs.Facts.{Facts, facts_over}
 use Rattle.event_book.specs.Writers.{AcceptsWrites, HasOneWriter, writes_in, writes_now}
 use Rattle.event_book.proofs.Told.{count-told, writes-same, writes-told}
-use Rattle.lease_law.proofs.Tools.{and-first}
+use Rattle.lease_model.proofs.Tools.{and-first}
 use Rattle.rest_health.specs.declared.endpoint.Endpoint.{Endpoint}
 use Rattle.rest_health.specs.declared.endpoint.Endpoint.TheVariants as paths
 use Rattle.rest_health.specs.Health.{status_where}

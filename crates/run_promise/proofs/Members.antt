@@ -13,7 +13,7 @@ use Rattle.script_model.specs.Script.{HeadText, IsHead, names_of}
 use Rattle.cluster_model.specs.Cluster.{cluster_after, cluster_over}
 use Rattle.cluster_model.specs.Next.{declared}
 use Rattle.cluster_model.specs.State.{Cluster}
-use Rattle.lease_law.proofs.Tools.{some-is}
+use Rattle.lease_model.proofs.Tools.{some-is}
 use Rattle.run_promise.specs.Members.{declared_members, member_count, IsDeclared, is_listed}
 use Rattle.run_promise.proofs.Upholding.{Each}
 use Rattle.cluster_model.proofs.Places.{eq-self, there}

@@ -35,7 +35,7 @@ use Rattle.cluster_model.specs.Parts.{each, event_of, for_some, is_empty}
 use Rattle.cluster_model.specs.Requests.{answer_at, asked_in_words, silence}
 use Rattle.cluster_model.specs.State.{Cluster}
 use Rattle.cluster_model.specs.Ticking.{tick_events}
-use Rattle.lease_law.proofs.Tools.{and-first}
+use Rattle.lease_model.proofs.Tools.{and-first}
 use Rattle.run_promise.specs.Parts.{PartsUphold}
 use Rattle.run_promise.specs.Promise.{IsComposable, Promise, Upholds, UpholdsAlways}
 use Rattle.run_promise.proofs.Members.{each-at}

@@ -31,7 +31,7 @@ use Rattle.agent_model.specs.declared.output.Output.TheVariants as outputs
 use Rattle.agent_model.specs.Agents.{Outcome}
 use Rattle.agent_model.specs.Operators.{operated, restarting, unnumbered, wiping}
 use Rattle.agent_model.specs.StayingPrimary.{holding_for}
-use Rattle.agent_model.proofs.Rows.{asked-to-hold-by}
+use Rattle.agent_cases.proofs.Rows.{asked-to-hold-by}
 
 -- a request that is done at once, whether or not another one waits
 abbrev pub IsDoneAtOnce : OperatorRequest → Type 0

@@ -25,7 +25,7 @@ pub enum OperatorRequest {
     Restart,
     /// The server is to be wiped and copied anew.
     Reinit,
-    /// This other member, which leads without the key store, asks that the agent's own doesn't take the leader key for so many ticks
+    /// This other member, which leads without the key store, asks that the agent's own doesn't take the leader key for so many ticks of 100 ms
     /// (Patroni documentation, "DCS Failsafe Mode").
     Hold {
         from: MemberId,

@@ -1,6 +1,6 @@
 //! What one more event makes of each answer of the summary.
 ghost use Rattle.std.specs.Prelude.{◌≡◌, ◌+◌, ◌^◌, ◌<◌};
-ghost use Rattle.summary_model.specs.Noting.{ticks_after, first_if, is_late, margin_at, late_if, pause_if, breach_by_watchdog, breach_by_txn, breach_by_store, breach_by_server, breach_of, broken_by, premises_after, has_mode, keeps_mode_in_txn, keeps_mode_in_store, keeps_mode_in_agent, keeps_mode, broken_unless, synchronous_after, count_after};
+ghost use Rattle.summary_model.specs.Noting.{ticks_after, first_if, is_past_margin, margin_at, late_if, pause_if, breach_by_watchdog, breach_by_txn, breach_by_store, breach_by_server, breach_of, broken_by, premises_after, has_mode, keeps_mode_in_txn, keeps_mode_in_store, keeps_mode_in_agent, keeps_mode, broken_unless, synchronous_after, count_after};
 
 use event_book::{AgentEvent, EventKind, ReplicationEvent, ServerEvent, StoreEvent, WatchdogEvent};
 use pat_base::{MemberId, Name, Ticks};
@@ -45,8 +45,8 @@ fn margin_at(margins: &[Option<Ticks>], member: MemberId) -> Option<Ticks>
 }
 
 /// Whether so many ticks are past the margin.
-fn is_late(margin: Option<Ticks>, lateness: u64) -> bool
-    ensures { result ≡ is_late margin lateness }
+fn is_past_margin(margin: Option<Ticks>, lateness: u64) -> bool
+    ensures { result ≡ is_past_margin margin lateness }
 {
     match margin {
         None => false,
@@ -81,11 +81,11 @@ fn breach_by_watchdog(
     match event {
         WatchdogEvent::Armed { member, .. } => {
             let margin = margin_at(margins, member.id);
-            late_if(is_late(margin, lateness), member.name)
+            late_if(is_past_margin(margin, lateness), member.name)
         }
         WatchdogEvent::Fed { member, .. } => {
             let margin = margin_at(margins, member.id);
-            late_if(is_late(margin, lateness), member.name)
+            late_if(is_past_margin(margin, lateness), member.name)
         }
         _ => None,
     }

@@ -18,7 +18,7 @@ use Rattle.event_book.specs.declared.event.WatchdogEvent.TheVariants as watchdog
 use Rattle.event_book.specs.declared.reason.Basis.{Basis}
 use Rattle.event_book.specs.declared.reason.Basis.TheVariants as bases
 use Rattle.event_book.specs.Premises.{IsOnTime, AreHandsOff, AreInTime, ArePremisesMet, IsFeedInTime, IsHandsOffKind, IsKindInTime, Moments, first_moments, moments_after}
-use Rattle.lease_law.proofs.Tools.{both, none-some, some-is}
+use Rattle.lease_model.proofs.Tools.{both, none-some, some-is}
 use Rattle.summary_model.specs.declared.answers.Breach.{Breach}
 use Rattle.summary_model.specs.declared.answers.Breach.TheVariants as breaches
 use Rattle.summary_model.specs.declared.answers.Premises.{Premises}
@@ -27,7 +27,7 @@ use Rattle.summary_model.specs.declared.answers.WatchOf.{WatchOf}
 use Rattle.summary_model.specs.Claims.{IsBreachBy, IsToldOfPremises, margin_of, margin_ticks, works_of}
 use Rattle.summary_model.specs.Heads.{is_watching, first_unwatched, name_unless, head_breach}
 use Rattle.summary_model.specs.Moments.{now_over, moments_over, AreAllFronts}
-use Rattle.summary_model.specs.Noting.{margin_at, is_late, late_if, pause_if, breach_by_watchdog, breach_by_store, breach_by_server, breach_of, broken_by, premises_after}
+use Rattle.summary_model.specs.Noting.{margin_at, is_past_margin, late_if, pause_if, breach_by_watchdog, breach_by_store, breach_by_server, breach_of, broken_by, premises_after}
 use Rattle.summary_model.specs.Seeing.{IsLateness, IsLatenessOn}
 use Rattle.summary_law.proofs.Fronts.{fronts-start, fronts-more, whole-front, breaks-now, breaks-first, breaks-more}
 
@@ -38,23 +38,23 @@ le-from-not : (m n : ℕ) → nat_lt m n ≡ false → n ≤ m
 le-from-not m n e = grind (arith, nat_tests)
 
 -- what a watchdog's margin says of a lateness
-on-time : (margin : Option Ticks) (clock moment lateness : ℕ) → is_late margin lateness ≡ false → clock - moment ≤ lateness → IsOnTime (margin_ticks margin) clock moment
+on-time : (margin : Option Ticks) (clock moment lateness : ℕ) → is_past_margin margin lateness ≡ false → clock - moment ≤ lateness → IsOnTime (margin_ticks margin) clock moment
 on-time None clock moment lateness small span = tt
 on-time (Some margin) clock moment lateness small span = let most : lateness ≤ margin.0 = le-from-not margin.0 lateness small in omega (arith, most, span)
 
-too-late : (margin : Option Ticks) (clock moment lateness : ℕ) → is_late margin lateness ≡ true → lateness ≡ clock - moment → IsOnTime (margin_ticks margin) clock moment → ⊥
+too-late : (margin : Option Ticks) (clock moment lateness : ℕ) → is_past_margin margin lateness ≡ true → lateness ≡ clock - moment → IsOnTime (margin_ticks margin) clock moment → ⊥
 too-late None clock moment lateness late span time = both late
 too-late (Some margin) clock moment lateness late span time = let more : margin.0 < lateness = lt-from margin.0 lateness late in omega (arith, more, span, time)
 
-none-late : (margin : Option Ticks) (lateness : ℕ) → lateness ≡ 0 → is_late margin lateness ≡ true → ⊥
+none-late : (margin : Option Ticks) (lateness : ℕ) → lateness ≡ 0 → is_past_margin margin lateness ≡ true → ⊥
 none-late None lateness none late = both late
 none-late (Some margin) lateness none late = let more : margin.0 < lateness = lt-from margin.0 lateness late in omega (arith, more, none)
 
 -- the same of a feed by its basis
-fed-in-time : (margin : ℕ → Option ℕ) (own : Option Ticks) (moments : Moments) (m : ℕ) (basis : Basis) (lateness : ℕ) → margin_ticks own ≡ margin m → is_late own lateness ≡ false → IsLatenessOn moments m basis lateness → IsFeedInTime margin moments m basis
+fed-in-time : (margin : ℕ → Option ℕ) (own : Option Ticks) (moments : Moments) (m : ℕ) (basis : Basis) (lateness : ℕ) → margin_ticks own ≡ margin m → is_past_margin own lateness ≡ false → IsLatenessOn moments m basis lateness → IsFeedInTime margin moments m basis
 fed-in-time margin own moments m basis lateness is small span = λ moment from. subst (λ o. IsOnTime o moments.clock moment) is (on-time own moments.clock moment lateness small (span.most moment from))
 
-fed-late : (margin : ℕ → Option ℕ) (own : Option Ticks) (moments : Moments) (m : ℕ) (basis : Basis) (lateness : ℕ) → margin_ticks own ≡ margin m → is_late own lateness ≡ true → IsLatenessOn moments m basis lateness → IsFeedInTime margin moments m basis → ⊥
+fed-late : (margin : ℕ → Option ℕ) (own : Option Ticks) (moments : Moments) (m : ℕ) (basis : Basis) (lateness : ℕ) → margin_ticks own ≡ margin m → is_past_margin own lateness ≡ true → IsLatenessOn moments m basis lateness → IsFeedInTime margin moments m basis → ⊥
 fed-late margin own moments m basis lateness is late span time =
     elim span.one [
       | inl none ↦ none-late own lateness none late
@@ -76,9 +76,9 @@ Same margins margin = (m : ℕ) → margin_ticks (margin_at margins m) ≡ margi
 
 watchdog-right : (margins : List (Option Ticks)) (margin : ℕ → Option ℕ) (moments : Moments) (lateness : ℕ) (happening : WatchdogEvent) → Same margins margin → breach_by_watchdog margins lateness happening ≡ None → IsLateness moments (kinds.Watchdog happening) lateness → IsKindInTime margin moments (kinds.Watchdog happening)
 watchdog-right margins margin moments lateness (watchdogs.Armed member until answer) same none span =
-    fed-in-time margin (margin_at margins member.id.number) moments member.id.number (bases.Grant answer) lateness (same member.id.number) (late-none (is_late (margin_at margins member.id.number) lateness) member.name none) span
+    fed-in-time margin (margin_at margins member.id.number) moments member.id.number (bases.Grant answer) lateness (same member.id.number) (late-none (is_past_margin (margin_at margins member.id.number) lateness) member.name none) span
 watchdog-right margins margin moments lateness (watchdogs.Fed member until basis) same none span =
-    fed-in-time margin (margin_at margins member.id.number) moments member.id.number basis lateness (same member.id.number) (late-none (is_late (margin_at margins member.id.number) lateness) member.name none) span
+    fed-in-time margin (margin_at margins member.id.number) moments member.id.number basis lateness (same member.id.number) (late-none (is_past_margin (margin_at margins member.id.number) lateness) member.name none) span
 watchdog-right margins margin moments lateness _ same none span = tt
 
 -- a breach is told of the right member, and the event isn't in time
@@ -89,14 +89,14 @@ record IsWrong (margin : ℕ → Option ℕ) (moments : Moments) (kind : EventKi
 watchdog-wrong : (margins : List (Option Ticks)) (margin : ℕ → Option ℕ) (moments : Moments) (lateness : ℕ) (happening : WatchdogEvent) (why : Breach) → Same margins margin → breach_by_watchdog margins lateness happening ≡ Some why → IsLateness moments (kinds.Watchdog happening) lateness → IsWrong margin moments (kinds.Watchdog happening) why
 watchdog-wrong margins margin moments lateness (watchdogs.Armed member until answer) why same some span =
     let own = margin_at margins member.id.number in
-    let late = late-some (is_late own lateness) member.name why some in
+    let late = late-some (is_past_margin own lateness) member.name why some in
     record {
       told = subst (λ w. IsBreachBy w (kinds.Watchdog (watchdogs.Armed member until answer))) late.1 refl;
       fails = λ time off. fed-late margin own moments member.id.number (bases.Grant answer) lateness (same member.id.number) late.0 span time;
     }
 watchdog-wrong margins margin moments lateness (watchdogs.Fed member until basis) why same some span =
     let own = margin_at margins member.id.number in
-    let late = late-some (is_late own lateness) member.name why some in
+    let late = late-some (is_past_margin own lateness) member.name why some in
     record {
       told = subst (λ w. IsBreachBy w (kinds.Watchdog (watchdogs.Fed member until basis))) late.1 refl;
       fails = λ time off. fed-late margin own moments member.id.number basis lateness (same member.id.number) late.0 span time;

@@ -23,7 +23,7 @@ use Rattle.event_book.specs.Functions.{put_at}
 use Rattle.event_book.specs.Kept.{KeepsCommits}
 use Rattle.event_book.specs.Logs.{Logs, entries_at, entries_found, log_received, logs_after, logs_by, logs_over}
 use Rattle.event_book.specs.Writers.{writes_by_server, writes_by_watchdog, writes_after, writes_over, AcceptsWrites}
-use Rattle.lease_law.proofs.Tools.{both, put-all, put-here, put-there}
+use Rattle.lease_model.proofs.Tools.{both, put-all, put-here, put-there}
 use Rattle.std.proofs.lemmas.Bool.{cases_eq}
 use Rattle.wal_model.specs.Lacking.{has_serial, lacks_in}
 use Rattle.summary_model.specs.Losses.{may_lose, may_lose_by_server, may_lose_by_log, WriterLacksOf}

@@ -18,7 +18,7 @@ use Rattle.event_book.specs.Kinds.{AllAre}
 use Rattle.event_book.specs.NameLists.{name_cmp}
 use Rattle.event_book.proofs.NamedMembers.{insert-kept, insert-there, name_cmp-exact}
 use Rattle.event_book.proofs.RisingNames.{rises-insert, name_cmp-total}
-use Rattle.lease_law.proofs.Tools.{none-some, some-is}
+use Rattle.lease_model.proofs.Tools.{none-some, some-is}
 use Rattle.summary_model.specs.Listed.{IsWriterNamed, AreListed, NamesServer, AreNamed}
 use Rattle.summary_model.specs.Noting.{WatchFacts, noted, ticks_after, writers_by_server, writers_by_watchdog, writers_after}
 use Rattle.summary_model.specs.Seeing.{noted_over}

@@ -7,7 +7,7 @@ use Rattle.event_book.specs.declared.event.Event.{Event}
 use Rattle.event_book.specs.Acknowledged.{acknowledged_in}
 use Rattle.event_book.specs.Kept.{KeepsCommits}
 use Rattle.event_book.specs.Logs.{Logs, entries_at, logs_over}
-use Rattle.lease_law.proofs.Tools.{both}
+use Rattle.lease_model.proofs.Tools.{both}
 use Rattle.summary_model.specs.declared.answers.FirstMoment.{FirstMoment}
 use Rattle.summary_model.specs.declared.answers.Seen.{Seen}
 use Rattle.wal_model.specs.Lacking.{has_serial, lacks_in}

@@ -9,7 +9,7 @@ use Rattle.event_book.specs.declared.event.WatchdogEvent.TheVariants as watchdog
 use Rattle.event_book.specs.declared.reason.Basis.{Basis}
 use Rattle.event_book.specs.declared.reason.Basis.TheVariants as bases
 use Rattle.event_book.specs.Premises.{Moments, moments_after}
-use Rattle.lease_law.proofs.Tools.{some-is}
+use Rattle.lease_model.proofs.Tools.{some-is}
 use Rattle.summary_model.specs.Moments.{now_over, moments_over}
 use Rattle.summary_model.specs.Noting.{ticks_after}
 use Rattle.summary_model.specs.Seeing.{IsLateness, IsLatenessOn}

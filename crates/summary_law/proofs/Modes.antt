@@ -10,7 +10,7 @@ use Rattle.event_book.specs.declared.event.EventKind.{EventKind}
 use Rattle.event_book.specs.declared.event.EventKind.TheVariants as kinds
 use Rattle.event_book.specs.declared.event.StoreEvent.{StoreEvent}
 use Rattle.event_book.specs.declared.event.StoreEvent.TheVariants as stores
-use Rattle.lease_law.proofs.Tools.{both}
+use Rattle.lease_model.proofs.Tools.{both}
 use Rattle.summary_model.specs.declared.answers.Synchronous.{Synchronous}
 use Rattle.summary_model.specs.declared.answers.Synchronous.TheVariants as synchronous
 use Rattle.summary_model.specs.Claims.{KeepsMode, KeepMode, IsToldOfMode}

@@ -12,7 +12,7 @@ use Rattle.event_book.specs.Kept.{KeepsCommits}
 use Rattle.event_book.specs.Logs.{Logs}
 use Rattle.event_book.specs.Writers.{HasOneWriter, writes_over}
 use Rattle.lease_law.proofs.Runs.{assoc, none-more}
-use Rattle.lease_law.proofs.Tools.{both}
+use Rattle.lease_model.proofs.Tools.{both}
 use Rattle.summary_model.specs.declared.answers.Seen.{Seen}
 use Rattle.summary_model.specs.declared.answers.WatchOf.{WatchOf}
 use Rattle.summary_model.specs.Claims.{margin_ticks, declared_margin, is_writer, IsSummaryOf, WatchStandsFor}

@@ -16,7 +16,7 @@ use Rattle.event_book.specs.declared.event.WatchdogEvent.TheVariants as watchdog
 use Rattle.event_book.specs.Functions.{put_at}
 use Rattle.event_book.specs.Writers.{writes_by_server, writes_by_watchdog, writes_after, writes_over, HasOneWriter}
 use Rattle.lease_law.proofs.Runs.{writes-append}
-use Rattle.lease_law.proofs.Tools.{put-all, both}
+use Rattle.lease_model.proofs.Tools.{put-all, both}
 use Rattle.summary_model.specs.declared.answers.FirstMoment.{FirstMoment}
 use Rattle.summary_model.specs.Claims.{is_named, is_writer}
 use Rattle.summary_model.specs.Moments.{now_over, IsToldFirst}

@@ -53,9 +53,9 @@ abbrev pub margin_at : List (Option Ticks) → ℕ → Option Ticks
 margin_at margins member = margin_if (slice_get margins member)
 
 -- so many ticks are past the margin
-abbrev pub is_late : Option Ticks → ℕ → Bool
-is_late None lateness = false
-is_late (Some margin) lateness = nat_lt margin.0 lateness
+abbrev pub is_past_margin : Option Ticks → ℕ → Bool
+is_past_margin None lateness = false
+is_past_margin (Some margin) lateness = nat_lt margin.0 lateness
 
 -- the member of this name was late, where the test says it
 abbrev pub late_if : Bool → Name → Option Breach
@@ -69,8 +69,8 @@ pause_if false = None
 
 -- the breach by what happens to a watchdog so many ticks after what it is measured from
 abbrev pub breach_by_watchdog : List (Option Ticks) → ℕ → WatchdogEvent → Option Breach
-breach_by_watchdog margins lateness (watchdogs.Armed member until answer) = late_if (is_late (margin_at margins member.id.number) lateness) member.name
-breach_by_watchdog margins lateness (watchdogs.Fed member until basis) = late_if (is_late (margin_at margins member.id.number) lateness) member.name
+breach_by_watchdog margins lateness (watchdogs.Armed member until answer) = late_if (is_past_margin (margin_at margins member.id.number) lateness) member.name
+breach_by_watchdog margins lateness (watchdogs.Fed member until basis) = late_if (is_past_margin (margin_at margins member.id.number) lateness) member.name
 breach_by_watchdog margins lateness _ = None
 
 -- the breach by a granted transaction: a configuration that pauses

@@ -25,7 +25,7 @@ use Rattle.cluster_model.specs.State.{Cluster}
 use Rattle.world_model.specs.Emits.{Emits}
 use Rattle.world_model.specs.Room.{request_cost, hearing_cost, input_cost, outputs_cost}
 use Rattle.agent_model.specs.Asked.{AsksShortly}
-use Rattle.agent_model.proofs.Bounds.{step-small}
+use Rattle.agent_cases.proofs.Bounds.{step-small}
 use Rattle.world_model.proofs.Taking.{Emits-then, found-took}
 
 -- what an input did is little, and asks shortly

@@ -87,7 +87,7 @@ fn carry(
             to,
             incarnation,
             sequence,
-            Body::FailsafeAnswer { yes: accepted },
+            Body::FailsafeAnswer { accepted },
             events,
         ),
         Output::Begin => begin(stage, member, events),

@@ -39,7 +39,7 @@ use Rattle.cluster_model.specs.Machines.{machine_of, points_of}
 use Rattle.cluster_model.specs.State.{Cluster}
 use Rattle.world_model.specs.Comes.{Counts, CountsAgent, CountsMessage}
 use Rattle.world_model.specs.Room.{HasNumbers, HasRoom, agent_event_cost, event_cost, hearing_cost, message_event_cost}
-use Rattle.agent_model.proofs.Bounds.{step-small}
+use Rattle.agent_cases.proofs.Bounds.{step-small}
 use Rattle.world_model.proofs.ServerRooms.{All-at, All-weaker, CountsCommit, HasTimeline, commits-more, servers-room}
 
 with_member_changed-all_at : (X : Type 0) (P Q : X → Type 0) (xs : List X) (n : ℕ) (change : X → X) (found : Option X) → slice_get xs n ≡ found → All P xs → ((x : X) → P x → Q x)

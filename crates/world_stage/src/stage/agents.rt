@@ -195,7 +195,9 @@ impl Stage {
                 answer: *answer,
             })),
             Body::FailsafeRequest { ttl } => Ok(failsafe_asked_by(message, *ttl)),
-            Body::FailsafeAnswer { yes } => Ok(failsafe_answered_by(message, *yes, sent)),
+            Body::FailsafeAnswer { accepted } => {
+                Ok(failsafe_answered_by(message, *accepted, sent))
+            }
             _ => Ok(None),
         }
     }

@@ -1,5 +1,5 @@
 use Rattle.lease_book.proofs.Groups.{begins-front}
-use Rattle.lease_law.specs.Claims.{MayBeginBehind}
+use Rattle.lease_model.specs.Claims.{MayBeginBehind}
 use Rattle.lease_book.proofs.laws.beginnings_fall.Goals as goal
 
 pub returns : goal.returns

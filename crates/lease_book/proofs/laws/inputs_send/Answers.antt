@@ -1,6 +1,6 @@
 use Rattle.std.proofs.Common.{refl}
-use Rattle.lease_law.specs.Past.{state_of}
-use Rattle.lease_law.specs.Inputs.{MaySend}
+use Rattle.lease_model.specs.Past.{state_of}
+use Rattle.lease_model.specs.Inputs.{MaySend}
 use Rattle.lease_book.proofs.Sends.{old-or-sent, heard-gone}
 use Rattle.lease_book.proofs.laws.inputs_send.Goals as goal
 

@@ -3,8 +3,8 @@ use Rattle.agent_model.specs.Agents.{outcome_from}
 use Rattle.agent_turn.specs.Roles.{role_of}
 use Rattle.agent_succession.specs.FreeKey.{AsksWhereFree, AsksWhereWon, BeginsWhereGranted}
 use Rattle.agent_model.specs.Table.{prepared, step}
-use Rattle.agent_model.specs.Bounds.{IsSmall}
-use Rattle.agent_model.proofs.Bounds.{step-small}
+use Rattle.agent_cases.specs.Bounds.{IsSmall}
+use Rattle.agent_cases.proofs.Bounds.{step-small}
 use Rattle.agent_succession.proofs.Beginning.{step-asks, step-begins, step-wins}
 use Rattle.agent_commit_law.proofs.CommitInputs.{input-commits-as}
 use Rattle.agent_rules.proofs.Grounds.{input-has-grounds-as}

@@ -20,9 +20,9 @@ use Rattle.event_book.specs.Functions.{put_at, set_members}
 use Rattle.event_book.specs.Premises.{Taking, moments_sent_after, taken_after, runs_after}
 use Rattle.event_book.specs.Watchdogs.{is_acknowledged}
 use Rattle.event_book.specs.Writers.{writes_after}
-use Rattle.lease_law.specs.Leases.{LeaderKey, FailsafeKey, Query, Create, Renew, Release, Write, Read, Question, Grant, Answer, Flying, Requested, Answered, FailsafeRequested, Acknowledged}
-use Rattle.lease_law.specs.Outcomes.{seen_of, shown_if, failsafe_carried, renewed}
-use Rattle.lease_law.specs.States.{Agent, Machine, Declared, State, leader_kept, fresh_agent}
+use Rattle.lease_model.specs.Leases.{LeaderKey, FailsafeKey, Query, Create, Renew, Release, Write, Read, Question, Grant, Answer, Flying, Requested, Answered, FailsafeRequested, Acknowledged}
+use Rattle.lease_model.specs.Outcomes.{seen_of, shown_if, failsafe_carried, renewed}
+use Rattle.lease_model.specs.States.{Agent, Machine, Declared, State, leader_kept, fresh_agent}
 
 -- the same of a set that may be absent
 abbrev pub members_if : Option MemberSet → Option (ℕ → Bool)

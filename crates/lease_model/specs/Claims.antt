@@ -2,12 +2,12 @@
 use Rattle.std.specs.Prelude.{ℕ, ◌≡◌, ◌⊎◌, ◌≤◌, true, false, List, [], ◌∷◌, ◌++◌}
 use Rattle.event_book.specs.declared.event.Event.{Event}
 use Rattle.event_book.specs.Writers.{writes_over, BeginsKind}
-use Rattle.lease_law.specs.States.{Declared, State, Acts}
-use Rattle.lease_law.specs.Inputs.{AgentInput, Fed}
-use Rattle.lease_law.specs.Actions.{Action, Tick, Input, act, IsLawfulAction}
-use Rattle.lease_law.specs.Past.{VolatileState, past_of, state_of}
-use Rattle.lease_law.specs.Books.{Transition, IsShown}
-use Rattle.lease_law.specs.Feeds.{KeepsMomentOf, IsFedBy, ShowsFeed}
+use Rattle.lease_model.specs.States.{Declared, State, Acts}
+use Rattle.lease_model.specs.Inputs.{AgentInput, Fed}
+use Rattle.lease_model.specs.Actions.{Action, Tick, Input, act, IsLawfulAction}
+use Rattle.lease_model.specs.Past.{VolatileState, past_of, state_of}
+use Rattle.lease_model.specs.Books.{Transition, IsShown}
+use Rattle.lease_model.specs.Feeds.{KeepsMomentOf, IsFedBy, ShowsFeed}
 use Rattle.event_book.specs.Kinds.{AllAre}
 
 -- among these events the watchdog of m is armed or fed by the grant that the answer of this number tells

@@ -18,10 +18,10 @@ use Rattle.event_book.specs.declared.event.StoreEvent.TheVariants as stores
 use Rattle.event_book.specs.declared.event.WatchdogEvent.{WatchdogEvent}
 use Rattle.event_book.specs.declared.event.WatchdogEvent.TheVariants as watchdogs
 use Rattle.event_book.specs.declared.event.AgentEvent.TheVariants as agents
-use Rattle.lease_law.specs.Leases.{FailsafeRequest}
-use Rattle.lease_law.specs.Inputs.{AgentInput}
-use Rattle.lease_law.specs.Actions.{Action, Start, Kill, Crash, Note}
-use Rattle.lease_law.specs.Past.{Past, past_over, VolatileState, machine_of}
+use Rattle.lease_model.specs.Leases.{FailsafeRequest}
+use Rattle.lease_model.specs.Inputs.{AgentInput}
+use Rattle.lease_model.specs.Actions.{Action, Start, Kill, Crash, Note}
+use Rattle.lease_model.specs.Past.{Past, past_over, VolatileState, machine_of}
 
 -- an event of this member's watchdog or of its hold
 abbrev pub IsOwnWatchdog : ℕ → WatchdogEvent → Type 0

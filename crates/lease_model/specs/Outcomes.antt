@@ -3,8 +3,8 @@ use Rattle.std.specs.Prelude.{ℕ, ◌+◌, ◌==◌, ◌&&◌, Bool, true, fals
 use Rattle.store_keys.specs.declared.txn.Expected.{Expected}
 use Rattle.store_keys.specs.declared.txn.Expected.TheVariants.{Absent, Revision}
 use Rattle.event_book.specs.Functions.{put_at}
-use Rattle.lease_law.specs.Leases.{LeaderKey, LeaderSeen, FailsafeKey, Query, Create, Renew, Release, Write, Read, Question, Grant, Answer, Flying, Requested, Answered}
-use Rattle.lease_law.specs.States.{State}
+use Rattle.lease_model.specs.Leases.{LeaderKey, LeaderSeen, FailsafeKey, Query, Create, Renew, Release, Write, Read, Question, Grant, Answer, Flying, Requested, Answered}
+use Rattle.lease_model.specs.States.{State}
 
 -- what a snapshot says of the leader key
 abbrev pub seen_of : Option LeaderKey → Option LeaderSeen

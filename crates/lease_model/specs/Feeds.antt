@@ -8,8 +8,8 @@ use Rattle.event_book.specs.declared.event.AgentEvent.TheVariants as agents
 use Rattle.event_book.specs.declared.event.WatchdogEvent.TheVariants as watchdogs
 use Rattle.event_book.specs.declared.reason.Basis.TheVariants as bases
 use Rattle.event_book.specs.Kinds.{AllAre}
-use Rattle.lease_law.specs.States.{FailsafeCheck, Agent, State}
-use Rattle.lease_law.specs.Inputs.{AgentInput}
+use Rattle.lease_model.specs.States.{FailsafeCheck, Agent, State}
+use Rattle.lease_model.specs.Inputs.{AgentInput}
 use Rattle.event_book.specs.Functions.{set_members}
 
 -- an event at which the clock and the incarnations stay as they are

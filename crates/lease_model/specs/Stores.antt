@@ -15,9 +15,9 @@ use Rattle.event_book.specs.declared.event.StoreEvent.TheVariants as stores
 use Rattle.lease_store.specs.Kept.{IsKept}
 use Rattle.event_book.specs.Facts.{Facts}
 use Rattle.lease_store.specs.Decision.{Decision, Grant as Granting, Refusal as Refusing}
-use Rattle.lease_law.specs.Leases.{LeaderKey, FailsafeKey, Query, Create, Renew, Grant}
-use Rattle.lease_law.specs.Outcomes.{Outcome, refused_outcome}
-use Rattle.lease_law.specs.Past.{Past, leader_granted, failsafe_granted}
+use Rattle.lease_model.specs.Leases.{LeaderKey, FailsafeKey, Query, Create, Renew, Grant}
+use Rattle.lease_model.specs.Outcomes.{Outcome, refused_outcome}
+use Rattle.lease_model.specs.Past.{Past, leader_granted, failsafe_granted}
 use Rattle.event_book.specs.Functions.{set_members}
 
 -- the leader key with this value, revision and expiry, if the value is one of a leader key

@@ -1,9 +1,9 @@
 -- Runs as books: actions one after another, each with its events and with what the members are after it.
 use Rattle.std.specs.Prelude.{ℕ, ◌≡◌, List, [], ◌∷◌, ◌++◌}
 use Rattle.event_book.specs.declared.event.Event.{Event}
-use Rattle.lease_law.specs.States.{Declared}
-use Rattle.lease_law.specs.Past.{VolatileState, first_volatile_state, past_of, state_of}
-use Rattle.lease_law.specs.Actions.{Action, state_after, IsAllowed}
+use Rattle.lease_model.specs.States.{Declared}
+use Rattle.lease_model.specs.Past.{VolatileState, first_volatile_state, past_of, state_of}
+use Rattle.lease_model.specs.Actions.{Action, state_after, IsAllowed}
 
 -- an action, its events, and the volatile states after it
 pub record Transition : Type 0 where

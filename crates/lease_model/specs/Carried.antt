@@ -1,10 +1,10 @@
 -- What holds between two actions of an allowed run.
 use Rattle.std.specs.Prelude.{ℕ, ◌≡◌, ◌⊎◌, ◌+◌, ◌≤◌, ◌<◌, Bool, true, false, List, Option, Some, None}
 use Rattle.store_keys.specs.declared.txn.Expected.TheVariants.{Absent, Revision}
-use Rattle.lease_law.specs.Leases.{LeaderKey, LeaderSeen, FailsafeKey, Query, Create, Renew, Release, Write, Read, Question, Grant, Answer, FailsafeRequest, Acknowledgement, Flying, Requested, Answered, FailsafeRequested, Acknowledged}
+use Rattle.lease_model.specs.Leases.{LeaderKey, LeaderSeen, FailsafeKey, Query, Create, Renew, Release, Write, Read, Question, Grant, Answer, FailsafeRequest, Acknowledgement, Flying, Requested, Answered, FailsafeRequested, Acknowledged}
 use Rattle.event_book.specs.Premises.{Taking, IsTaken}
-use Rattle.lease_law.specs.States.{FailsafeCheck, Agent, Machine, State, is_ready, Acts}
-use Rattle.lease_law.specs.Inputs.{Waits}
+use Rattle.lease_model.specs.States.{FailsafeCheck, Agent, Machine, State, is_ready, Acts}
+use Rattle.lease_model.specs.Inputs.{Waits}
 
 -- the key is m's at least until then
 pub record Covers (key : Option LeaderKey) (m until : ℕ) : Type 0 where

@@ -4,7 +4,7 @@ ghost use Rattle.pat_base.specs.declared.ticks.Ticks.{Ticks};
 ghost use Rattle.wal_model.specs.declared.entry.HistoryPoint.{HistoryPoint};
 ghost use Rattle.agent_model.specs.declared.heard.Heard.{Heard};
 ghost use Rattle.agent_model.specs.Agents.{Outcome};
-ghost use Rattle.agent_model.specs.Bounds.{IsSmall};
+ghost use Rattle.agent_cases.specs.Bounds.{IsSmall};
 ghost use Rattle.agent_model.specs.Table.{step};
 
 /// An input brings at most 40 messages and 40 outputs, and asks the key store for leases that it can write.

@@ -3,11 +3,11 @@ use Rattle.std.specs.Prelude.{ℕ, ◌≡◌, ◌⊎◌, ◌≤◌, Bool, true, 
 use Rattle.event_book.specs.declared.event.Event.{Event}
 use Rattle.event_book.specs.Functions.{put_at}
 use Rattle.event_book.specs.Writers.{writes_over, Begins}
-use Rattle.lease_law.specs.Leases.{FailsafeRequest}
+use Rattle.lease_model.specs.Leases.{FailsafeRequest}
 use Rattle.event_book.specs.Premises.{Taking, IsOnTime}
-use Rattle.lease_law.specs.States.{Machine, State, Acts, state_after_tick, start_machine, kill_machine, crash_machine}
-use Rattle.lease_law.specs.Outcomes.{delivered}
-use Rattle.lease_law.specs.Inputs.{AgentInput, Fed, IsLawful, IsInTime}
+use Rattle.lease_model.specs.States.{Machine, State, Acts, state_after_tick, start_machine, kill_machine, crash_machine}
+use Rattle.lease_model.specs.Outcomes.{delivered}
+use Rattle.lease_model.specs.Inputs.{AgentInput, Fed, IsLawful, IsInTime}
 
 -- one tick with the servers that stop in it; the key store decides on a message and answers by another; a message is lost; one
 -- input of an agent; an agent starts; it is killed; a server crashes; all else

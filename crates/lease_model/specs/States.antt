@@ -1,6 +1,6 @@
 -- What the past determines, as far as the lease needs it.
 use Rattle.std.specs.Prelude.{ℕ, ◌≡◌, ◌⊎◌, ◌+◌, nat_le, Bool, true, false, List, Option, Some, None}
-use Rattle.lease_law.specs.Leases.{LeaderKey, LeaderSeen, FailsafeKey, Flying}
+use Rattle.lease_model.specs.Leases.{LeaderKey, LeaderSeen, FailsafeKey, Flying}
 use Rattle.event_book.specs.Premises.{Taking}
 
 -- an agent waits for acknowledgements: of its failsafe request of this number, with this span, sent at this moment to these
