@@ -86,7 +86,7 @@ impl Summary {
         requires count { self.old.watch.closing.acknowledged + 1 < 2 ^ 64 }
         ensures { self.new ≡ noted_before self.old event.now behind.now }
     {
-        // most events, and cheap to see
+        // many events, and cheap to see
         if tells_nothing(&event.kind) && !tells_loss(behind) {
             return;
         }
