@@ -1,0 +1,4 @@
+pub mod Appended
+pub mod Noted
+pub mod Printed
+pub mod Pushed

@@ -1,0 +1,4 @@
+pub mod Kept
+pub mod Listed
+pub mod Marks
+pub mod Silence
