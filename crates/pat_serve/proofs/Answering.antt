@@ -7,7 +7,7 @@ use Rattle.pat_outside.specs.Outside.{Known, Rose}
 use Rattle.pat_outside.proofs.Contents.{Rose-earlier}
 use Rattle.pat_door.specs.declared.door.Door.{Ghosts}
 use Rattle.pat_door.specs.Doors.{DoorFacts, Tells, after_hang_up, after_read, after_write, bytes_here, grow_last, grow_last_from}
-use Rattle.event_book.specs.declared.event.Event.{Event}
+use Rattle.event_list.specs.Listed.{Listed}
 use Rattle.cluster_model.specs.State.{Cluster}
 use Rattle.cluster_model.specs.declared.step.Visit.{Visit}
 use Rattle.simulation.specs.Steps.{WorldFacts}
@@ -61,7 +61,7 @@ pub sent-so : (told after : Option DoorFacts) (bytes : List ℕ) {whole all : Bo
     → Tells told (λ facts. (sent : List ℕ) × IsSent (course_of all) bytes sent × (after ≡ Some (after_write sent facts)))
 sent-so told after bytes is sent = subst (λ (w : Bool). Tells told (λ facts. (sent : List ℕ) × IsSent (course_of w) bytes sent × (after ≡ Some (after_write sent facts)))) is sent
 
-module _ {D : Type 0} (door : Ghosts D) (was now : D) (world then : WorldFacts) (had has : List (List Event)) (id : MemberId) (asks : Result Request Refusal) where
+module _ {D : Type 0} (door : Ghosts D) (was now : D) (world then : WorldFacts) (had has : List Listed) (id : MemberId) (asks : Result Request Refusal) where
   -- a connection that asks this
   abbrev asking : Course → Connection
   asking course = record { asks = asks; course = course }
@@ -84,7 +84,7 @@ module _ {D : Type 0} (door : Ghosts D) (was now : D) (world then : WorldFacts) 
   }
 
   -- a front of it was
-  pub answers-front : (bytes : List ℕ) (mid : WorldFacts) (between : List (List Event)) → IsDue bytes → Brings world mid had between (read_steps world.cluster id (asking Whole)) → Brings mid then between has (failure_steps id) → WasSent false bytes
+  pub answers-front : (bytes : List ℕ) (mid : WorldFacts) (between : List Listed) → IsDue bytes → Brings world mid had between (read_steps world.cluster id (asking Whole)) → Brings mid then between has (failure_steps id) → WasSent false bytes
       → Rose (door.connection_faults was) (door.connection_faults now) → ((n : ℕ) → door.takes was n → length bytes ≤ n → ⊥) → Answers door was now world then had has id asks false
   answers-front bytes mid between due first last sent rose room = record {
     brings = Brings-then world mid then had between has (read_steps world.cluster id (asking Whole)) (failure_steps id) first last;
@@ -94,7 +94,7 @@ module _ {D : Type 0} (door : Ghosts D) (was now : D) (world then : WorldFacts) 
   }
 
 -- what was read of a connection was answered
-pub serves-answered : {D : Type 0} (door : Ghosts D) (was mid now : D) (world then : WorldFacts) (had has : List (List Event)) (id : MemberId) (asks : Result Request Refusal) (whole : Bool)
+pub serves-answered : {D : Type 0} (door : Ghosts D) (was mid now : D) (world then : WorldFacts) (had has : List Listed) (id : MemberId) (asks : Result Request Refusal) (whole : Bool)
     → Known (bytes_here (door.told was)) (λ all. IsRead all asks) → Tells (door.told was) (λ facts. (count : ℕ) × (door.told mid ≡ Some (after_read count facts))) → door.connection_faults was ≤ door.connection_faults mid → ((n : ℕ) → door.takes was n → door.takes mid n)
     → Answers door mid now world then had has id asks whole → Serves door was now (option_map after_hang_up (door.told now)) world.cluster id (record { asks = asks; course = course_of whole })
 serves-answered door was mid now world then had has id asks whole read left grows takes a = record {

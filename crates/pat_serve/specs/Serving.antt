@@ -1,8 +1,8 @@
 -- What a call that serves a connection says of its world, of its events and of its door.
-use Rattle.std.specs.Prelude.{ℕ, ◌≡◌, ◌≢◌, ◌≤◌, ◌++◌, Bool, true, false, List, length, Option, Some, Result, Ok, Err}
+use Rattle.std.specs.Prelude.{ℕ, ◌≡◌, ◌≢◌, ◌≤◌, ◌++◌, Bool, true, false, List, length, map, Option, Some, Result, Ok, Err}
 use Rattle.pat_base.specs.declared.member_id.MemberId.{MemberId}
 use Rattle.pat_outside.specs.Outside.{Known, Rose}
-use Rattle.event_book.specs.declared.event.Event.{Event}
+use Rattle.event_list.specs.Listed.{Listed, traced_list}
 use Rattle.cluster_model.specs.declared.step.Step.{Step}
 use Rattle.cluster_model.specs.Cluster.{cluster_over}
 use Rattle.cluster_model.specs.Next.{run_events}
@@ -32,11 +32,11 @@ abbrev pub IsRead : List ℕ → Result Request Refusal → Type 0
 IsRead all (Ok request) = IsRequested all (Ok (request_text request))
 IsRead all (Err refusal) = (fault : RequestFault) × IsFaultOf refusal fault × IsRequested all (Err fault)
 
--- a world took these steps, and their events, step by step, stand at the end of a list
-pub record Brings (before after : WorldFacts) (had has : List (List Event)) (steps : List Step) : Type 0 where
+-- a world took these steps, and their events, step by step, stand at the end of a list; messages are traced in them
+pub record Brings (before after : WorldFacts) (had has : List Listed) (steps : List Step) : Type 0 where
   pub cluster : after.cluster ≡ cluster_over before.cluster (run_events before.cluster steps)
   pub taken : TookSteps before after (length steps)
-  pub events : has ≡ had ++ events_by_step before.cluster steps
+  pub events : has ≡ had ++ map traced_list (events_by_step before.cluster steps)
 
 -- how a connection goes whose reply was written whole, or else in part
 abbrev pub course_of : Bool → Course
@@ -54,7 +54,7 @@ pub record Serves {D : Type 0} (door : Ghosts D) (before after : D) (told : Opti
   pub writes : (n : ℕ) → door.takes before n → length (bytes_due cluster id connection) ≤ n → connection.course ≡ Whole
 
 -- a connection that asks this was answered, whole or in part: the world took what it brings, and what was due was sent
-pub record Answers {D : Type 0} (door : Ghosts D) (before after : D) (world then : WorldFacts) (had has : List (List Event)) (id : MemberId) (asks : Result Request Refusal) (whole : Bool) : Type 0 where
+pub record Answers {D : Type 0} (door : Ghosts D) (before after : D) (world then : WorldFacts) (had has : List Listed) (id : MemberId) (asks : Result Request Refusal) (whole : Bool) : Type 0 where
   pub brings : Brings world then had has (steps_of_connection world.cluster id (record { asks = asks; course = course_of whole }))
   pub sends : Tells (door.told before) (λ facts. (sent : List ℕ) × IsSent (course_of whole) (bytes_due world.cluster id (record { asks = asks; course = course_of whole })) sent × (door.told after ≡ Some (after_write sent facts)))
   pub fails : whole ≡ false → Rose (door.connection_faults before) (door.connection_faults after)

@@ -1,5 +1,5 @@
 //! One connection served.
-ghost use Rattle.std.specs.Prelude.{ℕ, Bool, ◌≡◌, ◌+◌, ◌≤◌, ◌∷◌, [], map, option_map, IfOk, OnOk};
+ghost use Rattle.std.specs.Prelude.{ℕ, Bool, ◌≡◌, ◌+◌, ◌≤◌, ◌∷◌, [], option_map, IfOk, OnOk};
 ghost use Rattle.script_model.specs.Script.{IsMember};
 ghost use Rattle.cluster_model.specs.Next.{next_events};
 ghost use Rattle.cluster_model.specs.Steps.{IsStep, names_in};
@@ -12,7 +12,7 @@ ghost use Rattle.pat_serve.specs.Serving.{Answers, Brings, Serves};
 use crate::asking::{asked_on, asks_for_a_head, first_visit};
 use crate::replying::{is_written, reply_in};
 use cluster_model::{Step, Visit};
-use event_book::Event;
+use event_list::EventList;
 use pat_base::MemberId;
 use pat_door::Door;
 use rest_answer::{Refusal, refusal_reply};
@@ -25,22 +25,22 @@ pub const MOST_WAITING: u64 = 600;
 
 /// Serves the present connection of a door, to the REST interface of the agent of a declared member, and ends it.
 ///
-/// What the connection brings are the next steps of the world, and their events, step by step, are added to the list: its request, then ticks
-/// of the default schedule until the agent replies, for at most 600, and a failure of a read or a write. A request to an agent that doesn't
-/// run or is suspended is answered 503 `No agent`, one that isn't replied to in time 503 `No result in time`, and bytes that are no request
-/// 400. Where a write fails, a front of the reply was answered, and where a read does, nothing. On Err, want of memory, the world isn't to
-/// be used any more.
+/// What the connection brings are the next steps of the world, and their events, step by step, are added to the list, each step's with its
+/// messages traced: its request, then ticks of the default schedule until the agent replies, for at most 600, and a failure of a read or a
+/// write. A request to an agent that doesn't run or is suspended is answered 503 `No agent`, one that isn't replied to in time 503
+/// `No result in time`, and bytes that are no request 400. Where a write fails, a front of the reply was answered, and where a read does,
+/// nothing. On Err, want of memory, the world isn't to be used any more.
 pub fn serve_one<W: Simulation, D: Door>(
     alloc: Global,
     world: &mut W,
     member: MemberId,
     door: &mut D,
-    events: &mut Vec<Vec<Event>>,
+    events: &mut Vec<EventList>,
 ) -> Result<(), AllocError>
     requires room { HasStepsLeft (W.facts world.old) connection_cost }
     requires declared { IsMember (names_in (W.facts world.old).cluster.facts.members) member }
     ensures serves { OnOk result ((connection : Connection)
-        × Brings (W.facts world.old) (W.facts world.new) (map (λ v. v.items) events.old.items) (map (λ v. v.items) events.new.items) (steps_of_connection (W.facts world.old).cluster member connection)
+        × Brings (W.facts world.old) (W.facts world.new) events.old.items events.new.items (steps_of_connection (W.facts world.old).cluster member connection)
         × Serves D.Door door.old door.new (D.told door.new) (W.facts world.old).cluster member connection) }
     ensures grows { D.connection_faults door.old ≤ D.connection_faults door.new }
     ensures door { D.door_faults door.new ≡ D.door_faults door.old }
@@ -57,12 +57,12 @@ fn serve_present<W: Simulation, D: Door>(
     world: &mut W,
     member: MemberId,
     door: &mut D,
-    events: &mut Vec<Vec<Event>>,
+    events: &mut Vec<EventList>,
 ) -> Result<(), AllocError>
     requires room { HasStepsLeft (W.facts world.old) connection_cost }
     requires declared { IsMember (names_in (W.facts world.old).cluster.facts.members) member }
     ensures serves { OnOk result ((connection : Connection)
-        × Brings (W.facts world.old) (W.facts world.new) (map (λ v. v.items) events.old.items) (map (λ v. v.items) events.new.items) (steps_of_connection (W.facts world.old).cluster member connection)
+        × Brings (W.facts world.old) (W.facts world.new) events.old.items events.new.items (steps_of_connection (W.facts world.old).cluster member connection)
         × Serves D.Door door.old door.new (option_map after_hang_up (D.told door.new)) (W.facts world.old).cluster member connection) }
     ensures grows { D.connection_faults door.old ≤ D.connection_faults door.new }
     ensures door { D.door_faults door.new ≡ D.door_faults door.old }
@@ -81,11 +81,11 @@ fn answer_to<W: Simulation, D: Door>(
     member: MemberId,
     asks: Result<Request, Refusal>,
     door: &mut D,
-    events: &mut Vec<Vec<Event>>,
+    events: &mut Vec<EventList>,
 ) -> Result<(), AllocError>
     requires room { HasStepsLeft (W.facts world.old) connection_cost }
     requires declared { IsMember (names_in (W.facts world.old).cluster.facts.members) member }
-    ensures answers { OnOk result ((whole : Bool) × Answers D.Door door.old door.new (W.facts world.old) (W.facts world.new) (map (λ v. v.items) events.old.items) (map (λ v. v.items) events.new.items) member asks whole) }
+    ensures answers { OnOk result ((whole : Bool) × Answers D.Door door.old door.new (W.facts world.old) (W.facts world.new) events.old.items events.new.items member asks whole) }
     ensures grows { D.connection_faults door.old ≤ D.connection_faults door.new }
     ensures door { D.door_faults door.new ≡ D.door_faults door.old }
     ensures served { (n : ℕ) → D.serves door.old n → D.serves door.new n }
@@ -105,11 +105,11 @@ fn reply_to<W: Simulation>(
     world: &mut W,
     member: MemberId,
     visit: Visit,
-    events: &mut Vec<Vec<Event>>,
+    events: &mut Vec<EventList>,
 ) -> Result<Reply, AllocError>
     requires room { HasStepsLeft (W.facts world.old) (most_waiting + 2) }
     requires declared { IsMember (names_in (W.facts world.old).cluster.facts.members) member }
-    ensures brings { OnOk result (Brings (W.facts world.old) (W.facts world.new) (map (λ v. v.items) events.old.items) (map (λ v. v.items) events.new.items) (replied_steps (W.facts world.old).cluster member visit)) }
+    ensures brings { OnOk result (Brings (W.facts world.old) (W.facts world.new) events.old.items events.new.items (replied_steps (W.facts world.old).cluster member visit)) }
     ensures replied { IfOk result (λ reply. reply_text reply ≡ replied (W.facts world.old).cluster member (replied_steps (W.facts world.old).cluster member visit)) }
 {
     match bring(alloc, world, member, visit, events)? {
@@ -123,11 +123,11 @@ fn awaited_reply<W: Simulation>(
     alloc: Global,
     world: &mut W,
     member: MemberId,
-    events: &mut Vec<Vec<Event>>,
+    events: &mut Vec<EventList>,
 ) -> Result<Reply, AllocError>
     requires room { HasStepsLeft (W.facts world.old) (most_waiting + 1) }
     requires declared { IsMember (names_in (W.facts world.old).cluster.facts.members) member }
-    ensures brings { OnOk result (Brings (W.facts world.old) (W.facts world.new) (map (λ v. v.items) events.old.items) (map (λ v. v.items) events.new.items) (waiting_steps (W.facts world.old).cluster member most_waiting)) }
+    ensures brings { OnOk result (Brings (W.facts world.old) (W.facts world.new) events.old.items events.new.items (waiting_steps (W.facts world.old).cluster member most_waiting)) }
     ensures replied { IfOk result (λ reply. reply_text reply ≡ replied (W.facts world.old).cluster member (waiting_steps (W.facts world.old).cluster member most_waiting)) }
 {
     let mut left = MOST_WAITING;
@@ -149,11 +149,11 @@ fn fail<W: Simulation>(
     alloc: Global,
     world: &mut W,
     member: MemberId,
-    events: &mut Vec<Vec<Event>>,
+    events: &mut Vec<EventList>,
 ) -> Result<(), AllocError>
     requires room { HasStepsLeft (W.facts world.old) 1 }
     requires declared { IsMember (names_in (W.facts world.old).cluster.facts.members) member }
-    ensures { OnOk result (Brings (W.facts world.old) (W.facts world.new) (map (λ v. v.items) events.old.items) (map (λ v. v.items) events.new.items) (failure_steps member)) }
+    ensures { OnOk result (Brings (W.facts world.old) (W.facts world.new) events.old.items events.new.items (failure_steps member)) }
 {
     bring(alloc, world, member, Visit::Failure, events)?;
     Ok(())
@@ -165,11 +165,11 @@ fn bring<W: Simulation>(
     world: &mut W,
     member: MemberId,
     visit: Visit,
-    events: &mut Vec<Vec<Event>>,
+    events: &mut Vec<EventList>,
 ) -> Result<Option<Reply>, AllocError>
     requires room { HasStepsLeft (W.facts world.old) 1 }
     requires declared { IsMember (names_in (W.facts world.old).cluster.facts.members) member }
-    ensures brings { OnOk result (Brings (W.facts world.old) (W.facts world.new) (map (λ v. v.items) events.old.items) (map (λ v. v.items) events.new.items) (Step.Connection member visit ∷ [])) }
+    ensures brings { OnOk result (Brings (W.facts world.old) (W.facts world.new) events.old.items events.new.items (Step.Connection member visit ∷ [])) }
     ensures replied { IfOk result (λ reply. option_map reply_text reply ≡ reply_in member (next_events (W.facts world.old).cluster (Step.Connection member visit))) }
 {
     let step = Step::Connection(member, visit);
@@ -181,10 +181,10 @@ fn tick<W: Simulation>(
     alloc: Global,
     world: &mut W,
     member: MemberId,
-    events: &mut Vec<Vec<Event>>,
+    events: &mut Vec<EventList>,
 ) -> Result<Option<Reply>, AllocError>
     requires { HasStepsLeft (W.facts world.old) 1 }
-    ensures brings { OnOk result (Brings (W.facts world.old) (W.facts world.new) (map (λ v. v.items) events.old.items) (map (λ v. v.items) events.new.items) (Step.Scheduled ∷ [])) }
+    ensures brings { OnOk result (Brings (W.facts world.old) (W.facts world.new) events.old.items events.new.items (Step.Scheduled ∷ [])) }
     ensures replied { IfOk result (λ reply. option_map reply_text reply ≡ reply_in member (next_events (W.facts world.old).cluster Step.Scheduled)) }
 {
     take(alloc, world, member, &Step::Scheduled, events)
@@ -196,16 +196,16 @@ fn take<W: Simulation>(
     world: &mut W,
     member: MemberId,
     step: &Step,
-    events: &mut Vec<Vec<Event>>,
+    events: &mut Vec<EventList>,
 ) -> Result<Option<Reply>, AllocError>
     requires room { HasStepsLeft (W.facts world.old) 1 }
     requires declared { IsStep (W.facts world.old).cluster.facts.members step.now }
-    ensures brings { OnOk result (Brings (W.facts world.old) (W.facts world.new) (map (λ v. v.items) events.old.items) (map (λ v. v.items) events.new.items) (step.now ∷ [])) }
+    ensures brings { OnOk result (Brings (W.facts world.old) (W.facts world.new) events.old.items events.new.items (step.now ∷ [])) }
     ensures replied { IfOk result (λ reply. option_map reply_text reply ≡ reply_in member (next_events (W.facts world.old).cluster step.now)) }
 {
-    let mut brought = Vec::new(alloc);
+    let mut brought = EventList::new(alloc, true);
     world.step(step, &mut brought)?;
-    let reply = reply_in(alloc, member, &brought)?;
+    let reply = reply_in(alloc, member, brought.kept())?;
     events.push(brought)?;
     Ok(reply)
 }

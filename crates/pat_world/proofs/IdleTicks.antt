@@ -2,6 +2,7 @@
 use Rattle.std.proofs.Common.{◌≡◌, ℕ, ◌+◌, ◌*◌, ◌≤◌, ◌<◌, List, [], ◌++◌, length, replicate, zero, suc, arith, ap, sym, subst, ◌∙◌}
 use Rattle.event_book.specs.declared.event.Event.{Event}
 use Rattle.event_book.specs.declared.event.EventKind.TheVariants as kinds
+use Rattle.event_list.specs.Listed.{Listed}
 use Rattle.cluster_model.specs.declared.step.Step.{Step}
 use Rattle.cluster_model.specs.declared.step.Step.TheVariants as steps
 use Rattle.cluster_model.specs.Acknowledging.{AreAcknowledged}
@@ -68,7 +69,7 @@ room-passed cluster count more has =
     }
 
 -- a tick with which nothing ends is all that such a step brings
-pub step-took : (cluster after : Cluster) (had has : List Event) (step : Step) → IsIdleIn step (cluster.facts.clock + 1) cluster → Emits cluster after had has (tick_events cluster) tick_cost
+pub step-took : (cluster after : Cluster) (had has : Listed) (step : Step) → IsIdleIn step (cluster.facts.clock + 1) cluster → Emits cluster after had has (tick_events cluster) tick_cost
     → Emits cluster after had has (next_events cluster step) step_cost
 step-took cluster after had has step idle took =
     let same : tick_events cluster ≡ next_events cluster step = tick-idle cluster (cluster.facts.clock + 1) (omega arith) (idle-ends step cluster (cluster.facts.clock + 1) idle)
@@ -104,8 +105,8 @@ pub idle-passed : (step : Step) (moment now : ℕ) (stage later : Cluster) → l
 idle-passed step moment now stage later same idle = subst (IsIdleBefore step moment) (sym same) (idle-before-at step moment now stage idle)
 
 -- a step of the default schedule brought one event: the cluster is idle before the moment at which something is due
-pub idle-found : (before after : Cluster) (had has : List Event) (read : Step) (moment count : ℕ) → (0 < moment → read ≡ steps.Scheduled) → (0 < moment → count ≡ 1) → ((now : ℕ) → now < moment → NothingIsDue now after)
-    → had ≡ [] → length has ≡ count → Emits before after had has (next_events before read) step_cost → AreAcknowledged after.facts.members after.facts.servers → IsIdleBefore steps.Scheduled moment after
+pub idle-found : (before after : Cluster) (had has : Listed) (read : Step) (moment count : ℕ) → (0 < moment → read ≡ steps.Scheduled) → (0 < moment → count ≡ 1) → ((now : ℕ) → now < moment → NothingIsDue now after)
+    → had.items ≡ [] → length has.items ≡ count → Emits before after had has (next_events before read) step_cost → AreAcknowledged after.facts.members after.facts.servers → IsIdleBefore steps.Scheduled moment after
 idle-found before after had has read moment count scheduled one due none long took done = λ now h.
     let some : 0 < moment = omega (arith, h) in
     let as_scheduled = subst (λ (s : Step). Emits before after had has (next_events before s) step_cost) (scheduled some) took in

@@ -2,6 +2,7 @@
 use Rattle.std.proofs.Common.{◌≡◌, ℕ, ◌+◌, ◌*◌, List, arith, sym, subst}
 use Rattle.script_model.specs.Script.{HeadText}
 use Rattle.event_book.specs.declared.event.Event.{Event}
+use Rattle.event_list.specs.Listed.{Listed}
 use Rattle.cluster_model.specs.Starting.{cluster_of}
 use Rattle.cluster_model.specs.State.{Cluster}
 use Rattle.simulation.specs.Steps.{HasStepsLeft, TookSteps, IsCounted, WorldFacts}
@@ -23,7 +24,7 @@ pub is-counted-first : (head : HeadText) (cluster : Cluster) → cluster ≡ clu
 is-counted-first head cluster is = subst (λ (c : Cluster). AreCounted c (counted_by 0)) (sym is) (counted-first head)
 
 -- a step was taken
-pub TookSteps-step : (before after : WorldFacts) (had has events : List Event) → HasStepsLeft before 1 → after.steps ≡ before.steps + 1 → Emits before.cluster after.cluster had has events step_cost → TookSteps before after 1
+pub TookSteps-step : (before after : WorldFacts) (had has : Listed) (events : List Event) → HasStepsLeft before 1 → after.steps ≡ before.steps + 1 → Emits before.cluster after.cluster had has events step_cost → TookSteps before after 1
 TookSteps-step before after had has events left one took = record {
   steps = one;
   room = λ more has. record { room = took.room (step_cost * more) (HasRoom-fewer before.cluster (step_cost * (1 + more)) (step_cost + step_cost * more) (omega arith) has.room) };

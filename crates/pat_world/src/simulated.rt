@@ -1,7 +1,7 @@
 //! The world as what plays runs.
 use crate::World;
 use cluster_model::Step;
-use event_book::Event;
+use event_list::EventList;
 use script_model::Head;
 use simulation::Simulation;
 use std::alloc::{AllocError, Global};
@@ -17,7 +17,7 @@ impl Simulation for World {
         World::close(self);
     }
 
-    fn step(&mut self, step: &Step, events: &mut Vec<Event>) -> Result<(), AllocError> {
+    fn step(&mut self, step: &Step, events: &mut EventList) -> Result<(), AllocError> {
         World::step(self, step, events)
     }
 

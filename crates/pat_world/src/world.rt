@@ -24,7 +24,7 @@ ghost use Rattle.world_stage.specs.AgentViews.{IsViewOf};
 
 use cluster_model::Step;
 use cluster_view::AgentView;
-use event_book::Event;
+use event_list::EventList;
 use pat_base::{MemberId, Ticks};
 use script_model::Head;
 use std::alloc::{AllocError, Global};
@@ -121,14 +121,15 @@ impl World {
     }
 
     /// One step of a run with these members, into an empty list. The premises: fewer than 2^30 steps were taken, a command names
-    /// declared members only, and a connection comes to a declared member. On Ok the events are those that come next, and the world is what they leave: a world that stood for a book
-    /// stands for that book with them at its end. No commit is left that may be acknowledged. On Err, want of memory, the list is as it
-    /// was, and the world isn't to be used any more.
-    pub fn step(&mut self, step: &Step, events: &mut Vec<Event>) -> Result<(), AllocError>
+    /// declared members only, and a connection comes to a declared member. On Ok the events are those that come next, whether messages are
+    /// traced in the list stays, and the world is what the events leave: a world that stood for a book stands for that book with them at its
+    /// end. No commit is left that may be acknowledged. On Err, want of memory, the list is empty again, and the world isn't to be used any
+    /// more.
+    pub fn step(&mut self, step: &Step, events: &mut EventList) -> Result<(), AllocError>
         requires room { HasStepsLeft self.old 1 }
         requires declared { IsStep self.old.cluster.facts.members step.now }
         requires empty { events.old.items ≡ [] }
-        ensures emits { OnOk result (Emits self.old.cluster self.new.cluster events.old.items events.new.items (next_events self.old.cluster step.now) step_cost) }
+        ensures emits { OnOk result (Emits self.old.cluster self.new.cluster events.old events.new (next_events self.old.cluster step.now) step_cost) }
         ensures taken { OnOk result (TookSteps self.old self.new 1) }
         ensures book { OnOk result ((start : Cluster) (book : List Event) → StandsFor start book self.old.cluster
             → (events.new.items ≡ events.old.items ++ next_of start book step.now) × StandsFor start (book ++ next_of start book step.now) self.new.cluster) }
@@ -173,11 +174,11 @@ impl World {
     }
 
     /// A step: a tick that is known to bring nothing else, or any other one.
-    fn tick_or_take(&mut self, step: &Step, events: &mut Vec<Event>) -> Result<(), AllocError>
+    fn tick_or_take(&mut self, step: &Step, events: &mut EventList) -> Result<(), AllocError>
         requires room { HasStepsLeft self.old 1 }
         requires declared { IsStep self.old.cluster.facts.members step.now }
         requires empty { events.old.items ≡ [] }
-        ensures emits { OnOk result (Emits self.old.cluster self.new.cluster events.old.items events.new.items (next_events self.old.cluster step.now) step_cost) }
+        ensures emits { OnOk result (Emits self.old.cluster self.new.cluster events.old events.new (next_events self.old.cluster step.now) step_cost) }
         ensures steps { self.new.steps ≡ self.old.steps + 1 }
         ensures acknowledged { OnOk result (AreAcknowledged self.new.cluster.facts.members self.new.cluster.facts.servers) }
     {
@@ -188,10 +189,10 @@ impl World {
     }
 
     /// A tick that is known to bring nothing else.
-    fn tick(&mut self, step: &Step, events: &mut Vec<Event>) -> Result<(), AllocError>
+    fn tick(&mut self, step: &Step, events: &mut EventList) -> Result<(), AllocError>
         requires room { HasStepsLeft self.old 1 }
         requires idle { IsIdleIn step.now (self.old.cluster.facts.clock + 1) self.old.cluster }
-        ensures emits { OnOk result (Emits self.old.cluster self.new.cluster events.old.items events.new.items (next_events self.old.cluster step.now) step_cost) }
+        ensures emits { OnOk result (Emits self.old.cluster self.new.cluster events.old events.new (next_events self.old.cluster step.now) step_cost) }
         ensures steps { self.new.steps ≡ self.old.steps + 1 }
         ensures acknowledged { OnOk result (AreAcknowledged self.new.cluster.facts.members self.new.cluster.facts.servers) }
     {
@@ -201,11 +202,11 @@ impl World {
 
     /// Any step. Behind one that brought nothing but the tick of the default schedule it is found up to when that stays so, and behind
     /// a plain tick, up to when plain ticks bring nothing.
-    fn take(&mut self, step: &Step, events: &mut Vec<Event>) -> Result<(), AllocError>
+    fn take(&mut self, step: &Step, events: &mut EventList) -> Result<(), AllocError>
         requires room { HasStepsLeft self.old 1 }
         requires declared { IsStep self.old.cluster.facts.members step.now }
         requires empty { events.old.items ≡ [] }
-        ensures emits { OnOk result (Emits self.old.cluster self.new.cluster events.old.items events.new.items (next_events self.old.cluster step.now) step_cost) }
+        ensures emits { OnOk result (Emits self.old.cluster self.new.cluster events.old events.new (next_events self.old.cluster step.now) step_cost) }
         ensures steps { self.new.steps ≡ self.old.steps + 1 }
         ensures acknowledged { OnOk result (AreAcknowledged self.new.cluster.facts.members self.new.cluster.facts.servers) }
     {

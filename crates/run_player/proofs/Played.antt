@@ -7,8 +7,8 @@ use Rattle.pat_outside.specs.Outside.{Grew}
 use Rattle.pat_outside.specs.Prints.{Prints, failed}
 use Rattle.pat_outside.proofs.Contents.{Grew-Grew, Grew-nothing}
 use Rattle.pat_outside.proofs.Printing.{Prints-none, Prints-nothing, Prints-ok, Prints-stop, Prints-then}
-use Rattle.event_book.specs.declared.event.Event.{Event}
 use Rattle.event_book.specs.Text.{lines_of}
+use Rattle.event_list.specs.Listed.{Listed, ◌+++◌}
 use Rattle.script_model.specs.declared.line.Line.{Line}
 use Rattle.cluster_model.specs.declared.step.Step.{Step}
 use Rattle.cluster_model.specs.Cluster.{cluster_over}
@@ -44,23 +44,24 @@ pub PrintsWholeSteps-none : {K : Type 0} (sink : Ghosts K) (out : K) (cluster : 
 PrintsWholeSteps-none sink out cluster trace steps = record { done = []; more = steps; parts = refl; grew = Grew-nothing (sink.content out) }
 
 -- what a step hands out into an empty buffer is all that it prints
-step-text : (before : PlayerFacts) (next : Cluster) (step : Step) (had has : List Event) → Emits before.world.cluster next had has (next_events before.world.cluster step) step_cost → had ≡ [] → lines_of before.trace has ≡ printed_from before.world.cluster before.trace (step ∷ [])
+step-text : (before : PlayerFacts) (next : Cluster) (step : Step) (had has : Listed) → Emits before.world.cluster next had has (next_events before.world.cluster step) step_cost → had ≡ record { items = []; traced = before.trace } → lines_of before.trace has.items ≡ printed_from before.world.cluster before.trace (step ∷ [])
 step-text before next step had has took empty =
-    ap (lines_of before.trace) (took.event ∙ ap (λ l. l ++ next_events before.world.cluster step) empty) ∙ sym (append-nil (lines_of before.trace (next_events before.world.cluster step)))
+    ap (λ (l : Listed). lines_of before.trace l.items) (took.event ∙ ap (λ (l : Listed). l +++ next_events before.world.cluster step) empty) ∙ sym (append-nil (lines_of before.trace (next_events before.world.cluster step)))
 
-pub Plays-step : {K X : Type 0} {sink : Ghosts K} {before after : PlayerFacts} {out then : K} {step : Step} {had has seen : List Event} {text : List ℕ} {x : X} → Emits before.world.cluster after.world.cluster had has (next_events before.world.cluster step) step_cost → TookSteps before.world after.world 1 → had ≡ [] → seen ≡ has
-    → after.summary ≡ noted_step before.summary seen → text ≡ lines_of before.trace has → after.trace ≡ traced_after before.trace step → Prints sink out then failed (Ok x) text → Plays {X = Unit {0}} sink before after out then (Ok tt) (step ∷ [])
-Plays-step {sink = sink} {before = before} {after = after} {out = out} {then = then} {step = step} {had = had} {has = has} took taken empty sees noted same traced printed = record {
+pub Plays-step : {K X : Type 0} {sink : Ghosts K} {before after : PlayerFacts} {out then : K} {step : Step} {had has : Listed} {text : List ℕ} {x : X} → Emits before.world.cluster after.world.cluster had has (next_events before.world.cluster step) step_cost → TookSteps before.world after.world 1 → had ≡ record { items = []; traced = before.trace }
+    → after.summary ≡ noted_step before.summary has.items → text ≡ lines_of before.trace has.items → after.trace ≡ traced_after before.trace step → Prints sink out then failed (Ok x) text → Plays {X = Unit {0}} sink before after out then (Ok tt) (step ∷ [])
+Plays-step {sink = sink} {before = before} {after = after} {out = out} {then = then} {step = step} {had = had} {has = has} took taken empty noted same traced printed = record {
   world = took.state ∙ ap (cluster_over before.world.cluster) (sym (append-nil (next_events before.world.cluster step)));
   trace = traced;
-  summary = noted ∙ ap (noted_step before.summary) (sees ∙ took.event ∙ ap (λ l. l ++ next_events before.world.cluster step) empty);
+  summary = noted ∙ ap (λ (l : Listed). noted_step before.summary l.items) (took.event ∙ ap (λ (l : Listed). l +++ next_events before.world.cluster step) empty);
   taken = taken;
   printed = subst (λ (t : List ℕ). Prints {X = Unit {0}} sink out then Write (Ok tt) t) (same ∙ step-text before after.world.cluster step had has took empty) (Prints-ok Write tt printed);
   whole = λ e. absurd (ok-is-no-error e);
 }
 
 -- a step whose lines the sink doesn't take
-pub Plays-step-stop : {K X Y : Type 0} {sink : Ghosts K} {before after : PlayerFacts} {out then : K} {step : Step} {had has : List Event} {text : List ℕ} {error : Failed} (final : Result Y PrintError) → Emits before.world.cluster after.world.cluster had has (next_events before.world.cluster step) step_cost → had ≡ [] → text ≡ lines_of before.trace has
+pub Plays-step-stop : {K X Y : Type 0} {sink : Ghosts K} {before after : PlayerFacts} {out then : K} {step : Step} {had has : Listed} {text : List ℕ} {error : Failed} (final : Result Y PrintError) → Emits before.world.cluster after.world.cluster had has (next_events before.world.cluster step) step_cost → had ≡ record { items = []; traced = before.trace }
+    → text ≡ lines_of before.trace has.items
     → Prints {X = X} sink out then failed (Err error) text → final ≡ Err Write → Plays sink before after out then final (step ∷ [])
 Plays-step-stop {Y = Y} {sink = sink} {before = before} {after = after} {out = out} {then = then} {step = step} {had = had} {has = has} {text = text} final took empty same printed stops = rw stops (record {
   world = tt;

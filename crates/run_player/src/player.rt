@@ -15,7 +15,7 @@ ghost use Rattle.run_model.specs.Run.{noted_from, printed_from, traced_after};
 ghost use Rattle.run_model.specs.Watches.{first_summary};
 
 use cluster_model::Step;
-use event_book::Event;
+use event_list::EventList;
 use pat_outside::{Discard, Sink};
 use run_printing::{
     PrintError, first_summary, note, note_ticks, print_closing, print_lines, set_text,
@@ -34,7 +34,7 @@ pub struct Player<W> {
     /// What the steps so far come to in the closing summary.
     pub summary: Summary,
     /// A buffer for the events of one step.
-    events: Vec<Event>,
+    events: EventList,
     /// A buffer for the text of one step.
     pub text: String,
 }
@@ -57,7 +57,7 @@ impl<W: Simulation> Player<W> {
             world,
             trace: false,
             summary,
-            events: Vec::new(alloc),
+            events: EventList::new(alloc, false),
             text: String::new(alloc),
         })
     }
@@ -166,7 +166,7 @@ impl<W: Simulation> Player<W> {
         requires declared { IsStep (W.facts self.old.world).cluster.facts.members step.now }
         ensures { Plays K.Sink (player_of W.facts self.old) (player_of W.facts self.new) out.old out.new result (step.now ∷ []) }
     {
-        self.events.clear();
+        self.events.begin(self.trace);
         self.world.step(step, &mut self.events)?;
         note(&mut self.summary, &self.events)?;
         // the whole text comes first, so that behind it only the sink can fail

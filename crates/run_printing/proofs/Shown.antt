@@ -1,13 +1,15 @@
 -- What steps brought, printed and noted behind them.
 use Rattle.std.proofs.Common.{◌≡◌, Bool, ℕ, ◌+◌, ◌<◌, List, [], ◌∷◌, ◌++◌, length, map, get_or, drop, Result, Ok, Err, append_assoc, append-nil, refl, ◌∙◌, ap, sym, subst}
-use Rattle.std.specs.Prelude.{IsErrOf}
+use Rattle.std.specs.Prelude.{All, IsErrOf, IsTrue}
 use Rattle.std.proofs.lemmas.List.{drop_more}
+use Rattle.std.proofs.lemmas.List.Elements.{All-get_or}
 use Rattle.pat_outside.specs.declared.outside.Failed.{Failed}
 use Rattle.pat_outside.specs.declared.outside.Sink.{Ghosts}
 use Rattle.pat_outside.specs.Prints.{Prints, failed}
 use Rattle.pat_outside.proofs.Printing.{Prints-none, Prints-nothing, Prints-ok, Prints-stop, Prints-then}
 use Rattle.event_book.specs.declared.event.Event.{Event}
 use Rattle.event_book.specs.Text.{lines_of}
+use Rattle.event_list.specs.Listed.{Listed}
 use Rattle.summary_model.specs.Sights.{SummaryFacts, noted_step, noted_steps}
 use Rattle.run_printing.specs.declared.print_error.PrintError.{PrintError}
 use Rattle.run_printing.specs.declared.print_error.PrintError.TheVariants.{Memory, Write}
@@ -81,3 +83,7 @@ Showing-stop {sink = sink} {start = start} {after = after} {trace = trace} {out 
 -- the next of what steps brought, and then the others
 pub next-brought : {V : Type 0} (items : V → List Event) (brought : List V) (i : ℕ) (v : V) → i < length brought → v ≡ get_or brought i v → map items (drop i brought) ≡ items v ∷ map items (drop (i + 1) brought)
 next-brought items brought i v within is = ap (map items) (drop_more brought i v within) ∙ ap (λ x. items x ∷ map items (drop (i + 1) brought)) (sym is)
+
+-- messages are traced in each of them
+pub traced-there : (brought : List Listed) (i : ℕ) (events : Listed) → i < length brought → events ≡ get_or brought i events → All (λ (l : Listed). IsTrue l.traced) brought → IsTrue events.traced
+traced-there brought i events within is all = ap (λ (l : Listed). l.traced) is ∙ All-get_or (λ (l : Listed). IsTrue l.traced) brought i events within all

@@ -1,5 +1,5 @@
 //! Events and the closing summary as lines on a sink.
-ghost use Rattle.std.specs.Prelude.{◌≡◌, ◌≤◌, ◌<◌, length, string_bytes, IsErrOf, OnOk};
+ghost use Rattle.std.specs.Prelude.{◌≡◌, ◌≤◌, ◌<◌, length, string_bytes, IsErrOf, IsTrue, OnOk};
 ghost use Rattle.pat_outside.specs.Outside.{Grew};
 ghost use Rattle.pat_outside.specs.Prints.{Prints, failed};
 ghost use Rattle.event_book.specs.Text.{lines_of};
@@ -8,6 +8,7 @@ ghost use Rattle.run_printing.specs.LineParts.{line_length};
 
 use crate::print_error::PrintError;
 use event_book::Event;
+use event_list::EventList;
 use event_text::write_line;
 use memchr::memchr;
 use pat_outside::{Failed, Sink, write_all};
@@ -15,8 +16,17 @@ use std::alloc::{AllocError, Global};
 use summary::closing_text;
 use summary_model::Closing;
 
+/// Sets a buffer to the lines of the events of a step. Those of messages are there only while messages are traced; they must be traced in the
+/// list then.
+pub fn set_text(text: &mut String, events: &EventList, trace: bool) -> Result<(), AllocError>
+    requires { IsTrue trace → IsTrue events.now.traced }
+    ensures { OnOk result (string_bytes text.new ≡ lines_of trace events.now.items) }
+{
+    set_lines(text, events.kept(), trace)
+}
+
 /// Sets a buffer to the lines of events. Those of messages are there only while messages are traced.
-pub fn set_text(text: &mut String, events: &[Event], trace: bool) -> Result<(), AllocError>
+fn set_lines(text: &mut String, events: &[Event], trace: bool) -> Result<(), AllocError>
     ensures { OnOk result (string_bytes text.new ≡ lines_of trace events.now) }
 {
     text.clear();

@@ -1,6 +1,6 @@
 -- Connections that a player served.
 use Rattle.std.proofs.Common.{◌≡◌, ◌≢◌, Bool, ℕ, ◌+◌, ◌-◌, ◌*◌, ◌<◌, ◌≤◌, inl, inr, List, [], ◌∷◌, ◌++◌, length, map, Some, None, Result, Ok, Err, arith, append_assoc, append-nil, refl, ◌∙◌, ap, sym, subst}
-use Rattle.std.specs.Prelude.{IsErrOf, IsOk, OnOk, ◌⊎◌}
+use Rattle.std.specs.Prelude.{All, IsErrOf, IsOk, IsTrue, OnOk, ◌⊎◌}
 use Rattle.std.proofs.lemmas.Bool.{false≢true}
 use Rattle.std.proofs.lemmas.List.Elements.{All-nil, All-cons}
 use Rattle.pat_base.specs.declared.member_id.MemberId.{MemberId}
@@ -10,6 +10,7 @@ use Rattle.pat_outside.specs.Prints.{Prints}
 use Rattle.pat_outside.proofs.Contents.{Grew-Grew, Grew-nothing}
 use Rattle.pat_outside.proofs.Printing.{Prints-none, Prints-nothing, Prints-ok, Prints-stop, Prints-then}
 use Rattle.event_book.specs.declared.event.Event.{Event}
+use Rattle.event_list.specs.Listed.{Listed, traced_list}
 use Rattle.summary_model.specs.Sights.{SummaryFacts, noted_steps}
 use Rattle.cluster_model.specs.declared.step.Step.{Step}
 use Rattle.cluster_model.specs.Next.{run_events}
@@ -108,20 +109,39 @@ Came-one (Err error) c never = record {
 }
 
 -- what a connection brought was shown: all, or as far as that went
-module _ {K : Type 0} (sink : SinkGhosts K) (before after : PlayerFacts) (out then : K) (id : MemberId) (visitor : Connection) (had brought : List (List Event)) where
+module _ {K : Type 0} (sink : SinkGhosts K) (before after : PlayerFacts) (out then : K) (id : MemberId) (visitor : Connection) (had brought : List Listed) where
   abbrev visits : List Step
   visits = steps_of_connection before.world.cluster id visitor
 
   only-these : visits_steps before.world.cluster id (visitor ∷ []) ≡ visits
   only-these = append-nil visits
 
-  brought-is : had ≡ [] → Brings before.world after.world had brought visits → brought ≡ events_by_step before.world.cluster visits
-  brought-is none b = b.events ∙ ap (λ l. l ++ events_by_step before.world.cluster visits) none
+  -- what was brought, without whether messages are traced
+  abbrev seen : List (List Event)
+  seen = map (λ (l : Listed). l.items) brought
 
-  lines-are : had ≡ [] → Brings before.world after.world had brought visits → lines_by_step before.trace brought ≡ printed_from before.world.cluster before.trace visits
+  items-back : (steps : List (List Event)) → map (λ (l : Listed). l.items) (map traced_list steps) ≡ steps
+  items-back [] = refl
+  items-back (events ∷ steps) = ap (λ (l : List (List Event)). events ∷ l) (items-back steps)
+
+  are-traced : (steps : List (List Event)) → All (λ (l : Listed). IsTrue l.traced) (map traced_list steps)
+  are-traced [] = All-nil (λ (l : Listed). IsTrue l.traced)
+  are-traced (events ∷ steps) = All-cons (λ (l : Listed). IsTrue l.traced) (traced_list events) (map traced_list steps) refl (are-traced steps)
+
+  brought-as : had ≡ [] → Brings before.world after.world had brought visits → brought ≡ map traced_list (events_by_step before.world.cluster visits)
+  brought-as none b = b.events ∙ ap (λ l. l ++ map traced_list (events_by_step before.world.cluster visits)) none
+
+  brought-is : had ≡ [] → Brings before.world after.world had brought visits → seen ≡ events_by_step before.world.cluster visits
+  brought-is none b = ap (map (λ (l : Listed). l.items)) (brought-as none b) ∙ items-back (events_by_step before.world.cluster visits)
+
+  -- messages were traced in each step
+  pub all-traced : had ≡ [] → Brings before.world after.world had brought visits → All (λ (l : Listed). IsTrue l.traced) brought
+  all-traced none b = subst (All (λ (l : Listed). IsTrue l.traced)) (sym (brought-as none b)) (are-traced (events_by_step before.world.cluster visits))
+
+  lines-are : had ≡ [] → Brings before.world after.world had brought visits → lines_by_step before.trace seen ≡ printed_from before.world.cluster before.trace visits
   lines-are none b = ap (lines_by_step before.trace) (brought-is none b) ∙ sym (lines-visiting before.world.cluster before.trace visits (connection-visiting before.world.cluster id visitor))
 
-  pub plays-visit : {x : Unit {0}} → had ≡ [] → Brings before.world after.world had brought visits → after.trace ≡ before.trace → Shows {X = Unit {0}} sink before.summary after.summary before.trace out then (Ok x) brought
+  pub plays-visit : {x : Unit {0}} → had ≡ [] → Brings before.world after.world had brought visits → after.trace ≡ before.trace → Shows {X = Unit {0}} sink before.summary after.summary before.trace out then (Ok x) seen
       → Plays {X = Unit {0}} sink before after out then (Ok tt) (visits_steps before.world.cluster id (visitor ∷ []))
   plays-visit none b trace s = subst (λ (l : List Step). Plays {X = Unit {0}} sink before after out then (Ok tt) l) (sym only-these) (record {
     world = b.cluster;
@@ -135,7 +155,7 @@ module _ {K : Type 0} (sink : SinkGhosts K) (before after : PlayerFacts) (out th
       no-error : IsErrOf {T = Unit {0}} {E = PrintError} (Ok tt) prints.Memory → ⊥
       no-error e = cc
 
-  pub prints-visit : {x : Unit {0}} → had ≡ [] → Brings before.world after.world had brought visits → Shows {X = Unit {0}} sink before.summary after.summary before.trace out then (Ok x) brought
+  pub prints-visit : {x : Unit {0}} → had ≡ [] → Brings before.world after.world had brought visits → Shows {X = Unit {0}} sink before.summary after.summary before.trace out then (Ok x) seen
       → PrintsSteps {X = Unit {0}} sink before out then (Ok tt) (visits_steps before.world.cluster id (visitor ∷ []))
   prints-visit none b s = subst (λ (l : List Step). PrintsSteps {X = Unit {0}} sink before out then (Ok tt) l) (sym only-these) (record {
     printed = subst (λ (t : List ℕ). Prints {X = Unit {0}} sink out then Write (Ok tt) t) (lines-are none b) (Prints-ok Write tt s.printed);
@@ -149,10 +169,10 @@ module _ {K : Type 0} (sink : SinkGhosts K) (before after : PlayerFacts) (out th
       no-door : IsErrOf {T = Unit {0}} {E = ServeError} (Ok tt) Door → ⊥
       no-door e = cc
 
-  pub prints-part : (error : PrintError) (final : Result (Unit {0}) ServeError) → had ≡ [] → Brings before.world after.world had brought visits → Shows {X = Unit {0}} sink before.summary after.summary before.trace out then (Err error) brought → final ≡ Err (serve_error error)
+  pub prints-part : (error : PrintError) (final : Result (Unit {0}) ServeError) → had ≡ [] → Brings before.world after.world had brought visits → Shows {X = Unit {0}} sink before.summary after.summary before.trace out then (Err error) seen → final ≡ Err (serve_error error)
       → PrintsSteps {X = Unit {0}} sink before out then final (visits_steps before.world.cluster id (visitor ∷ []))
   prints-part error final none b s stops = subst (λ (l : List Step). PrintsSteps {X = Unit {0}} sink before out then final l) (sym only-these) (record {
-    printed = subst (λ (t : List ℕ). Prints {X = Unit {0}} sink out then Write final t) (append-nil (lines_by_step before.trace brought) ∙ lines-are none b)
+    printed = subst (λ (t : List ℕ). Prints {X = Unit {0}} sink out then Write final t) (append-nil (lines_by_step before.trace seen) ∙ lines-are none b)
         (Prints-stop Write (serve_error error) final [] s.printed stops (write-is error));
     whole = λ e. shows-whole sink out then before.world.cluster before.trace visits (connection-visiting before.world.cluster id visitor)
         (subst (λ (l : List (List Event)). ShowsWhole sink out then before.trace l) (brought-is none b) (s.whole (memory-is error (stops-by stops e))));

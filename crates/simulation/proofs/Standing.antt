@@ -7,6 +7,7 @@ use Rattle.event_book.specs.Logs.{logs_in}
 use Rattle.event_book.specs.Required.{required_in, confirmed_in}
 use Rattle.event_book.specs.Writers.{writes_in}
 use Rattle.event_book.proofs.Told.{logs-told, writes-told, required-told, confirmed-told, acknowledged-told}
+use Rattle.event_list.specs.Listed.{Listed}
 use Rattle.cluster_model.specs.declared.step.Step.{Step}
 use Rattle.simulation.specs.Book.{StandsFor, left_by, next_of}
 use Rattle.cluster_model.specs.Cluster.{cluster_after, cluster_over}
@@ -35,10 +36,10 @@ is-stands start book world is =
     }
 
 -- a step adds the events that come next to the book
-pub step-stands : (start : Cluster) (book : List Event) (world new : Cluster) (had has : List Event) (step : Step) (cost : ℕ) → StandsFor start book world → Emits world new had has (next_events world step) cost
-    → (has ≡ had ++ next_of start book step) × StandsFor start (book ++ next_of start book step) new
+pub step-stands : (start : Cluster) (book : List Event) (world new : Cluster) (had has : Listed) (step : Step) (cost : ℕ) → StandsFor start book world → Emits world new had has (next_events world step) cost
+    → (has.items ≡ had.items ++ next_of start book step) × StandsFor start (book ++ next_of start book step) new
 step-stands start book world new had has step cost stands took =
     let is = stands.world_is in (
-      took.event ∙ ap (λ w. had ++ next_events w step) is,
+      ap (λ (l : Listed). l.items) took.event ∙ ap (λ w. had.items ++ next_events w step) is,
       is-stands start (book ++ next_of start book step) new (took.state ∙ ap (λ w. cluster_over w (next_events w step)) is ∙ sym (cluster_over-append start book (next_of start book step))),
     )

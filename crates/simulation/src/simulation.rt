@@ -10,7 +10,7 @@ ghost use Rattle.world_model.specs.Idle.{BringsTicks};
 ghost use Rattle.world_model.specs.Room.{most_steps, step_cost};
 
 use cluster_model::Step;
-use event_book::Event;
+use event_list::EventList;
 use script_model::Head;
 use std::alloc::{AllocError, Global};
 
@@ -30,13 +30,13 @@ pub trait Simulation {
     /// Ends it.
     fn close(self);
 
-    /// One step of a run with these members, into an empty list. On Ok the events are those that come next, and the cluster is what they
-    /// leave. On Err, want of memory, it isn't to be used any more.
-    fn step(&mut self, step: &Step, events: &mut Vec<Event>) -> Result<(), AllocError>
+    /// One step of a run with these members, into an empty list. On Ok the events are those that come next, whether messages are traced in
+    /// the list stays, and the cluster is what they leave. On Err, want of memory, it isn't to be used any more.
+    fn step(&mut self, step: &Step, events: &mut EventList) -> Result<(), AllocError>
         requires room { HasStepsLeft (facts self.old) 1 }
         requires declared { IsStep (facts self.old).cluster.facts.members step.now }
         requires empty { events.old.items ≡ [] }
-        ensures emits { OnOk result (Emits (facts self.old).cluster (facts self.new).cluster events.old.items events.new.items (next_events (facts self.old).cluster step.now) step_cost) }
+        ensures emits { OnOk result (Emits (facts self.old).cluster (facts self.new).cluster events.old events.new (next_events (facts self.old).cluster step.now) step_cost) }
         ensures taken { OnOk result (TookSteps (facts self.old) (facts self.new) 1) };
 
     /// Takes so many steps of one kind at once as are known to bring nothing but their ticks, at most as many as wanted, and answers how

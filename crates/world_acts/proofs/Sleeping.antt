@@ -1,10 +1,9 @@
 -- What leaves agents with nothing to do.
-use Rattle.std.proofs.Common.{◌≡◌, ◌≢◌, ◌&&◌, ℕ, ◌+◌, ◌-◌, ◌≤◌, ◌<◌, ◌++◌, Bool, false, cond, List, [], ◌∷◌, drop, take, length, length-append, append_assoc, Option, Some, None, IfSome, option_and_then, is_some, arith, true≢false, zero, suc, inl, inr, refl, ap, sym, subst, ◌∙◌}
+use Rattle.std.proofs.Common.{◌≡◌, ◌≢◌, ◌&&◌, ℕ, ◌+◌, ◌-◌, ◌≤◌, ◌<◌, ◌++◌, Bool, false, cond, List, [], ◌∷◌, drop, length, length-append, Option, Some, None, IfSome, option_and_then, is_some, arith, true≢false, zero, suc, inl, inr, refl, ap, sym, subst, ◌∙◌}
 use Rattle.std.specs.Prelude.{slice_get, slice_set}
 use Rattle.std.specs.Int.{bit_at}
 use Rattle.std.proofs.Math.Seq.{drop-append_seam}
 use Rattle.std.proofs.lemmas.Bool.{cases_eq, or_parts}
-use Rattle.std.proofs.lemmas.List.{take_rest}
 use Rattle.std.proofs.lemmas.Nat.Bits.{bit_at-zero}
 use Rattle.pat_base.specs.declared.member_set.MemberSet.{MemberSet}
 use Rattle.pat_base.specs.declared.ticks.Ticks.{Ticks}
@@ -20,6 +19,9 @@ use Rattle.event_book.specs.declared.event.MessageEvent.TheVariants as messages
 use Rattle.event_book.specs.declared.event.WatchdogEvent.TheVariants as watchdogs
 use Rattle.event_book.specs.declared.member.Member.{Member}
 use Rattle.event_book.specs.Watchdogs.{prolonged_to}
+use Rattle.event_list.specs.Listed.{Listed, ◌+++◌}
+use Rattle.event_list.specs.Marks.{rouse_agents, rouses_agents}
+use Rattle.event_list.proofs.Appended.{appended_assoc}
 use Rattle.agent_model.specs.declared.heard.Heard.TheVariants.{Wake}
 use Rattle.agent_model.specs.Agents.{AgentFacts, Outcome}
 use Rattle.cluster_model.specs.Cluster.{agent_after, cluster_after, cluster_over}
@@ -35,7 +37,7 @@ use Rattle.world_model.specs.Room.{input_cost}
 use Rattle.world_model.proofs.Idling.{work-from}
 use Rattle.world_model.proofs.Rest.{EachLeft, EachLeft-members, EachLeft-more}
 use Rattle.world_model.proofs.Taking.{Emits-nothing}
-use Rattle.world_acts.specs.Asleep.{AreAsleep, rouse_agents, rouses_agents}
+use Rattle.world_acts.specs.Asleep.{AreAsleep}
 
 -- ---- lists of which one item changes
 set-there : {X : Type 0} (xs : List X) (i : ℕ) (y : X) (n : ℕ) → is_some (slice_get (slice_set xs i y) n) ≡ is_some (slice_get xs n)
@@ -165,10 +167,10 @@ one-more-asleep asleep more cluster member sleep here others = record {
 }
 
 -- behind these events, as by those behind a place in the list of all
-pub asleep-behind : (asleep left : MemberSet) (before after : Cluster) (had has all events : List Event) (from : ℕ) → after ≡ cluster_over before events → has ≡ had ++ events → from ≡ length had → all ≡ has → AreAsleep asleep before
-    → ((cluster : Cluster) → AreAsleep asleep cluster → AreAsleep left (cluster_over cluster (take (length all - from) (drop from all)))) → AreAsleep left after
-asleep-behind asleep left before after had has all events from state event is whole sleep still =
-    let behind : take (length all - from) (drop from all) ≡ events = take_rest all from ∙ ap (λ (n : ℕ). drop n all) is ∙ ap (drop (length had)) (whole ∙ event) ∙ drop-append_seam had events in
+pub asleep-behind : (asleep left : MemberSet) (before after : Cluster) (had has : Listed) (events : List Event) (from : ℕ) → after ≡ cluster_over before events → has ≡ had +++ events → from ≡ length had.items → AreAsleep asleep before
+    → ((cluster : Cluster) → AreAsleep asleep cluster → AreAsleep left (cluster_over cluster (drop from has.items))) → AreAsleep left after
+asleep-behind asleep left before after had has events from state event is sleep still =
+    let behind : drop from has.items ≡ events = ap (λ (n : ℕ). drop n has.items) is ∙ ap (λ (l : Listed). drop (length had.items) l.items) event ∙ drop-append_seam had.items events in
     subst (AreAsleep left) (sym state) (subst (λ (es : List Event). AreAsleep left (cluster_over before es)) behind (still before sleep))
 
 -- an agent that sleeps isn't woken
@@ -176,7 +178,7 @@ none-woken : (cluster : Cluster) (member : Member) (found : Option AgentProcess)
 none-woken cluster member None asleep = refl
 none-woken cluster member (Some process) asleep = ap (λ (b : Bool). cond b (wake_events_of cluster member) []) asleep
 
-pub asleep-took : (asleep : MemberSet) (cluster : Cluster) (member : Member) (had : List Event) → AreAsleep asleep cluster → bit_at asleep.bits member.id.number ≡ 1 → Emits cluster cluster had had (wake_events cluster member) input_cost
+pub asleep-took : (asleep : MemberSet) (cluster : Cluster) (member : Member) (had : Listed) → AreAsleep asleep cluster → bit_at asleep.bits member.id.number ≡ 1 → Emits cluster cluster had had (wake_events cluster member) input_cost
 asleep-took asleep cluster member had sleep is =
     let none = none-woken cluster member (slice_get cluster.facts.processes member.id.number) (sleep.each member is) in
     subst (λ (es : List Event). Emits cluster cluster had had es input_cost) (sym none) (Emits-nothing cluster had input_cost)
@@ -185,16 +187,22 @@ asleep-took asleep cluster member had sleep is =
 abbrev acts_of : Cluster → Member → List Event
 acts_of cluster member = input_events (cluster_after cluster (kinds.Agent (Woken member))) member no_message (outcome_of cluster member Wake)
 
--- by those alone others may be roused
-pub woken-behind : (asleep left : MemberSet) (cluster after : Cluster) (member : Member) (had has all : List Event) (from : ℕ) → Emits cluster after had has (wake_events_of cluster member) input_cost → from ≡ length had → all ≡ has
-    → bit_at asleep.bits member.id.number ≢ 1 → AreAsleep asleep cluster → ((c : Cluster) → AreAsleep asleep c → AreAsleep left (cluster_over c (take (length all - (from + 1)) (drop (from + 1) all)))) → AreAsleep left after
-woken-behind asleep left cluster after member had has all from took is whole out sleep still =
+-- that it was woken is an event more
+pub woken-more : (cluster after : Cluster) (member : Member) (had has : Listed) → Emits cluster after had has (wake_events_of cluster member) input_cost → length had.items < length has.items
+woken-more cluster after member had has took =
     let first = event_of cluster (kinds.Agent (Woken member)) in
-    asleep-behind asleep left (cluster_after cluster (kinds.Agent (Woken member))) after (had ++ first) has all (acts_of cluster member) (from + 1) took.state (took.event ∙ sym (append_assoc had first (acts_of cluster member)))
-    (omega (arith, is, length-append had first)) whole (woken-asleep asleep cluster member out sleep) still
+    omega (arith, ap (λ (l : Listed). length l.items) took.event, length-append had.items (first ++ acts_of cluster member), length-append first (acts_of cluster member))
+
+-- by those alone others may be roused
+pub woken-behind : (asleep left : MemberSet) (cluster after : Cluster) (member : Member) (had has : Listed) (from : ℕ) → Emits cluster after had has (wake_events_of cluster member) input_cost → from ≡ length had.items
+    → bit_at asleep.bits member.id.number ≢ 1 → AreAsleep asleep cluster → ((c : Cluster) → AreAsleep asleep c → AreAsleep left (cluster_over c (drop (from + 1) has.items))) → AreAsleep left after
+woken-behind asleep left cluster after member had has from took is out sleep still =
+    let first = event_of cluster (kinds.Agent (Woken member)) in
+    asleep-behind asleep left (cluster_after cluster (kinds.Agent (Woken member))) after (had +++ first) has (acts_of cluster member) (from + 1) took.state (took.event ∙ sym (appended_assoc had first (acts_of cluster member)))
+    (omega (arith, is, length-append had.items first)) (woken-asleep asleep cluster member out sleep) still
 
 -- members that are known to have nothing to do may be passed over
-asleep-passed : (asleep : MemberSet) (start cluster : Cluster) (had has : List Event) (members : List Member) (from count : ℕ) → AreAsleep asleep cluster → EachLeft wake_events input_cost start cluster had has members from
+asleep-passed : (asleep : MemberSet) (start cluster : Cluster) (had has : Listed) (members : List Member) (from count : ℕ) → AreAsleep asleep cluster → EachLeft wake_events input_cost start cluster had has members from
     → from + count ≤ length members → ((place : ℕ) → from ≤ place → place < from + count → IfSome (slice_get members place) (λ member. bit_at asleep.bits member.id.number ≡ 1)) → EachLeft wake_events input_cost start cluster had has members (from + count)
 asleep-passed asleep start cluster had has members from zero sleep left within passed =
     subst (λ (place : ℕ). EachLeft wake_events input_cost start cluster had has members place) (omega arith) left
@@ -206,7 +214,7 @@ asleep-passed asleep start cluster had has members from (suc count) sleep left w
     (EachLeft-more Member wake_events input_cost start cluster cluster had has has members (from + count) found.0 before found.1 (asleep-took asleep cluster found.0 has sleep is))
 
 -- the next agent to wake is the first that isn't known to sleep
-pub passed-over : (asleep : MemberSet) (start cluster : Cluster) (had has : List Event) (members : List Member) (from to : ℕ) → members ≡ cluster.facts.members → AreAsleep asleep cluster
+pub passed-over : (asleep : MemberSet) (start cluster : Cluster) (had has : Listed) (members : List Member) (from to : ℕ) → members ≡ cluster.facts.members → AreAsleep asleep cluster
     → EachLeft wake_events input_cost start cluster had has start.facts.members from → (from ≤ to) × (to ≤ length members)
     → ((place : ℕ) → from ≤ place → place < to → IfSome (slice_get members place) (λ member. bit_at asleep.bits member.id.number ≡ 1)) → EachLeft wake_events input_cost start cluster had has start.facts.members to
 passed-over asleep start cluster had has members from to is sleep left range passed =

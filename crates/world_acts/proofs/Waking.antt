@@ -6,11 +6,11 @@ use Rattle.pat_base.specs.declared.ticks.Ticks.{Ticks}
 use Rattle.wal_model.specs.declared.entry.HistoryPoint.{HistoryPoint}
 use Rattle.store_keys.specs.declared.action.OperatorAction.{OperatorAction}
 use Rattle.event_book.specs.declared.agent_process.AgentProcess.{AgentProcess}
-use Rattle.event_book.specs.declared.event.Event.{Event}
 use Rattle.event_book.specs.declared.event.EventKind.TheVariants as kinds
 use Rattle.event_book.specs.declared.event.AgentEvent.{AgentEvent}
 use Rattle.event_book.specs.declared.event.AgentEvent.TheVariants.{Woken, Operated}
 use Rattle.event_book.specs.declared.member.Member.{Member}
+use Rattle.event_list.specs.Listed.{Listed}
 use Rattle.agent_model.specs.declared.heard.Heard.{Heard}
 use Rattle.agent_model.specs.declared.heard.Heard.TheVariants.{Wake, Operated as HearsOperator}
 use Rattle.agent_model.specs.declared.machine.Machine.{Machine}
@@ -48,7 +48,7 @@ input-few cluster member None = no-outputs
 input-few cluster member (Some heard) = outcome-few (moment_of cluster) (points_of cluster member) heard (agent_at cluster.agents member.id.number) (machine_of cluster member)
 
 -- an agent acts on an input that no message brings
-own-input-took : (cluster acting after : Cluster) (member : Member) (input : AgentEvent) (heard : Heard) (cost : ℕ) (outputs : List Output) (had mid has : List Event) → hearing_cost + outputs_cost ≤ cost
+own-input-took : (cluster acting after : Cluster) (member : Member) (input : AgentEvent) (heard : Heard) (cost : ℕ) (outputs : List Output) (had mid has : Listed) → hearing_cost + outputs_cost ≤ cost
     → Emits cluster acting had mid (event_of cluster (kinds.Agent input)) hearing_cost → outputs ≡ outputs_of (outcome_of cluster member heard)
     → Emits acting after mid has (each (output_events member no_message) acting outputs) outputs_cost → Emits cluster after had has (own_input_events cluster member input heard) cost
 own-input-took cluster acting after member input heard cost outputs had mid has fits one is rest =
@@ -56,26 +56,26 @@ own-input-took cluster acting after member input heard cost outputs had mid has 
     (subst (λ (os : List Output). Emits acting after mid has (each (output_events member no_message) acting os) outputs_cost) is rest) fits
 
 -- an agent is woken, and acts
-pub awaken-took : (cluster rousing after : Cluster) (member : Member) (outputs : List Output) (had mid has : List Event)
+pub awaken-took : (cluster rousing after : Cluster) (member : Member) (outputs : List Output) (had mid has : Listed)
     → Emits cluster rousing had mid (event_of cluster (kinds.Agent (Woken member))) hearing_cost → outputs ≡ outputs_of (outcome_of cluster member Wake)
     → Emits rousing after mid has (each (output_events member no_message) rousing outputs) outputs_cost → Emits cluster after had has (wake_events_of cluster member) input_cost
 awaken-took cluster rousing after member outputs had mid has one is rest = own-input-took cluster rousing after member (Woken member) Wake input_cost outputs had mid has (omega arith) one is rest
 
 -- an agent does what an operator asks
-pub operate-took : (cluster obeying after : Cluster) (member : Member) (action : OperatorAction) (outputs : List Output) (had mid has : List Event)
+pub operate-took : (cluster obeying after : Cluster) (member : Member) (action : OperatorAction) (outputs : List Output) (had mid has : Listed)
     → Emits cluster obeying had mid (event_of cluster (kinds.Agent (Operated member action))) hearing_cost → outputs ≡ outputs_of (outcome_of cluster member (HearsOperator action))
     → Emits obeying after mid has (each (output_events member no_message) obeying outputs) outputs_cost → Emits cluster after had has (operate_events cluster member action) request_cost
 operate-took cluster obeying after member action outputs had mid has one is rest = own-input-took cluster obeying after member (Operated member action) (HearsOperator action) request_cost outputs had mid has (omega arith) one is rest
 
 -- an agent is woken that has something to do
-pub wake-took : (cluster after : Cluster) (member : Member) (process : AgentProcess) (had has : List Event) → slice_get cluster.facts.processes member.id.number ≡ Some process
+pub wake-took : (cluster after : Cluster) (member : Member) (process : AgentProcess) (had has : Listed) → slice_get cluster.facts.processes member.id.number ≡ Some process
     → is_to_wake (moment_of cluster) process (standing_of cluster member) ≡ true → Emits cluster after had has (wake_events_of cluster member) input_cost → Emits cluster after had has (wake_events cluster member) input_cost
 wake-took cluster after member process had has there ready woken =
     found-took AgentProcess cluster after had has (wake_events_if cluster member) (slice_get cluster.facts.processes member.id.number) process input_cost there
     (subst (λ (b : Bool). Emits cluster after had has (if b then wake_events_of cluster member else []) input_cost) (sym ready) woken)
 
 -- an agent is woken that may act, by a script
-pub turn-took : (cluster after : Cluster) (member : Member) (process : AgentProcess) (had has : List Event) → slice_get cluster.facts.processes member.id.number ≡ Some process
+pub turn-took : (cluster after : Cluster) (member : Member) (process : AgentProcess) (had has : Listed) → slice_get cluster.facts.processes member.id.number ≡ Some process
     → may_act process ≡ true → Emits cluster after had has (wake_events_of cluster member) input_cost → Emits cluster after had has (turn_events cluster member) input_cost
 turn-took cluster after member process had has there ready woken =
     found-took AgentProcess cluster after had has (turn_events_if cluster member) (slice_get cluster.facts.processes member.id.number) process input_cost there

@@ -21,7 +21,8 @@ use crate::telling::{
 };
 use agent_model::{Output, Target};
 use cluster_model::HeardMessage;
-use event_book::{Body, Event, LinkEnd, Member, Message};
+use event_book::{Body, LinkEnd, Member, Message};
+use event_list::EventList;
 use pat_base::MemberId;
 use std::alloc::AllocError;
 use world_agents::Outputs;
@@ -34,12 +35,12 @@ pub fn carry_out(
     member: Member,
     heard: HeardMessage,
     outputs: &mut Outputs,
-    events: &mut Vec<Event>,
+    events: &mut EventList,
 ) -> Result<(), AllocError>
     requires room { HasRoom stage.old outputs_cost }
     requires few { length outputs.old.outputs ≤ most_outputs }
     requires short { All AsksShortly outputs.old.outputs }
-    ensures emits { OnOk result (Emits stage.old stage.new events.old.items events.new.items (each (output_events member heard) stage.old outputs.old.outputs) outputs_cost) }
+    ensures emits { OnOk result (Emits stage.old stage.new events.old events.new (each (output_events member heard) stage.old outputs.old.outputs) outputs_cost) }
     ensures none { OnOk result (outputs.new.outputs ≡ []) }
 {
     while let Some(output) = outputs.take() {
@@ -54,11 +55,11 @@ fn carry(
     member: Member,
     heard: HeardMessage,
     output: Output,
-    events: &mut Vec<Event>,
+    events: &mut EventList,
 ) -> Result<(), AllocError>
     requires room { HasRoom stage.old output_cost }
     requires short { AsksShortly output }
-    ensures { OnOk result (Emits stage.old stage.new events.old.items events.new.items (output_events member heard stage.old output) output_cost) }
+    ensures { OnOk result (Emits stage.old stage.new events.old events.new (output_events member heard stage.old output) output_cost) }
 {
     match output {
         Output::Send { to, sequence, body } => write(stage, member, to, sequence, body, events),
@@ -135,11 +136,11 @@ fn write(
     to: Target,
     sequence: u64,
     body: Body,
-    events: &mut Vec<Event>,
+    events: &mut EventList,
 ) -> Result<(), AllocError>
     requires room { HasRoom stage.old sending_cost }
     requires short { IsAsked body }
-    ensures { OnOk result (Emits stage.old stage.new events.old.items events.new.items (sending_events stage.old member (slice_get stage.old.facts.processes member.id.number) (receiver_of stage.old.facts.members to) sequence body) sending_cost) }
+    ensures { OnOk result (Emits stage.old stage.new events.old events.new (sending_events stage.old member (slice_get stage.old.facts.processes member.id.number) (receiver_of stage.old.facts.members to) sequence body) sending_cost) }
 {
     let Some(to) = receiver_of(stage.members(), to) else {
         return Ok(());
@@ -165,12 +166,12 @@ fn reply(
     incarnation: u64,
     sequence: u64,
     body: Body,
-    events: &mut Vec<Event>,
+    events: &mut EventList,
 ) -> Result<(), AllocError>
     requires room { HasRoom stage.old sending_cost }
     requires short { IsShort body }
     requires untold { (to : LinkEnd) (revision : ℕ) → grant_for body to revision ≡ None }
-    ensures { OnOk result (Emits stage.old stage.new events.old.items events.new.items (replying_events stage.old member (receiver_of stage.old.facts.members (targets.Member to)) incarnation sequence body) sending_cost) }
+    ensures { OnOk result (Emits stage.old stage.new events.old events.new (replying_events stage.old member (receiver_of stage.old.facts.members (targets.Member to)) incarnation sequence body) sending_cost) }
 {
     let Some(to) = receiver_of(stage.members(), Target::Member(to)) else {
         return Ok(());

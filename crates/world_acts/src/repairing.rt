@@ -8,7 +8,8 @@ ghost use Rattle.world_model.specs.Emits.{Emits};
 ghost use Rattle.world_model.specs.Room.{HasRoom};
 
 use agent_model::Repair;
-use event_book::{Event, Member};
+use event_book::Member;
+use event_list::EventList;
 use pat_base::MemberId;
 use std::alloc::AllocError;
 use world_fields::members::member_at;
@@ -22,10 +23,10 @@ pub fn repair_log(
     member: Member,
     repair: Repair,
     leader: MemberId,
-    events: &mut Vec<Event>,
+    events: &mut EventList,
 ) -> Result<(), AllocError>
     requires { HasRoom stage.old 1 }
-    ensures { OnOk result (Emits stage.old stage.new events.old.items events.new.items (repair_events stage.old member repair (slice_get stage.old.facts.members leader.number)) 1) }
+    ensures { OnOk result (Emits stage.old stage.new events.old events.new (repair_events stage.old member repair (slice_get stage.old.facts.members leader.number)) 1) }
 {
     let Some(leader) = member_at(stage.members(), leader) else {
         return Ok(());
@@ -43,10 +44,10 @@ fn repair_by(
     member: Member,
     repair: Repair,
     leader: Member,
-    events: &mut Vec<Event>,
+    events: &mut EventList,
 ) -> Result<(), AllocError>
     requires { HasRoom stage.old 1 }
-    ensures { OnOk result (Emits stage.old stage.new events.old.items events.new.items (events_of stage.old (kinds_of (repair_by stage.old.facts.servers member repair leader))) 1) }
+    ensures { OnOk result (Emits stage.old stage.new events.old events.new (events_of stage.old (kinds_of (repair_by stage.old.facts.servers member repair leader))) 1) }
 {
     match repair {
         Repair::Rewind => stage.rewind(member, leader, events),

@@ -8,7 +8,8 @@ ghost use Rattle.world_model.specs.Emits.{Emits};
 ghost use Rattle.world_model.specs.Room.{HasRoom, beginning_cost, promotion_cost, replica_start_cost, server_restart_cost, stopping_cost};
 
 use cluster_model::Beginning;
-use event_book::{Event, EventKind, Member, Note, Reason, ServerEvent, ServerOf};
+use event_book::{EventKind, Member, Note, Reason, ServerEvent, ServerOf};
+use event_list::EventList;
 use pat_base::{MemberId, Required, State};
 use std::alloc::AllocError;
 use world_fields::members::member_at;
@@ -20,9 +21,9 @@ use world_parts::server_changes::is_down;
 use world_stage::{Stage, begin_on};
 
 /// The server of a member is promoted by its operator, where it is a replica, and begins.
-pub fn promote(stage: &mut Stage, member: Member, events: &mut Vec<Event>) -> Result<(), AllocError>
+pub fn promote(stage: &mut Stage, member: Member, events: &mut EventList) -> Result<(), AllocError>
     requires { HasRoom stage.old promotion_cost }
-    ensures { OnOk result (Emits stage.old stage.new events.old.items events.new.items (promote_events stage.old member) promotion_cost) }
+    ensures { OnOk result (Emits stage.old stage.new events.old events.new (promote_events stage.old member) promotion_cost) }
 {
     let Some(timeline) = promoted_timeline(stage.servers(), member) else {
         return Ok(());
@@ -33,9 +34,9 @@ pub fn promote(stage: &mut Stage, member: Member, events: &mut Vec<Event>) -> Re
 }
 
 /// The server of a member begins to accept writes by the order of its agent, at once or when its start is complete, where it can.
-pub fn begin(stage: &mut Stage, member: Member, events: &mut Vec<Event>) -> Result<(), AllocError>
+pub fn begin(stage: &mut Stage, member: Member, events: &mut EventList) -> Result<(), AllocError>
     requires { HasRoom stage.old beginning_cost }
-    ensures { OnOk result (Emits stage.old stage.new events.old.items events.new.items (begin_events stage.old member) beginning_cost) }
+    ensures { OnOk result (Emits stage.old stage.new events.old events.new (begin_events stage.old member) beginning_cost) }
 {
     match beginning_of(stage.servers(), member) {
         None => Ok(()),
@@ -55,10 +56,10 @@ pub fn start_replica(
     stage: &mut Stage,
     member: Member,
     leader: Option<MemberId>,
-    events: &mut Vec<Event>,
+    events: &mut EventList,
 ) -> Result<(), AllocError>
     requires { HasRoom stage.old replica_start_cost }
-    ensures { OnOk result (Emits stage.old stage.new events.old.items events.new.items (replica_start_events stage.old member (declared_member stage.old.facts.members leader)) replica_start_cost) }
+    ensures { OnOk result (Emits stage.old stage.new events.old events.new (replica_start_events stage.old member (declared_member stage.old.facts.members leader)) replica_start_cost) }
 {
     let Some(state) = server_state(stage, member) else {
         return Ok(());
@@ -80,10 +81,10 @@ pub fn stop(
     stage: &mut Stage,
     member: Member,
     reason: Reason,
-    events: &mut Vec<Event>,
+    events: &mut EventList,
 ) -> Result<(), AllocError>
     requires { HasRoom stage.old stopping_cost }
-    ensures { OnOk result (Emits stage.old stage.new events.old.items events.new.items (stop_events stage.old member reason) stopping_cost) }
+    ensures { OnOk result (Emits stage.old stage.new events.old events.new (stop_events stage.old member reason) stopping_cost) }
 {
     if server_state(stage, member).is_none() {
         return Ok(());
@@ -100,19 +101,19 @@ pub fn stop(
 pub fn shut_down(
     stage: &mut Stage,
     member: Member,
-    events: &mut Vec<Event>,
+    events: &mut EventList,
 ) -> Result<(), AllocError>
     requires { HasRoom stage.old 1 }
-    ensures { OnOk result (Emits stage.old stage.new events.old.items events.new.items (server_order_events stage.old member (stop_of member)) 1) }
+    ensures { OnOk result (Emits stage.old stage.new events.old events.new (server_order_events stage.old member (stop_of member)) 1) }
 {
     let stop = stop_of(stage.servers(), member);
     stage.happen_if(stop, events)
 }
 
 /// The server of a member is wiped by the order of its agent, where it isn't live and doesn't wait for a copy already.
-pub fn wipe(stage: &mut Stage, member: Member, events: &mut Vec<Event>) -> Result<(), AllocError>
+pub fn wipe(stage: &mut Stage, member: Member, events: &mut EventList) -> Result<(), AllocError>
     requires { HasRoom stage.old 1 }
-    ensures { OnOk result (Emits stage.old stage.new events.old.items events.new.items (server_order_events stage.old member (wipe_of member)) 1) }
+    ensures { OnOk result (Emits stage.old stage.new events.old events.new (server_order_events stage.old member (wipe_of member)) 1) }
 {
     let wipe = wipe_of(stage.servers(), member);
     stage.happen_if(wipe, events)
@@ -123,10 +124,10 @@ pub fn follow(
     stage: &mut Stage,
     member: Member,
     leader: MemberId,
-    events: &mut Vec<Event>,
+    events: &mut EventList,
 ) -> Result<(), AllocError>
     requires { HasRoom stage.old 1 }
-    ensures { OnOk result (Emits stage.old stage.new events.old.items events.new.items (server_order_events stage.old member (upstream_of member (slice_get stage.old.facts.members leader.number))) 1) }
+    ensures { OnOk result (Emits stage.old stage.new events.old events.new (server_order_events stage.old member (upstream_of member (slice_get stage.old.facts.members leader.number))) 1) }
 {
     let leader = member_at(stage.members(), leader);
     let upstream = upstream_of(stage.servers(), member, leader);
@@ -138,10 +139,10 @@ pub fn require(
     stage: &mut Stage,
     member: Member,
     required: Required,
-    events: &mut Vec<Event>,
+    events: &mut EventList,
 ) -> Result<(), AllocError>
     requires { HasRoom stage.old 1 }
-    ensures { OnOk result (Emits stage.old stage.new events.old.items events.new.items (server_order_events stage.old member (require_of stage.old.facts.members member required)) 1) }
+    ensures { OnOk result (Emits stage.old stage.new events.old events.new (server_order_events stage.old member (require_of stage.old.facts.members member required)) 1) }
 {
     let change = require_of(
         stage.alloc(),
@@ -157,10 +158,10 @@ pub fn require(
 pub fn restart_server(
     stage: &mut Stage,
     member: Member,
-    events: &mut Vec<Event>,
+    events: &mut EventList,
 ) -> Result<(), AllocError>
     requires { HasRoom stage.old server_restart_cost }
-    ensures { OnOk result (Emits stage.old stage.new events.old.items events.new.items (server_restart_events stage.old member) server_restart_cost) }
+    ensures { OnOk result (Emits stage.old stage.new events.old events.new (server_restart_events stage.old member) server_restart_cost) }
 {
     match server_state(stage, member) {
         Some(State::Primary) => restart_primary(stage, member, events),
@@ -180,11 +181,11 @@ pub fn restart_server(
 fn restart_primary(
     stage: &mut Stage,
     member: Member,
-    events: &mut Vec<Event>,
+    events: &mut EventList,
 ) -> Result<(), AllocError>
     requires room { HasRoom stage.old server_restart_cost }
     requires primary { option_map (λ s. s.state) (server_at stage.old member) ≡ Some states.Primary }
-    ensures { OnOk result (Emits stage.old stage.new events.old.items events.new.items (server_restart_events stage.old member) server_restart_cost) }
+    ensures { OnOk result (Emits stage.old stage.new events.old events.new (server_restart_events stage.old member) server_restart_cost) }
 {
     let Some(beginning) = restart_of(stage.servers(), member) else {
         return Ok(());

@@ -12,7 +12,8 @@ ghost use Rattle.world_model.specs.Room.{HasRoom, feeding_cost};
 
 use agent_model::Told;
 use cluster_model::HeardMessage;
-use event_book::{AgentEvent, AgentNote, Event, EventKind, Member, Note, WatchdogEvent};
+use event_book::{AgentEvent, AgentNote, EventKind, Member, Note, WatchdogEvent};
+use event_list::EventList;
 use pat_base::{MemberId, MemberSet, Ticks};
 use std::alloc::AllocError;
 use world_agents::requests::told_kind;
@@ -26,10 +27,10 @@ pub fn tell_arming(
     member: Member,
     until: Ticks,
     heard: HeardMessage,
-    events: &mut Vec<Event>,
+    events: &mut EventList,
 ) -> Result<(), AllocError>
     requires { HasRoom stage.old feeding_cost }
-    ensures { OnOk result (Emits stage.old stage.new events.old.items events.new.items (events_of stage.old (feed_kinds member heard.sent (arming member until heard))) feeding_cost) }
+    ensures { OnOk result (Emits stage.old stage.new events.old events.new (events_of stage.old (feed_kinds member heard.sent (arming member until heard))) feeding_cost) }
 {
     tell_deadline(
         stage,
@@ -46,10 +47,10 @@ pub fn tell_feeding(
     member: Member,
     until: Ticks,
     heard: HeardMessage,
-    events: &mut Vec<Event>,
+    events: &mut EventList,
 ) -> Result<(), AllocError>
     requires { HasRoom stage.old feeding_cost }
-    ensures { OnOk result (Emits stage.old stage.new events.old.items events.new.items (events_of stage.old (feed_kinds member heard.sent (feeding member until heard))) feeding_cost) }
+    ensures { OnOk result (Emits stage.old stage.new events.old events.new (events_of stage.old (feed_kinds member heard.sent (feeding member until heard))) feeding_cost) }
 {
     tell_deadline(
         stage,
@@ -69,10 +70,10 @@ pub fn tell_failsafe_feeding(
     members: MemberSet,
     sequence: u64,
     since: Ticks,
-    events: &mut Vec<Event>,
+    events: &mut EventList,
 ) -> Result<(), AllocError>
     requires { HasRoom stage.old feeding_cost }
-    ensures { OnOk result (Emits stage.old stage.new events.old.items events.new.items (events_of stage.old (feed_kinds member since (failsafe_feeding member until members sequence))) feeding_cost) }
+    ensures { OnOk result (Emits stage.old stage.new events.old events.new (events_of stage.old (feed_kinds member since (failsafe_feeding member until members sequence))) feeding_cost) }
 {
     tell_deadline(
         stage,
@@ -89,11 +90,11 @@ fn tell_deadline(
     member: Member,
     since: Ticks,
     feed: EventKind,
-    events: &mut Vec<Event>,
+    events: &mut EventList,
 ) -> Result<(), AllocError>
     requires room { HasRoom stage.old feeding_cost }
     requires comes { (cluster : Cluster) → MayCome cluster feed }
-    ensures { OnOk result (Emits stage.old stage.new events.old.items events.new.items (events_of stage.old (feed_kinds member since feed)) feeding_cost) }
+    ensures { OnOk result (Emits stage.old stage.new events.old events.new (events_of stage.old (feed_kinds member since feed)) feeding_cost) }
 {
     let measured = WatchdogEvent::Measured { member, since };
     stage.happen_then(EventKind::Watchdog(measured), Some(feed), events)
@@ -103,10 +104,10 @@ fn tell_deadline(
 pub fn tell_disarming(
     stage: &mut Stage,
     member: Member,
-    events: &mut Vec<Event>,
+    events: &mut EventList,
 ) -> Result<(), AllocError>
     requires { HasRoom stage.old 1 }
-    ensures { OnOk result (Emits stage.old stage.new events.old.items events.new.items (event_of stage.old (EventKind.Watchdog (WatchdogEvent.Disarmed member))) 1) }
+    ensures { OnOk result (Emits stage.old stage.new events.old events.new (event_of stage.old (EventKind.Watchdog (WatchdogEvent.Disarmed member))) 1) }
 {
     let disarmed = WatchdogEvent::Disarmed { member };
     stage.happen(EventKind::Watchdog(disarmed), events)
@@ -116,10 +117,10 @@ pub fn tell_disarming(
 pub fn tell_passing(
     stage: &mut Stage,
     member: Member,
-    events: &mut Vec<Event>,
+    events: &mut EventList,
 ) -> Result<(), AllocError>
     requires { HasRoom stage.old 1 }
-    ensures { OnOk result (Emits stage.old stage.new events.old.items events.new.items (event_of stage.old (EventKind.Agent (AgentEvent.Passed member))) 1) }
+    ensures { OnOk result (Emits stage.old stage.new events.old events.new (event_of stage.old (EventKind.Agent (AgentEvent.Passed member))) 1) }
 {
     let passed = AgentEvent::Passed { agent: member };
     stage.happen(EventKind::Agent(passed), events)
@@ -129,10 +130,10 @@ pub fn tell_passing(
 pub fn tell_staying(
     stage: &mut Stage,
     member: Member,
-    events: &mut Vec<Event>,
+    events: &mut EventList,
 ) -> Result<(), AllocError>
     requires { HasRoom stage.old 1 }
-    ensures { OnOk result (Emits stage.old stage.new events.old.items events.new.items (event_of stage.old (EventKind.Note (Note.StaysByFailsafe member))) 1) }
+    ensures { OnOk result (Emits stage.old stage.new events.old events.new (event_of stage.old (EventKind.Note (Note.StaysByFailsafe member))) 1) }
 {
     stage.happen(EventKind::Note(Note::StaysByFailsafe { member }), events)
 }
@@ -142,10 +143,10 @@ pub fn tell_note(
     stage: &mut Stage,
     member: Member,
     note: AgentNote,
-    events: &mut Vec<Event>,
+    events: &mut EventList,
 ) -> Result<(), AllocError>
     requires { HasRoom stage.old 1 }
-    ensures { OnOk result (Emits stage.old stage.new events.old.items events.new.items (event_of stage.old (agent_noting stage.old.facts.members member note)) 1) }
+    ensures { OnOk result (Emits stage.old stage.new events.old events.new (event_of stage.old (agent_noting stage.old.facts.members member note)) 1) }
 {
     let noted = agent_noting(stage.members(), member, note);
     stage.happen(noted, events)
@@ -156,10 +157,10 @@ pub fn tell_answer(
     stage: &mut Stage,
     member: Member,
     told: Told,
-    events: &mut Vec<Event>,
+    events: &mut EventList,
 ) -> Result<(), AllocError>
     requires { HasRoom stage.old 1 }
-    ensures { OnOk result (Emits stage.old stage.new events.old.items events.new.items (events_of stage.old (kinds_of (told_kind member (agent_at stage.old.agents member.id.number) told))) 1) }
+    ensures { OnOk result (Emits stage.old stage.new events.old events.new (events_of stage.old (kinds_of (told_kind member (agent_at stage.old.agents member.id.number) told))) 1) }
 {
     let answer = told_kind(stage.alloc(), member, stage.agent(member), told)?;
     stage.happen_if(answer, events)
@@ -174,10 +175,10 @@ pub fn tell_hold(
     from: MemberId,
     incarnation: u64,
     sequence: u64,
-    events: &mut Vec<Event>,
+    events: &mut EventList,
 ) -> Result<(), AllocError>
     requires { HasRoom stage.old 1 }
-    ensures { OnOk result (Emits stage.old stage.new events.old.items events.new.items (events_of stage.old (kinds_of (option_map (hold_taken member until incarnation sequence) (slice_get stage.old.facts.members from.number)))) 1) }
+    ensures { OnOk result (Emits stage.old stage.new events.old events.new (events_of stage.old (kinds_of (option_map (hold_taken member until incarnation sequence) (slice_get stage.old.facts.members from.number)))) 1) }
 {
     let from = member_at(stage.members(), from);
     stage.happen_if(

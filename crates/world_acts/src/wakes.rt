@@ -12,7 +12,8 @@ ghost use Rattle.world_acts.specs.Asleep.{AreAsleep};
 use crate::carrying::carry_out;
 use crate::resting::still_asleep;
 use cluster_model::HeardMessage;
-use event_book::{AgentProcess, Event, Member};
+use event_book::{AgentProcess, Member};
+use event_list::EventList;
 use pat_base::{MemberSet, Ticks};
 use std::alloc::AllocError;
 use world_fields::watchdogs::disarm_at_start;
@@ -31,11 +32,11 @@ pub const NO_MESSAGE: HeardMessage = HeardMessage {
 pub fn wakes(
     stage: &mut Stage,
     mut asleep: MemberSet,
-    events: &mut Vec<Event>,
+    events: &mut EventList,
 ) -> Result<MemberSet, AllocError>
     requires room { HasRoom stage.old wakes_cost }
     requires asleep { AreAsleep asleep stage.old }
-    ensures emits { OnOk result (Emits stage.old stage.new events.old.items events.new.items (each wake_events stage.old stage.old.facts.members) wakes_cost) }
+    ensures emits { OnOk result (Emits stage.old stage.new events.old events.new (each wake_events stage.old stage.old.facts.members) wakes_cost) }
     ensures asleep { IfOk result (λ known. AreAsleep known stage.new) }
 {
     let mut place = first_awake(stage.members(), asleep, 0);
@@ -68,12 +69,12 @@ fn wake(
     stage: &mut Stage,
     member: Member,
     asleep: MemberSet,
-    events: &mut Vec<Event>,
+    events: &mut EventList,
 ) -> Result<MemberSet, AllocError>
     requires room { HasRoom stage.old input_cost }
     requires asleep { AreAsleep asleep stage.old }
     requires awake { bit_at asleep.bits member.id.number ≢ 1 }
-    ensures emits { OnOk result (Emits stage.old stage.new events.old.items events.new.items (wake_events stage.old member) input_cost) }
+    ensures emits { OnOk result (Emits stage.old stage.new events.old events.new (wake_events stage.old member) input_cost) }
     ensures asleep { IfOk result (λ known. AreAsleep known stage.new) }
 {
     let Some(process) = stage.process(member) else {
@@ -84,14 +85,16 @@ fn wake(
     }
     let from = events.len();
     awaken(stage, member, events)?;
-    // that it was woken is the first event, which concerns no other agent
-    Ok(still_asleep(asleep, &events[from + 1..]))
+    // what happened begins with that it was woken, so there is more than before; and that concerns no other agent
+    let count = events.len();
+    prove!(from < count);
+    Ok(still_asleep(asleep, events, from + 1))
 }
 
 /// A script wakes the agent of a member, where it runs and isn't suspended: one with nothing else to do takes note of its server.
-pub fn turn(stage: &mut Stage, member: Member, events: &mut Vec<Event>) -> Result<(), AllocError>
+pub fn turn(stage: &mut Stage, member: Member, events: &mut EventList) -> Result<(), AllocError>
     requires { HasRoom stage.old input_cost }
-    ensures { OnOk result (Emits stage.old stage.new events.old.items events.new.items (turn_events stage.old member) input_cost) }
+    ensures { OnOk result (Emits stage.old stage.new events.old events.new (turn_events stage.old member) input_cost) }
 {
     let Some(process) = stage.process(member) else {
         return Ok(());
@@ -122,9 +125,9 @@ fn has_work(stage: &Stage, member: Member) -> bool
 /// The agent of a member is woken, and acts. Apart from the test whether it is to be woken, which most ticks end with: so that
 /// costs no room for an input.
 #[inline(never)]
-fn awaken(stage: &mut Stage, member: Member, events: &mut Vec<Event>) -> Result<(), AllocError>
+fn awaken(stage: &mut Stage, member: Member, events: &mut EventList) -> Result<(), AllocError>
     requires { HasRoom stage.old input_cost }
-    ensures { OnOk result (Emits stage.old stage.new events.old.items events.new.items (wake_events_of stage.old member) input_cost) }
+    ensures { OnOk result (Emits stage.old stage.new events.old events.new (wake_events_of stage.old member) input_cost) }
 {
     let mut outputs = stage.take_outputs()?;
     stage.rouse(member, &mut outputs, events)?;
@@ -138,10 +141,10 @@ fn awaken(stage: &mut Stage, member: Member, events: &mut Vec<Event>) -> Result<
 pub fn start_agent(
     stage: &mut Stage,
     member: Member,
-    events: &mut Vec<Event>,
+    events: &mut EventList,
 ) -> Result<(), AllocError>
     requires { HasRoom stage.old agent_start_cost }
-    ensures { OnOk result (Emits stage.old stage.new events.old.items events.new.items (agent_start_events stage.old member) agent_start_cost) }
+    ensures { OnOk result (Emits stage.old stage.new events.old events.new (agent_start_events stage.old member) agent_start_cost) }
 {
     let Some(process) = stage.process(member) else {
         return Ok(());

@@ -3,12 +3,14 @@ ghost use Rattle.std.specs.Prelude.{◌≡◌, ◌∷◌, ◌++◌, [], OnOk, sl
 ghost use Rattle.event_book.specs.declared.event.Event.{Event};
 ghost use Rattle.event_book.specs.declared.event.EventKind.TheVariants as kinds;
 ghost use Rattle.event_book.specs.declared.event.ReplicationEvent.TheVariants as replications;
+ghost use Rattle.event_list.specs.Listed.{◌+++◌};
 ghost use Rattle.cluster_model.specs.Losing.{loss_of, losses_of};
 ghost use Rattle.cluster_model.specs.Parts.{events_at};
 
 use crate::losing::loss_at;
 use crate::writing::write_down;
-use event_book::{Event, EventKind, Member, ReplicationEvent, ServerOf};
+use event_book::{EventKind, Member, ReplicationEvent, ServerOf};
+use event_list::EventList;
 use pat_base::Ticks;
 use pg_cluster::Servers;
 use std::alloc::AllocError;
@@ -20,10 +22,10 @@ pub fn tell_acknowledged(
     server: ServerOf,
     commit: u64,
     tick: Ticks,
-    events: &mut Vec<Event>,
+    events: &mut EventList,
 ) -> Result<(), AllocError>
     ensures told { OnOk result (told.new ≡ told.old ++ commit ∷ []) }
-    ensures event { OnOk result (events.new.items ≡ events.old.items ++ record { tick = tick; kind = kinds.Replication (replications.Acknowledged server commit) } ∷ []) }
+    ensures event { OnOk result (events.new ≡ events.old +++ record { tick = tick; kind = kinds.Replication (replications.Acknowledged server commit) } ∷ []) }
 {
     told.push(commit)?;
     let acknowledged = ReplicationEvent::Acknowledged { server, commit };
@@ -36,9 +38,9 @@ pub fn tell_losses(
     members: &[Member],
     commit: u64,
     tick: Ticks,
-    events: &mut Vec<Event>,
+    events: &mut EventList,
 ) -> Result<(), AllocError>
-    ensures { OnOk result (events.new.items ≡ events.old.items ++ events_at tick (losses_of commit servers.now members.now)) }
+    ensures { OnOk result (events.new ≡ events.old +++ events_at tick (losses_of commit servers.now members.now)) }
 {
     for member in members {
         tell_loss(servers, *member, commit, tick, events)?;
@@ -52,9 +54,9 @@ fn tell_loss(
     member: Member,
     commit: u64,
     tick: Ticks,
-    events: &mut Vec<Event>,
+    events: &mut EventList,
 ) -> Result<(), AllocError>
-    ensures { OnOk result (events.new.items ≡ events.old.items ++ events_at tick (loss_of commit member (slice_get servers.now member.id.number))) }
+    ensures { OnOk result (events.new ≡ events.old +++ events_at tick (loss_of commit member (slice_get servers.now member.id.number))) }
 {
     match loss_at(servers, member, commit) {
         None => Ok(()),

@@ -1,13 +1,13 @@
 -- What happens at servers, one event at a time.
-use Rattle.std.proofs.Common.{◌≡◌, ◌≤◌, ℕ, Bool, arith, List, [], ◌∷◌, ◌++◌, refl, ◌∙◌, ap, sym}
+use Rattle.std.proofs.Common.{◌≡◌, ◌≤◌, ℕ, Bool, arith, List, [], ◌∷◌, refl, ◌∙◌, ap, sym}
 use Rattle.pat_base.specs.declared.ticks.Ticks.{Ticks}
 use Rattle.pg_model.specs.Facts.{ServerFacts}
-use Rattle.event_book.specs.declared.event.Event.{Event}
 use Rattle.event_book.specs.declared.event.EventKind.{EventKind}
 use Rattle.event_book.specs.declared.event.EventKind.TheVariants as kinds
 use Rattle.event_book.specs.Acknowledged.{acknowledged_after, commits_after}
 use Rattle.event_book.specs.Frozen.{frozen_after}
 use Rattle.event_book.specs.Servers.{servers_after}
+use Rattle.event_list.specs.Listed.{Listed, ◌+++◌}
 use Rattle.cluster_model.specs.Cluster.{cluster_after}
 use Rattle.cluster_model.specs.State.{Cluster}
 use Rattle.cluster_model.specs.Parts.{event_of}
@@ -49,10 +49,10 @@ serving-cost (kinds.Note note) is = omega arith
 serving-cost _ is = absurd is
 
 -- one thing happened at servers
-pub serving-took : (cluster after : Cluster) (kind : EventKind) (tick : Ticks) (had has : List Event) → IsServing kind → Counts cluster kind → after ≡ served cluster kind → tick.0 ≡ cluster.facts.clock
-    → has ≡ had ++ record { tick = tick; kind = kind } ∷ [] → Emits cluster after had has (event_of cluster kind) 1
+pub serving-took : (cluster after : Cluster) (kind : EventKind) (tick : Ticks) (had has : Listed) → IsServing kind → Counts cluster kind → after ≡ served cluster kind → tick.0 ≡ cluster.facts.clock
+    → has ≡ had +++ record { tick = tick; kind = kind } ∷ [] → Emits cluster after had has (event_of cluster kind) 1
 serving-took cluster after kind tick had has is counts state at has_is =
     Emits-weaker cluster after had has (event_of cluster kind) (event_cost kind) 1
     (Emits-one cluster after had has kind counts (state ∙ sym (serving-cluster_after cluster kind is))
-    (has_is ∙ ap (λ es. had ++ es) (stamped-is cluster tick kind (at ∙ ap (λ (c : Cluster). c.facts.clock) (sym (serving-cluster_after cluster kind is))))))
+    (has_is ∙ ap (λ es. had +++ es) (stamped-is cluster tick kind (at ∙ ap (λ (c : Cluster). c.facts.clock) (sym (serving-cluster_after cluster kind is))))))
     (serving-cost kind is)

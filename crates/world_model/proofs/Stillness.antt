@@ -9,6 +9,7 @@ use Rattle.pg_cluster.specs.Servers.{news_at}
 use Rattle.event_book.specs.declared.event.Event.{Event}
 use Rattle.event_book.specs.declared.event.EventKind.TheVariants as kinds
 use Rattle.event_book.specs.declared.member.Member.{Member}
+use Rattle.event_list.specs.Listed.{Listed}
 use Rattle.cluster_model.specs.declared.step.Step.TheVariants as steps
 use Rattle.cluster_model.specs.Acknowledging.{AreAcknowledged}
 use Rattle.cluster_model.specs.Cluster.{cluster_after, cluster_over}
@@ -86,7 +87,7 @@ tick_rest cluster =
     each completion_events expired expired.facts.members))
 
 -- a step of the default schedule that brought one event brought its tick alone, and nothing moves behind it
-pub tick-alone : (before after : Cluster) (had has : List Event) (cost : ℕ) → had ≡ [] → length has ≡ 1 → Emits before after had has (next_events before steps.Scheduled) cost → AreAcknowledged after.facts.members after.facts.servers
+pub tick-alone : (before after : Cluster) (had has : Listed) (cost : ℕ) → had.items ≡ [] → length has.items ≡ 1 → Emits before after had has (next_events before steps.Scheduled) cost → AreAcknowledged after.facts.members after.facts.servers
     → NothingMoves after
 tick-alone before after had has cost none one took done =
     let ticked = cluster_after before kinds.Tick in
@@ -95,7 +96,7 @@ tick-alone before after had has cost none one took done =
     let played = step_events before steps.Scheduled in
     let acks = each acknowledge_events (cluster_over before played) (cluster_over before played).facts.members in
     let event : Event = record { tick = record { 0 = ticked.facts.clock }; kind = kinds.Tick } in
-    let whole : has ≡ next_events before steps.Scheduled = took.event ∙ ap (λ (es : List Event). es ++ next_events before steps.Scheduled) none in
+    let whole : has.items ≡ next_events before steps.Scheduled = ap (λ (l : Listed). l.items) took.event ∙ ap (λ (es : List Event). es ++ next_events before steps.Scheduled) none in
     let parts = one-event event rest scheduled acks (ap length (sym whole) ∙ one) in
     let silent : scheduled_events ticked ≡ [] = ap (λ (es : List Event). scheduled_events (cluster_over ticked es)) (sym parts.0) ∙ parts.1 in
     let state : after ≡ ticked = took.state

@@ -1,6 +1,5 @@
 -- Clusters in which nothing happens for a while but that time passes.
 use Rattle.std.specs.Prelude.{ℕ, ◌≡◌, ◌<◌, nat_le, Bool, true, false, List, [], All, Option, Some, None, slice_get, zero, suc}
-use Rattle.std.specs.List.{list_any}
 use Rattle.pat_base.specs.declared.lsn.Lsn.{Lsn}
 use Rattle.pat_base.specs.declared.ticks.Ticks.{Ticks}
 use Rattle.leader_key.specs.Watchdog.{is_due_at}
@@ -11,8 +10,6 @@ use Rattle.pg_cluster.specs.Completing.{NoneComplete}
 use Rattle.pg_model.specs.Facts.{ServerFacts}
 use Rattle.pg_cluster.specs.Servers.{news_at}
 use Rattle.event_book.specs.declared.agent_process.AgentProcess.{AgentProcess}
-use Rattle.event_book.specs.declared.event.Event.{Event}
-use Rattle.event_book.specs.declared.event.EventKind.{EventKind}
 use Rattle.event_book.specs.declared.event.EventKind.TheVariants as kinds
 use Rattle.event_book.specs.declared.event.WatchdogEvent.TheVariants as watchdogs
 use Rattle.event_book.specs.declared.member.Member.{Member}
@@ -97,20 +94,6 @@ AreCaughtUp cluster = All (λ member. ReceivesNone cluster.facts.members cluster
 -- that is so where it is known
 abbrev pub IfCaughtUp : Bool → Cluster → Type 0
 IfCaughtUp known cluster = known ≡ true → AreCaughtUp cluster
-
--- after such a happening a server may have something to receive or to confirm: it changes servers or links
-abbrev pub stirs_replicas : EventKind → Bool
-stirs_replicas kinds.Tick = true
-stirs_replicas (kinds.Watchdog (watchdogs.Reset member)) = true
-stirs_replicas (kinds.Server happening) = true
-stirs_replicas (kinds.Log happening) = true
-stirs_replicas (kinds.Replication happening) = true
-stirs_replicas (kinds.Link happening) = true
-stirs_replicas _ = false
-
--- so it is after one of these events
-abbrev pub stir_replicas : List Event → Bool
-stir_replicas events = list_any (λ event. stirs_replicas event.kind) events
 
 -- each message in flight is kept for a receiver that is suspended
 abbrev pub AreKept : Flight → List AgentProcess → CutLinks → Type 0

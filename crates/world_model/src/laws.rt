@@ -4,6 +4,7 @@ ghost use Rattle.cluster_model.specs.declared.step.Step.{Step};
 ghost use Rattle.event_book.specs.declared.event.Event.{Event};
 ghost use Rattle.event_book.specs.declared.event.EventKind.{EventKind};
 ghost use Rattle.event_book.specs.declared.event.EventKind.TheVariants as kinds;
+ghost use Rattle.event_list.specs.Listed.{Listed};
 ghost use Rattle.cluster_model.specs.Cluster.{cluster_after};
 ghost use Rattle.cluster_model.specs.Next.{next_events};
 ghost use Rattle.cluster_model.specs.Parts.{event_of, events_then};
@@ -15,7 +16,7 @@ ghost use Rattle.world_model.specs.Room.{HasRoom, event_cost};
 
 /// A part of a step, and then what comes after it, are a part whose cost is that of both.
 pub fn parts_follow_one_another()
-    ensures { (first second third : Cluster) (had has all events : List Event) (more : Cluster → List Event) (cost next : ℕ)
+    ensures { (first second third : Cluster) (had has all : Listed) (events : List Event) (more : Cluster → List Event) (cost next : ℕ)
         → Emits first second had has events cost → Emits second third has all (more second) next → Emits first third had all (events_then first events more) (cost + next) }
 {}
 

@@ -14,9 +14,9 @@ use Rattle.rest_paths.specs.declared.resource.Page.TheVariants as pages
 use Rattle.rest_paths.specs.Asking.{ask_of}
 use Rattle.rest_message.specs.Targets.{lag_of, path_of}
 use Rattle.rest_message.specs.Requests.{RequestText}
-use Rattle.event_book.specs.declared.event.Event.{Event}
 use Rattle.event_book.specs.declared.event.EventKind.{EventKind}
 use Rattle.event_book.specs.declared.member.Member.{Member}
+use Rattle.event_list.specs.Listed.{Listed}
 use Rattle.agent_model.specs.declared.machine.Machine.{Machine}
 use Rattle.agent_model.specs.Agents.{AgentFacts, Outcome, outcome_from, most_messages}
 use Rattle.agent_model.specs.Views.{shown}
@@ -100,14 +100,14 @@ module _ (cluster : Cluster) (member : Member) (agent : AgentFacts) (machine : M
   stands-so : standing_of cluster member ≡ Some stands
   stands-so = ap (λ (a : Option AgentFacts). standing a (machine_of cluster member)) asks.agent_is ∙ ap (λ (m : Option Machine). standing (Some agent) m) asks.machine_is
 
-  answered-took : (after : Cluster) (call : RequestText) (answer : Answered) (had has : List Event) → answer ≡ answer_to view (option_copied view.seen) call
+  answered-took : (after : Cluster) (call : RequestText) (answer : Answered) (had has : Listed) → answer ≡ answer_to view (option_copied view.seen) call
       → Emits cluster after had has (answered_events cluster member stands answer) request_cost → Emits cluster after had has (for_some (standing_of cluster member) (request_events_of cluster call member)) request_cost
   answered-took after call answer had has is took =
       found-took Outcome cluster after had has (request_events_of cluster call member) (standing_of cluster member) stands request_cost stands-so
       (subst (λ (a : Answered). Emits cluster after had has (answered_events cluster member stands a) request_cost) (is ∙ answered-same view (moment_of cluster) stands call asks.shows asks.seen) took)
 
   -- it does what it is asked
-  pub acts-took : (after : Cluster) (call : RequestText) (asked : OperatorRequest) (had has : List Event) → Acts asked ≡ answer_to view (option_copied view.seen) call
+  pub acts-took : (after : Cluster) (call : RequestText) (asked : OperatorRequest) (had has : Listed) → Acts asked ≡ answer_to view (option_copied view.seen) call
       → Emits cluster after had has (operate_events cluster member (record { request = request; asked = asked })) request_cost
       → Emits cluster after had has (for_some (standing_of cluster member) (request_events_of cluster call member)) request_cost
   acts-took after call asked had has is took =
@@ -115,7 +115,7 @@ module _ (cluster : Cluster) (member : Member) (agent : AgentFacts) (machine : M
       (subst (λ (n : ℕ). Emits cluster after had has (operate_events cluster member (record { request = n; asked = asked })) request_cost) asks.next took)
 
   -- or replies at once
-  pub replies-took : (after : Cluster) (call : RequestText) (reply : ReplyText) (kind : EventKind) (had has : List Event) → Replies reply ≡ answer_to view (option_copied view.seen) call → kind ≡ replying member reply
+  pub replies-took : (after : Cluster) (call : RequestText) (reply : ReplyText) (kind : EventKind) (had has : Listed) → Replies reply ≡ answer_to view (option_copied view.seen) call → kind ≡ replying member reply
       → Emits cluster after had has (event_of cluster kind) 1 → Emits cluster after had has (for_some (standing_of cluster member) (request_events_of cluster call member)) request_cost
   replies-took after call reply kind had has is kind_is took =
       answered-took after call (Replies reply) had has is

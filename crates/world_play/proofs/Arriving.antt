@@ -2,7 +2,6 @@
 use Rattle.std.proofs.Common.{◌≡◌, ◌≢◌, ℕ, ◌+◌, List, [], Option, Some, None, arith, refl, ap, sym, subst, ◌∙◌}
 use Rattle.std.specs.Int.{bit_at}
 use Rattle.pat_base.specs.declared.member_set.MemberSet.{MemberSet}
-use Rattle.event_book.specs.declared.event.Event.{Event}
 use Rattle.event_book.specs.declared.event.EventKind.TheVariants as kinds
 use Rattle.event_book.specs.declared.event.MessageEvent.TheVariants.{Delivered}
 use Rattle.event_book.specs.declared.link.LinkEnd.{LinkEnd}
@@ -10,6 +9,7 @@ use Rattle.event_book.specs.declared.link.LinkEnd.TheVariants as link_ends
 use Rattle.event_book.specs.declared.member.Member.{Member}
 use Rattle.event_book.specs.declared.message.Message.{Message}
 use Rattle.event_book.specs.Flight.{InFlightFacts, in_flight}
+use Rattle.event_list.specs.Listed.{Listed}
 use Rattle.agent_model.specs.declared.output.Output.{Output}
 use Rattle.agent_model.specs.Agents.{AgentFacts}
 use Rattle.cluster_model.specs.Cluster.{agent_after, agent_facts_reached, agent_facts_reached_at, cluster_after}
@@ -32,7 +32,7 @@ use Rattle.world_acts.proofs.Sleeping.{agent-elsewhere, agents-asleep}
 use Rattle.world_acts.proofs.Waking.{AreFew, input-few}
 
 -- the events of what came are those of its receiver
-arrival-is : (before after : Cluster) (had has : List Event) (number : ℕ) (message : InFlightFacts) (to : LinkEnd) → in_flight before.facts.flight number ≡ Some message → message.message.to ≡ to
+arrival-is : (before after : Cluster) (had has : Listed) (number : ℕ) (message : InFlightFacts) (to : LinkEnd) → in_flight before.facts.flight number ≡ Some message → message.message.to ≡ to
     → Emits before after had has (arrival_events_at before number message to) message_cost → Emits before after had has (for_some (in_flight before.facts.flight number) (arrival_events before number)) message_cost
 arrival-is before after had has number message to is receiver took =
     found-took InFlightFacts before after had has (arrival_events before number) (in_flight before.facts.flight number) message message_cost is
@@ -48,14 +48,14 @@ reached-asleep was asleep before number message to is receiver sleep same =
     record { each = agents.each }
 
 -- a message came to the key store
-pub record StoreCame (before after : Cluster) (had has : List Event) (outputs : List Output) (number : ℕ) (stored : Message) : Type 0 where
+pub record StoreCame (before after : Cluster) (had has : Listed) (outputs : List Output) (number : ℕ) (stored : Message) : Type 0 where
   pub short : IsShort stored.body
   pub none : outputs ≡ []
   pub asleep : (asleep : MemberSet) → AreAsleep asleep before → AreAsleep asleep after
   pub room : HasRoom before message_cost → HasRoom after decision_cost
-  pub answered : (last : Cluster) (all : List Event) → Emits after last has all (answer_events after number stored) decision_cost → Emits before last had all (for_some (in_flight before.facts.flight number) (arrival_events before number)) message_cost
+  pub answered : (last : Cluster) (all : Listed) → Emits after last has all (answer_events after number stored) decision_cost → Emits before last had all (for_some (in_flight before.facts.flight number) (arrival_events before number)) message_cost
 
-store-came-at : (before after : Cluster) (had has : List Event) (outputs : List Output) (number : ℕ) (stored : Message) (message : InFlightFacts) (to : LinkEnd) → in_flight before.facts.flight number ≡ Some message → message.message.to ≡ to
+store-came-at : (before after : Cluster) (had has : Listed) (outputs : List Output) (number : ℕ) (stored : Message) (message : InFlightFacts) (to : LinkEnd) → in_flight before.facts.flight number ≡ Some message → message.message.to ≡ to
     → Comes before after had has outputs number message (arrivals.AtStore stored) → ArrivesAt before number message to outputs (arrivals.AtStore stored) → StoreCame before after had has outputs number stored
 store-came-at before after had has outputs number stored message link_ends.Store is receiver came arrives = record {
   short = subst (λ (m : Message). IsShort m.body) (sym arrives.0) came.sent.short;
@@ -68,24 +68,24 @@ store-came-at before after had has outputs number stored message link_ends.Store
 }
 store-came-at before after had has outputs number stored message (link_ends.Member member) is receiver came arrives = absurd arrives
 
-store-came-if : (before after : Cluster) (had has : List Event) (outputs : List Output) (number : ℕ) (stored : Message) (found : Option InFlightFacts) → in_flight before.facts.flight number ≡ found
+store-came-if : (before after : Cluster) (had has : Listed) (outputs : List Output) (number : ℕ) (stored : Message) (found : Option InFlightFacts) → in_flight before.facts.flight number ≡ found
     → Landed before after had has outputs number found (Some (arrivals.AtStore stored)) → StoreCame before after had has outputs number stored
 store-came-if before after had has outputs number stored None is landed = absurd landed
 store-came-if before after had has outputs number stored (Some message) is landed = store-came-at before after had has outputs number stored message message.message.to is refl landed landed.arrives
 
-pub store-came : {before after : Cluster} {had has : List Event} {outputs : List Output} {number : ℕ} {arrival : Option Arrival} (stored : Message) → Landed before after had has outputs number (in_flight before.facts.flight number) arrival
+pub store-came : {before after : Cluster} {had has : Listed} {outputs : List Output} {number : ℕ} {arrival : Option Arrival} (stored : Message) → Landed before after had has outputs number (in_flight before.facts.flight number) arrival
     → arrival ≡ Some (arrivals.AtStore stored) → StoreCame before after had has outputs number stored
 store-came {before} {after} {had} {has} {outputs} {number} stored landed is =
     store-came-if before after had has outputs number stored (in_flight before.facts.flight number) refl (subst (λ (a : Option Arrival). Landed before after had has outputs number (in_flight before.facts.flight number) a) is landed)
 
 -- a message came to the agent of a member, which acted on it
-pub record AgentCame (before after : Cluster) (had has : List Event) (outputs : List Output) (number : ℕ) (member : Member) (heard : HeardMessage) : Type 0 where
+pub record AgentCame (before after : Cluster) (had has : Listed) (outputs : List Output) (number : ℕ) (member : Member) (heard : HeardMessage) : Type 0 where
   pub few : AreFew outputs
   pub asleep : (was asleep : MemberSet) → AreAsleep was before → bit_at asleep.bits member.id.number ≡ 0 → ((k : ℕ) → k ≢ member.id.number → bit_at asleep.bits k ≡ bit_at was.bits k) → AreAsleep asleep after
   pub room : HasRoom before message_cost → HasRoom after outputs_cost
-  pub acted : (last : Cluster) (all : List Event) → Emits after last has all (each (output_events member heard) after outputs) outputs_cost → Emits before last had all (for_some (in_flight before.facts.flight number) (arrival_events before number)) message_cost
+  pub acted : (last : Cluster) (all : Listed) → Emits after last has all (each (output_events member heard) after outputs) outputs_cost → Emits before last had all (for_some (in_flight before.facts.flight number) (arrival_events before number)) message_cost
 
-agent-came-at : (before after : Cluster) (had has : List Event) (outputs : List Output) (number : ℕ) (member : Member) (heard : HeardMessage) (message : InFlightFacts) (to : LinkEnd) → in_flight before.facts.flight number ≡ Some message
+agent-came-at : (before after : Cluster) (had has : Listed) (outputs : List Output) (number : ℕ) (member : Member) (heard : HeardMessage) (message : InFlightFacts) (to : LinkEnd) → in_flight before.facts.flight number ≡ Some message
     → message.message.to ≡ to → Comes before after had has outputs number message (arrivals.AtAgent member heard) → ArrivesAt before number message to outputs (arrivals.AtAgent member heard)
     → AgentCame before after had has outputs number member heard
 agent-came-at before after had has outputs number member heard message link_ends.Store is receiver came arrives = absurd arrives
@@ -107,12 +107,12 @@ agent-came-at before after had has outputs number member heard message (link_end
       hearing_cost outputs_cost message_cost came.emits done (omega arith));
 }
 
-agent-came-if : (before after : Cluster) (had has : List Event) (outputs : List Output) (number : ℕ) (member : Member) (heard : HeardMessage) (found : Option InFlightFacts) → in_flight before.facts.flight number ≡ found
+agent-came-if : (before after : Cluster) (had has : Listed) (outputs : List Output) (number : ℕ) (member : Member) (heard : HeardMessage) (found : Option InFlightFacts) → in_flight before.facts.flight number ≡ found
     → Landed before after had has outputs number found (Some (arrivals.AtAgent member heard)) → AgentCame before after had has outputs number member heard
 agent-came-if before after had has outputs number member heard None is landed = absurd landed
 agent-came-if before after had has outputs number member heard (Some message) is landed = agent-came-at before after had has outputs number member heard message message.message.to is refl landed landed.arrives
 
-pub agent-came : {before after : Cluster} {had has : List Event} {outputs : List Output} {number : ℕ} {arrival : Option Arrival} (member : Member) (heard : HeardMessage)
+pub agent-came : {before after : Cluster} {had has : Listed} {outputs : List Output} {number : ℕ} {arrival : Option Arrival} (member : Member) (heard : HeardMessage)
     → Landed before after had has outputs number (in_flight before.facts.flight number) arrival → arrival ≡ Some (arrivals.AtAgent member heard) → AgentCame before after had has outputs number member heard
 agent-came {before} {after} {had} {has} {outputs} {number} member heard landed is =
     agent-came-if before after had has outputs number member heard (in_flight before.facts.flight number) refl (subst (λ (a : Option Arrival). Landed before after had has outputs number (in_flight before.facts.flight number) a) is landed)

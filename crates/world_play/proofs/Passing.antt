@@ -1,5 +1,5 @@
 -- A round passes over messages that are kept.
-use Rattle.std.proofs.Common.{◌≡◌, ℕ, ◌+◌, ◌*◌, ◌≤◌, ◌<◌, nat_le, Bool, true, false, List, [], ◌∷◌, ◌++◌, length, filter, Option, Some, None, is_some, arith, append-nil, refl, ap, sym, ◌∙◌, subst, cond}
+use Rattle.std.proofs.Common.{◌≡◌, ℕ, ◌+◌, ◌*◌, ◌≤◌, ◌<◌, nat_le, Bool, true, false, List, [], ◌∷◌, ◌++◌, length, filter, Option, Some, None, is_some, arith, refl, ap, sym, ◌∙◌, subst, cond}
 use Rattle.std.specs.Prelude.{IfSome}
 use Rattle.std.specs.BTreeMap.{is_at}
 use Rattle.std.specs.List.{AllByRecursion as ByRecursion}
@@ -13,6 +13,8 @@ use Rattle.std.proofs.lemmas.Cmp.{ranked}
 use Rattle.std.proofs.lemmas.Option.{none-some}
 use Rattle.event_book.specs.declared.event.Event.{Event}
 use Rattle.event_book.specs.Flight.{Flight, InFlightFacts, in_flight}
+use Rattle.event_list.specs.Listed.{Listed, ◌+++◌}
+use Rattle.event_list.proofs.Appended.{appended-nil}
 use Rattle.cluster_model.specs.Cluster.{cluster_over}
 use Rattle.cluster_model.specs.Deliveries.{delivery_of}
 use Rattle.cluster_model.specs.Limits.{most_in_flight}
@@ -188,20 +190,20 @@ none-past last (entry ∷ entries) numbered =
 
 -- ---- a round on its way
 -- the messages with numbers from this one on are still to move; those that were sent meanwhile have greater numbers than the last
-pub record IsPassing (start cluster : Cluster) (had has : List Event) (from last : ℕ) : Type 0 where
+pub record IsPassing (start cluster : Cluster) (had has : Listed) (from last : ℕ) : Type 0 where
   pub left : Left start cluster had has (each message_events start (keys_of start.facts.flight)) (each message_events cluster (numbers_from from start.facts.flight)) (message_cost * most_in_flight) (message_cost * length (numbers_from from start.facts.flight))
   pub within : from ≤ last + 1
   pub low : last ≤ cluster.facts.sent
   pub absent : (n : ℕ) → n ≤ last → in_flight start.facts.flight n ≡ None → in_flight cluster.facts.flight n ≡ None
 
-pub passing-start : (start : Cluster) (had : List Event) (last : ℕ) → last ≡ start.facts.sent → length start.facts.flight ≤ most_in_flight → IsPassing start start had had 0 last
+pub passing-start : (start : Cluster) (had : Listed) (last : ℕ) → last ≡ start.facts.sent → length start.facts.flight ≤ most_in_flight → IsPassing start start had had 0 last
 passing-start start had last is few =
     let all : numbers_from 0 start.facts.flight ≡ keys_of start.facts.flight = ap keys_of (all-from 0 start.facts.flight (from-zero (keys_of start.facts.flight))) in
     let count : length (numbers_from 0 start.facts.flight) ≡ length start.facts.flight = ap length all ∙ keys-long start.facts.flight in
     record {
       left = record {
         state = ap (λ ns. cluster_over start (each message_events start ns)) all;
-        event = ap (λ ns. had ++ each message_events start ns) all;
+        event = ap (λ ns. had +++ each message_events start ns) all;
         room = λ more room. HasRoom-fewer start (message_cost * most_in_flight + more) (message_cost * length (numbers_from 0 start.facts.flight) + more) (omega (arith, count, few)) room;
       };
       within = omega arith;
@@ -210,7 +212,7 @@ passing-start start had last is few =
     }
 
 -- those before the next one are passed over
-pub passing-skip : (start cluster : Cluster) (had has : List Event) (from upto last : ℕ) → IsPassing start cluster had has from last → IsStrictlySortedBy nat_cmp (keys_of start.facts.flight) → from ≤ upto → upto ≤ last + 1
+pub passing-skip : (start cluster : Cluster) (had has : Listed) (from upto last : ℕ) → IsPassing start cluster had has from last → IsStrictlySortedBy nat_cmp (keys_of start.facts.flight) → from ≤ upto → upto ≤ last + 1
     → ((k : ℕ) → from ≤ k → k < upto → message_events cluster k ≡ []) → IsPassing start cluster had has upto last
 passing-skip start cluster had has from upto last p sorted low high still =
     let same = skip cluster from upto start.facts.flight sorted low still in
@@ -218,7 +220,7 @@ passing-skip start cluster had has from upto last p sorted low high still =
     record {
       left = record {
         state = ap (cluster_over cluster) (sym same) ∙ p.left.state;
-        event = ap (λ es. has ++ es) (sym same) ∙ p.left.event;
+        event = ap (λ es. has +++ es) (sym same) ∙ p.left.event;
         room = λ more room. HasRoom-fewer cluster (message_cost * length (numbers_from from start.facts.flight) + more) (message_cost * length (numbers_from upto start.facts.flight) + more) (omega (arith, few)) (p.left.room more room);
       };
       within = high;
@@ -230,7 +232,7 @@ passing-skip start cluster had has from upto last p sorted low high still =
 here-found : (n : ℕ) (entries : Flight) (found : Option InFlightFacts) → IsStrictlySortedBy nat_cmp (keys_of entries) → in_flight entries n ≡ found → numbers_from n entries ≡ cond (is_some found) (n ∷ numbers_from (n + 1) entries) (numbers_from (n + 1) entries)
 here-found n entries found sorted is = first-here n entries sorted ∙ ap (λ (o : Option InFlightFacts). cond (is_some o) (n ∷ numbers_from (n + 1) entries) (numbers_from (n + 1) entries)) is
 
-room-if : (start cluster : Cluster) (had has : List Event) (n last : ℕ) (found later : Option InFlightFacts) → in_flight start.facts.flight n ≡ found → IsPassing start cluster had has n last → IsStrictlySortedBy nat_cmp (keys_of start.facts.flight)
+room-if : (start cluster : Cluster) (had has : Listed) (n last : ℕ) (found later : Option InFlightFacts) → in_flight start.facts.flight n ≡ found → IsPassing start cluster had has n last → IsStrictlySortedBy nat_cmp (keys_of start.facts.flight)
     → HasRoom start (message_cost * most_in_flight) → (found ≡ None → later ≡ None) → IfSome later (λ m. HasRoom cluster message_cost)
 room-if start cluster had has n last found None is p sorted room gone = tt
 room-if start cluster had has n last None (Some m) is p sorted room gone = absurd (none-some m (sym (gone refl)))
@@ -240,12 +242,12 @@ room-if start cluster had has n last (Some message) (Some m) is p sorted room go
     (p.left.room 0 (HasRoom-fewer start (message_cost * most_in_flight) (message_cost * most_in_flight + 0) (omega arith) room))
 
 -- there is room for one that is in flight
-pub passing-room : (start cluster : Cluster) (had has : List Event) (n last : ℕ) → IsPassing start cluster had has n last → IsStrictlySortedBy nat_cmp (keys_of start.facts.flight) → n ≤ last → HasRoom start (message_cost * most_in_flight)
+pub passing-room : (start cluster : Cluster) (had has : Listed) (n last : ℕ) → IsPassing start cluster had has n last → IsStrictlySortedBy nat_cmp (keys_of start.facts.flight) → n ≤ last → HasRoom start (message_cost * most_in_flight)
     → IfSome (in_flight cluster.facts.flight n) (λ m. HasRoom cluster message_cost)
 passing-room start cluster had has n last p sorted low room =
     room-if start cluster had has n last (in_flight start.facts.flight n) (in_flight cluster.facts.flight n) refl p sorted room (λ none. p.absent n low none)
 
-moved-if : (start cluster next : Cluster) (had has longer : List Event) (n last : ℕ) (found : Option InFlightFacts) → in_flight start.facts.flight n ≡ found → IsPassing start cluster had has n last → IsStrictlySortedBy nat_cmp (keys_of start.facts.flight) → n ≤ last
+moved-if : (start cluster next : Cluster) (had has longer : Listed) (n last : ℕ) (found : Option InFlightFacts) → in_flight start.facts.flight n ≡ found → IsPassing start cluster had has n last → IsStrictlySortedBy nat_cmp (keys_of start.facts.flight) → n ≤ last
     → Emits cluster next has longer (message_events cluster n) message_cost
     → Left start next had longer (each message_events start (keys_of start.facts.flight)) (each message_events next (numbers_from (n + 1) start.facts.flight)) (message_cost * most_in_flight) (message_cost * length (numbers_from (n + 1) start.facts.flight))
 moved-if start cluster next had has longer n last (Some message) is p sorted low took =
@@ -257,13 +259,13 @@ moved-if start cluster next had has longer n last None is p sorted low took =
     let here = here-found n start.facts.flight None sorted is in
     let nothing : message_events cluster n ≡ [] = ap (λ (o : Option InFlightFacts). for_some o (λ m. message_events_by cluster n m (delivery_of cluster.facts.cuts cluster.facts.processes m.message))) (p.absent n low is) in
     let same : next ≡ cluster = took.state ∙ ap (cluster_over cluster) nothing in
-    let written : longer ≡ has = took.event ∙ ap (λ es. has ++ es) nothing ∙ append-nil has in
+    let written : longer ≡ has = took.event ∙ ap (λ es. has +++ es) nothing ∙ appended-nil has in
     subst (λ (c : Cluster). Left start c had longer (each message_events start (keys_of start.facts.flight)) (each message_events c (numbers_from (n + 1) start.facts.flight)) (message_cost * most_in_flight) (message_cost * length (numbers_from (n + 1) start.facts.flight))) (sym same)
-    (subst (λ (es : List Event). Left start cluster had es (each message_events start (keys_of start.facts.flight)) (each message_events cluster (numbers_from (n + 1) start.facts.flight)) (message_cost * most_in_flight) (message_cost * length (numbers_from (n + 1) start.facts.flight))) (sym written)
+    (subst (λ (es : Listed). Left start cluster had es (each message_events start (keys_of start.facts.flight)) (each message_events cluster (numbers_from (n + 1) start.facts.flight)) (message_cost * most_in_flight) (message_cost * length (numbers_from (n + 1) start.facts.flight))) (sym written)
     (subst (λ (ns : List ℕ). Left start cluster had has (each message_events start (keys_of start.facts.flight)) (each message_events cluster ns) (message_cost * most_in_flight) (message_cost * length ns)) here p.left))
 
 -- and it moves
-pub passing-more : (start cluster next : Cluster) (had has longer : List Event) (n last : ℕ) → IsPassing start cluster had has n last → IsStrictlySortedBy nat_cmp (keys_of start.facts.flight) → n ≤ last
+pub passing-more : (start cluster next : Cluster) (had has longer : Listed) (n last : ℕ) → IsPassing start cluster had has n last → IsStrictlySortedBy nat_cmp (keys_of start.facts.flight) → n ≤ last
     → Emits cluster next has longer (message_events cluster n) message_cost → IsPassing start next had longer (n + 1) last
 passing-more start cluster next had has longer n last p sorted low took =
     let above = message-above last cluster n p.low in
@@ -275,7 +277,7 @@ passing-more start cluster next had has longer n last p sorted low took =
     }
 
 -- none is left that may move
-pub passing-end : (start cluster : Cluster) (had has : List Event) (from last : ℕ) → IsPassing start cluster had has from last → IsStrictlySortedBy nat_cmp (keys_of start.facts.flight) → AreNumbered last start.facts.flight
+pub passing-end : (start cluster : Cluster) (had has : Listed) (from last : ℕ) → IsPassing start cluster had has from last → IsStrictlySortedBy nat_cmp (keys_of start.facts.flight) → AreNumbered last start.facts.flight
     → ((k : ℕ) → from ≤ k → k ≤ last → message_events cluster k ≡ []) → Emits start cluster had has (each message_events start (keys_of start.facts.flight)) (message_cost * most_in_flight)
 passing-end start cluster had has from last p sorted numbered still =
     let past = passing-skip start cluster had has from (last + 1) last p sorted p.within (omega arith) (λ k low high. still k low (omega (arith, high))) in

@@ -8,7 +8,7 @@ ghost use Rattle.world_model.specs.Room.{HasRoom, request_cost};
 
 use crate::requests::make_request;
 use cluster_model::Asker;
-use event_book::Event;
+use event_list::EventList;
 use pat_base::MemberId;
 use patronictl::{CtlAnswer, ctl_answer};
 use rest_message::Request;
@@ -17,9 +17,9 @@ use world_fields::members::member_at;
 use world_stage::Stage;
 
 /// An operator types these words behind patronictl: what it prints is written down, and its request is made.
-pub fn take_words(stage: &mut Stage, said: &str, events: &mut Vec<Event>) -> Result<(), AllocError>
+pub fn take_words(stage: &mut Stage, said: &str, events: &mut EventList) -> Result<(), AllocError>
     requires { HasRoom stage.old request_cost }
-    ensures { OnOk result (Emits stage.old stage.new events.old.items events.new.items (ctl_events stage.old (ctl_told_at stage.old said.now)) request_cost) }
+    ensures { OnOk result (Emits stage.old stage.new events.old events.new (ctl_events stage.old (ctl_told_at stage.old said.now)) request_cost) }
 {
     match told_at(stage, said)? {
         CtlAnswer::Prints(lines) => stage.print(lines, events),
@@ -40,10 +40,10 @@ fn ask(
     stage: &mut Stage,
     id: MemberId,
     request: &Request,
-    events: &mut Vec<Event>,
+    events: &mut EventList,
 ) -> Result<(), AllocError>
     requires { HasRoom stage.old request_cost }
-    ensures { OnOk result (Emits stage.old stage.new events.old.items events.new.items (asking_events stage.old id (request_text request.now)) request_cost) }
+    ensures { OnOk result (Emits stage.old stage.new events.old events.new (asking_events stage.old id (request_text request.now)) request_cost) }
 {
     let Some(member) = member_at(stage.members(), id) else {
         return Ok(());

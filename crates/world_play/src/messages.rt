@@ -10,7 +10,8 @@ ghost use Rattle.world_model.specs.Emits.{Emits};
 ghost use Rattle.world_acts.specs.Asleep.{AreAsleep};
 
 use cluster_model::Delivery;
-use event_book::{Event, EventKind, MessageEvent, Note};
+use event_book::{EventKind, MessageEvent, Note};
+use event_list::EventList;
 use pat_base::MemberSet;
 use std::alloc::AllocError;
 use world_acts::carrying::carry_out;
@@ -23,11 +24,11 @@ use world_stage::{Arrival, Stage};
 pub fn pass_messages(
     stage: &mut Stage,
     mut asleep: MemberSet,
-    events: &mut Vec<Event>,
+    events: &mut EventList,
 ) -> Result<MemberSet, AllocError>
     requires room { HasRoom stage.old (message_cost * most_in_flight) }
     requires asleep { AreAsleep asleep stage.old }
-    ensures emits { OnOk result (Emits stage.old stage.new events.old.items events.new.items (each message_events stage.old (keys_of stage.old.facts.flight)) (message_cost * most_in_flight)) }
+    ensures emits { OnOk result (Emits stage.old stage.new events.old events.new (each message_events stage.old (keys_of stage.old.facts.flight)) (message_cost * most_in_flight)) }
     ensures asleep { IfOk result (λ known. AreAsleep known stage.new) }
 {
     if !stage.has_messages() {
@@ -49,11 +50,11 @@ fn pass_message(
     stage: &mut Stage,
     number: u64,
     asleep: MemberSet,
-    events: &mut Vec<Event>,
+    events: &mut EventList,
 ) -> Result<MemberSet, AllocError>
     requires room { IfSome (in_flight stage.old.facts.flight number) (λ m. HasRoom stage.old message_cost) }
     requires asleep { AreAsleep asleep stage.old }
-    ensures emits { OnOk result (Emits stage.old stage.new events.old.items events.new.items (message_events stage.old number) message_cost) }
+    ensures emits { OnOk result (Emits stage.old stage.new events.old events.new (message_events stage.old number) message_cost) }
     ensures asleep { IfOk result (λ known. AreAsleep known stage.new) }
 {
     match stage.delivery(number) {
@@ -74,9 +75,9 @@ fn pass_message(
 }
 
 /// A script delivers a message, where it is in flight and nothing stands in its way.
-pub fn deliver(stage: &mut Stage, number: u64, events: &mut Vec<Event>) -> Result<(), AllocError>
+pub fn deliver(stage: &mut Stage, number: u64, events: &mut EventList) -> Result<(), AllocError>
     requires { HasRoom stage.old message_cost }
-    ensures { OnOk result (Emits stage.old stage.new events.old.items events.new.items (deliver_events stage.old number (in_flight stage.old.facts.flight number)) message_cost) }
+    ensures { OnOk result (Emits stage.old stage.new events.old events.new (deliver_events stage.old number (in_flight stage.old.facts.flight number)) message_cost) }
 {
     match stage.delivery(number) {
         None => write_down(
@@ -95,17 +96,17 @@ pub fn deliver(stage: &mut Stage, number: u64, events: &mut Vec<Event>) -> Resul
 }
 
 /// A message that can't come to its receiver now stays in flight, and that is noted.
-fn leave(stage: &mut Stage, number: u64, events: &mut Vec<Event>) -> Result<(), AllocError>
+fn leave(stage: &mut Stage, number: u64, events: &mut EventList) -> Result<(), AllocError>
     requires { HasRoom stage.old 1 }
-    ensures { OnOk result (Emits stage.old stage.new events.old.items events.new.items (event_of stage.old (EventKind.Note (Note.Undeliverable number))) 1) }
+    ensures { OnOk result (Emits stage.old stage.new events.old events.new (event_of stage.old (EventKind.Note (Note.Undeliverable number))) 1) }
 {
     stage.happen(EventKind::Note(Note::Undeliverable { number }), events)
 }
 
 /// A script loses a message, where it is in flight.
-pub fn lose(stage: &mut Stage, number: u64, events: &mut Vec<Event>) -> Result<(), AllocError>
+pub fn lose(stage: &mut Stage, number: u64, events: &mut EventList) -> Result<(), AllocError>
     requires { HasRoom stage.old 1 }
-    ensures { OnOk result (Emits stage.old stage.new events.old.items events.new.items (lose_events stage.old number (in_flight stage.old.facts.flight number)) 1) }
+    ensures { OnOk result (Emits stage.old stage.new events.old events.new (lose_events stage.old number (in_flight stage.old.facts.flight number)) 1) }
 {
     match stage.delivery(number) {
         None => write_down(
@@ -118,9 +119,9 @@ pub fn lose(stage: &mut Stage, number: u64, events: &mut Vec<Event>) -> Result<(
 }
 
 /// A message in flight is lost.
-fn drop_message(stage: &mut Stage, number: u64, events: &mut Vec<Event>) -> Result<(), AllocError>
+fn drop_message(stage: &mut Stage, number: u64, events: &mut EventList) -> Result<(), AllocError>
     requires { HasRoom stage.old 1 }
-    ensures { OnOk result (Emits stage.old stage.new events.old.items events.new.items (event_of stage.old (EventKind.Message (MessageEvent.Lost number))) 1) }
+    ensures { OnOk result (Emits stage.old stage.new events.old events.new (event_of stage.old (EventKind.Message (MessageEvent.Lost number))) 1) }
 {
     stage.happen(EventKind::Message(MessageEvent::Lost { number }), events)
 }
@@ -130,11 +131,11 @@ fn arrive(
     stage: &mut Stage,
     number: u64,
     asleep: MemberSet,
-    events: &mut Vec<Event>,
+    events: &mut EventList,
 ) -> Result<MemberSet, AllocError>
     requires room { HasRoom stage.old message_cost }
     requires asleep { AreAsleep asleep stage.old }
-    ensures emits { OnOk result (Emits stage.old stage.new events.old.items events.new.items (for_some (in_flight stage.old.facts.flight number) (arrival_events stage.old number)) message_cost) }
+    ensures emits { OnOk result (Emits stage.old stage.new events.old events.new (for_some (in_flight stage.old.facts.flight number) (arrival_events stage.old number)) message_cost) }
     ensures asleep { IfOk result (λ known. AreAsleep known stage.new) }
 {
     let mut outputs = stage.take_outputs()?;
@@ -147,13 +148,13 @@ fn arrive(
             let from = events.len();
             stage.answer(number, message.get(), events)?;
             stage.give_back(outputs);
-            Ok(still_asleep(asleep, &events[from..]))
+            Ok(still_asleep(asleep, events, from))
         }
         Some(Arrival::AtAgent(member, heard)) => {
             let from = events.len();
             carry_out(stage, member, heard, &mut outputs, events)?;
             stage.give_back(outputs);
-            Ok(still_asleep(asleep.without(member.id), &events[from..]))
+            Ok(still_asleep(asleep.without(member.id), events, from))
         }
     }
 }

@@ -7,7 +7,8 @@ ghost use Rattle.world_model.specs.Emits.{Emits};
 ghost use Rattle.world_model.specs.Room.{HasRoom, request_cost};
 
 use cluster_model::{Asker, Visit};
-use event_book::{Event, EventKind, Member, Note};
+use event_book::{EventKind, Member, Note};
+use event_list::EventList;
 use rest_answer::{Answer, answer, refusal_reply};
 use rest_message::Verb;
 use std::alloc::AllocError;
@@ -23,10 +24,10 @@ pub fn receive_visit(
     stage: &mut Stage,
     member: Member,
     visit: &Visit,
-    events: &mut Vec<Event>,
+    events: &mut EventList,
 ) -> Result<(), AllocError>
     requires { HasRoom stage.old request_cost }
-    ensures { OnOk result (Emits stage.old stage.new events.old.items events.new.items (visit_events stage.old visit.now member) request_cost) }
+    ensures { OnOk result (Emits stage.old stage.new events.old events.new (visit_events stage.old visit.now member) request_cost) }
 {
     match visit {
         Visit::Request(request) => make_request(
@@ -54,10 +55,10 @@ pub fn make_request(
     verb: Verb,
     target: &str,
     body: &[u8],
-    events: &mut Vec<Event>,
+    events: &mut EventList,
 ) -> Result<(), AllocError>
     requires { HasRoom stage.old request_cost }
-    ensures { OnOk result (Emits stage.old stage.new events.old.items events.new.items (request_events stage.old asker (record { verb = verb; target = target.now; body = body.now }) member) request_cost) }
+    ensures { OnOk result (Emits stage.old stage.new events.old events.new (request_events stage.old asker (record { verb = verb; target = target.now; body = body.now }) member) request_cost) }
 {
     let Some(process) = stage.process(member) else {
         return Ok(());
@@ -77,10 +78,10 @@ fn ask_agent(
     verb: Verb,
     target: &str,
     body: &[u8],
-    events: &mut Vec<Event>,
+    events: &mut EventList,
 ) -> Result<(), AllocError>
     requires { HasRoom stage.old request_cost }
-    ensures { OnOk result (Emits stage.old stage.new events.old.items events.new.items (for_some (standing_of stage.old member) (request_events_of stage.old (record { verb = verb; target = target.now; body = body.now }) member)) request_cost) }
+    ensures { OnOk result (Emits stage.old stage.new events.old events.new (for_some (standing_of stage.old member) (request_events_of stage.old (record { verb = verb; target = target.now; body = body.now }) member)) request_cost) }
 {
     let Some(machine) = stage.machine(member) else {
         return Ok(());
@@ -110,10 +111,10 @@ fn operate(
     stage: &mut Stage,
     member: Member,
     action: OperatorAction,
-    events: &mut Vec<Event>,
+    events: &mut EventList,
 ) -> Result<(), AllocError>
     requires { HasRoom stage.old request_cost }
-    ensures { OnOk result (Emits stage.old stage.new events.old.items events.new.items (operate_events stage.old member action) request_cost) }
+    ensures { OnOk result (Emits stage.old stage.new events.old events.new (operate_events stage.old member action) request_cost) }
 {
     let mut outputs = stage.take_outputs()?;
     stage.obey(member, action, &mut outputs, events)?;

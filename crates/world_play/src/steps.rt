@@ -1,14 +1,14 @@
 //! The steps of a run: ticks, and what commands come to.
-ghost use Rattle.std.specs.Prelude.{◌≡◌, ◌<◌, ◌+◌, ◌*◌, ◌&&◌, not, OnOk, IfOk, IfSome, Some};
+ghost use Rattle.std.specs.Prelude.{◌≡◌, ◌<◌, ◌+◌, ◌*◌, ◌&&◌, not, drop, OnOk, IfOk, IfSome, Some};
 ghost use Rattle.script_model.specs.Script.{IsCommand};
-ghost use Rattle.event_book.specs.declared.event.Event.{Event};
+ghost use Rattle.event_list.specs.Marks.{stir_replicas};
 ghost use Rattle.cluster_model.specs.Acknowledging.{AreAcknowledged};
 ghost use Rattle.cluster_model.specs.Limits.{most_rounds};
 ghost use Rattle.cluster_model.specs.Next.{round_events, rounds_events, declared, command_events, command_kind, scheduled_events, step_events, next_events};
 ghost use Rattle.cluster_model.specs.Steps.{IsStep, names_in};
 ghost use Rattle.world_model.specs.Comes.{MayCome};
 ghost use Rattle.world_model.specs.Emits.{Emits};
-ghost use Rattle.world_model.specs.Idle.{IfCaughtUp, stir_replicas};
+ghost use Rattle.world_model.specs.Idle.{IfCaughtUp};
 ghost use Rattle.world_model.specs.Room.{HasRoom, HasRoomFor, command_cost, round_cost, rounds_cost, schedule_cost, step_cost};
 ghost use Rattle.world_acts.specs.Asleep.{AreAsleep};
 
@@ -16,7 +16,8 @@ use crate::ctl::take_words;
 use crate::messages::{deliver, lose, pass_messages};
 use crate::requests::{make_request, receive_visit};
 use cluster_model::{Asker, Step};
-use event_book::{Event, EventKind};
+use event_book::EventKind;
+use event_list::EventList;
 use pat_base::MemberSet;
 use rest_message::Verb;
 use script_model::Command;
@@ -27,7 +28,7 @@ use world_fields::links::{cut_of, join_of};
 use world_orders::server_commands::{commit_of, crash_of, freezing_of, slow_of};
 use world_parts::processes::{kill_of, resume_of, suspend_of};
 use world_stage::Stage;
-use world_ticks::receiving::{all_receive, receive, stir_replicas};
+use world_ticks::receiving::{all_receive, receive};
 use world_ticks::ticks::tick;
 
 /// The most rounds of one tick.
@@ -39,19 +40,19 @@ pub fn take_step(
     stage: &mut Stage,
     step: &Step,
     caught_up: bool,
-    events: &mut Vec<Event>,
+    events: &mut EventList,
 ) -> Result<bool, AllocError>
     requires room { HasRoomFor stage.old 1 }
     requires declared { IsStep stage.old.facts.members step.now }
     requires caught_up { IfCaughtUp caught_up stage.old }
-    ensures emits { OnOk result (Emits stage.old stage.new events.old.items events.new.items (next_events stage.old step.now) step_cost) }
+    ensures emits { OnOk result (Emits stage.old stage.new events.old events.new (next_events stage.old step.now) step_cost) }
     ensures acknowledged { OnOk result (AreAcknowledged stage.new.facts.members stage.new.facts.servers) }
     ensures caught_up { IfOk result (λ known. IfCaughtUp known stage.new) }
 {
     let caught_up = perform(stage, step, caught_up, events)?;
     let from = events.len();
     stage.acknowledge_all(events)?;
-    Ok(still_caught_up(caught_up, &events[from..]))
+    Ok(still_caught_up(caught_up, events, from))
 }
 
 /// What happens in a step.
@@ -59,12 +60,12 @@ fn perform(
     stage: &mut Stage,
     step: &Step,
     caught_up: bool,
-    events: &mut Vec<Event>,
+    events: &mut EventList,
 ) -> Result<bool, AllocError>
     requires room { HasRoomFor stage.old 1 }
     requires declared { IsStep stage.old.facts.members step.now }
     requires caught_up { IfCaughtUp caught_up stage.old }
-    ensures emits { OnOk result (Emits stage.old stage.new events.old.items events.new.items (step_events stage.old step.now) step_cost) }
+    ensures emits { OnOk result (Emits stage.old stage.new events.old events.new (step_events stage.old step.now) step_cost) }
     ensures caught_up { IfOk result (λ known. IfCaughtUp known stage.new) }
 {
     match step {
@@ -76,50 +77,46 @@ fn perform(
         Step::Command(command) => {
             let from = events.len();
             take_command(stage, command, events)?;
-            Ok(still_caught_up(caught_up, &events[from..]))
+            Ok(still_caught_up(caught_up, events, from))
         }
         Step::Connection(id, visit) => {
             let from = events.len();
             let member = stage.declared(*id);
             receive_visit(stage, member, visit, events)?;
-            Ok(still_caught_up(caught_up, &events[from..]))
+            Ok(still_caught_up(caught_up, events, from))
         }
     }
 }
 
 /// A tick of the default schedule: replicas receive, and then agents are woken and messages come.
-fn scheduled(
-    stage: &mut Stage,
-    caught_up: bool,
-    events: &mut Vec<Event>,
-) -> Result<bool, AllocError>
+fn scheduled(stage: &mut Stage, caught_up: bool, events: &mut EventList) -> Result<bool, AllocError>
     requires room { HasRoom stage.old schedule_cost }
     requires caught_up { IfCaughtUp caught_up stage.old }
-    ensures emits { OnOk result (Emits stage.old stage.new events.old.items events.new.items (scheduled_events stage.old) schedule_cost) }
+    ensures emits { OnOk result (Emits stage.old stage.new events.old events.new (scheduled_events stage.old) schedule_cost) }
     ensures caught_up { IfOk result (λ known. IfCaughtUp known stage.new) }
 {
     let caught_up = all_receive(stage, caught_up, events)?;
     let from = events.len();
     rounds(stage, events)?;
-    Ok(still_caught_up(caught_up, &events[from..]))
+    Ok(still_caught_up(caught_up, events, from))
 }
 
-/// Whether all servers are known to have caught up behind these events, given whether they were before.
-fn still_caught_up(caught_up: bool, events: &[Event]) -> bool
-    ensures { result ≡ (caught_up && not (stir_replicas events.now)) }
+/// Whether all servers are known to have caught up behind all of these events, given whether they were behind the first so many.
+fn still_caught_up(caught_up: bool, events: &EventList, from: usize) -> bool
+    ensures { result ≡ (caught_up && not (stir_replicas (drop from events.now.items))) }
 {
-    caught_up && !stir_replicas(events)
+    caught_up && !events.stir_replicas(from)
 }
 
 /// What a command comes to.
 fn take_command(
     stage: &mut Stage,
     command: &Command,
-    events: &mut Vec<Event>,
+    events: &mut EventList,
 ) -> Result<(), AllocError>
     requires room { HasRoom stage.old command_cost }
     requires declared { IsCommand (names_in stage.old.facts.members) command.now }
-    ensures { OnOk result (Emits stage.old stage.new events.old.items events.new.items (command_events stage.old command.now) command_cost) }
+    ensures { OnOk result (Emits stage.old stage.new events.old events.new (command_events stage.old command.now) command_cost) }
 {
     match command {
         Command::Turn(id) => {
@@ -199,9 +196,9 @@ fn command_kind(stage: &Stage, command: &Command) -> Option<EventKind>
 
 /// The rounds of a tick. A round in which nothing happens is the last. Behind the first one only agents are looked at that were woken
 /// or heard something since, as long as nothing else happens that may give others something to do.
-fn rounds(stage: &mut Stage, events: &mut Vec<Event>) -> Result<(), AllocError>
+fn rounds(stage: &mut Stage, events: &mut EventList) -> Result<(), AllocError>
     requires { HasRoom stage.old rounds_cost }
-    ensures { OnOk result (Emits stage.old stage.new events.old.items events.new.items (rounds_events stage.old most_rounds) rounds_cost) }
+    ensures { OnOk result (Emits stage.old stage.new events.old events.new (rounds_events stage.old most_rounds) rounds_cost) }
 {
     let mut asleep = MemberSet::empty();
     for done in 0..MOST_ROUNDS {
@@ -219,11 +216,11 @@ fn rounds(stage: &mut Stage, events: &mut Vec<Event>) -> Result<(), AllocError>
 fn round(
     stage: &mut Stage,
     asleep: MemberSet,
-    events: &mut Vec<Event>,
+    events: &mut EventList,
 ) -> Result<MemberSet, AllocError>
     requires room { HasRoom stage.old round_cost }
     requires asleep { AreAsleep asleep stage.old }
-    ensures emits { OnOk result (Emits stage.old stage.new events.old.items events.new.items (round_events stage.old) round_cost) }
+    ensures emits { OnOk result (Emits stage.old stage.new events.old events.new (round_events stage.old) round_cost) }
     ensures asleep { IfOk result (λ known. AreAsleep known stage.new) }
 {
     let asleep = wakes(stage, asleep, events)?;

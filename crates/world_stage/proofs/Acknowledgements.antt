@@ -20,6 +20,7 @@ use Rattle.event_book.specs.declared.event.ReplicationEvent.TheVariants as repli
 use Rattle.event_book.specs.declared.member.Member.{Member}
 use Rattle.event_book.specs.declared.member.ServerOf.{ServerOf}
 use Rattle.event_book.specs.Members.{server_of}
+use Rattle.event_list.specs.Listed.{Listed, ◌+++◌}
 use Rattle.cluster_model.specs.Acknowledging.{acknowledge_kinds, acknowledgement, acknowledgements, confirmed_front, ready_commits, AreAcknowledged, IsDone}
 use Rattle.cluster_model.specs.Cluster.{cluster_after, cluster_over}
 use Rattle.cluster_model.specs.Losing.{loss_of, losses_of}
@@ -132,10 +133,10 @@ HasRoom-acknowledged cluster member commit events room = record {
 }
 
 -- what the loop does once
-pub acknowledged-one : (cluster : Cluster) (member : Member) (commit : ℕ) (s : ServerFacts) (server : ServerOf) (known : List ServerFacts) (told : List ℕ) (tick : Ticks) (has longer : List Event)
+pub acknowledged-one : (cluster : Cluster) (member : Member) (commit : ℕ) (s : ServerFacts) (server : ServerOf) (known : List ServerFacts) (told : List ℕ) (tick : Ticks) (has longer : Listed)
     → slice_get cluster.facts.servers member.id.number ≡ Some s → next_acknowledged s ≡ Some commit → known ≡ with_changed cluster.facts.servers member.id.number acknowledged
     → told ≡ cluster.facts.acknowledged ++ commit ∷ [] → server ≡ server_of member → tick.0 ≡ cluster.facts.clock
-    → longer ≡ has ++ record { tick = tick; kind = kinds.Replication (replications.Acknowledged server commit) } ∷ []
+    → longer ≡ has +++ record { tick = tick; kind = kinds.Replication (replications.Acknowledged server commit) } ∷ []
     → Emits cluster (telling cluster known told) has longer (event_of cluster (acknowledgement member commit)) 0
 acknowledged-one cluster member commit s server known told tick has longer there next known_is told_is server_is at longer_is =
     let place = member.id.number in
@@ -146,7 +147,7 @@ acknowledged-one cluster member commit s server known told tick has longer there
     ∙ ap (telling cluster (with_changed cluster.facts.servers place one_told)) told_is ∙ sym (serving-cluster_after cluster kind tt) in
     record {
       state = state;
-      event = longer_is ∙ ap (λ (x : ServerOf). has ++ record { tick = tick; kind = kinds.Replication (replications.Acknowledged x commit) } ∷ []) server_is ∙ ap (λ es. has ++ es) (stamped-is cluster tick kind at);
+      event = longer_is ∙ ap (λ (x : ServerOf). has +++ record { tick = tick; kind = kinds.Replication (replications.Acknowledged x commit) } ∷ []) server_is ∙ ap (λ es. has +++ es) (stamped-is cluster tick kind at);
       room = λ more room. subst (λ (c : Cluster). HasRoom c more) (sym state) (HasRoom-acknowledged cluster member commit more (HasRoom-fewer cluster (0 + more) more (omega arith) room));
     }
 
@@ -215,11 +216,11 @@ acknowledged-rest cluster member commit s there next =
     ∙ ap (λ es. told_events cluster member commit ++ es) (sym same)
     ∙ ap (λ (c : Cluster). told_events cluster member commit ++ acknowledge_events c member) (sym (told-over cluster member commit))
 
-pub acknowledge-more : (start cluster view : Cluster) (member : Member) (commit : ℕ) (server : ServerOf) (known : List ServerFacts) (told : List ℕ) (tick : Ticks) (had has longer longest whole : List Event)
+pub acknowledge-more : (start cluster view : Cluster) (member : Member) (commit : ℕ) (server : ServerOf) (known : List ServerFacts) (told : List ℕ) (tick : Ticks) (had has longer longest : Listed) (whole : List Event)
     → Left start cluster had has whole (acknowledge_events cluster member) 0 0 → option_and_then next_acknowledged (slice_get cluster.facts.servers member.id.number) ≡ Some commit
     → known ≡ with_changed cluster.facts.servers member.id.number acknowledged → told ≡ cluster.facts.acknowledged ++ commit ∷ [] → server ≡ server_of member → tick.0 ≡ cluster.facts.clock
-    → longer ≡ has ++ record { tick = tick; kind = kinds.Replication (replications.Acknowledged server commit) } ∷ []
-    → telling cluster known told ≡ view → longest ≡ longer ++ at_once view (losses_of commit view.facts.servers view.facts.members)
+    → longer ≡ has +++ record { tick = tick; kind = kinds.Replication (replications.Acknowledged server commit) } ∷ []
+    → telling cluster known told ≡ view → longest ≡ longer +++ at_once view (losses_of commit view.facts.servers view.facts.members)
     → Left start (telling cluster known told) had longest whole (acknowledge_events (telling cluster known told) member) 0 0
 acknowledge-more start cluster view member commit server known told tick had has longer longest whole left is known_is told_is server_is at longer_is view_is longest_is =
     let found = found-next (slice_get cluster.facts.servers member.id.number) commit is in
@@ -229,7 +230,7 @@ acknowledge-more start cluster view member commit server known told tick had has
     let servers : known ≡ with_changed cluster.facts.servers place one_told = known_is ∙ ap (changed_at cluster.facts.servers place acknowledged) found.1
     ∙ ap (slice_set cluster.facts.servers place) (ready-next found.0 commit found.2).1 ∙ sym (ap (changed_at cluster.facts.servers place one_told) found.1) in
     let lost : losses_of commit known cluster.facts.members ≡ losses = ap (λ (xs : List ServerFacts). losses_of commit xs cluster.facts.members) servers ∙ losses-same cluster.facts.servers place found.0 commit cluster.facts.members found.1 in
-    let written : longest ≡ longer ++ at_once after losses = longest_is ∙ ap (λ (c : Cluster). longer ++ at_once c (losses_of commit c.facts.servers c.facts.members)) (sym view_is) ∙ ap (λ (ks : List EventKind). longer ++ at_once after ks) lost in
+    let written : longest ≡ longer +++ at_once after losses = longest_is ∙ ap (λ (c : Cluster). longer +++ at_once c (losses_of commit c.facts.servers c.facts.members)) (sym view_is) ∙ ap (λ (ks : List EventKind). longer +++ at_once after ks) lost in
     let one = acknowledged-one cluster member commit found.0 server known told tick has longer found.1 found.2 known_is told_is server_is at longer_is in
     let two = quiet-took after losses longer longest (losses-quiet after commit cluster.facts.servers cluster.facts.members) written in
     Left-more start cluster after had has longest whole (told_events cluster member commit) (λ later. acknowledge_events later member) _ 0 0 0 0 left
@@ -256,7 +257,7 @@ no-kinds known members member None is = refl
 no-kinds known members member (Some s) is = ap (acknowledgements known members member) (ready-none s is).1
 
 -- none is left
-pub acknowledge-end : (start cluster : Cluster) (member : Member) (known : List ServerFacts) (had has whole : List Event)
+pub acknowledge-end : (start cluster : Cluster) (member : Member) (known : List ServerFacts) (had has : Listed) (whole : List Event)
     → Left start cluster had has whole (acknowledge_events cluster member) 0 0 → option_and_then next_acknowledged (slice_get cluster.facts.servers member.id.number) ≡ None
     → known ≡ with_changed cluster.facts.servers member.id.number acknowledged → Emits start (telling cluster known cluster.facts.acknowledged) had has whole 0
 acknowledge-end start cluster member known had has whole left none known_is =
@@ -345,7 +346,7 @@ done-each cluster (member ∷ more) =
     (Keeps-then cluster next end one.0 rest.0, All-cons (λ (m : Member). DoneAt end m.id.number) member more (rest.0.done member.id.number one.1) rest.1)
 
 -- after that no commit is left that may be acknowledged
-pub acknowledged-all : (before after : Cluster) (had has : List Event) (cost : ℕ) → Emits before after had has (each acknowledge_events before before.facts.members) cost → AreAcknowledged after.facts.members after.facts.servers
+pub acknowledged-all : (before after : Cluster) (had has : Listed) (cost : ℕ) → Emits before after had has (each acknowledge_events before before.facts.members) cost → AreAcknowledged after.facts.members after.facts.servers
 acknowledged-all before after had has cost took =
     let all = done-each before before.facts.members in
     let end : Cluster = cluster_over before (each acknowledge_events before before.facts.members) in

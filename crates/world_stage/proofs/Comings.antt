@@ -1,10 +1,9 @@
 -- What happens keeps what a world keeps.
-use Rattle.std.proofs.Common.{◌≡◌, ◌≤◌, arith, ℕ, Bool, List, [], ◌∷◌, ◌++◌, Option, refl, ◌∙◌, ap, sym}
+use Rattle.std.proofs.Common.{◌≡◌, ◌≤◌, arith, ℕ, Bool, List, [], ◌∷◌, Option, refl, ◌∙◌, ap, sym}
 use Rattle.pat_base.specs.declared.ticks.Ticks.{Ticks}
 use Rattle.lease_store.specs.Keys.{Keys}
 use Rattle.pg_model.specs.Facts.{ServerFacts}
 use Rattle.event_book.specs.declared.agent_process.AgentProcess.{AgentProcess}
-use Rattle.event_book.specs.declared.event.Event.{Event}
 use Rattle.event_book.specs.declared.event.EventKind.{EventKind}
 use Rattle.event_book.specs.declared.event.EventKind.TheVariants as kinds
 use Rattle.event_book.specs.declared.event.AgentEvent.{AgentEvent}
@@ -20,6 +19,7 @@ use Rattle.event_book.specs.Links.{CutLinks, cuts_after}
 use Rattle.event_book.specs.Processes.{processes_after}
 use Rattle.event_book.specs.Servers.{servers_after}
 use Rattle.event_book.specs.Watchdogs.{deadlines_after, holds_after}
+use Rattle.event_list.specs.Listed.{Listed, ◌+++◌}
 use Rattle.agent_model.specs.Agents.{AgentFacts}
 use Rattle.cluster_model.specs.Cluster.{agent_facts_after, agent_facts_by, agent_facts_by_message, agent_facts_moved, cluster_after}
 use Rattle.cluster_model.specs.FailsafeDeadlines.{failsafe_deadlines_after}
@@ -38,10 +38,10 @@ sent-same last (kinds.Message (messages.Sent number message)) bare = absurd bare
 sent-same last _ bare = refl
 
 -- one thing happened, and was written down
-pub Emits-told : (before after : Cluster) (tick : Ticks) (kind : EventKind) (had has : List Event) → Counts before kind → after ≡ cluster_after before kind → tick.0 ≡ after.facts.clock → has ≡ had ++ record { tick = tick; kind = kind } ∷ []
+pub Emits-told : (before after : Cluster) (tick : Ticks) (kind : EventKind) (had has : Listed) → Counts before kind → after ≡ cluster_after before kind → tick.0 ≡ after.facts.clock → has ≡ had +++ record { tick = tick; kind = kind } ∷ []
     → Emits before after had has (event_of before kind) (event_cost kind)
 Emits-told before after tick kind had has counts state at told =
-    Emits-one before after had has kind counts state (told ∙ ap (λ es. had ++ es) (stamped-is before tick kind (at ∙ ap (λ (c : Cluster). c.facts.clock) state)))
+    Emits-one before after had has kind counts state (told ∙ ap (λ es. had +++ es) (stamped-is before tick kind (at ∙ ap (λ (c : Cluster). c.facts.clock) state)))
 
 bare-agent : (happening : AgentEvent) → IsBare (kinds.Agent happening) → agent_event_cost happening ≤ 1
 bare-agent (agents.Woken member) bare = absurd bare
@@ -58,7 +58,7 @@ bare-cost (kinds.Agent happening) bare = bare-agent happening bare
 bare-cost (kinds.Message happening) bare = bare-message happening bare
 bare-cost _ bare = omega arith
 
-pub Emits-bare : (before after : Cluster) (tick : Ticks) (kind : EventKind) (had has : List Event) → IsBare kind → Counts before kind → after ≡ cluster_after before kind → tick.0 ≡ after.facts.clock → has ≡ had ++ record { tick = tick; kind = kind } ∷ []
+pub Emits-bare : (before after : Cluster) (tick : Ticks) (kind : EventKind) (had has : Listed) → IsBare kind → Counts before kind → after ≡ cluster_after before kind → tick.0 ≡ after.facts.clock → has ≡ had +++ record { tick = tick; kind = kind } ∷ []
     → Emits before after had has (event_of before kind) 1
 Emits-bare before after tick kind had has bare counts state at told =
     Emits-weaker before after had has (event_of before kind) (event_cost kind) 1 (Emits-told before after tick kind had has counts state at told) (bare-cost kind bare)

@@ -1,12 +1,12 @@
 -- Messages that come to their receivers: what they leave, and what is written down.
-use Rattle.std.proofs.Common.{◌≡◌, ℕ, List, [], ◌∷◌, ◌++◌, Some, refl, ◌∙◌, ap, sym, subst, Option}
+use Rattle.std.proofs.Common.{◌≡◌, ℕ, List, [], ◌∷◌, Some, refl, ◌∙◌, ap, sym, subst, Option}
 use Rattle.pat_base.specs.declared.ticks.Ticks.{Ticks}
-use Rattle.event_book.specs.declared.event.Event.{Event}
 use Rattle.event_book.specs.declared.event.EventKind.TheVariants as kinds
 use Rattle.event_book.specs.declared.event.MessageEvent.TheVariants.{Delivered}
 use Rattle.event_book.specs.declared.link.LinkEnd.{LinkEnd}
 use Rattle.event_book.specs.declared.link.LinkEnd.TheVariants as link_ends
 use Rattle.event_book.specs.Flight.{Flight, InFlightFacts, in_flight, without_message}
+use Rattle.event_list.specs.Listed.{Listed, ◌+++◌}
 use Rattle.agent_model.specs.declared.output.Output.{Output}
 use Rattle.cluster_model.specs.Cluster.{agent_facts_reached_at, cluster_after}
 use Rattle.cluster_model.specs.State.{Cluster}
@@ -33,9 +33,9 @@ arrives-without cluster flight number message (link_ends.Member at) outputs (arr
 arrives-without cluster flight number message (link_ends.Member at) outputs (arrivals.AtAgent member heard) arrives = arrives
 
 -- a message that was in flight reached its receiver, and that is written down
-pub landed-as : (cluster after : Cluster) (flight : Flight) (had has : List Event) (outputs : List Output) (number : ℕ) (message : InFlightFacts) (arrival : Arrival) (tick : Ticks) → flight ≡ without_message cluster.facts.flight number
+pub landed-as : (cluster after : Cluster) (flight : Flight) (had has : Listed) (outputs : List Output) (number : ℕ) (message : InFlightFacts) (arrival : Arrival) (tick : Ticks) → flight ≡ without_message cluster.facts.flight number
     → in_flight cluster.facts.flight number ≡ Some message → IsSent message → Reaches (without cluster flight) after outputs number message message.message.to arrival → tick.0 ≡ after.facts.clock
-    → has ≡ had ++ record { tick = tick; kind = kinds.Message (Delivered number) } ∷ [] → Landed cluster after had has outputs number (in_flight cluster.facts.flight number) (Some arrival)
+    → has ≡ had +++ record { tick = tick; kind = kinds.Message (Delivered number) } ∷ [] → Landed cluster after had has outputs number (in_flight cluster.facts.flight number) (Some arrival)
 landed-as cluster after flight had has outputs number message arrival tick flies found sent reaches at told =
     let to = message.message.to in
     let state : after ≡ cluster_after cluster (kinds.Message (Delivered number)) =

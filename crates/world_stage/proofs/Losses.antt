@@ -6,6 +6,7 @@ use Rattle.pg_model.specs.Facts.{ServerFacts}
 use Rattle.event_book.specs.declared.event.Event.{Event}
 use Rattle.event_book.specs.declared.event.EventKind.{EventKind}
 use Rattle.event_book.specs.declared.member.Member.{Member}
+use Rattle.event_list.specs.Listed.{Listed, ◌+++◌}
 use Rattle.cluster_model.specs.Cluster.{cluster_over}
 use Rattle.cluster_model.specs.Commands.{kinds_of}
 use Rattle.cluster_model.specs.Losing.{is_lacking, loss_if, loss_of, losses_of}
@@ -48,5 +49,5 @@ losses-quiet cluster commit known (member ∷ members) =
     quiet-both cluster (loss_of commit member (slice_get known member.id.number)) (losses_of commit known members) (quiet-at cluster commit member (slice_get known member.id.number)) (losses-quiet cluster commit known members)
 
 -- they were written down
-pub quiet-took : (cluster : Cluster) (kinds : List EventKind) (had has : List Event) → IsQuiet cluster kinds → has ≡ had ++ at_once cluster kinds → Emits cluster cluster had has (at_once cluster kinds) 0
+pub quiet-took : (cluster : Cluster) (kinds : List EventKind) (had has : Listed) → IsQuiet cluster kinds → has ≡ had +++ at_once cluster kinds → Emits cluster cluster had has (at_once cluster kinds) 0
 quiet-took cluster kinds had has quiet is = record { state = sym quiet.still; event = is; room = λ more room. HasRoom-fewer cluster (0 + more) more (omega arith) room }

@@ -12,6 +12,7 @@ use Rattle.event_book.specs.declared.event.ServerEvent.TheVariants as servers
 use Rattle.event_book.specs.declared.member.Member.{Member}
 use Rattle.event_book.specs.declared.member.ServerOf.{ServerOf}
 use Rattle.event_book.specs.Members.{server_of}
+use Rattle.event_list.specs.Listed.{Listed}
 use Rattle.cluster_model.specs.declared.beginning.Beginning.{Beginning}
 use Rattle.cluster_model.specs.declared.beginning.Beginning.TheVariants as beginnings
 use Rattle.cluster_model.specs.declared.beginning.Completion.{Completion}
@@ -197,7 +198,7 @@ ended-comes cluster member server server_is is = subst (λ (x : ServerOf). MayCo
 
 -- ---- what came
 -- it began on this timeline, and then it was told that it lacks a commit, or wasn't
-pub began-took : (cluster after : Cluster) (member : Member) (timeline : ℕ) (server : ServerOf) (loss : Option EventKind) (had has : List Event) → server ≡ server_of member
+pub began-took : (cluster after : Cluster) (member : Member) (timeline : ℕ) (server : ServerOf) (loss : Option EventKind) (had has : Listed) → server ≡ server_of member
     → loss ≡ option_and_then (loss_of_any cluster.facts.acknowledged member) (slice_get cluster.facts.servers member.id.number)
     → Emits cluster after had has (events_of cluster (kinds.Server (servers.Began server timeline) ∷ kinds_of loss)) beginning_cost → Emits cluster after had has (beginning_at cluster member timeline) beginning_cost
 began-took cluster after member timeline server loss had has server_is told took =
@@ -206,17 +207,17 @@ began-took cluster after member timeline server loss had has server_is told took
     ∙ ap (λ (o : Option EventKind). events_of cluster (kinds.Server (servers.Began (server_of member) timeline) ∷ kinds_of o)) told) took
 
 -- these events are those
-pub as-took : (cluster after : Cluster) (had has events those : List Event) (cost : ℕ) → those ≡ events → Emits cluster after had has events cost → Emits cluster after had has those cost
+pub as-took : (cluster after : Cluster) (had has : Listed) (events those : List Event) (cost : ℕ) → those ≡ events → Emits cluster after had has events cost → Emits cluster after had has those cost
 as-took cluster after had has events those cost is took = subst (λ (es : List Event). Emits cluster after had has es cost) (sym is) took
 
 -- one event of this server
-pub server-took : (cluster after : Cluster) (had has those : List Event) (member : Member) (server : ServerOf) (kind : ServerOf → EventKind) → server ≡ server_of member → those ≡ event_of cluster (kind (server_of member))
+pub server-took : (cluster after : Cluster) (had has : Listed) (those : List Event) (member : Member) (server : ServerOf) (kind : ServerOf → EventKind) → server ≡ server_of member → those ≡ event_of cluster (kind (server_of member))
     → Emits cluster after had has (event_of cluster (kind server)) 1 → Emits cluster after had has those beginning_cost
 server-took cluster after had has those member server kind server_is is took =
     as-took cluster after had has (event_of cluster (kind (server_of member))) those beginning_cost is
     (Emits-weaker cluster after had has (event_of cluster (kind (server_of member))) 1 beginning_cost (subst (λ (x : ServerOf). Emits cluster after had has (event_of cluster (kind x)) 1) server_is took) (omega arith))
 
-pub nothing-took : (cluster : Cluster) (had those : List Event) (cost : ℕ) → those ≡ [] → Emits cluster cluster had had those cost
+pub nothing-took : (cluster : Cluster) (had : Listed) (those : List Event) (cost : ℕ) → those ≡ [] → Emits cluster cluster had had those cost
 nothing-took cluster had those cost is = as-took cluster cluster had had [] those cost is (Emits-nothing cluster had cost)
 
 -- ---- by its operator
@@ -240,12 +241,12 @@ promoted-is cluster member (Some s) timeline is =
     ∙ ap (λ (t : ℕ). events_of cluster (told ∷ beginning_kinds member t cluster.facts.acknowledged s.log)) replica.1
 
 -- which keeps it a replica, that may begin
-pub told-comes : (cluster told : Cluster) (member : Member) (timeline : ℕ) (server : ServerOf) (had mid : List Event) → option_and_then promoted_timeline (slice_get cluster.facts.servers member.id.number) ≡ Some timeline
+pub told-comes : (cluster told : Cluster) (member : Member) (timeline : ℕ) (server : ServerOf) (had mid : Listed) → option_and_then promoted_timeline (slice_get cluster.facts.servers member.id.number) ≡ Some timeline
     → Emits cluster told had mid (event_of cluster (kinds.Server (servers.Promoted server))) 1 → HasRoom cluster promotion_cost → MayCome told (kinds.Server (servers.Began (server_of member) timeline))
 told-comes cluster told member timeline server had mid is one room =
     promoted-comes told member timeline (one.room beginning_cost room) (ap (λ (c : Cluster). option_and_then promoted_timeline (slice_get c.facts.servers member.id.number)) one.state ∙ is)
 
-pub promoted-took : (cluster told after : Cluster) (member : Member) (timeline : ℕ) (server : ServerOf) (had mid has : List Event)
+pub promoted-took : (cluster told after : Cluster) (member : Member) (timeline : ℕ) (server : ServerOf) (had mid has : Listed)
     → option_and_then promoted_timeline (slice_get cluster.facts.servers member.id.number) ≡ Some timeline → server ≡ server_of member
     → Emits cluster told had mid (event_of cluster (kinds.Server (servers.Promoted server))) 1 → Emits told after mid has (beginning_at told member timeline) beginning_cost
     → Emits cluster after had has (promote_events cluster member) promotion_cost

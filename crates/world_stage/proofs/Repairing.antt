@@ -1,5 +1,5 @@
 -- The log of a server is repaired by that of another: one event, after which the servers are as it tells.
-use Rattle.std.proofs.Common.{◌≡◌, ℕ, ◌&&◌, Bool, true, false, cond, List, [], ◌∷◌, ◌++◌, Option, Some, None, option_map, refl, ◌∙◌, ap, sym, subst}
+use Rattle.std.proofs.Common.{◌≡◌, ℕ, ◌&&◌, Bool, true, false, cond, List, [], ◌∷◌, Option, Some, None, option_map, refl, ◌∙◌, ap, sym, subst}
 use Rattle.std.specs.Prelude.{slice_get, if◌then◌else◌}
 use Rattle.pat_base.specs.declared.ticks.Ticks.{Ticks}
 use Rattle.pat_base.specs.Changes.{changed_at, with_changed}
@@ -9,13 +9,13 @@ use Rattle.pg_model.specs.Facts.{ServerFacts, is_creating}
 use Rattle.pg_cluster.specs.Rewinding.{changed_from, cloned_at, holds_between, may_clone_at, may_rewind_at, rewind_at, rewind_between, rewound_at}
 use Rattle.pg_model.specs.Rewinding.{cloned, is_rewindable, may_clone, may_rewind, rewound, rewound_to}
 use Rattle.pg_cluster.proofs.Rewinds.{rewound_at-told}
-use Rattle.event_book.specs.declared.event.Event.{Event}
 use Rattle.event_book.specs.declared.event.EventKind.TheVariants as kinds
 use Rattle.event_book.specs.declared.event.LogEvent.TheVariants as logs
 use Rattle.event_book.specs.declared.member.Member.{Member}
 use Rattle.event_book.specs.declared.member.ServerOf.{ServerOf}
 use Rattle.event_book.specs.Members.{server_of}
 use Rattle.event_book.specs.Servers.{becomes_copy, copied_by, cut_to, goes_back}
+use Rattle.event_list.specs.Listed.{Listed, ◌+++◌}
 use Rattle.cluster_model.specs.Commands.{kinds_of}
 use Rattle.cluster_model.specs.Orders.{copying, rewinding}
 use Rattle.cluster_model.specs.Parts.{events_of}
@@ -56,15 +56,15 @@ rewound-by known place from rewind (Some s) (Some source) p q e is =
 rewound-told : (known : List ServerFacts) (place from : ℕ) (rewind : Rewound) → rewind_at known place from ≡ Some rewind → rewound_at known place from ≡ with_changed known place (goes_back rewind.kept (slice_get known from))
 rewound-told known place from rewind is = rewound-by known place from rewind (slice_get known place) (slice_get known from) refl refl is is
 
-pub rewound-took : (cluster : Cluster) (member leader : Member) (rewind : Rewound) (server from : ServerOf) (known : List ServerFacts) (tick : Ticks) (had has : List Event)
+pub rewound-took : (cluster : Cluster) (member leader : Member) (rewind : Rewound) (server from : ServerOf) (known : List ServerFacts) (tick : Ticks) (had has : Listed)
     → rewind_at cluster.facts.servers member.id.number leader.id.number ≡ Some rewind → known ≡ rewound_at cluster.facts.servers member.id.number leader.id.number
-    → server ≡ server_of member → from ≡ server_of leader → tick.0 ≡ cluster.facts.clock → has ≡ had ++ record { tick = tick; kind = kinds.Log (logs.Rewound server from rewind.kept rewind.at) } ∷ []
+    → server ≡ server_of member → from ≡ server_of leader → tick.0 ≡ cluster.facts.clock → has ≡ had +++ record { tick = tick; kind = kinds.Log (logs.Rewound server from rewind.kept rewind.at) } ∷ []
     → Emits cluster (with_servers cluster known) had has (events_of cluster (kinds_of (option_map (rewinding member leader) (rewind_at cluster.facts.servers member.id.number leader.id.number)))) 1
 rewound-took cluster member leader rewind server from known tick had has is state server_is from_is moment has_is =
     let place = member.id.number in
-    let written : has ≡ had ++ record { tick = tick; kind = rewinding member leader rewind } ∷ [] = has_is
-    ∙ ap (λ (s : ServerOf). had ++ record { tick = tick; kind = kinds.Log (logs.Rewound s from rewind.kept rewind.at) } ∷ []) server_is
-    ∙ ap (λ (s : ServerOf). had ++ record { tick = tick; kind = kinds.Log (logs.Rewound (server_of member) s rewind.kept rewind.at) } ∷ []) from_is in
+    let written : has ≡ had +++ record { tick = tick; kind = rewinding member leader rewind } ∷ [] = has_is
+    ∙ ap (λ (s : ServerOf). had +++ record { tick = tick; kind = kinds.Log (logs.Rewound s from rewind.kept rewind.at) } ∷ []) server_is
+    ∙ ap (λ (s : ServerOf). had +++ record { tick = tick; kind = kinds.Log (logs.Rewound (server_of member) s rewind.kept rewind.at) } ∷ []) from_is in
     subst (λ (o : Option Rewound). Emits cluster (with_servers cluster known) had has (events_of cluster (kinds_of (option_map (rewinding member leader) o))) 1) (sym is)
     (serving-took cluster (with_servers cluster known) (rewinding member leader rewind) tick had has tt tt (ap (with_servers cluster) (state ∙ rewound-told cluster.facts.servers place leader.id.number rewind is)) moment written)
 
@@ -78,7 +78,7 @@ not-rewound known place from (Some s) None p q e = rw (p, q) refl
 not-rewound known place from (Some s) (Some source) p q e = rw (p, q) (not-may (may_rewind s source) _ e)
 
 -- nothing is rewound
-pub unrewound-took : (cluster : Cluster) (member leader : Member) (known : List ServerFacts) (had : List Event)
+pub unrewound-took : (cluster : Cluster) (member leader : Member) (known : List ServerFacts) (had : Listed)
     → rewind_at cluster.facts.servers member.id.number leader.id.number ≡ None → known ≡ rewound_at cluster.facts.servers member.id.number leader.id.number
     → Emits cluster (with_servers cluster known) had had (events_of cluster (kinds_of (option_map (rewinding member leader) (rewind_at cluster.facts.servers member.id.number leader.id.number)))) 1
 unrewound-took cluster member leader known had none state =
@@ -113,20 +113,20 @@ cloned-told known place from may =
     ap (λ (b : Bool). cond b (changed_from known place cloned (slice_get known from)) known) may
     ∙ cloned-by known place (slice_get known place) (slice_get known from) refl may
 
-pub copied-took : (cluster : Cluster) (member leader : Member) (server from : ServerOf) (known : List ServerFacts) (tick : Ticks) (had has : List Event)
+pub copied-took : (cluster : Cluster) (member leader : Member) (server from : ServerOf) (known : List ServerFacts) (tick : Ticks) (had has : Listed)
     → may_clone_at cluster.facts.servers member.id.number leader.id.number ≡ true → known ≡ cloned_at cluster.facts.servers member.id.number leader.id.number
-    → server ≡ server_of member → from ≡ server_of leader → tick.0 ≡ cluster.facts.clock → has ≡ had ++ record { tick = tick; kind = kinds.Log (logs.Copied server from) } ∷ []
+    → server ≡ server_of member → from ≡ server_of leader → tick.0 ≡ cluster.facts.clock → has ≡ had +++ record { tick = tick; kind = kinds.Log (logs.Copied server from) } ∷ []
     → Emits cluster (with_servers cluster known) had has (events_of cluster (kinds_of (if may_clone_at cluster.facts.servers member.id.number leader.id.number then Some (copying member leader) else None))) 1
 copied-took cluster member leader server from known tick had has may state server_is from_is moment has_is =
     let place = member.id.number in
-    let written : has ≡ had ++ record { tick = tick; kind = copying member leader } ∷ [] = has_is
-    ∙ ap (λ (s : ServerOf). had ++ record { tick = tick; kind = kinds.Log (logs.Copied s from) } ∷ []) server_is
-    ∙ ap (λ (s : ServerOf). had ++ record { tick = tick; kind = kinds.Log (logs.Copied (server_of member) s) } ∷ []) from_is in
+    let written : has ≡ had +++ record { tick = tick; kind = copying member leader } ∷ [] = has_is
+    ∙ ap (λ (s : ServerOf). had +++ record { tick = tick; kind = kinds.Log (logs.Copied s from) } ∷ []) server_is
+    ∙ ap (λ (s : ServerOf). had +++ record { tick = tick; kind = kinds.Log (logs.Copied (server_of member) s) } ∷ []) from_is in
     subst (λ (b : Bool). Emits cluster (with_servers cluster known) had has (events_of cluster (kinds_of (if b then Some (copying member leader) else None))) 1) (sym may)
     (serving-took cluster (with_servers cluster known) (copying member leader) tick had has tt tt (ap (with_servers cluster) (state ∙ cloned-told cluster.facts.servers place leader.id.number may)) moment written)
 
 -- nothing is copied
-pub uncopied-took : (cluster : Cluster) (member leader : Member) (known : List ServerFacts) (had : List Event)
+pub uncopied-took : (cluster : Cluster) (member leader : Member) (known : List ServerFacts) (had : Listed)
     → may_clone_at cluster.facts.servers member.id.number leader.id.number ≡ false → known ≡ cloned_at cluster.facts.servers member.id.number leader.id.number
     → Emits cluster (with_servers cluster known) had had (events_of cluster (kinds_of (if may_clone_at cluster.facts.servers member.id.number leader.id.number then Some (copying member leader) else None))) 1
 uncopied-took cluster member leader known had may state =

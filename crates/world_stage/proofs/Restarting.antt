@@ -1,5 +1,5 @@
 -- Servers that start again in their role.
-use Rattle.std.proofs.Common.{◌≤◌, ◌≡◌, ℕ, ◌==◌, not, Bool, true, false, List, [], ◌∷◌, ◌++◌, Option, Some, None, arith, set-set, refl, ◌∙◌, ap, sym, subst}
+use Rattle.std.proofs.Common.{◌≤◌, ◌≡◌, ℕ, ◌==◌, not, Bool, true, false, List, [], ◌∷◌, Option, Some, None, arith, set-set, refl, ◌∙◌, ap, sym, subst}
 use Rattle.std.specs.Prelude.{if◌then◌else◌, option_and_then, option_map, slice_get, slice_set}
 use Rattle.std.proofs.lemmas.Option.{same_Some, slice_get_within}
 use Rattle.pat_base.specs.declared.server_state.State.{State}
@@ -9,7 +9,6 @@ use Rattle.pat_base.specs.Changes.{changed_at, with_changed}
 use Rattle.pg_model.specs.Facts.{ServerFacts}
 use Rattle.pg_model.specs.Running.{moment_after, primary_started, restarted, restarted_in, started, stopped}
 use Rattle.pg_model.proofs.Lists.{got-set_same}
-use Rattle.event_book.specs.declared.event.Event.{Event}
 use Rattle.event_book.specs.declared.event.EventKind.{EventKind}
 use Rattle.event_book.specs.declared.event.EventKind.TheVariants as kinds
 use Rattle.event_book.specs.declared.event.ServerEvent.TheVariants as servers
@@ -17,6 +16,7 @@ use Rattle.event_book.specs.declared.member.Member.{Member}
 use Rattle.event_book.specs.declared.member.ServerOf.{ServerOf}
 use Rattle.event_book.specs.Members.{server_of}
 use Rattle.event_book.specs.Servers.{begun_in, starts_as_primary}
+use Rattle.event_list.specs.Listed.{Listed, ◌+++◌}
 use Rattle.cluster_model.specs.declared.beginning.Beginning.{Beginning}
 use Rattle.cluster_model.specs.declared.beginning.Beginning.TheVariants as beginnings
 use Rattle.cluster_model.specs.Beginnings.{again_by, kinds_by, server_restart_in, server_restart_kinds}
@@ -105,11 +105,11 @@ primary-restarts cluster member beginning a =
     ∙ ap (λ (b : Beginning). events_of cluster (kinds.Server (servers.Ended (server_of member)) ∷ kinds_by member cluster.facts.acknowledged a.server.log (Some b))) a.again
 
 -- its end is noted, and then how it starts
-abbrev NotesBoth : ServerOf → (ServerOf → EventKind) → Ticks → List Event → List Event → List Event → Type 0
-NotesBoth server next tick had one two = (one ≡ had ++ record { tick = tick; kind = kinds.Server (servers.Ended server) } ∷ []) × (two ≡ one ++ record { tick = tick; kind = next server } ∷ [])
+abbrev NotesBoth : ServerOf → (ServerOf → EventKind) → Ticks → Listed → Listed → Listed → Type 0
+NotesBoth server next tick had one two = (one ≡ had +++ record { tick = tick; kind = kinds.Server (servers.Ended server) } ∷ []) × (two ≡ one +++ record { tick = tick; kind = next server } ∷ [])
 
 -- both are what happened
-both-took : (cluster : Cluster) (member : Member) (server : ServerOf) (next : ServerOf → EventKind) (tick : Ticks) (had one two : List Event) → server ≡ server_of member → tick.0 ≡ cluster.facts.clock → Counts (cluster_after cluster (kinds.Server (servers.Ended server))) (next server) → event_cost (next server) ≤ 1
+both-took : (cluster : Cluster) (member : Member) (server : ServerOf) (next : ServerOf → EventKind) (tick : Ticks) (had one two : Listed) → server ≡ server_of member → tick.0 ≡ cluster.facts.clock → Counts (cluster_after cluster (kinds.Server (servers.Ended server))) (next server) → event_cost (next server) ≤ 1
     → restarted_at cluster member ≡ cluster_after (cluster_after cluster (kinds.Server (servers.Ended (server_of member)))) (next (server_of member)) → NotesBoth server next tick had one two
     → Emits cluster (restarted_at cluster member) had two (events_of cluster (kinds.Server (servers.Ended server) ∷ next server ∷ [])) beginning_cost
 both-took cluster member server next tick had one two server_is at counts few leaves notes =
@@ -127,7 +127,7 @@ abbrev starting : ServerOf → EventKind
 starting server = kinds.Server (servers.StartsAsPrimary server)
 
 -- it ends, and begins at once: before its loss is told
-begun-took : (cluster : Cluster) (member : Member) (timeline : ℕ) (server : ServerOf) (tick : Ticks) (had one two : List Event) → BeginsAgain cluster member (beginnings.AtOnce timeline) → server ≡ server_of member → tick.0 ≡ cluster.facts.clock
+begun-took : (cluster : Cluster) (member : Member) (timeline : ℕ) (server : ServerOf) (tick : Ticks) (had one two : Listed) → BeginsAgain cluster member (beginnings.AtOnce timeline) → server ≡ server_of member → tick.0 ≡ cluster.facts.clock
     → NotesBoth server (beginning timeline) tick had one two → Emits cluster (restarted_at cluster member) had two (events_of cluster (kinds.Server (servers.Ended server) ∷ beginning timeline server ∷ [])) beginning_cost
 begun-took cluster member timeline server tick had one two a server_is at notes =
     let now : Ticks = moment_of cluster in
@@ -136,12 +136,12 @@ begun-took cluster member timeline server tick had one two a server_is at notes 
     (ap (with_servers cluster) (changed-twice cluster.facts.servers member.id.number stopped (λ s. begun_in s.state s) (restarted now) s a.there (begins-again now s a.primary (at-once (s.start_delay.0 == 0) s.timeline timeline a.again)))) notes
 
 -- there is room for the note of its loss then
-pub begun-room : (cluster : Cluster) (member : Member) (timeline : ℕ) (server : ServerOf) (tick : Ticks) (had one two : List Event) → BeginsAgain cluster member (beginnings.AtOnce timeline) → server ≡ server_of member → tick.0 ≡ cluster.facts.clock
+pub begun-room : (cluster : Cluster) (member : Member) (timeline : ℕ) (server : ServerOf) (tick : Ticks) (had one two : Listed) → BeginsAgain cluster member (beginnings.AtOnce timeline) → server ≡ server_of member → tick.0 ≡ cluster.facts.clock
     → NotesBoth server (beginning timeline) tick had one two → HasRoom cluster server_restart_cost → HasRoom (restarted_at cluster member) 1
 begun-room cluster member timeline server tick had one two a server_is at notes room = (begun-took cluster member timeline server tick had one two a server_is at notes).room 1 room
 
 -- it ends, and begins at once
-pub begins-took : (cluster after : Cluster) (member : Member) (timeline : ℕ) (server : ServerOf) (loss : Option EventKind) (tick : Ticks) (had one two has : List Event) → BeginsAgain cluster member (beginnings.AtOnce timeline) → server ≡ server_of member → tick.0 ≡ cluster.facts.clock
+pub begins-took : (cluster after : Cluster) (member : Member) (timeline : ℕ) (server : ServerOf) (loss : Option EventKind) (tick : Ticks) (had one two has : Listed) → BeginsAgain cluster member (beginnings.AtOnce timeline) → server ≡ server_of member → tick.0 ≡ cluster.facts.clock
     → loss ≡ option_and_then (loss_of_any cluster.facts.acknowledged member) (slice_get cluster.facts.servers member.id.number) → NotesBoth server (beginning timeline) tick had one two
     → Emits (restarted_at cluster member) after two has (events_of (restarted_at cluster member) (kinds_of loss)) 1 → Emits cluster after had has (server_restart_events cluster member) server_restart_cost
 begins-took cluster after member timeline server loss tick had one two has a server_is at lost notes rest =
@@ -155,7 +155,7 @@ begins-took cluster after member timeline server loss tick had one two has a ser
     ∙ ap (λ (x : ServerOf). events_of cluster (kinds.Server (servers.Ended x) ∷ beginning timeline x ∷ kinds_of loss)) (sym server_is)) both
 
 -- it ends, and its start begins
-pub starts-took : (cluster : Cluster) (member : Member) (server : ServerOf) (tick : Ticks) (had one two : List Event) → BeginsAgain cluster member beginnings.WithItsStart → server ≡ server_of member → tick.0 ≡ cluster.facts.clock
+pub starts-took : (cluster : Cluster) (member : Member) (server : ServerOf) (tick : Ticks) (had one two : Listed) → BeginsAgain cluster member beginnings.WithItsStart → server ≡ server_of member → tick.0 ≡ cluster.facts.clock
     → NotesBoth server starting tick had one two → Emits cluster (restarted_at cluster member) had two (server_restart_events cluster member) server_restart_cost
 starts-took cluster member server tick had one two a server_is at notes =
     let now : ℕ = cluster.facts.clock in

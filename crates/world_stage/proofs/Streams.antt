@@ -1,5 +1,5 @@
 -- What replicas receive and confirm, one event at a time.
-use Rattle.std.proofs.Common.{◌≡◌, ℕ, ◌==◌, ◌&&◌, Bool, true, false, List, [], ◌∷◌, ◌++◌, Option, Some, None, arith, refl, ◌∙◌, ap, sym, subst}
+use Rattle.std.proofs.Common.{◌≡◌, ℕ, ◌==◌, ◌&&◌, Bool, true, false, List, [], ◌∷◌, Option, Some, None, arith, refl, ◌∙◌, ap, sym, subst}
 use Rattle.std.specs.Prelude.{slice_get, if◌then◌else◌}
 use Rattle.pat_base.specs.declared.lsn.Lsn.{Lsn}
 use Rattle.pat_base.specs.declared.ticks.Ticks.{Ticks}
@@ -9,7 +9,6 @@ use Rattle.pg_model.specs.declared.answers.Streamed.TheVariants as streams
 use Rattle.pg_model.specs.Facts.{ServerFacts}
 use Rattle.pg_model.specs.Replication.{confirming, is_current, news_by, stream_of}
 use Rattle.pg_cluster.specs.Servers.{after_news_at, news_at, news_between, streamed_at, after_streamed_from}
-use Rattle.event_book.specs.declared.event.Event.{Event}
 use Rattle.event_book.specs.declared.event.EventKind.{EventKind}
 use Rattle.event_book.specs.declared.event.EventKind.TheVariants as kinds
 use Rattle.event_book.specs.declared.event.LogEvent.TheVariants as logs
@@ -19,6 +18,7 @@ use Rattle.event_book.specs.declared.member.Member.{Member}
 use Rattle.event_book.specs.declared.member.ServerOf.{ServerOf}
 use Rattle.event_book.specs.Members.{server_of}
 use Rattle.event_book.specs.Servers.{received_by}
+use Rattle.event_list.specs.Listed.{Listed, ◌+++◌}
 use Rattle.cluster_model.specs.Cluster.{cluster_after}
 use Rattle.cluster_model.specs.State.{Cluster}
 use Rattle.cluster_model.specs.Commands.{kinds_of}
@@ -40,17 +40,17 @@ abbrev confirmed : ServerOf → Member → Lsn → EventKind
 confirmed server member end = kinds.Replication (replications.Confirmed server member end)
 
 -- a replica confirmed the end of its log
-pub confirm-took : (cluster : Cluster) (member from : Member) (end : Lsn) (server : ServerOf) (known : List ServerFacts) (tick : Ticks) (had has : List Event)
+pub confirm-took : (cluster : Cluster) (member from : Member) (end : Lsn) (server : ServerOf) (known : List ServerFacts) (tick : Ticks) (had has : Listed)
     → unconfirmed_end member (slice_get cluster.facts.servers member.id.number) (slice_get cluster.facts.servers from.id.number) ≡ Some end → server ≡ server_of from
-    → known ≡ with_changed cluster.facts.servers from.id.number (confirming member.id end) → tick.0 ≡ cluster.facts.clock → has ≡ had ++ record { tick = tick; kind = confirmed server member end } ∷ []
+    → known ≡ with_changed cluster.facts.servers from.id.number (confirming member.id end) → tick.0 ≡ cluster.facts.clock → has ≡ had +++ record { tick = tick; kind = confirmed server member end } ∷ []
     → Emits cluster (with_servers cluster known) had has (confirm_events cluster member from) 1
 confirm-took cluster member from end server known tick had has is of_is told at has_is =
     subst (λ (o : Option Lsn). Emits cluster (with_servers cluster known) had has (events_of cluster (kinds_of (confirm_of member from o))) 1) (sym is)
     (serving-took cluster (with_servers cluster known) (confirmed (server_of from) member end) tick had has tt tt (ap (with_servers cluster) told) at
-    (has_is ∙ ap (λ (s : ServerOf). had ++ record { tick = tick; kind = confirmed s member end } ∷ []) of_is))
+    (has_is ∙ ap (λ (s : ServerOf). had +++ record { tick = tick; kind = confirmed s member end } ∷ []) of_is))
 
 -- there was nothing new, and the replica confirms
-pub quiet-took : (cluster after : Cluster) (member from : Member) (most : ℕ) (known : List ServerFacts) (had has : List Event) → news_at cluster.facts.servers member.id.number from.id.number most ≡ None
+pub quiet-took : (cluster after : Cluster) (member from : Member) (most : ℕ) (known : List ServerFacts) (had has : Listed) → news_at cluster.facts.servers member.id.number from.id.number most ≡ None
     → known ≡ streamed_at cluster.facts.servers member.id.number from.id.number most → Emits (with_servers cluster known) after had has (confirm_events (with_servers cluster known) member from) 1
     → Emits cluster after had has (receive_events cluster member from (news_at cluster.facts.servers member.id.number from.id.number most)) 2
 quiet-took cluster after member from most known had has none state took =
@@ -101,18 +101,18 @@ diverges-from known place most at (Some s) None is = absurd (no-news (streams.Di
 diverges-from known place most at found (Some upstream) is = refl
 
 -- the log of a replica diverged
-pub diverged-took : (cluster : Cluster) (member from : Member) (most : ℕ) (at : Lsn) (server upstream : ServerOf) (known : List ServerFacts) (tick : Ticks) (had has : List Event)
+pub diverged-took : (cluster : Cluster) (member from : Member) (most : ℕ) (at : Lsn) (server upstream : ServerOf) (known : List ServerFacts) (tick : Ticks) (had has : Listed)
     → news_at cluster.facts.servers member.id.number from.id.number most ≡ Some (streams.Diverged at) → known ≡ streamed_at cluster.facts.servers member.id.number from.id.number most
-    → server ≡ server_of member → upstream ≡ server_of from → tick.0 ≡ cluster.facts.clock → has ≡ had ++ record { tick = tick; kind = kinds.Server (servers.Diverged server upstream at) } ∷ []
+    → server ≡ server_of member → upstream ≡ server_of from → tick.0 ≡ cluster.facts.clock → has ≡ had +++ record { tick = tick; kind = kinds.Server (servers.Diverged server upstream at) } ∷ []
     → Emits cluster (with_servers cluster known) had has (receive_events cluster member from (news_at cluster.facts.servers member.id.number from.id.number most)) 2
 diverged-took cluster member from most at server upstream known tick had has news state server_is upstream_is moment has_is =
     let place = member.id.number in
     let told : known ≡ with_changed cluster.facts.servers place (λ s. record s { diverged = true }) = state ∙ ap (after_news_at cluster.facts.servers place from.id.number) news
     ∙ diverges-from cluster.facts.servers place most at (slice_get cluster.facts.servers place) (slice_get cluster.facts.servers from.id.number) news in
     let kind : EventKind = kinds.Server (servers.Diverged (server_of member) (server_of from) at) in
-    let written : has ≡ had ++ record { tick = tick; kind = kind } ∷ [] = has_is
-    ∙ ap (λ (s : ServerOf). had ++ record { tick = tick; kind = kinds.Server (servers.Diverged s upstream at) } ∷ []) server_is
-    ∙ ap (λ (s : ServerOf). had ++ record { tick = tick; kind = kinds.Server (servers.Diverged (server_of member) s at) } ∷ []) upstream_is in
+    let written : has ≡ had +++ record { tick = tick; kind = kind } ∷ [] = has_is
+    ∙ ap (λ (s : ServerOf). had +++ record { tick = tick; kind = kinds.Server (servers.Diverged s upstream at) } ∷ []) server_is
+    ∙ ap (λ (s : ServerOf). had +++ record { tick = tick; kind = kinds.Server (servers.Diverged (server_of member) s at) } ∷ []) upstream_is in
     subst (λ (o : Option Streamed). Emits cluster (with_servers cluster known) had has (receive_events cluster member from o) 2) (sym news)
     (Emits-weaker cluster (with_servers cluster known) had has _ 1 2 (serving-took cluster (with_servers cluster known) kind tick had has tt tt (ap (with_servers cluster) told) moment written) (omega arith))
 
@@ -137,15 +137,15 @@ received-room cluster member from most count known news state room =
     subst (λ (c : Cluster). HasRoom c 1) (sym (received-state cluster member from most count known news state)) (HasRoom-cluster_after cluster (receipt member from count) 1 tt room)
 
 -- and confirms
-pub received-took : (cluster after : Cluster) (member from : Member) (most count : ℕ) (server upstream : ServerOf) (known : List ServerFacts) (tick : Ticks) (had mid has : List Event)
+pub received-took : (cluster after : Cluster) (member from : Member) (most count : ℕ) (server upstream : ServerOf) (known : List ServerFacts) (tick : Ticks) (had mid has : Listed)
     → news_at cluster.facts.servers member.id.number from.id.number most ≡ Some (streams.Received count) → known ≡ streamed_at cluster.facts.servers member.id.number from.id.number most
-    → server ≡ server_of member → upstream ≡ server_of from → tick.0 ≡ cluster.facts.clock → mid ≡ had ++ record { tick = tick; kind = kinds.Log (logs.Received server upstream count) } ∷ []
+    → server ≡ server_of member → upstream ≡ server_of from → tick.0 ≡ cluster.facts.clock → mid ≡ had +++ record { tick = tick; kind = kinds.Log (logs.Received server upstream count) } ∷ []
     → Emits (with_servers cluster known) after mid has (confirm_events (with_servers cluster known) member from) 1
     → Emits cluster after had has (receive_events cluster member from (news_at cluster.facts.servers member.id.number from.id.number most)) 2
 received-took cluster after member from most count server upstream known tick had mid has news state server_is upstream_is moment mid_is rest =
-    let written : mid ≡ had ++ record { tick = tick; kind = receipt member from count } ∷ [] = mid_is
-    ∙ ap (λ (s : ServerOf). had ++ record { tick = tick; kind = kinds.Log (logs.Received s upstream count) } ∷ []) server_is
-    ∙ ap (λ (s : ServerOf). had ++ record { tick = tick; kind = kinds.Log (logs.Received (server_of member) s count) } ∷ []) upstream_is in
+    let written : mid ≡ had +++ record { tick = tick; kind = receipt member from count } ∷ [] = mid_is
+    ∙ ap (λ (s : ServerOf). had +++ record { tick = tick; kind = kinds.Log (logs.Received s upstream count) } ∷ []) server_is
+    ∙ ap (λ (s : ServerOf). had +++ record { tick = tick; kind = kinds.Log (logs.Received (server_of member) s count) } ∷ []) upstream_is in
     subst (λ (o : Option Streamed). Emits cluster after had has (receive_events cluster member from o) 2) (sym news)
     (Emits-after cluster (with_servers cluster known) after had mid has tick (receipt member from count) (λ later. confirm_events later member from) 1 2 tt moment
     (received-state cluster member from most count known news state) written rest (omega arith))

@@ -4,7 +4,6 @@ use Rattle.std.specs.Prelude.{option_and_then, option_copied, option_map}
 use Rattle.pat_base.specs.declared.member_id.MemberId.{MemberId}
 use Rattle.pat_base.specs.declared.ticks.Ticks.{Ticks}
 use Rattle.cluster_view.specs.declared.view.AgentView.{AgentView}
-use Rattle.cluster_view.specs.Snapshots.{SnapshotFacts}
 use Rattle.event_book.specs.declared.member.Member.{Member}
 use Rattle.agent_model.specs.declared.machine.Machine.{Machine}
 use Rattle.agent_model.specs.Agents.{AgentFacts, Outcome, word_of}

@@ -1,11 +1,11 @@
 -- Messages that come to their receivers.
 use Rattle.std.specs.Prelude.{ℕ, ◌≡◌, List, [], Option, Some, None}
-use Rattle.event_book.specs.declared.event.Event.{Event}
 use Rattle.event_book.specs.declared.event.EventKind.TheVariants as kinds
 use Rattle.event_book.specs.declared.event.MessageEvent.TheVariants.{Delivered}
 use Rattle.event_book.specs.declared.link.LinkEnd.{LinkEnd}
 use Rattle.event_book.specs.declared.link.LinkEnd.TheVariants as link_ends
 use Rattle.event_book.specs.Flight.{InFlightFacts}
+use Rattle.event_list.specs.Listed.{Listed}
 use Rattle.agent_model.specs.declared.output.Output.{Output}
 use Rattle.cluster_model.specs.Cluster.{agent_facts_reached_at}
 use Rattle.cluster_model.specs.Hearing.{heard_from}
@@ -32,13 +32,13 @@ pub record Reaches (before after : Cluster) (outputs : List Output) (number : �
   pub arrives : ArrivesAt before number message to outputs arrival
 
 -- a message in flight came to its receiver, and that was written down
-pub record Comes (before after : Cluster) (had has : List Event) (outputs : List Output) (number : ℕ) (message : InFlightFacts) (arrival : Arrival) : Type 0 where
+pub record Comes (before after : Cluster) (had has : Listed) (outputs : List Output) (number : ℕ) (message : InFlightFacts) (arrival : Arrival) : Type 0 where
   pub emits : Emits before after had has (event_of before (kinds.Message (Delivered number))) hearing_cost
   pub arrives : ArrivesAt before number message message.message.to outputs arrival
   pub sent : IsSent message
 
 -- it did where it was in flight, and else nothing happened
-abbrev pub Landed : Cluster → Cluster → List Event → List Event → List Output → ℕ → Option InFlightFacts → Option Arrival → Type 0
+abbrev pub Landed : Cluster → Cluster → Listed → Listed → List Output → ℕ → Option InFlightFacts → Option Arrival → Type 0
 Landed before after had has outputs number None None = (after ≡ before) × (has ≡ had) × (outputs ≡ [])
 Landed before after had has outputs number (Some message) (Some arrival) = Comes before after had has outputs number message arrival
 Landed before after had has outputs number _ _ = ⊥

@@ -7,7 +7,8 @@ ghost use Rattle.world_model.specs.Promoting.{beginning_at};
 ghost use Rattle.world_model.specs.Room.{HasRoom, beginning_cost};
 
 use crate::stage::Stage;
-use event_book::{Event, EventKind, Member, ServerEvent, ServerOf};
+use event_book::{EventKind, Member, ServerEvent, ServerOf};
+use event_list::EventList;
 use std::alloc::AllocError;
 use world_fields::losing::loss_of_any;
 
@@ -16,11 +17,11 @@ pub fn begin_on(
     stage: &mut Stage,
     member: Member,
     timeline: u64,
-    events: &mut Vec<Event>,
+    events: &mut EventList,
 ) -> Result<(), AllocError>
     requires room { HasRoom stage.old beginning_cost }
     requires comes { MayCome stage.old (EventKind.Server (ServerEvent.Began (server_of member) timeline)) }
-    ensures { OnOk result (Emits stage.old stage.new events.old.items events.new.items (beginning_at stage.old member timeline) beginning_cost) }
+    ensures { OnOk result (Emits stage.old stage.new events.old events.new (beginning_at stage.old member timeline) beginning_cost) }
 {
     let loss = loss_of_any(stage.alloc(), stage.servers(), member, stage.acknowledged())?;
     let server = ServerOf::of(member);

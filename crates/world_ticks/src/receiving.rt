@@ -4,9 +4,10 @@ ghost use Rattle.cluster_model.specs.Next.{receive_events_of, receive_events_at_
 ghost use Rattle.cluster_model.specs.Parts.{each};
 ghost use Rattle.world_model.specs.Room.{HasRoom, receiving_cost, streaming_cost};
 ghost use Rattle.world_model.specs.Emits.{Emits};
-ghost use Rattle.world_model.specs.Idle.{IfCaughtUp, stir_replicas, stirs_replicas};
+ghost use Rattle.world_model.specs.Idle.{IfCaughtUp};
 
-use event_book::{Event, EventKind, Member, WatchdogEvent};
+use event_book::Member;
+use event_list::EventList;
 use std::alloc::AllocError;
 use world_fields::machines::item_at;
 use world_parts::sources::source_of;
@@ -17,11 +18,11 @@ use world_stage::Stage;
 pub fn all_receive(
     stage: &mut Stage,
     caught_up: bool,
-    events: &mut Vec<Event>,
+    events: &mut EventList,
 ) -> Result<bool, AllocError>
     requires room { HasRoom stage.old receiving_cost }
     requires caught_up { IfCaughtUp caught_up stage.old }
-    ensures emits { OnOk result (Emits stage.old stage.new events.old.items events.new.items (each receive_events_of stage.old stage.old.facts.members) receiving_cost) }
+    ensures emits { OnOk result (Emits stage.old stage.new events.old events.new (each receive_events_of stage.old stage.old.facts.members) receiving_cost) }
     ensures caught_up { IfOk result (λ known. IfCaughtUp known stage.new) }
 {
     if caught_up {
@@ -33,9 +34,9 @@ pub fn all_receive(
 }
 
 /// The servers receive all that they lack, in script order, but for those that are frozen.
-fn each_receives(stage: &mut Stage, events: &mut Vec<Event>) -> Result<(), AllocError>
+fn each_receives(stage: &mut Stage, events: &mut EventList) -> Result<(), AllocError>
     requires { HasRoom stage.old receiving_cost }
-    ensures { OnOk result (Emits stage.old stage.new events.old.items events.new.items (each receive_events_of stage.old stage.old.facts.members) receiving_cost) }
+    ensures { OnOk result (Emits stage.old stage.new events.old events.new (each receive_events_of stage.old stage.old.facts.members) receiving_cost) }
 {
     for place in 0..stage.member_count() {
         let member = stage.member(place);
@@ -44,36 +45,10 @@ fn each_receives(stage: &mut Stage, events: &mut Vec<Event>) -> Result<(), Alloc
     Ok(())
 }
 
-/// Whether after one of these events a server may have something to receive or to confirm.
-pub fn stir_replicas(events: &[Event]) -> bool
-    ensures { result ≡ stir_replicas events.now }
-{
-    events.iter().any(|event| stirs_replicas(&event.kind))
-}
-
-/// Whether what happened changes servers or links.
-fn stirs_replicas(kind: &EventKind) -> bool
-    ensures { result ≡ stirs_replicas kind.now }
-{
-    match kind {
-        EventKind::Tick
-        | EventKind::Watchdog(WatchdogEvent::Reset { .. })
-        | EventKind::Server(_)
-        | EventKind::Log(_)
-        | EventKind::Replication(_)
-        | EventKind::Link(_) => true,
-        EventKind::Watchdog(_)
-        | EventKind::Message(_)
-        | EventKind::Store(_)
-        | EventKind::Agent(_)
-        | EventKind::Note(_) => false,
-    }
-}
-
 /// The server of a member receives all that it lacks, unless it is frozen.
-fn receive_all(stage: &mut Stage, member: Member, events: &mut Vec<Event>) -> Result<(), AllocError>
+fn receive_all(stage: &mut Stage, member: Member, events: &mut EventList) -> Result<(), AllocError>
     requires { HasRoom stage.old streaming_cost }
-    ensures { OnOk result (Emits stage.old stage.new events.old.items events.new.items (receive_events_of stage.old member) streaming_cost) }
+    ensures { OnOk result (Emits stage.old stage.new events.old events.new (receive_events_of stage.old member) streaming_cost) }
 {
     match frozen(stage, member) {
         None | Some(true) => Ok(()),
@@ -93,10 +68,10 @@ pub fn receive(
     stage: &mut Stage,
     member: Member,
     most: u64,
-    events: &mut Vec<Event>,
+    events: &mut EventList,
 ) -> Result<(), AllocError>
     requires { HasRoom stage.old streaming_cost }
-    ensures { OnOk result (Emits stage.old stage.new events.old.items events.new.items (receive_events_at_most stage.old most member) streaming_cost) }
+    ensures { OnOk result (Emits stage.old stage.new events.old events.new (receive_events_at_most stage.old most member) streaming_cost) }
 {
     match source_of(stage.members(), stage.servers(), stage.cuts(), member) {
         None => Ok(()),

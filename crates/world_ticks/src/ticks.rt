@@ -1,5 +1,6 @@
 //! Ticks: what they bring beside the clock.
-ghost use Rattle.std.specs.Prelude.{◌≡◌, ◌+◌, ◌*◌, ◌++◌, OnOk, IfOk};
+ghost use Rattle.std.specs.Prelude.{◌≡◌, ◌+◌, ◌*◌, OnOk, IfOk};
+ghost use Rattle.event_list.specs.Listed.{◌+++◌};
 ghost use Rattle.cluster_model.specs.Parts.{each, events_at};
 ghost use Rattle.cluster_model.specs.Ticking.{completion_events, expiry_of, expiries_of, reset_events, tick_events};
 ghost use Rattle.world_model.specs.Emits.{Emits};
@@ -8,7 +9,8 @@ ghost use Rattle.world_model.specs.Room.{HasRoom, beginning_cost, completions_co
 
 use crate::idling::ends_from;
 use cluster_model::Completion;
-use event_book::{Event, EventKind, Member, ServerEvent, ServerOf, StoreEvent};
+use event_book::{EventKind, Member, ServerEvent, ServerOf, StoreEvent};
+use event_list::EventList;
 use pat_base::Ticks;
 use std::alloc::AllocError;
 use store_keys::Key;
@@ -20,10 +22,10 @@ use world_stage::{Stage, begin_on};
 
 /// The clock grows by one. Where nothing ends with that, nothing else happens; else see `end_due`. Answers whether all servers are known to
 /// have caught up behind it, given whether they were before.
-pub fn tick(stage: &mut Stage, caught_up: bool, events: &mut Vec<Event>) -> Result<bool, AllocError>
+pub fn tick(stage: &mut Stage, caught_up: bool, events: &mut EventList) -> Result<bool, AllocError>
     requires room { HasRoom stage.old tick_cost }
     requires caught_up { IfCaughtUp caught_up stage.old }
-    ensures emits { OnOk result (Emits stage.old stage.new events.old.items events.new.items (tick_events stage.old) tick_cost) }
+    ensures emits { OnOk result (Emits stage.old stage.new events.old events.new (tick_events stage.old) tick_cost) }
     ensures caught_up { IfOk result (λ known. IfCaughtUp known stage.new) }
 {
     if stage.clock().0 + 1 < ends_from(stage).0 {
@@ -35,10 +37,10 @@ pub fn tick(stage: &mut Stage, caught_up: bool, events: &mut Vec<Event>) -> Resu
 }
 
 /// The clock grows by one, and nothing ends with that.
-pub fn bare_tick(stage: &mut Stage, events: &mut Vec<Event>) -> Result<(), AllocError>
+pub fn bare_tick(stage: &mut Stage, events: &mut EventList) -> Result<(), AllocError>
     requires room { HasRoom stage.old tick_cost }
     requires ends { NothingEnds (stage.old.facts.clock + 1) stage.old }
-    ensures emits { OnOk result (Emits stage.old stage.new events.old.items events.new.items (tick_events stage.old) tick_cost) }
+    ensures emits { OnOk result (Emits stage.old stage.new events.old events.new (tick_events stage.old) tick_cost) }
     ensures clock { stage.new ≡ at_moment stage.old (stage.old.facts.clock + 1) }
 {
     stage.pass(1);
@@ -48,9 +50,9 @@ pub fn bare_tick(stage: &mut Stage, events: &mut Vec<Event>) -> Result<(), Alloc
 /// The clock grows by one, starts and stops of servers that don't write are complete, and the keys that have expired are
 /// dropped. The machines whose watchdogs are due are reset, what expired is told, and starts and stops of
 /// primaries are complete.
-fn end_due(stage: &mut Stage, events: &mut Vec<Event>) -> Result<(), AllocError>
+fn end_due(stage: &mut Stage, events: &mut EventList) -> Result<(), AllocError>
     requires { HasRoom stage.old tick_cost }
-    ensures { OnOk result (Emits stage.old stage.new events.old.items events.new.items (tick_events stage.old) tick_cost) }
+    ensures { OnOk result (Emits stage.old stage.new events.old events.new (tick_events stage.old) tick_cost) }
 {
     let now = Ticks(stage.clock().0 + 1);
     let expired = stage.store().expired(now)?;
@@ -63,9 +65,9 @@ fn end_due(stage: &mut Stage, events: &mut Vec<Event>) -> Result<(), AllocError>
 }
 
 /// The machines whose watchdogs are due are reset, in script order.
-fn resets(stage: &mut Stage, events: &mut Vec<Event>) -> Result<(), AllocError>
+fn resets(stage: &mut Stage, events: &mut EventList) -> Result<(), AllocError>
     requires { HasRoom stage.old resets_cost }
-    ensures { OnOk result (Emits stage.old stage.new events.old.items events.new.items (each reset_events stage.old stage.old.facts.members) resets_cost) }
+    ensures { OnOk result (Emits stage.old stage.new events.old events.new (each reset_events stage.old stage.old.facts.members) resets_cost) }
 {
     for place in 0..stage.member_count() {
         let member = stage.member(place);
@@ -75,18 +77,18 @@ fn resets(stage: &mut Stage, events: &mut Vec<Event>) -> Result<(), AllocError>
 }
 
 /// The machine of a member is reset, where its watchdog is due.
-fn reset(stage: &mut Stage, member: Member, events: &mut Vec<Event>) -> Result<(), AllocError>
+fn reset(stage: &mut Stage, member: Member, events: &mut EventList) -> Result<(), AllocError>
     requires { HasRoom stage.old 1 }
-    ensures { OnOk result (Emits stage.old stage.new events.old.items events.new.items (reset_events stage.old member) 1) }
+    ensures { OnOk result (Emits stage.old stage.new events.old events.new (reset_events stage.old member) 1) }
 {
     let reset = reset_of(stage.deadlines(), stage.clock(), member);
     stage.happen_if(reset, events)
 }
 
 /// The starts and stops of primaries whose moment has come are complete, in script order.
-fn completions(stage: &mut Stage, events: &mut Vec<Event>) -> Result<(), AllocError>
+fn completions(stage: &mut Stage, events: &mut EventList) -> Result<(), AllocError>
     requires { HasRoom stage.old completions_cost }
-    ensures { OnOk result (Emits stage.old stage.new events.old.items events.new.items (each completion_events stage.old stage.old.facts.members) completions_cost) }
+    ensures { OnOk result (Emits stage.old stage.new events.old events.new (each completion_events stage.old stage.old.facts.members) completions_cost) }
 {
     for place in 0..stage.member_count() {
         let member = stage.member(place);
@@ -96,9 +98,9 @@ fn completions(stage: &mut Stage, events: &mut Vec<Event>) -> Result<(), AllocEr
 }
 
 /// The start or the stop of the server of a member as a primary is complete, where its moment has come.
-fn complete(stage: &mut Stage, member: Member, events: &mut Vec<Event>) -> Result<(), AllocError>
+fn complete(stage: &mut Stage, member: Member, events: &mut EventList) -> Result<(), AllocError>
     requires { HasRoom stage.old beginning_cost }
-    ensures { OnOk result (Emits stage.old stage.new events.old.items events.new.items (completion_events stage.old member) beginning_cost) }
+    ensures { OnOk result (Emits stage.old stage.new events.old events.new (completion_events stage.old member) beginning_cost) }
 {
     match completion_of(stage.servers(), stage.clock(), member) {
         None => Ok(()),
@@ -112,12 +114,12 @@ fn complete(stage: &mut Stage, member: Member, events: &mut Vec<Event>) -> Resul
 
 /// Writes down which keys expired, and who the holder of the leader key was if that is one of them.
 fn tell_expiries(
-    events: &mut Vec<Event>,
+    events: &mut EventList,
     tick: Ticks,
     holder: Option<Member>,
     keys: &[Key],
 ) -> Result<(), AllocError>
-    ensures { OnOk result (events.new.items ≡ events.old.items ++ events_at tick (expiries_of holder keys.now)) }
+    ensures { OnOk result (events.new ≡ events.old +++ events_at tick (expiries_of holder keys.now)) }
 {
     for key in keys {
         tell_expiry(events, tick, holder, *key)?;
@@ -126,12 +128,12 @@ fn tell_expiries(
 }
 
 fn tell_expiry(
-    events: &mut Vec<Event>,
+    events: &mut EventList,
     tick: Ticks,
     holder: Option<Member>,
     key: Key,
 ) -> Result<(), AllocError>
-    ensures { OnOk result (events.new.items ≡ events.old.items ++ events_at tick (expiry_of holder key)) }
+    ensures { OnOk result (events.new ≡ events.old +++ events_at tick (expiry_of holder key)) }
 {
     match (key, holder) {
         (Key::Leader, None) => Ok(()),

@@ -21,7 +21,8 @@ ghost use Rattle.world_stage.specs.AgentViews.{IsViewOf};
 use super::Stage;
 use agent_model::{Heard, Machine};
 use cluster_view::{AgentView, Snapshot};
-use event_book::{AgentEvent, AgentProcess, Body, Event, EventKind, LinkEnd, Member, Message};
+use event_book::{AgentEvent, AgentProcess, Body, EventKind, LinkEnd, Member, Message};
+use event_list::EventList;
 use lease_store::Copies;
 use pat_base::{MemberId, Shared, Ticks};
 use std::alloc::AllocError;
@@ -65,12 +66,12 @@ impl Stage {
         &mut self,
         agent: Member,
         outputs: &mut Outputs,
-        events: &mut Vec<Event>,
+        events: &mut EventList,
     ) -> Result<(), AllocError>
         requires room { HasRoom self.old hearing_cost }
         requires spare { most_outputs ≤ outputs.old.spare }
         requires none { outputs.old.outputs ≡ [] }
-        ensures emits { OnOk result (Emits self.old self.new events.old.items events.new.items (event_of self.old (EventKind.Agent (AgentEvent.Woken agent))) hearing_cost) }
+        ensures emits { OnOk result (Emits self.old self.new events.old events.new (event_of self.old (EventKind.Agent (AgentEvent.Woken agent))) hearing_cost) }
         ensures outputs { outputs.new.outputs ≡ outputs_of (outcome_of self.old agent heards.Wake) }
     {
         self.agent_hears(agent, Heard::Wake, outputs);
@@ -87,12 +88,12 @@ impl Stage {
         agent: Member,
         action: OperatorAction,
         outputs: &mut Outputs,
-        events: &mut Vec<Event>,
+        events: &mut EventList,
     ) -> Result<(), AllocError>
         requires room { HasRoom self.old hearing_cost }
         requires spare { most_outputs ≤ outputs.old.spare }
         requires none { outputs.old.outputs ≡ [] }
-        ensures emits { OnOk result (Emits self.old self.new events.old.items events.new.items (event_of self.old (EventKind.Agent (AgentEvent.Operated agent action))) hearing_cost) }
+        ensures emits { OnOk result (Emits self.old self.new events.old events.new (event_of self.old (EventKind.Agent (AgentEvent.Operated agent action))) hearing_cost) }
         ensures outputs { OnOk result (outputs.new.outputs ≡ outputs_of (outcome_of self.old agent (heards.Operated action))) }
     {
         let told = copy_of(&action)?;

@@ -8,7 +8,8 @@ ghost use Rattle.world_model.specs.Room.{HasRoom};
 ghost use Rattle.world_model.specs.Emits.{Emits};
 
 use super::Stage;
-use event_book::{Event, EventKind};
+use event_book::EventKind;
+use event_list::EventList;
 use std::alloc::AllocError;
 use world_agents::places::change_agents;
 use world_fields::writing::write_down;
@@ -21,10 +22,10 @@ use world_parts::server_changes::change_servers;
 
 impl Stage {
     /// One thing happens: it changes what it changes, and is written down.
-    pub fn happen(&mut self, kind: EventKind, events: &mut Vec<Event>) -> Result<(), AllocError>
+    pub fn happen(&mut self, kind: EventKind, events: &mut EventList) -> Result<(), AllocError>
         requires room { HasRoom self.old 1 }
         requires comes { MayCome self.old kind }
-        ensures { OnOk result (Emits self.old self.new events.old.items events.new.items (event_of self.old kind) 1) }
+        ensures { OnOk result (Emits self.old self.new events.old events.new (event_of self.old kind) 1) }
     {
         self.change(&kind)?;
         write_down(events, self.clock, kind)
@@ -68,12 +69,12 @@ impl Stage {
         &mut self,
         first: EventKind,
         second: Option<EventKind>,
-        events: &mut Vec<Event>,
+        events: &mut EventList,
     ) -> Result<(), AllocError>
         requires room { HasRoom self.old 2 }
         requires first { MayCome self.old first }
         requires second { IfSome second (MayCome (cluster_after self.old first)) }
-        ensures { OnOk result (Emits self.old self.new events.old.items events.new.items (events_of self.old (first ∷ kinds_of second)) 2) }
+        ensures { OnOk result (Emits self.old self.new events.old events.new (events_of self.old (first ∷ kinds_of second)) 2) }
     {
         self.happen(first, events)?;
         self.happen_if(second, events)
@@ -83,11 +84,11 @@ impl Stage {
     pub fn happen_if(
         &mut self,
         kind: Option<EventKind>,
-        events: &mut Vec<Event>,
+        events: &mut EventList,
     ) -> Result<(), AllocError>
         requires room { HasRoom self.old 1 }
         requires comes { IfSome kind (MayCome self.old) }
-        ensures { OnOk result (Emits self.old self.new events.old.items events.new.items (events_of self.old (kinds_of kind)) 1) }
+        ensures { OnOk result (Emits self.old self.new events.old events.new (events_of self.old (kinds_of kind)) 1) }
     {
         match kind {
             None => Ok(()),

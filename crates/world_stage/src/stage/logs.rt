@@ -11,7 +11,8 @@ ghost use Rattle.world_model.specs.Room.{HasRoom, streaming_cost};
 ghost use Rattle.world_model.specs.Emits.{Emits};
 
 use super::Stage;
-use event_book::{Event, EventKind, LogEvent, Member, ReplicationEvent, ServerEvent, ServerOf};
+use event_book::{EventKind, LogEvent, Member, ReplicationEvent, ServerEvent, ServerOf};
+use event_list::EventList;
 use pg_model::Streamed;
 use std::alloc::AllocError;
 use world_fields::writing::write_down;
@@ -24,11 +25,11 @@ impl Stage {
         member: Member,
         from: Member,
         most: u64,
-        events: &mut Vec<Event>,
+        events: &mut EventList,
     ) -> Result<(), AllocError>
         requires room { HasRoom self.old streaming_cost }
         requires replica { IfSome (slice_get self.old.facts.servers member.id.number) (λ s. IsTrue (is_replica s.state)) }
-        ensures { OnOk result (Emits self.old self.new events.old.items events.new.items (receive_events self.old member from (news_at self.old.facts.servers member.id.number from.id.number most)) streaming_cost) }
+        ensures { OnOk result (Emits self.old self.new events.old events.new (receive_events self.old member from (news_at self.old.facts.servers member.id.number from.id.number most)) streaming_cost) }
     {
         let (place, upstream) = (member.id.number as usize, from.id.number as usize);
         match self.servers.stream(place, upstream, most as usize)? {
@@ -59,10 +60,10 @@ impl Stage {
         &mut self,
         member: Member,
         from: Member,
-        events: &mut Vec<Event>,
+        events: &mut EventList,
     ) -> Result<(), AllocError>
         requires { HasRoom self.old 1 }
-        ensures { OnOk result (Emits self.old self.new events.old.items events.new.items (confirm_events self.old member from) 1) }
+        ensures { OnOk result (Emits self.old self.new events.old events.new (confirm_events self.old member from) 1) }
     {
         let Some(end) = unconfirmed_end(&self.servers, member, from) else {
             return Ok(());
@@ -82,10 +83,10 @@ impl Stage {
         &mut self,
         member: Member,
         leader: Member,
-        events: &mut Vec<Event>,
+        events: &mut EventList,
     ) -> Result<(), AllocError>
         requires { HasRoom self.old 1 }
-        ensures { OnOk result (Emits self.old self.new events.old.items events.new.items (events_of self.old (kinds_of (option_map (rewinding member leader) (rewind_at self.old.facts.servers member.id.number leader.id.number)))) 1) }
+        ensures { OnOk result (Emits self.old self.new events.old events.new (events_of self.old (kinds_of (option_map (rewinding member leader) (rewind_at self.old.facts.servers member.id.number leader.id.number)))) 1) }
     {
         let (place, from) = (member.id.number as usize, leader.id.number as usize);
         let Some(rewind) = self.servers.rewind(place, from)? else {
@@ -105,10 +106,10 @@ impl Stage {
         &mut self,
         member: Member,
         leader: Member,
-        events: &mut Vec<Event>,
+        events: &mut EventList,
     ) -> Result<(), AllocError>
         requires { HasRoom self.old 1 }
-        ensures { OnOk result (Emits self.old self.new events.old.items events.new.items (events_of self.old (kinds_of (if may_clone_at self.old.facts.servers member.id.number leader.id.number then Some (copying member leader) else None))) 1) }
+        ensures { OnOk result (Emits self.old self.new events.old events.new (events_of self.old (kinds_of (if may_clone_at self.old.facts.servers member.id.number leader.id.number then Some (copying member leader) else None))) 1) }
     {
         let (place, from) = (member.id.number as usize, leader.id.number as usize);
         if !self.servers.clone_from(place, from)? {

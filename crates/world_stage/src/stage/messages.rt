@@ -1,5 +1,5 @@
 //! Messages: how they are sent and come, which of them move, and what the key store decides.
-ghost use Rattle.std.specs.Prelude.{ℕ, ◌≡◌, ◌≤◌, ◌<◌, ◌+◌, ◌^◌, ◌++◌, [], length, false, OnOk, IfOk, IfSome, None, option_map};
+ghost use Rattle.std.specs.Prelude.{ℕ, ◌≡◌, ◌≤◌, ◌<◌, ◌+◌, ◌^◌, [], length, false, OnOk, IfOk, IfSome, None, option_map};
 ghost use Rattle.std.specs.Map.{keys_of};
 ghost use Rattle.std.specs.List.Sorted.{IsStrictlySortedBy};
 ghost use Rattle.std.specs.Ordering.{nat_cmp};
@@ -9,6 +9,7 @@ ghost use Rattle.world_stage.specs.Arrivals.{Landed, Reaches};
 ghost use Rattle.lease_store.specs.Decision.{decision_on};
 ghost use Rattle.lease_store.specs.Writes.{ttl_of};
 ghost use Rattle.event_book.specs.Flight.{in_flight, grant_for};
+ghost use Rattle.event_list.specs.Listed.{◌+++◌};
 ghost use Rattle.cluster_model.specs.Hearing.{heard_from};
 ghost use Rattle.cluster_model.specs.Limits.{most_in_flight};
 ghost use Rattle.cluster_model.specs.Messages.{lost_at_once, send_events, answer_message, answer_events, decision_events, message_events};
@@ -21,7 +22,8 @@ ghost use Rattle.cluster_model.specs.Deliveries.{delivery_of};
 use super::Stage;
 use crate::arrival::Arrival;
 use cluster_model::{Delivery, HeardMessage};
-use event_book::{Body, Event, EventKind, LinkEnd, Member, Message, MessageEvent, StoreEvent};
+use event_book::{Body, EventKind, LinkEnd, Member, Message, MessageEvent, StoreEvent};
+use event_list::EventList;
 use lease_store::{Granted, StoreRefusal};
 use pat_base::{Shared, Ticks};
 use std::alloc::AllocError;
@@ -93,12 +95,12 @@ impl Stage {
         &mut self,
         number: u64,
         outputs: &mut Outputs,
-        events: &mut Vec<Event>,
+        events: &mut EventList,
     ) -> Result<Option<Arrival>, AllocError>
         requires room { HasRoom self.old hearing_cost }
         requires spare { most_outputs ≤ outputs.old.spare }
         requires none { outputs.old.outputs ≡ [] }
-        ensures landed { IfOk result (λ arrival. Landed self.old self.new events.old.items events.new.items outputs.new.outputs number (in_flight self.old.facts.flight number) arrival) }
+        ensures landed { IfOk result (λ arrival. Landed self.old self.new events.old events.new outputs.new.outputs number (in_flight self.old.facts.flight number) arrival) }
     {
         let Some(carried) = self.flight.land(number) else {
             return Ok(None);
@@ -146,11 +148,11 @@ impl Stage {
         &mut self,
         number: u64,
         message: &Message,
-        events: &mut Vec<Event>,
+        events: &mut EventList,
     ) -> Result<(), AllocError>
         requires room { HasRoom self.old decision_cost }
         requires short { IsShort message.now.body }
-        ensures { OnOk result (Emits self.old self.new events.old.items events.new.items (answer_events self.old number message.now) decision_cost) }
+        ensures { OnOk result (Emits self.old self.new events.old events.new (answer_events self.old number message.now) decision_cost) }
     {
         match &message.body {
             Body::Read => self.send(answer_message(message, Body::Snapshot), None, events),
@@ -165,11 +167,11 @@ impl Stage {
         number: u64,
         message: &Message,
         txn: &Txn,
-        events: &mut Vec<Event>,
+        events: &mut EventList,
     ) -> Result<(), AllocError>
         requires room { HasRoom self.old decision_cost }
         requires span { ttl_of txn.now ≤ 2 ^ 40 }
-        ensures { OnOk result (Emits self.old self.new events.old.items events.new.items (decision_events self.old number message.now txn.now (decision_on self.old.facts.keys self.old.facts.clock txn.now) message.now.from) decision_cost) }
+        ensures { OnOk result (Emits self.old self.new events.old events.new (decision_events self.old number message.now txn.now (decision_on self.old.facts.keys self.old.facts.clock txn.now) message.now.from) decision_cost) }
     {
         let LinkEnd::Member(by) = message.from else {
             return Ok(());
@@ -215,12 +217,12 @@ impl Stage {
         &mut self,
         message: Message,
         grant: Option<Granted>,
-        events: &mut Vec<Event>,
+        events: &mut EventList,
     ) -> Result<(), AllocError>
         requires room { HasRoom self.old sending_cost }
         requires short { IsShort message.body }
         requires grant { grant ≡ grant_for message.body message.to self.old.facts.keys.revision }
-        ensures { OnOk result (Emits self.old self.new events.old.items events.new.items (send_events self.old message) sending_cost) }
+        ensures { OnOk result (Emits self.old self.new events.old events.new (send_events self.old message) sending_cost) }
     {
         let number = self.sent + 1;
         let message = Shared::new(self.alloc, message)?;
@@ -256,13 +258,8 @@ fn answer_message(message: &Message, body: Body) -> Message
 }
 
 /// Writes down that a message was lost at once, if it was.
-fn tell_lost(
-    events: &mut Vec<Event>,
-    tick: Ticks,
-    lost: bool,
-    number: u64,
-) -> Result<(), AllocError>
-    ensures { OnOk result (events.new.items ≡ events.old.items ++ events_at tick (lost_at_once lost number)) }
+fn tell_lost(events: &mut EventList, tick: Ticks, lost: bool, number: u64) -> Result<(), AllocError>
+    ensures { OnOk result (events.new ≡ events.old +++ events_at tick (lost_at_once lost number)) }
 {
     if lost {
         write_down(

@@ -5,14 +5,15 @@ ghost use Rattle.cluster_model.specs.Parts.{each};
 ghost use Rattle.world_model.specs.Emits.{Emits};
 
 use super::Stage;
-use event_book::{Bytes, Event, EventKind, Note};
+use event_book::{Bytes, EventKind, Note};
+use event_list::EventList;
 use std::alloc::AllocError;
 use world_fields::writing::write_down;
 
 impl Stage {
     /// Writes down the lines that patronictl prints, in order.
-    pub fn print(&self, lines: Vec<String>, events: &mut Vec<Event>) -> Result<(), AllocError>
-        ensures { OnOk result (Emits self.now self.now events.old.items events.new.items (each ctl_line_events self.now (map string_bytes lines.items)) 0) }
+    pub fn print(&self, lines: Vec<String>, events: &mut EventList) -> Result<(), AllocError>
+        ensures { OnOk result (Emits self.now self.now events.old events.new (each ctl_line_events self.now (map string_bytes lines.items)) 0) }
     {
         for line in lines {
             let printed = Note::CtlLine {

@@ -9,7 +9,8 @@ ghost use Rattle.world_model.specs.Room.{HasRoom, server_restart_cost};
 
 use super::Stage;
 use cluster_model::Beginning;
-use event_book::{Event, EventKind, Member, ServerEvent, ServerOf};
+use event_book::{EventKind, Member, ServerEvent, ServerOf};
+use event_list::EventList;
 use std::alloc::AllocError;
 use world_fields::losing::loss_of_any;
 use world_fields::writing::write_down;
@@ -20,12 +21,12 @@ impl Stage {
         &mut self,
         member: Member,
         timeline: u64,
-        events: &mut Vec<Event>,
+        events: &mut EventList,
     ) -> Result<(), AllocError>
         requires room { HasRoom self.old server_restart_cost }
         requires primary { option_map (λ s. s.state) (server_at self.old member) ≡ Some states.Primary }
         requires again { option_map (λ s. again_by s.timeline s.start_delay) (server_at self.old member) ≡ Some (Beginning.AtOnce timeline) }
-        ensures { OnOk result (Emits self.old self.new events.old.items events.new.items (server_restart_events self.old member) server_restart_cost) }
+        ensures { OnOk result (Emits self.old self.new events.old events.new (server_restart_events self.old member) server_restart_cost) }
     {
         let server = ServerOf::of(member);
         let loss = loss_of_any(self.alloc, &self.servers, member, &self.acknowledged)?;
@@ -41,12 +42,12 @@ impl Stage {
     pub fn restart_slowly(
         &mut self,
         member: Member,
-        events: &mut Vec<Event>,
+        events: &mut EventList,
     ) -> Result<(), AllocError>
         requires room { HasRoom self.old server_restart_cost }
         requires primary { option_map (λ s. s.state) (server_at self.old member) ≡ Some states.Primary }
         requires again { option_map (λ s. again_by s.timeline s.start_delay) (server_at self.old member) ≡ Some Beginning.WithItsStart }
-        ensures { OnOk result (Emits self.old self.new events.old.items events.new.items (server_restart_events self.old member) server_restart_cost) }
+        ensures { OnOk result (Emits self.old self.new events.old events.new (server_restart_events self.old member) server_restart_cost) }
     {
         let server = ServerOf::of(member);
         let ended = EventKind::Server(ServerEvent::Ended { server });

@@ -1,9 +1,7 @@
 use Rattle.std.proofs.Common.{◌∙◌, Err, arith, ap, map}
 use Rattle.std.proofs.lemmas.List.{drop_all}
 use Rattle.std.proofs.lemmas.Result.{err_from_is_err_and}
-use Rattle.event_book.specs.Text.{lines_of}
-use Rattle.summary_model.specs.Sights.{noted_step}
-use Rattle.run_printing.proofs.Shown.{Showing-end, Showing-more, Showing-none, Showing-start, Showing-stop, next-brought}
+use Rattle.run_printing.proofs.Shown.{Showing-end, Showing-more, Showing-none, Showing-start, Showing-stop, next-brought, traced-there}
 use Rattle.run_printing.proofs.showing.show.Goals as goal
 
 pub loop-events-init : goal.loop-events-init
@@ -13,8 +11,11 @@ pub loop-events-preserved : goal.loop-events-preserved
 loop-events-preserved g c =
     Showing-more c.events-item.result.items _ c.loop-events.invariant
     (next-brought (λ v. v.items) c.args.brought.now c.loop-events.events-index c.events-item.result (omega (arith, c.loop-events-test.true)) c.events-item.is)
-    (c.in_ok-note.ensures ∙ ap (noted_step c.loop-events.summary) c.deref.ensures.value)
-    (c.as_bytes.ensures.value ∙ c.in_ok-set_text.ensures ∙ ap (lines_of c.args.trace) c.deref-in-loop-events.ensures.value) c.in_ok-print_lines.ensures
+    c.in_ok-note.ensures
+    (c.as_bytes.ensures.value ∙ c.in_ok-set_text.ensures) c.in_ok-print_lines.ensures
+
+pub set_text-requires : goal.set_text-requires
+set_text-requires g c = λ on. traced-there c.args.brought.now c.loop-events.events-index c.events-item.result (omega (arith, c.loop-events-test.true)) c.events-item.is c.requires
 
 pub returns-in_err-note : goal.returns-in_err-note
 returns-in_err-note g c =
@@ -33,7 +34,7 @@ returns-in_err-print_lines g c =
     let p = err_from_is_err_and final c.from_residual-in_err-print_lines.ensures.1 in
     Showing-stop final c.events-item.result.items _ c.loop-events.invariant
     (next-brought (λ v. v.items) c.args.brought.now c.loop-events.events-index c.events-item.result (omega (arith, c.loop-events-test.true)) c.events-item.is)
-    (c.as_bytes.ensures.value ∙ c.in_ok-set_text.ensures ∙ ap (lines_of c.args.trace) c.deref-in-loop-events.ensures.value) c.in_err-print_lines.ensures (p.1 ∙ ap Err p.2)
+    (c.as_bytes.ensures.value ∙ c.in_ok-set_text.ensures) c.in_err-print_lines.ensures (p.1 ∙ ap Err p.2)
 
 pub returns : goal.returns
 returns g c = Showing-end c.loop-events.invariant (ap (map (λ v. v.items)) (drop_all c.loop-events.events-index c.args.brought.now (omega (arith, c.loop-events-test.false))))

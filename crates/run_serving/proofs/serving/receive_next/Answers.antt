@@ -1,8 +1,10 @@
-use Rattle.std.proofs.Common.{◌+◌, ◌∙◌, ◌∷◌, Err, Ok, arith, ap, map, refl, []}
+use Rattle.std.proofs.Common.{◌+◌, ◌∙◌, ◌∷◌, Err, Ok, arith, ap, refl, sym, subst, []}
+use Rattle.std.specs.Prelude.{All, IsTrue}
+use Rattle.event_list.specs.Listed.{Listed}
 use Rattle.std.proofs.lemmas.Result.{err_from_is_err_and}
 use Rattle.run_printing.specs.declared.serve_error.ServeError.TheVariants.{Door, Memory}
 use Rattle.run_player.specs.Playing.{PlayerFacts, player_of}
-use Rattle.run_serving.proofs.Received.{Receives-none, accepted, door-is-no-write, err-is-not-ok, memory-is-no-write, no-plays, not-door, ok-is-no-door, plays-visit, prints-part, prints-visit, receives-one, shows-so}
+use Rattle.run_serving.proofs.Received.{Receives-none, accepted, all-traced, door-is-no-write, err-is-not-ok, memory-is-no-write, no-plays, not-door, ok-is-no-door, plays-visit, prints-part, prints-visit, receives-one, shows-so}
 use Rattle.run_serving.proofs.Visiting.{Came-none-since, Came-refused}
 use Rattle.run_serving.proofs.serving.receive_next.Goals as goal
 
@@ -25,6 +27,13 @@ returns-in_err-serve_one g c =
           (Came-none-since g.D.Door c.args.door.now c.serve_one.new.door (player_of g.W.Simulation.facts c.args.player.now).world.cluster c.args.member 1 (omega (arith, a.grows, s.door)) (omega (arith, a.line, s.grows))),
     )
 
+pub show-requires : goal.show-requires
+show-requires g c =
+    let s = c.in_ok-serve_one.ensures in
+    let after : PlayerFacts = record { world = g.W.Simulation.facts c.serve_one.new.world; trace = c.args.player.now.trace; summary = c.args.player.now.summary } in
+    subst (All (λ (l : Listed). IsTrue l.traced)) (sym c.deref.ensures.value)
+    (all-traced g.K.Sink (player_of g.W.Simulation.facts c.args.player.now) after c.args.out.now c.args.out.now c.args.member s.serves.0 _ _ c.new-brought.ensures.items s.serves.1)
+
 pub returns-in_err-show : goal.returns-in_err-show
 returns-in_err-show g c =
     let final = c.from_residual-in_err-show.result in
@@ -36,7 +45,7 @@ returns-in_err-show g c =
       s.serves.0 ∷ [],
       receives-one g.K.Sink g.D.Door (player_of g.W.Simulation.facts c.args.player.now) after c.args.out.now c.show.new.out c.args.door.now c.serve_one.new.door c.args.member s.serves.0 final
           (not-door c.in_err-show.field-0.0 final (p.1 ∙ ap Err p.2))
-          (prints-part g.K.Sink (player_of g.W.Simulation.facts c.args.player.now) after c.args.out.now c.show.new.out c.args.member s.serves.0 _ _ c.in_err-show.field-0.0 final (ap (map (λ v. v.items)) c.new-brought.ensures.items) s.serves.1 (shows-so (λ v. v.items) c.deref.ensures.value c.in_err-show.ensures) (p.1 ∙ ap Err p.2))
+          (prints-part g.K.Sink (player_of g.W.Simulation.facts c.args.player.now) after c.args.out.now c.show.new.out c.args.member s.serves.0 _ _ c.in_err-show.field-0.0 final c.new-brought.ensures.items s.serves.1 (shows-so (λ v. v.items) c.deref.ensures.value c.in_err-show.ensures) (p.1 ∙ ap Err p.2))
           (no-plays final _ (p.1 ∙ ap Err p.2)) come,
     )
 
@@ -48,6 +57,6 @@ returns g c =
     let after : PlayerFacts = record { world = g.W.Simulation.facts c.serve_one.new.world; trace = c.args.player.now.trace; summary = c.show.new.summary } in (
       s.serves.0 ∷ [],
       receives-one g.K.Sink g.D.Door (player_of g.W.Simulation.facts c.args.player.now) after c.args.out.now c.show.new.out c.args.door.now c.serve_one.new.door c.args.member s.serves.0 (Ok tt) ok-is-no-door
-          (prints-visit g.K.Sink (player_of g.W.Simulation.facts c.args.player.now) after c.args.out.now c.show.new.out c.args.member s.serves.0 _ _ (ap (map (λ v. v.items)) c.new-brought.ensures.items) s.serves.1 (shows-so (λ v. v.items) c.deref.ensures.value c.in_ok-show.ensures))
-          (plays-visit g.K.Sink (player_of g.W.Simulation.facts c.args.player.now) after c.args.out.now c.show.new.out c.args.member s.serves.0 _ _ (ap (map (λ v. v.items)) c.new-brought.ensures.items) s.serves.1 refl (shows-so (λ v. v.items) c.deref.ensures.value c.in_ok-show.ensures)) come,
+          (prints-visit g.K.Sink (player_of g.W.Simulation.facts c.args.player.now) after c.args.out.now c.show.new.out c.args.member s.serves.0 _ _ c.new-brought.ensures.items s.serves.1 (shows-so (λ v. v.items) c.deref.ensures.value c.in_ok-show.ensures))
+          (plays-visit g.K.Sink (player_of g.W.Simulation.facts c.args.player.now) after c.args.out.now c.show.new.out c.args.member s.serves.0 _ _ c.new-brought.ensures.items s.serves.1 refl (shows-so (λ v. v.items) c.deref.ensures.value c.in_ok-show.ensures)) come,
     )

@@ -23,6 +23,6 @@ carry_out-requires-clause-short c = subst (λ (os : List Output). All AsksShortl
 pub returns : goal.returns
 returns c =
     let after = c.give_back.new.self in
-    let done = subst (λ (a : Cluster). Emits c.rouse.new.self a c.rouse.new.events.items c.carry_out.new.events.items (each (output_events c.args.member no_message) c.rouse.new.self c.rouse.new.outputs.outputs) outputs_cost) (sym c.give_back.ensures) c.in_ok-carry_out.ensures.emits in
-    subst (λ (b : Cluster). Emits b after c.args.events.now.items c.carry_out.new.events.items (wake_events_of b c.args.member) input_cost) c.take_outputs.ensures.world
-    (awaken-took c.take_outputs.new.self c.rouse.new.self after c.args.member c.rouse.new.outputs.outputs c.args.events.now.items c.rouse.new.events.items c.carry_out.new.events.items c.in_ok-rouse.ensures.emits c.rouse.ensures.outputs done)
+    let done = subst (λ (a : Cluster). Emits c.rouse.new.self a c.rouse.new.events c.carry_out.new.events (each (output_events c.args.member no_message) c.rouse.new.self c.rouse.new.outputs.outputs) outputs_cost) (sym c.give_back.ensures) c.in_ok-carry_out.ensures.emits in
+    subst (λ (b : Cluster). Emits b after c.args.events.now c.carry_out.new.events (wake_events_of b c.args.member) input_cost) c.take_outputs.ensures.world
+    (awaken-took c.take_outputs.new.self c.rouse.new.self after c.args.member c.rouse.new.outputs.outputs c.args.events.now c.rouse.new.events c.carry_out.new.events c.in_ok-rouse.ensures.emits c.rouse.ensures.outputs done)

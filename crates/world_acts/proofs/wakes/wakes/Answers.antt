@@ -11,7 +11,7 @@ use Rattle.world_acts.proofs.wakes.wakes.Goals as goal
 
 pub loop-place-init : goal.loop-place-init
 loop-place-init c = record {
-  left = passed-over c.args.asleep c.args.stage.now c.args.stage.now c.args.events.now.items c.args.events.now.items c.members.result.now 0 c.first_awake-place.result c.members.ensures c.requires.asleep
+  left = passed-over c.args.asleep c.args.stage.now c.args.stage.now c.args.events.now c.args.events.now c.members.result.now 0 c.first_awake-place.result c.members.ensures c.requires.asleep
       (record { left = record { state = refl; event = refl; room = λ more room. room } }) c.first_awake-place.ensures.range c.first_awake-place.ensures.asleep;
   asleep = c.requires.asleep;
   awake = subst (λ (ms : List Member). IfSome (slice_get ms c.first_awake-place.result) (λ member. bit_at c.args.asleep.bits member.id.number ≢ 1)) c.members.ensures c.first_awake-place.ensures.awake;

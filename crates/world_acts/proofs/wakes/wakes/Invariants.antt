@@ -9,7 +9,7 @@ use Rattle.world_acts.proofs.wakes.wakes.Given as goal
 -- the agents of the members from this place on are still to be woken; the first of them isn't known to have nothing to do
 abbrev pub invariant-loop-place : goal.invariant-loop-place
 invariant-loop-place l = record {
-  left : EachLeft wake_events input_cost l.fn.stage l.stage l.fn.events.items l.events.items l.fn.stage.facts.members l.place;
+  left : EachLeft wake_events input_cost l.fn.stage l.stage l.fn.events l.events l.fn.stage.facts.members l.place;
   asleep : AreAsleep l.asleep l.stage;
   awake : IfSome (slice_get l.stage.facts.members l.place) (λ member. bit_at l.asleep.bits member.id.number ≢ 1);
 }

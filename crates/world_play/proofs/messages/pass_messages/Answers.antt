@@ -6,7 +6,7 @@ use Rattle.world_play.proofs.messages.pass_messages.Goals as goal
 
 pub loop-number-init : goal.loop-number-init
 loop-number-init c = record {
-  passing = passing-start c.args.stage.now c.args.events.now.items c.sent-last.result c.sent-last.ensures (omega (arith, c.has_messages.ensures.few));
+  passing = passing-start c.args.stage.now c.args.events.now c.sent-last.result c.sent-last.ensures (omega (arith, c.has_messages.ensures.few));
   asleep = c.requires.asleep;
 }
 

@@ -6,7 +6,7 @@ use Rattle.world_play.proofs.messages.pass_messages.Given as goal
 -- the messages with numbers from this one on are still to move
 abbrev pub invariant-loop-number : goal.invariant-loop-number
 invariant-loop-number l = record {
-  passing : IsPassing l.fn.stage l.stage l.fn.events.items l.events.items l.from l.last;
+  passing : IsPassing l.fn.stage l.stage l.fn.events l.events l.from l.last;
   asleep : AreAsleep l.asleep l.stage;
 }
 

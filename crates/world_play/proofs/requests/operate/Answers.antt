@@ -23,6 +23,6 @@ carry_out-requires-clause-short c = subst (λ (os : List Output). All AsksShortl
 pub returns : goal.returns
 returns c =
     let after = c.give_back.new.self in
-    let done = subst (λ (a : Cluster). Emits c.obey.new.self a c.obey.new.events.items c.carry_out.new.events.items (each (output_events c.args.member no_message) c.obey.new.self c.obey.new.outputs.outputs) outputs_cost) (sym c.give_back.ensures) c.in_ok-carry_out.ensures.emits in
-    subst (λ (b : Cluster). Emits b after c.args.events.now.items c.carry_out.new.events.items (operate_events b c.args.member c.args.action) request_cost) c.take_outputs.ensures.world
-    (operate-took c.take_outputs.new.self c.obey.new.self after c.args.member c.args.action c.obey.new.outputs.outputs c.args.events.now.items c.obey.new.events.items c.carry_out.new.events.items c.in_ok-obey.ensures.emits c.in_ok-obey.ensures.outputs done)
+    let done = subst (λ (a : Cluster). Emits c.obey.new.self a c.obey.new.events c.carry_out.new.events (each (output_events c.args.member no_message) c.obey.new.self c.obey.new.outputs.outputs) outputs_cost) (sym c.give_back.ensures) c.in_ok-carry_out.ensures.emits in
+    subst (λ (b : Cluster). Emits b after c.args.events.now c.carry_out.new.events (operate_events b c.args.member c.args.action) request_cost) c.take_outputs.ensures.world
+    (operate-took c.take_outputs.new.self c.obey.new.self after c.args.member c.args.action c.obey.new.outputs.outputs c.args.events.now c.obey.new.events c.carry_out.new.events c.in_ok-obey.ensures.emits c.in_ok-obey.ensures.outputs done)

@@ -29,8 +29,8 @@ returns-in_ok-take_command-in-Command-clause-emits c = stepped _ _ _ _ _ (steps.
 
 pub returns-in_ok-take_command-in-Command-clause-caught_up : goal.returns-in_ok-take_command-in-Command-clause-caught_up
 returns-in_ok-take_command-in-Command-clause-caught_up c =
-    caught-up-behind c.args.stage.now c.take_command.new.stage c.args.events.now.items c.take_command.new.events.items c.deref.result.now _ command_cost c.len-from.result c.args.caught_up c.still_caught_up.result c.in_ok-take_command-in-Command.ensures (omega (arith, c.len-from.ensures))
-    c.deref.ensures.value c.still_caught_up.ensures c.requires.caught_up
+    caught-up-behind c.args.stage.now c.take_command.new.stage c.args.events.now c.take_command.new.events _ command_cost c.len-from.result c.args.caught_up c.still_caught_up.result c.in_ok-take_command-in-Command.ensures (omega (arith, c.len-from.ensures))
+    c.still_caught_up.ensures c.requires.caught_up
 
 pub returns-in_ok-receive_visit-in-Connection-clause-emits : goal.returns-in_ok-receive_visit-in-Connection-clause-emits
 returns-in_ok-receive_visit-in-Connection-clause-emits c =
@@ -39,5 +39,5 @@ returns-in_ok-receive_visit-in-Connection-clause-emits c =
 
 pub returns-in_ok-receive_visit-in-Connection-clause-caught_up : goal.returns-in_ok-receive_visit-in-Connection-clause-caught_up
 returns-in_ok-receive_visit-in-Connection-clause-caught_up c =
-    caught-up-behind c.args.stage.now c.receive_visit.new.stage c.args.events.now.items c.receive_visit.new.events.items c.deref-in-Connection.result.now _ request_cost c.len-from-in-Connection.result c.args.caught_up c.still_caught_up-in-Connection.result c.in_ok-receive_visit-in-Connection.ensures
-    (omega (arith, c.len-from-in-Connection.ensures)) c.deref-in-Connection.ensures.value c.still_caught_up-in-Connection.ensures c.requires.caught_up
+    caught-up-behind c.args.stage.now c.receive_visit.new.stage c.args.events.now c.receive_visit.new.events _ request_cost c.len-from-in-Connection.result c.args.caught_up c.still_caught_up-in-Connection.result c.in_ok-receive_visit-in-Connection.ensures
+    (omega (arith, c.len-from-in-Connection.ensures)) c.still_caught_up-in-Connection.ensures c.requires.caught_up

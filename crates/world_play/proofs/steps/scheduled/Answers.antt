@@ -21,5 +21,5 @@ returns-clause-emits c =
 
 pub returns-clause-caught_up : goal.returns-clause-caught_up
 returns-clause-caught_up c =
-    caught-up-behind c.all_receive.new.stage c.rounds.new.stage c.all_receive.new.events.items c.rounds.new.events.items c.deref.result.now _ rounds_cost c.len-from.result _ c.still_caught_up.result c.in_ok-rounds.ensures (omega (arith, c.len-from.ensures)) c.deref.ensures.value c.still_caught_up.ensures
+    caught-up-behind c.all_receive.new.stage c.rounds.new.stage c.all_receive.new.events c.rounds.new.events _ rounds_cost c.len-from.result _ c.still_caught_up.result c.in_ok-rounds.ensures (omega (arith, c.len-from.ensures)) c.still_caught_up.ensures
     c.in_ok-caught_up.ensures.caught_up

@@ -41,7 +41,7 @@ returns-in-Stream c =
 pub returns-in_default : goal.returns-in_default
 returns-in_default c =
     let same : command_events c.args.stage.now c.args.command.now ≡ events_of c.args.stage.now (kinds_of (command_kind c.args.stage.now c.args.command.now)) = search rules in
-    on_ok_weaker c.happen_if.result (λ took. command_kind-took c.args.stage.now c.happen_if.new.self c.args.events.now.items c.happen_if.new.events.items c.args.command.now c.command_kind-kind.result same c.command_kind-kind.ensures.kind took) c.happen_if.ensures
+    on_ok_weaker c.happen_if.result (λ took. command_kind-took c.args.stage.now c.happen_if.new.self c.args.events.now c.happen_if.new.events c.args.command.now c.command_kind-kind.result same c.command_kind-kind.ensures.kind took) c.happen_if.ensures
 
 pub returns-in-Ctl : goal.returns-in-Ctl
 returns-in-Ctl c =

@@ -12,5 +12,5 @@ returns-clause-emits c =
 
 pub returns-clause-caught_up : goal.returns-clause-caught_up
 returns-clause-caught_up c =
-    caught-up-behind c.perform.new.stage c.acknowledge_all.new.self c.perform.new.events.items c.acknowledge_all.new.events.items c.deref.result.now _ 0 c.len-from.result _ c.still_caught_up.result c.in_ok-acknowledge_all.ensures.emits (omega (arith, c.len-from.ensures)) c.deref.ensures.value c.still_caught_up.ensures
+    caught-up-behind c.perform.new.stage c.acknowledge_all.new.self c.perform.new.events c.acknowledge_all.new.events _ 0 c.len-from.result _ c.still_caught_up.result c.in_ok-acknowledge_all.ensures.emits (omega (arith, c.len-from.ensures)) c.still_caught_up.ensures
     c.in_ok-caught_up.ensures.caught_up

@@ -20,5 +20,5 @@ returns c =
     let told = c.in_ok-loss.ensures.kind ∙ ap (λ (cs : List ℕ). option_and_then (loss_of_any cs c.args.member) (slice_get c.servers.result.now place)) c.acknowledged.ensures
     ∙ ap (λ (known : List ServerFacts). option_and_then (loss_of_any c.args.stage.now.facts.acknowledged c.args.member) (slice_get known place)) c.servers.ensures in
     on_ok_weaker c.happen_then.result
-    (λ took. began-took c.args.stage.now c.happen_then.new.self c.args.member c.args.timeline c.of-server.result c.in_ok-loss.loss c.args.events.now.items c.happen_then.new.events.items c.of-server.ensures told took)
+    (λ took. began-took c.args.stage.now c.happen_then.new.self c.args.member c.args.timeline c.of-server.result c.in_ok-loss.loss c.args.events.now c.happen_then.new.events c.of-server.ensures told took)
     c.happen_then.ensures

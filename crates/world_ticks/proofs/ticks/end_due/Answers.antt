@@ -1,5 +1,6 @@
-use Rattle.std.proofs.Common.{◌≡◌, ◌∙◌, ◌+◌, ◌++◌, arith, ap, rules}
+use Rattle.std.proofs.Common.{◌≡◌, ◌∙◌, ◌+◌, arith, ap, rules}
 use Rattle.std.proofs.lemmas.Result.{on_ok_weaker}
+use Rattle.event_list.specs.Listed.{◌+++◌}
 use Rattle.lease_store.specs.Answers.{expired_holder, expired_keys}
 use Rattle.cluster_model.specs.Orders.{declared_member}
 use Rattle.cluster_model.specs.Parts.{events_at}
@@ -24,9 +25,9 @@ returns c =
     let now = before.facts.clock + 1 in
     let holder : c.declared_member-holder.result ≡ declared_member before.facts.members (expired_holder before.facts.keys now) = search rules in
     let all : c.deref.result.now ≡ expired_keys before.facts.keys now = search rules in
-    let told = c.in_ok-tell_expiries.ensures ∙ ap (λ ks. c.resets.new.events.items ++ events_at c.clock-2.result (expiries_of c.declared_member-holder.result ks)) all
-    ∙ ap (λ h. c.resets.new.events.items ++ events_at c.clock-2.result (expiries_of h (expired_keys before.facts.keys now))) holder in
+    let told = c.in_ok-tell_expiries.ensures ∙ ap (λ ks. c.resets.new.events +++ events_at c.clock-2.result (expiries_of c.declared_member-holder.result ks)) all
+    ∙ ap (λ h. c.resets.new.events +++ events_at c.clock-2.result (expiries_of h (expired_keys before.facts.keys now))) holder in
     on_ok_weaker c.completions.result
-    (λ took. tick-took before c.happen.new.self c.resets.new.stage c.completions.new.stage c.args.events.now.items c.happen.new.events.items c.resets.new.events.items c.tell_expiries.new.events.items c.completions.new.events.items c.clock-2.result
+    (λ took. tick-took before c.happen.new.self c.resets.new.stage c.completions.new.stage c.args.events.now c.happen.new.events c.resets.new.events c.tell_expiries.new.events c.completions.new.events c.clock-2.result
     c.in_ok-happen.ensures c.in_ok-resets.ensures c.clock-2.ensures told took)
     c.completions.ensures

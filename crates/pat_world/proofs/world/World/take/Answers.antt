@@ -12,7 +12,7 @@ invariant_of-self c = (idle-before-none steps.Scheduled c.take_step.new.stage, i
 
 pub invariant_of-self-2 : goal.invariant_of-self-2
 invariant_of-self-2 c = (
-  idle-found c.self.inside.stage c.take_step.new.stage c.args.events.now.items c.take_step.new.events.items c.args.step.now c.idle_before-self-inside.result c.len.result c.idle_before-self-inside.ensures.scheduled c.idle_before-self-inside.ensures.one c.idle_before-self-inside.ensures.due
+  idle-found c.self.inside.stage c.take_step.new.stage c.args.events.now c.take_step.new.events c.args.step.now c.idle_before-self-inside.result c.len.result c.idle_before-self-inside.ensures.scheduled c.idle_before-self-inside.ensures.one c.idle_before-self-inside.ensures.due
       c.requires.empty (omega (arith, c.len.ensures)) c.in_ok-caught_up.ensures.emits c.in_ok-caught_up.ensures.acknowledged,
   ticks-idle-found c.take_step.new.stage c.ticks_idle_before-self-inside.result c.ticks_idle_before-self-inside.ensures c.in_ok-caught_up.ensures.acknowledged,
   c.in_ok-caught_up.ensures.caught_up,

@@ -23,8 +23,8 @@ pub returns-clause-emits : goal.returns-clause-emits
 returns-clause-emits c =
     let old = c.args.self.now.cluster in
     on_ok_weaker c.bare_tick.result
-    (λ took. step-took old c.bare_tick.new.stage c.args.events.now.items c.bare_tick.new.events.items c.args.step.now c.requires.idle
-    (subst (λ (w : WorldFacts). Emits w.cluster c.bare_tick.new.stage c.args.events.now.items c.bare_tick.new.events.items (tick_events w.cluster) tick_cost) c.self.view_is took))
+    (λ took. step-took old c.bare_tick.new.stage c.args.events.now c.bare_tick.new.events c.args.step.now c.requires.idle
+    (subst (λ (w : WorldFacts). Emits w.cluster c.bare_tick.new.stage c.args.events.now c.bare_tick.new.events (tick_events w.cluster) tick_cost) c.self.view_is took))
     c.bare_tick.ensures.emits
 
 pub invariant_of-self : goal.invariant_of-self

@@ -16,4 +16,4 @@ pub returns : goal.returns
 returns c =
     let over : length c.args.self.now.facts.members ≤ c.loop-place.place = omega (arith, c.loop-place-test.false, c.len-place-end.ensures, ap (λ (b : Cluster). length b.facts.members) c.self.view_is) in
     let took = EachLeft-end _ _ _ _ _ _ _ _ c.loop-place.place c.loop-place.invariant over in
-    record { emits = Emits-weaker _ _ _ _ _ _ 0 took (omega arith); done = acknowledged-all c.args.self.now c.loop-place.self c.args.events.now.items c.loop-place.events.items _ took }
+    record { emits = Emits-weaker _ _ _ _ _ _ 0 took (omega arith); done = acknowledged-all c.args.self.now c.loop-place.self c.args.events.now c.loop-place.events _ took }

@@ -38,7 +38,7 @@ returns c =
     let carried = c.in-Some.carried in
     let found : in_flight before.facts.flight c.args.number ≡ Some carried = sym c.land.ensures.message ∙ c.in-Some.is in
     record {
-      landed = subst (λ (b : Cluster). Landed b c.reach.new.self c.args.events.now.items c.write_down.new.events.items c.reach.new.outputs.outputs c.args.number (in_flight b.facts.flight c.args.number) (Some c.in_ok-arrival.arrival)) c.self.view_is
-          (landed-as before c.reach.new.self c.land.new.self c.args.events.now.items c.write_down.new.events.items c.reach.new.outputs.outputs c.args.number carried c.in_ok-arrival.arrival c.self-2.inside.clock
+      landed = subst (λ (b : Cluster). Landed b c.reach.new.self c.args.events.now c.write_down.new.events c.reach.new.outputs.outputs c.args.number (in_flight b.facts.flight c.args.number) (Some c.in_ok-arrival.arrival)) c.self.view_is
+          (landed-as before c.reach.new.self c.land.new.self c.args.events.now c.write_down.new.events c.reach.new.outputs.outputs c.args.number carried c.in_ok-arrival.arrival c.self-2.inside.clock
           c.land.ensures.flight found c.in-Some.ensures.sent c.in_ok-arrival.ensures.reached (ap (λ (b : Cluster). b.facts.clock) c.self-2.view_is) c.in_ok-write_down.ensures);
     }

@@ -2,6 +2,7 @@ use Rattle.std.proofs.Common.{◌≡◌, List, [], ◌∷◌, ◌++◌, length, 
 use Rattle.std.specs.Prelude.{String}
 use Rattle.std.specs.declared.alloc.Global.{Global}
 use Rattle.std.specs.Vec.Iter.{into_iter_items}
+use Rattle.event_list.specs.Listed.{◌+++◌}
 use Rattle.cluster_model.specs.State.{Cluster}
 use Rattle.world_stage.proofs.Printed.{none-left, printed, printed-more, printed-took}
 use Rattle.world_stage.proofs.stage.Stage.print.Goals as goal
@@ -23,5 +24,5 @@ returns c =
     let at = c.loop-line in
     let empty : into_iter_items at.line-iterator ≡ [] = none-left _ _ at.invariant.2 c.in-None.ensures.steps.0 in
     let all = at.invariant.1 ∙ ap (λ ls. at.yielded ++ ls) empty ∙ append-nil at.yielded in
-    printed-took c.args.self.now c.args.lines.items c.args.events.now.items at.events.items
-    (subst (λ (ls : List (String Global)). at.events.items ≡ c.args.events.now.items ++ map (printed c.args.self.now) ls) (sym all) at.invariant.0)
+    printed-took c.args.self.now c.args.lines.items c.args.events.now at.events
+    (subst (λ (ls : List (String Global)). at.events ≡ c.args.events.now +++ map (printed c.args.self.now) ls) (sym all) at.invariant.0)

@@ -27,8 +27,8 @@ returns-in-None c =
     let before = seen c.self.inside in
     let news = sym c.in_ok-stream.ensures.news ∙ c.in-None.is in
     on_ok_weaker c.confirm.result
-    (λ took. subst (λ (b : Cluster). Emits b c.confirm.new.self c.args.events.now.items c.confirm.new.events.items (receive_events b c.args.member c.args.from (news_at b.facts.servers c.args.member.id.number c.args.from.id.number c.args.most)) 2) c.self.view_is
-    (quiet-took before c.confirm.new.self c.args.member c.args.from c.args.most c.stream.new.self c.args.events.now.items c.confirm.new.events.items news c.in_ok-stream.ensures.ok took))
+    (λ took. subst (λ (b : Cluster). Emits b c.confirm.new.self c.args.events.now c.confirm.new.events (receive_events b c.args.member c.args.from (news_at b.facts.servers c.args.member.id.number c.args.from.id.number c.args.most)) 2) c.self.view_is
+    (quiet-took before c.confirm.new.self c.args.member c.args.from c.args.most c.stream.new.self c.args.events.now c.confirm.new.events news c.in_ok-stream.ensures.ok took))
     c.confirm.ensures
 
 pub returns-in-Some-NotConnected : goal.returns-in-Some-NotConnected
@@ -42,8 +42,8 @@ returns-in-Some-Diverged c =
     let before = seen c.self.inside in
     let news = sym c.in_ok-stream.ensures.news ∙ c.in-Some-Diverged.is ∙ ap Some c.in-Some-Diverged.field-0-is in
     on_ok_weaker c.write_down.result
-    (λ has. subst (λ (b : Cluster). Emits b (with_servers before c.stream.new.self) c.args.events.now.items c.write_down.new.events.items (receive_events b c.args.member c.args.from (news_at b.facts.servers c.args.member.id.number c.args.from.id.number c.args.most)) 2) c.self.view_is
-    (diverged-took before c.args.member c.args.from c.args.most c.in-Some-Diverged.at c.of.result c.of-in-Some-Diverged.result c.stream.new.self c.self.inside.clock c.args.events.now.items c.write_down.new.events.items
+    (λ has. subst (λ (b : Cluster). Emits b (with_servers before c.stream.new.self) c.args.events.now c.write_down.new.events (receive_events b c.args.member c.args.from (news_at b.facts.servers c.args.member.id.number c.args.from.id.number c.args.most)) 2) c.self.view_is
+    (diverged-took before c.args.member c.args.from c.args.most c.in-Some-Diverged.at c.of.result c.of-in-Some-Diverged.result c.stream.new.self c.self.inside.clock c.args.events.now c.write_down.new.events
     news c.in_ok-stream.ensures.ok c.of.ensures c.of-in-Some-Diverged.ensures refl has))
     c.write_down.ensures
 
@@ -52,8 +52,8 @@ returns-in_ok-write_down-in-Some-Received c =
     let before = seen c.self.inside in
     let news = sym c.in_ok-stream.ensures.news ∙ c.in-Some-Received.is ∙ ap Some c.in-Some-Received.field-0-is in
     on_ok_weaker c.confirm-in-Some-Received.result
-    (λ took. subst (λ (b : Cluster). Emits b c.confirm-in-Some-Received.new.self c.args.events.now.items c.confirm-in-Some-Received.new.events.items (receive_events b c.args.member c.args.from (news_at b.facts.servers c.args.member.id.number c.args.from.id.number c.args.most)) 2) c.self.view_is
+    (λ took. subst (λ (b : Cluster). Emits b c.confirm-in-Some-Received.new.self c.args.events.now c.confirm-in-Some-Received.new.events (receive_events b c.args.member c.args.from (news_at b.facts.servers c.args.member.id.number c.args.from.id.number c.args.most)) 2) c.self.view_is
     (received-took before c.confirm-in-Some-Received.new.self c.args.member c.args.from c.args.most c.in-Some-Received.count c.of-in-Some-Received.result c.of-in-Some-Received-2.result c.stream.new.self c.self.inside.clock
-    c.args.events.now.items c.write_down-in-Some-Received.new.events.items c.confirm-in-Some-Received.new.events.items
+    c.args.events.now c.write_down-in-Some-Received.new.events c.confirm-in-Some-Received.new.events
     news c.in_ok-stream.ensures.ok c.of-in-Some-Received.ensures c.of-in-Some-Received-2.ensures refl c.in_ok-write_down-in-Some-Received.ensures took))
     c.confirm-in-Some-Received.ensures

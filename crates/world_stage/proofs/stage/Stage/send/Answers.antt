@@ -1,5 +1,6 @@
-use Rattle.std.proofs.Common.{◌≡◌, ◌∙◌, ◌+◌, ◌++◌, [], ◌∷◌, arith, refl, ap, sym, subst}
+use Rattle.std.proofs.Common.{◌≡◌, ◌∙◌, ◌+◌, [], ◌∷◌, arith, refl, ap, sym, subst}
 use Rattle.std.proofs.lemmas.Result.{on_ok_weaker}
+use Rattle.event_list.specs.Listed.{◌+++◌}
 use Rattle.lease_store.specs.Answers.{present_pairs}
 use Rattle.lease_store.specs.Copied.{items_if}
 use Rattle.event_book.specs.declared.event.Event.{Event}
@@ -68,13 +69,13 @@ returns c =
     let told = c.in_ok-snapshot_for.ensures.entries ∙ ap (λ (m : Message). snapshot_for m.body (present_pairs before.facts.clock before.facts.keys.pairs)) (c.get.ensures ∙ shared) in
     let loaded = loaded-is before message c.in_ok-try_clone.field-0 c.self.inside.clock (items_if c.in_ok-snapshot_for.field-0) c.args.grant (c.in_ok-try_clone.ensures ∙ shared) refl told grant in
     let number = before.facts.sent + 1 in
-    let mid = c.in_ok-write_down.ensures ∙ ap (λ (m : Message). let event : Event = record { tick = c.self.inside.clock; kind = kinds.Message (Sent number m) } in c.args.events.now.items ++ event ∷ []) shared in
+    let mid = c.in_ok-write_down.ensures ∙ ap (λ (m : Message). let event : Event = record { tick = c.self.inside.clock; kind = kinds.Message (Sent number m) } in c.args.events.now +++ event ∷ []) shared in
     let flown = with_flight before c.launch.new.self (before.facts.sent + 1) in
     let after = with_keys flown c.snapshot_for.new.store in
     let same : after ≡ flown = ap (with_keys flown) c.snapshot_for.ensures.same in
     on_ok_weaker c.tell_lost.result
-    (λ has. subst (λ (b : Cluster). Emits b after c.args.events.now.items c.tell_lost.new.events.items (send_events b message) 2) c.self.view_is
-    (send-took before after message c.self.inside.clock c.launch.new.self c.in_ok-lost.lost c.args.events.now.items c.write_down.new.events.items c.tell_lost.new.events.items refl
+    (λ has. subst (λ (b : Cluster). Emits b after c.args.events.now c.tell_lost.new.events (send_events b message) 2) c.self.view_is
+    (send-took before after message c.self.inside.clock c.launch.new.self c.in_ok-lost.lost c.args.events.now c.write_down.new.events c.tell_lost.new.events refl
     (c.in_ok-lost.ensures.flight ∙ ap (λ m. launched_into before.facts.flight (before.facts.sent + 1) m) loaded)
     c.in_ok-lost.ensures.lost same mid has))
     c.tell_lost.ensures
