@@ -9,13 +9,13 @@ ghost use Rattle.agent_turn.specs.Roles.{role_of};
 ghost use Rattle.agent_model.specs.Views.{view_of};
 
 use crate::following::start_replica;
-use agent_model::{Knowledge, Machine, Output, PendingQuestion, Question};
+use agent_model::{Inquiry, Knowledge, Machine, Output, PendingQuestion, Question};
 use agent_turn::{
     Role, Turn, all_answered, answers_until, ask_all, failsafe_compared, info_of, is_paused,
     may_create, view_of, word_of,
 };
 use cluster_view::RoleWord;
-use event_book::{AgentNote, Body};
+use event_book::AgentNote;
 use leader_race::{may_race, wins};
 use pat_base::{Ineligibility, State, Ticks};
 use pg_model::ServerStatus;
@@ -162,7 +162,7 @@ pub(crate) fn create(turn: &mut Turn)
         sync: None,
     };
     let until = turn.moment + turn.knows.settings.retry_timeout_ticks();
-    turn.ask(Question::Creating, until, Body::Request(create));
+    turn.ask(Question::Creating, until, Inquiry::request(create));
 }
 
 /// Asks each other member how far its server is, all under one number, and waits for the answers.

@@ -8,9 +8,9 @@ ghost use Rattle.leader_key.specs.Lease.{armed_revision};
 ghost use Rattle.agent_model.specs.Claiming.{begins, begins_or_claims, can_begin_on_claim, claim_fails, claim_granted, claims, may_begin_on_claim, passing, postpones};
 ghost use Rattle.agent_turn.specs.Roles.{role_of};
 
-use agent_model::{Knowledge, Output, Question};
+use agent_model::{Inquiry, Knowledge, Output, Question};
 use agent_turn::{Role, Turn, expected_of, is_named_if, is_paused, is_wanted_by, unnamed};
-use event_book::{AgentNote, Body};
+use event_book::AgentNote;
 use leader_key::{Armed, Writer};
 use pat_base::State;
 use pg_model::ServerStatus;
@@ -54,7 +54,7 @@ fn claim(armed: Armed, turn: &mut Turn) -> Role
         sync: expected_of(turn.knows.turn_sync),
     };
     let until = turn.moment + turn.knows.settings.retry_timeout_ticks();
-    turn.ask(Question::Claiming, until, Body::Request(claim));
+    turn.ask(Question::Claiming, until, Inquiry::request(claim));
     Role::Ready(armed)
 }
 

@@ -12,12 +12,14 @@ ghost use Rattle.agent_model.specs.declared.why.Why.TheVariants as whys;
 ghost use Rattle.leader_key.specs.Lease.{writer_revision};
 
 use crate::planning::take_step;
-use agent_model::{Answers, Knowledge, Output, PendingQuestion, Question, SyncRead, Who, Why};
+use agent_model::{
+    Answers, Inquiry, Knowledge, Output, PendingQuestion, Question, SyncRead, Who, Why,
+};
 use agent_turn::{
     Role, Turn, all_answered, answers_until, ask_all, ask_one, is_paused, is_settled,
 };
 use cluster_view::{Snapshot, candidate_of, is_standby};
-use event_book::{AgentNote, Body};
+use event_book::AgentNote;
 use leader_key::Writer;
 use leader_race::{earlier, may_fail_over};
 use pat_base::{Lsn, MemberId, PeerAnswer};
@@ -94,7 +96,7 @@ fn clear(turn: &mut Turn)
     ensures left { Spent 1 1 turn.old turn.new }
 {
     if let Some(revision) = leader_revision(turn.knows.seen.as_ref()) {
-        turn.send(Body::Request(Txn::DropFailover { revision }));
+        turn.send(Inquiry::request(Txn::DropFailover { revision }));
     }
 }
 

@@ -5,10 +5,9 @@ ghost use Rattle.agent_model.specs.Agents.{Leader, RoleFacts};
 ghost use Rattle.agent_model.specs.Planning.{leader_view, naming, planned, planned_as, settled, switching_off, writing_sync};
 ghost use Rattle.agent_model.specs.Table.{step};
 
-use agent_model::{Knowledge, Machine, Question, Settling, SyncRead};
+use agent_model::{Inquiry, Knowledge, Machine, Question, Settling, SyncRead};
 use agent_turn::{Turn, expected_of, sync_read_if, view_of, waiting_for};
 use cluster_view::{LeaderView, RoleWord};
-use event_book::Body;
 use pat_base::{MemberSet, Required, Ticks};
 use store_keys::Txn;
 use sync_state::{Plan, plan};
@@ -107,7 +106,7 @@ fn write_sync(settling: Settling, write: Txn, turn: &mut Turn)
     ensures left { Spent 1 1 turn.old turn.new }
 {
     let until = turn.moment + turn.knows.settings.retry_timeout_ticks();
-    turn.ask(Question::Syncing(settling), until, Body::Request(write));
+    turn.ask(Question::Syncing(settling), until, Inquiry::request(write));
 }
 
 /// A write of the sync key is granted: what the required list becomes.

@@ -9,11 +9,11 @@ ghost use Rattle.agent_model.specs.Agents.{IsWithin, Leader};
 ghost use Rattle.agent_model.specs.StayingPrimary.{accepted_failsafe, acknowledged_to, asking_to_stay, awaits_failsafe, failsafe_answered, fed_by_failsafe, is_staying, may_stay, others_known, requesting_all, requesting_one, seeks_to_stay, stays, stays_by, unacknowledged};
 ghost use Rattle.agent_model.specs.Wake.{leader_unanswered};
 
-use agent_model::{Knowledge, Output, PendingQuestion, Question, Target};
+use agent_model::{Inquiry, Knowledge, Output, PendingQuestion, Question, Target};
 use agent_turn::{
     Outputs, Role, Turn, answers_until, comes_late, deadline_of, is_armable, is_paused,
 };
-use event_book::{Body, Reason};
+use event_book::Reason;
 use failsafe::{Ask, without_member};
 use leader_key::Writer;
 use pat_base::{MOST_MEMBERS, MemberId, MemberSet, Ticks};
@@ -111,7 +111,7 @@ fn request_one(
             out.put(Output::Send {
                 to: Target::Member(member),
                 sequence,
-                body: Body::FailsafeRequest { ttl },
+                body: Inquiry::failsafe_request(ttl),
             });
         }
     }

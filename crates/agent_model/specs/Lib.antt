@@ -9,6 +9,7 @@ pub mod FailsafeKeys
 pub mod Fits
 pub mod HandingOver
 pub mod Info
+pub mod Inquiries
 pub mod Operators
 pub mod Outputs
 pub mod Pausing

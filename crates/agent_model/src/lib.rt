@@ -4,6 +4,7 @@
 
 mod answers;
 mod heard;
+mod inquiry;
 mod knowledge;
 mod machine;
 mod operating;
@@ -13,6 +14,7 @@ mod why;
 
 pub use answers::Answers;
 pub use heard::Heard;
+pub use inquiry::Inquiry;
 pub use knowledge::{FailsafeRead, Knowledge, PendingQuestion, Question, Settling, SyncRead};
 pub use machine::{Machine, Replication};
 pub use operating::{Operating, Operation, Told};

@@ -1,7 +1,7 @@
 //! What an agent does.
 
-use crate::Told;
-use event_book::{AgentNote, Body, Reason};
+use crate::{Inquiry, Told};
+use event_book::{AgentNote, Reason};
 use pat_base::{MemberId, MemberSet, PeerAnswer, Required, Ticks};
 
 /// Whom an agent writes to.
@@ -27,7 +27,7 @@ pub enum Output {
     Send {
         to: Target,
         sequence: u64,
-        body: Body,
+        body: Inquiry,
     },
     /// What it answers this member, to the ask of this number in that one's incarnation.
     Answer {

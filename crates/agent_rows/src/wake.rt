@@ -9,10 +9,10 @@ ghost use Rattle.agent_turn.specs.Roles.{role_of};
 
 use agent_following::judge_if_racing;
 use agent_leadership::{claim_fails, judge_if_leading, leader_unanswered, unacknowledged};
-use agent_model::{Knowledge, Machine, PendingQuestion, Question};
+use agent_model::{Inquiry, Knowledge, Machine, PendingQuestion, Question};
 use agent_turn::{Role, Turn, is_paused};
 use agent_upkeep::{give_up, reconcile};
-use event_book::{Body, Reason};
+use event_book::Reason;
 use pat_base::{State, Ticks};
 
 /// A wake.
@@ -187,5 +187,5 @@ fn read(turn: &mut Turn)
     ensures left { Spent 1 1 turn.old turn.new }
 {
     let until = turn.moment + turn.knows.settings.retry_timeout_ticks();
-    turn.ask(Question::Reading, until, Body::Read);
+    turn.ask(Question::Reading, until, Inquiry::read());
 }

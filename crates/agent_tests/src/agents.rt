@@ -32,15 +32,23 @@ fn who(rt: &impl Abort) -> Who {
     }
 }
 
-/// What an output does, in a word.
-fn word(output: &Output) -> &'static str {
-    match output {
-        Output::Send { body, .. } => match body {
-            Body::Read => "read",
-            Body::Request(Txn::Create { .. }) => "create",
-            Body::Request(Txn::Renew { .. }) => "renewal",
-            _ => "another message",
+/// What a message asks, in a word.
+fn asked(body: &Body) -> &'static str {
+    match body {
+        Body::Read => "read",
+        Body::Request(txn) => match txn.get() {
+            Txn::Create { .. } => "create",
+            Txn::Renew { .. } => "renewal",
+            _ => "another request",
         },
+        _ => "another message",
+    }
+}
+
+/// What an output does, in a word.
+fn word(rt: &impl Abort, alloc: Global, output: Output) -> &'static str {
+    match output {
+        Output::Send { body, .. } => asked(&body.into_body(alloc).expect(rt, "memory")),
         Output::Begin => "begin",
         Output::Stop {
             reason: Reason::StoreOutOfReach,
@@ -79,7 +87,7 @@ fn word(output: &Output) -> &'static str {
             incarnation: 4,
             sequence: 9,
             accepted,
-        } => { if *accepted { "yes" } else { "no" } }
+        } => { if accepted { "yes" } else { "no" } }
         _ => "another",
     }
 }
@@ -87,6 +95,7 @@ fn word(output: &Output) -> &'static str {
 /// What an agent acts on, with room for what it does.
 #[derive(Drop)]
 struct Workplace {
+    alloc: Global,
     history: History,
     machine: Machine,
     out: Outputs,
@@ -97,6 +106,7 @@ impl Workplace {
         let mut out = Outputs::new(alloc);
         out.reserve(40)?;
         Ok(Workplace {
+            alloc,
             history: History::new(alloc),
             machine: Machine {
                 server: Server::new(alloc, 83_886_080)?.status(),
@@ -136,7 +146,7 @@ impl Workplace {
         }
         for word_wanted in wanted {
             let output = self.out.take().expect(rt, "an output");
-            assert_eq!(rt; word(&output), *word_wanted);
+            assert_eq!(rt; word(rt, self.alloc, output), *word_wanted);
         }
         assert!(rt; self.out.take().is_none());
     }

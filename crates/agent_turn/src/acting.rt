@@ -15,8 +15,8 @@ use crate::info::info_of;
 use crate::outputs::Outputs;
 use crate::role::Role;
 use crate::turn::Turn;
-use agent_model::{Machine, Output, PendingQuestion, Question, Target, Why};
-use event_book::{AgentNote, Body, Reason};
+use agent_model::{Inquiry, Machine, Output, PendingQuestion, Question, Target, Why};
+use event_book::{AgentNote, Reason};
 use leader_key::{Armed, Lease, Mode, NotArmed, Watchdog, Writer};
 use lease_store::Granted;
 use pat_base::{Required, Ticks};
@@ -24,7 +24,7 @@ use store_keys::Txn;
 
 impl Turn<'_> {
     /// Sends this to the key store, and doesn't wait for the answer.
-    pub fn send(&mut self, body: Body)
+    pub fn send(&mut self, body: Inquiry)
         requires { HasLeft 1 1 self.old }
         ensures outcome { ComesTo (sending body) self.old self.new }
         ensures left { Spent 1 1 self.old self.new }
@@ -38,7 +38,7 @@ impl Turn<'_> {
     }
 
     /// Asks the key store, and waits for the answer until a moment.
-    pub fn ask(&mut self, question: Question, until: Ticks, body: Body)
+    pub fn ask(&mut self, question: Question, until: Ticks, body: Inquiry)
         requires { HasLeft 1 1 self.old }
         ensures outcome { ComesTo (asking self.old.moment question until body) self.old self.new }
         ensures left { Spent 1 1 self.old self.new }
@@ -72,7 +72,7 @@ impl Turn<'_> {
             info: info_of(&self.knows.who, &self.machine.server),
             ttl: self.knows.settings.ttl_ticks(),
         };
-        self.send(Body::Request(touch));
+        self.send(Inquiry::request(touch));
     }
 
     /// Gives the leader key up.
@@ -81,7 +81,7 @@ impl Turn<'_> {
         ensures outcome { ComesTo (releasing (lease_revision lease)) self.old self.new }
         ensures left { Spent 1 1 self.old self.new }
     {
-        self.send(Body::Request(lease.release()));
+        self.send(Inquiry::request(lease.release()));
     }
 
     /// Ends the server.

@@ -7,8 +7,7 @@ ghost use Rattle.pat_base.specs.Moments.{latest};
 ghost use Rattle.agent_model.specs.declared.output.Output.TheVariants as outputs;
 
 use crate::Outputs;
-use agent_model::{Answers, Output, Target, Who};
-use event_book::Body;
+use agent_model::{Answers, Inquiry, Output, Target, Who};
 use pat_base::{MOST_MEMBERS, MemberId, Ticks};
 
 /// For so many ticks a member waits for the answers of the others.
@@ -44,7 +43,7 @@ pub fn ask_one(who: &Who, sequence: u64, member: Option<MemberId>, out: &mut Out
             out.put(Output::Send {
                 to: Target::Member(member),
                 sequence,
-                body: Body::Ask,
+                body: Inquiry::ask(),
             });
         }
     }

@@ -12,10 +12,9 @@ ghost use Rattle.agent_model.specs.Acting.{waiting};
 
 use crate::holding::{hold, may_acknowledge};
 use crate::waiting::{awaits_number, awaits_read};
-use agent_model::{Knowledge, Operating, Operation, Output, Told};
+use agent_model::{Inquiry, Knowledge, Operating, Operation, Output, Told};
 use agent_turn::{Role, Turn, inform, is_active, is_write_of};
 use cluster_view::Snapshot;
-use event_book::Body;
 use lease_store::Granted;
 use operator_answers::{CONFLICT, INTERNAL_SERVER_ERROR, OK, SERVICE_UNAVAILABLE, Text};
 use pat_base::{Host, MemberId, Name, State, Ticks};
@@ -87,7 +86,7 @@ fn owe(request: u64, operation: Operation, txn: Txn, turn: &mut Turn)
     ensures outcome { ComesTo (operating turn.old.moment request operation (bodies.Request txn)) turn.old turn.new }
     ensures left { Spent 1 1 turn.old turn.new }
 {
-    turn.send(Body::Request(txn));
+    turn.send(Inquiry::request(txn));
     turn.knows.operating = Some(Operating {
         request,
         operation,

@@ -6,10 +6,9 @@ ghost use Rattle.agent_model.specs.Agents.{IsSound};
 ghost use Rattle.pat_base.specs.Moments.{latest};
 ghost use Rattle.agent_model.specs.Snapshots.{missing_point, missing_row, renewal, renewing, row_at, row_told, status_told, turn_start};
 
-use agent_model::{Knowledge, Question};
+use agent_model::{Inquiry, Knowledge, Question};
 use agent_turn::{Role, Turn, info_of, known_with, set_carried};
 use cluster_view::Snapshot;
-use event_book::Body;
 use pat_base::{Lsn, MemberId, MemberSet, State, Ticks};
 use pg_model::ServerStatus;
 use store_keys::{HistoryRow, Txn};
@@ -33,7 +32,7 @@ pub fn renew(role: &Role, turn: &mut Turn, history: &History, revision: u64)
         carried,
     );
     let until = turn_start(turn.moment, turn.knows) + turn.knows.settings.retry_timeout_ticks();
-    turn.ask(Question::Renewing, until, Body::Request(renewal));
+    turn.ask(Question::Renewing, until, Inquiry::request(renewal));
 }
 
 /// When the turn began that asks this.

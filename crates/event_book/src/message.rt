@@ -1,6 +1,6 @@
 //! Messages.
 use crate::LinkEnd;
-use pat_base::{PeerAnswer, Ticks};
+use pat_base::{PeerAnswer, Shared, Ticks};
 use std::fmt;
 use store_keys::{Expected, Key, Txn};
 
@@ -21,7 +21,7 @@ pub enum Body {
     /// To the store: what do you hold?
     Read,
     /// To the store: decide on this.
-    Request(Txn),
+    Request(Shared<Txn>),
     /// The store's answer to `Read`. It carries a snapshot of the moment of its sending.
     Snapshot,
     /// The request that message `request` carried was granted; `leased` tells whether it gave or extended the lease of
@@ -61,7 +61,7 @@ impl fmt::Display for Body {
         match self {
             Body::Read => f.write_str("read"),
             Body::Request(txn) => {
-                let kind = txn.kind();
+                let kind = txn.get().kind();
                 write!(f, "{kind}")
             }
             Body::Snapshot => f.write_str("snapshot"),

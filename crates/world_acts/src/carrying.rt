@@ -19,7 +19,7 @@ use crate::telling::{
     tell_answer, tell_arming, tell_disarming, tell_failsafe_feeding, tell_feeding, tell_hold,
     tell_note, tell_passing, tell_staying,
 };
-use agent_model::{Output, Target};
+use agent_model::{Inquiry, Output, Target};
 use cluster_model::HeardMessage;
 use event_book::{Body, LinkEnd, Member, Message};
 use event_list::EventList;
@@ -135,7 +135,7 @@ fn write(
     member: Member,
     to: Target,
     sequence: u64,
-    body: Body,
+    body: Inquiry,
     events: &mut EventList,
 ) -> Result<(), AllocError>
     requires room { HasRoom stage.old sending_cost }
@@ -153,7 +153,7 @@ fn write(
         to,
         incarnation: process.incarnation,
         sequence,
-        body,
+        body: body.into_body(stage.alloc())?,
     };
     stage.send(message, None, events)
 }

@@ -166,7 +166,7 @@ impl Stage {
         &mut self,
         number: u64,
         message: &Message,
-        txn: &Txn,
+        txn: &Shared<Txn>,
         events: &mut EventList,
     ) -> Result<(), AllocError>
         requires room { HasRoom self.old decision_cost }
@@ -176,13 +176,14 @@ impl Stage {
         let LinkEnd::Member(by) = message.from else {
             return Ok(());
         };
-        match self.store.apply(self.clock, by.id, txn) {
+        let asked = txn.get();
+        match self.store.apply(self.clock, by.id, asked) {
             Ok(grant) => {
                 let granted = StoreEvent::Granted {
                     number,
                     by,
-                    txn: Shared::new(self.alloc, txn.try_clone()?)?,
-                    standbys: published_names(self.alloc, &self.members, txn)?,
+                    txn: txn.try_clone()?,
+                    standbys: published_names(self.alloc, &self.members, asked)?,
                 };
                 write_down(events, self.clock, EventKind::Store(granted))?;
                 let body = Body::Granted {
@@ -195,7 +196,7 @@ impl Stage {
                 let refused = StoreEvent::Refused {
                     number,
                     by,
-                    request: txn.kind(),
+                    request: asked.kind(),
                     key,
                     found,
                 };
