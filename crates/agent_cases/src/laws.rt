@@ -1,4 +1,4 @@
-//! Laws of the decision table that its bodies and whoever carries out its outputs need.
+//! A law of the decision table that the agent and whoever carries out its outputs need.
 ghost use Rattle.std.specs.Prelude.{List};
 ghost use Rattle.pat_base.specs.declared.ticks.Ticks.{Ticks};
 ghost use Rattle.wal_model.specs.declared.entry.HistoryPoint.{HistoryPoint};

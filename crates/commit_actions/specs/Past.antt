@@ -88,7 +88,7 @@ query_of member incarnation sequence _ = OtherQuery
 pub record Past : Type 0 where
   pub clock : ℕ
   pub sync : Option SyncKey
-  -- the leader key and the failsafe key, as lease_law reads them
+  -- the leader key and the failsafe key, as the law of one writer reads them
   pub leader : Option LeaderKey
   pub failsafe : Option FailsafeKey
   -- the holder of the leader key asked for a renewal that carries a set, which only a live leader does

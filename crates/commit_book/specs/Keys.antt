@@ -23,7 +23,7 @@ abbrev pub sync_key_of : Option KeyEntry → Option SyncKey
 sync_key_of None = None
 sync_key_of (Some found_key) = sync_value found_key.value found_key.revision
 
--- the clock and the keys of the lease in what commits read of a book, as lease_law has them
+-- the clock and the keys of the lease in what commits read of a book, as the law of one writer has them
 abbrev pub lease_keys : Past → lease_past.Past
 lease_keys past = record lease_past.first_past { clock = past.clock; leader = past.leader; failsafe = past.failsafe; revision = past.revision }
 

@@ -1,4 +1,4 @@
--- Requests by their names: the member that asks, its incarnation and the number in that one. lease_law reads the name of each one.
+-- Requests by their names: the member that asks, its incarnation and the number in that one. The law of one writer reads the name of each one.
 use Rattle.std.specs.Prelude.{ℕ, ◌≡◌, Option, Some}
 use Rattle.lease_model.specs.Leases.{Question}
 use Rattle.commit_actions.specs.Past.{Query}

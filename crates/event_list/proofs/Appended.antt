@@ -1,5 +1,5 @@
 -- Events that are written down one after another.
-use Rattle.std.proofs.Common.{◌≡◌, List, [], ◌∷◌, ◌++◌, length, append-nil, append_assoc, ap, sym, ◌∙◌}
+use Rattle.std.proofs.Common.{◌≡◌, List, [], ◌++◌, append-nil, append_assoc, ap}
 use Rattle.event_book.specs.declared.event.Event.{Event}
 use Rattle.event_list.specs.Listed.{Listed, ◌+++◌}
 

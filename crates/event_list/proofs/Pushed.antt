@@ -7,7 +7,7 @@ use Rattle.std.proofs.lemmas.List.Elements.{filter-append}
 use Rattle.std.proofs.lemmas.List.Folds.{list_any-append}
 use Rattle.event_book.specs.declared.event.Event.{Event}
 use Rattle.event_book.specs.declared.event.EventKind.{EventKind}
-use Rattle.event_list.specs.Kept.{IsListOf, kept_more, kept_of, without_silent}
+use Rattle.event_list.specs.Kept.{IsListOf, kept_more, kept_of}
 use Rattle.event_list.specs.Marks.{IsLast, rouses_agents, stirs_replicas}
 use Rattle.event_list.specs.Silence.{is_silent}
 

@@ -87,8 +87,8 @@ abbrev pub write_if : Bool → Option LeaderKey → Option FailsafeKey → ℕ �
 write_if true leader failsafe revision = record { leader = leader; failsafe = failsafe; revision = revision + 1; snapshot = true; grant = None }
 write_if false leader failsafe revision = refused_outcome leader failsafe revision
 
--- what a question of this member, sent at this moment, leaves; `state_by_grant` tells whether it was granted, where the keys of the lease
--- don't tell that: of a create that compares the sync key, and of another write
+-- what a question of this member, sent at this moment, leaves; a test says whether it was granted, where the keys of the lease don't tell that:
+-- of a create that compares the sync key, and of another write
 abbrev pub outcome_of : ℕ → Option LeaderKey → Option FailsafeKey → ℕ → ℕ → ℕ → Bool → Query → Outcome
 outcome_of clock leader failsafe revision by sent granted (Create ttl expected) = create_on granted clock leader failsafe revision by sent ttl expected
 outcome_of clock leader failsafe revision by sent granted (Renew compared ttl carried) = renew_on clock leader failsafe revision compared sent ttl carried

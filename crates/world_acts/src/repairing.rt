@@ -1,5 +1,5 @@
 //! The log of a server is repaired by that of its leader's.
-ghost use Rattle.std.specs.Prelude.{OnOk, if◌then◌else◌, Some, slice_get};
+ghost use Rattle.std.specs.Prelude.{OnOk, Some, slice_get};
 ghost use Rattle.cluster_model.specs.Commands.{kinds_of};
 ghost use Rattle.cluster_model.specs.Messages.{repair_events};
 ghost use Rattle.cluster_model.specs.Orders.{repair_by};
