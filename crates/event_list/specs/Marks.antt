@@ -4,6 +4,7 @@ use Rattle.std.specs.List.{list_any}
 use Rattle.event_book.specs.declared.event.Event.{Event}
 use Rattle.event_book.specs.declared.event.EventKind.{EventKind}
 use Rattle.event_book.specs.declared.event.EventKind.TheVariants as kinds
+use Rattle.event_book.specs.declared.event.LogEvent.TheVariants as logs
 use Rattle.event_book.specs.declared.event.MessageEvent.TheVariants as messages
 use Rattle.event_book.specs.declared.event.WatchdogEvent.TheVariants as watchdogs
 
@@ -26,6 +27,9 @@ abbrev pub rouses_agents : EventKind → Bool
 rouses_agents (kinds.Message (messages.Sent number message)) = false
 rouses_agents (kinds.Message (messages.Lost number)) = false
 rouses_agents (kinds.Store happening) = false
+rouses_agents (kinds.Log (logs.Appended server entry)) = false
+rouses_agents (kinds.Log (logs.Received server from count)) = false
+rouses_agents (kinds.Replication happening) = false
 rouses_agents (kinds.Watchdog (watchdogs.Reset member)) = true
 rouses_agents (kinds.Watchdog happening) = false
 rouses_agents (kinds.Note note) = false

@@ -17,12 +17,13 @@ use Rattle.agent_model.specs.declared.machine.Machine.{Machine}
 use Rattle.agent_model.specs.declared.output.Output.{Output}
 use Rattle.agent_model.specs.Agents.{AgentFacts, outcome_from}
 use Rattle.agent_model.specs.Outputs.{most_outputs}
-use Rattle.cluster_model.specs.Inputs.{agent_at, is_to_wake, may_act, moment_of, outcome_at, outcome_of, outcome_of_heard, outputs_of, standing_of}
+use Rattle.cluster_model.specs.Inputs.{agent_at, may_act, moment_of, outcome_at, outcome_of, outcome_of_heard, outputs_of, standing_of}
 use Rattle.cluster_model.specs.Machines.{machine_of, points_of}
 use Rattle.cluster_model.specs.Messages.{input_events, no_message, operate_events, output_events, own_input_events, turn_events, turn_events_if, wake_events, wake_events_if, wake_events_of}
-use Rattle.cluster_model.specs.Parts.{each, event_of}
+use Rattle.cluster_model.specs.Parts.{each, event_of, for_some}
 use Rattle.cluster_model.specs.State.{Cluster}
 use Rattle.world_model.specs.Emits.{Emits}
+use Rattle.world_model.specs.Idle.{IsAwake, WakesAt}
 use Rattle.world_model.specs.Room.{request_cost, hearing_cost, input_cost, outputs_cost}
 use Rattle.agent_model.specs.Asked.{AsksShortly}
 use Rattle.agent_cases.proofs.Bounds.{step-small}
@@ -67,12 +68,14 @@ pub operate-took : (cluster obeying after : Cluster) (member : Member) (action :
     → Emits obeying after mid has (each (output_events member no_message) obeying outputs) outputs_cost → Emits cluster after had has (operate_events cluster member action) request_cost
 operate-took cluster obeying after member action outputs had mid has one is rest = own-input-took cluster obeying after member (Operated member action) (HearsOperator action) request_cost outputs had mid has (omega arith) one is rest
 
--- an agent is woken that has something to do
-pub wake-took : (cluster after : Cluster) (member : Member) (process : AgentProcess) (had has : Listed) → slice_get cluster.facts.processes member.id.number ≡ Some process
-    → is_to_wake (moment_of cluster) process (standing_of cluster member) ≡ true → Emits cluster after had has (wake_events_of cluster member) input_cost → Emits cluster after had has (wake_events cluster member) input_cost
-wake-took cluster after member process had has there ready woken =
-    found-took AgentProcess cluster after had has (wake_events_if cluster member) (slice_get cluster.facts.processes member.id.number) process input_cost there
-    (subst (λ (b : Bool). Emits cluster after had has (if b then wake_events_of cluster member else []) input_cost) (sym ready) woken)
+-- an agent is woken that is to be
+woken-if : (cluster after : Cluster) (member : Member) (found : Option AgentProcess) (had has : Listed) → IsAwake cluster.facts.clock found (standing_of cluster member) → Emits cluster after had has (wake_events_of cluster member) input_cost
+    → Emits cluster after had has (for_some found (wake_events_if cluster member)) input_cost
+woken-if cluster after member None had has awake woken = absurd awake
+woken-if cluster after member (Some process) had has awake woken = subst (λ (b : Bool). Emits cluster after had has (if b then wake_events_of cluster member else []) input_cost) (sym awake) woken
+
+pub wake-took : (cluster after : Cluster) (member : Member) (had has : Listed) → WakesAt cluster.facts.clock cluster member → Emits cluster after had has (wake_events_of cluster member) input_cost → Emits cluster after had has (wake_events cluster member) input_cost
+wake-took cluster after member had has awake woken = woken-if cluster after member (slice_get cluster.facts.processes member.id.number) had has awake woken
 
 -- an agent is woken that may act, by a script
 pub turn-took : (cluster after : Cluster) (member : Member) (process : AgentProcess) (had has : Listed) → slice_get cluster.facts.processes member.id.number ≡ Some process

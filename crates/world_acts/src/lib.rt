@@ -3,7 +3,9 @@
 
 pub mod carrying;
 mod repairing;
-pub mod resting;
 pub mod servers;
+mod sleepers;
 mod telling;
 pub mod wakes;
+
+pub use sleepers::Sleepers;

@@ -1,20 +1,18 @@
 //! Agents that are woken, and that start.
-ghost use Rattle.std.specs.Prelude.{ℕ, ◌≡◌, ◌≢◌, ◌≤◌, ◌<◌, Some, OnOk, IfOk, IfSome, length, slice_get};
-ghost use Rattle.std.specs.Int.{bit_at};
-ghost use Rattle.cluster_model.specs.Inputs.{moment_of, has_work, is_to_wake, standing_of};
+ghost use Rattle.std.specs.Prelude.{ℕ, ◌≤◌, ◌<◌, OnOk, IfSome, length, slice_get};
 ghost use Rattle.cluster_model.specs.Messages.{turn_events, wake_events, wake_events_of};
 ghost use Rattle.cluster_model.specs.Next.{agent_start_events};
 ghost use Rattle.cluster_model.specs.Parts.{each};
 ghost use Rattle.world_model.specs.Emits.{Emits};
 ghost use Rattle.world_model.specs.Room.{HasRoom, input_cost, agent_start_cost, wakes_cost};
-ghost use Rattle.world_acts.specs.Asleep.{AreAsleep};
+ghost use Rattle.world_acts.specs.Asleep.{AreAsleep, until_of};
 
 use crate::carrying::carry_out;
-use crate::resting::still_asleep;
+use crate::sleepers::Sleepers;
 use cluster_model::HeardMessage;
-use event_book::{AgentProcess, Member};
+use event_book::Member;
 use event_list::EventList;
-use pat_base::{MemberSet, Ticks};
+use pat_base::Ticks;
 use std::alloc::AllocError;
 use world_fields::watchdogs::disarm_at_start;
 use world_parts::processes::{agent_started, may_act};
@@ -28,67 +26,64 @@ pub const NO_MESSAGE: HeardMessage = HeardMessage {
 };
 
 /// The agents are woken where they have something to do, in script order; those that are known to have nothing aren't looked at.
-/// Answers whose agents are known to have nothing to do then.
 pub fn wakes(
     stage: &mut Stage,
-    mut asleep: MemberSet,
+    asleep: &mut Sleepers,
     events: &mut EventList,
-) -> Result<MemberSet, AllocError>
+) -> Result<(), AllocError>
     requires room { HasRoom stage.old wakes_cost }
-    requires asleep { AreAsleep asleep stage.old }
+    requires asleep { AreAsleep asleep.old stage.old }
     ensures emits { OnOk result (Emits stage.old stage.new events.old events.new (each wake_events stage.old stage.old.facts.members) wakes_cost) }
-    ensures asleep { IfOk result (λ known. AreAsleep known stage.new) }
+    ensures asleep { OnOk result (AreAsleep asleep.new stage.new) }
 {
-    let mut place = first_awake(stage.members(), asleep, 0);
+    let mut place = first_awake(stage.members(), asleep, stage.clock(), 0);
     while place < stage.member_count() {
         let member = stage.member(place);
-        asleep = wake(stage, member, asleep, events)?;
-        place = first_awake(stage.members(), asleep, place + 1);
+        wake(stage, member, asleep, events)?;
+        place = first_awake(stage.members(), asleep, stage.clock(), place + 1);
     }
-    Ok(asleep)
+    Ok(())
 }
 
-/// The first place from this one on of a member that isn't in this set, or how many members there are.
-fn first_awake(members: &[Member], asleep: MemberSet, from: usize) -> usize
+/// The first place from this one on of a member whose agent isn't known to have nothing to do at a moment, or how many members there are.
+fn first_awake(members: &[Member], asleep: &Sleepers, moment: Ticks, from: usize) -> usize
     requires { from ≤ length members.now }
     ensures range { (from ≤ result) × (result ≤ length members.now) }
-    ensures awake { IfSome (slice_get members.now result) (λ member. bit_at asleep.bits member.id.number ≢ 1) }
-    ensures asleep { (place : ℕ) → from ≤ place → place < result → IfSome (slice_get members.now place) (λ member. bit_at asleep.bits member.id.number ≡ 1) }
+    ensures asleep { (place : ℕ) → from ≤ place → place < result → IfSome (slice_get members.now place) (λ member. moment.0 < until_of asleep.now member.id.number) }
 {
     for place in from..members.len() {
-        if !asleep.contains(members[place].id) {
+        if asleep.until(members[place].id).0 <= moment.0 {
             return place;
         }
     }
     members.len()
 }
 
-/// The agent of a member that isn't known to have nothing to do is woken, where it has something to do. Answers whose agents are known to
-/// have nothing to do then.
+/// The agent of a member that isn't known to have nothing to do is woken, where it has something to do.
 fn wake(
     stage: &mut Stage,
     member: Member,
-    asleep: MemberSet,
+    asleep: &mut Sleepers,
     events: &mut EventList,
-) -> Result<MemberSet, AllocError>
+) -> Result<(), AllocError>
     requires room { HasRoom stage.old input_cost }
-    requires asleep { AreAsleep asleep stage.old }
-    requires awake { bit_at asleep.bits member.id.number ≢ 1 }
+    requires asleep { AreAsleep asleep.old stage.old }
     ensures emits { OnOk result (Emits stage.old stage.new events.old events.new (wake_events stage.old member) input_cost) }
-    ensures asleep { IfOk result (λ known. AreAsleep known stage.new) }
+    ensures asleep { OnOk result (AreAsleep asleep.new stage.new) }
 {
-    let Some(process) = stage.process(member) else {
-        return Ok(asleep.with(member.id));
-    };
-    if !is_to_wake(stage, member, process) {
-        return Ok(asleep.with(member.id));
+    let until = stage.wake_from(member, Ticks(u64::MAX));
+    if stage.clock().0 < until.0 {
+        asleep.set(member.id, until);
+        return Ok(());
     }
+    asleep.forget(member.id);
     let from = events.len();
     awaken(stage, member, events)?;
     // what happened begins with that it was woken, so there is more than before; and that concerns no other agent
     let count = events.len();
     prove!(from < count);
-    Ok(still_asleep(asleep, events, from + 1))
+    asleep.pass(events, from + 1);
+    Ok(())
 }
 
 /// A script wakes the agent of a member, where it runs and isn't suspended: one with nothing else to do takes note of its server.
@@ -103,23 +98,6 @@ pub fn turn(stage: &mut Stage, member: Member, events: &mut EventList) -> Result
         return Ok(());
     }
     awaken(stage, member, events)
-}
-
-/// Whether the agent of a member runs, isn't suspended and has something to do.
-fn is_to_wake(stage: &Stage, member: Member, process: AgentProcess) -> bool
-    ensures { result ≡ is_to_wake (moment_of stage.now) process (standing_of stage.now member) }
-{
-    may_act(process) && has_work(stage, member)
-}
-
-/// Whether there is something to do for the agent of a member.
-fn has_work(stage: &Stage, member: Member) -> bool
-    ensures { result ≡ has_work (moment_of stage.now) (standing_of stage.now member) }
-{
-    match stage.work_from(member) {
-        None => false,
-        Some(from) => from <= stage.clock(),
-    }
 }
 
 /// The agent of a member is woken, and acts. Apart from the test whether it is to be woken, which most ticks end with: so that

@@ -254,7 +254,7 @@ acknowledges-none cluster member None done = refl
 acknowledges-none cluster member (Some s) done =
     ap (λ (commits : List ℕ). events_of cluster (acknowledgements cluster.facts.servers cluster.facts.members member commits)) (front-none (writes s.state) s.required s.confirmed s.waiting done)
 
-acknowledged-none : (cluster : Cluster) → AreAcknowledged cluster.facts.members cluster.facts.servers → each acknowledge_events cluster cluster.facts.members ≡ []
+pub acknowledged-none : (cluster : Cluster) → AreAcknowledged cluster.facts.members cluster.facts.servers → each acknowledge_events cluster cluster.facts.members ≡ []
 acknowledged-none cluster done =
     each-nothing Member acknowledge_events cluster cluster.facts.members
     (All-weaker Member (λ (m : Member). IsDone (slice_get cluster.facts.servers m.id.number)) (λ (m : Member). acknowledge_events cluster m ≡ []) cluster.facts.members

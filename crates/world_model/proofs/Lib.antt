@@ -8,7 +8,7 @@ pub mod Serving
 pub mod Deciding
 pub mod Idling
 pub mod Stillness
-pub mod CaughtUp
+pub mod Settled
 pub mod Declaring
 pub mod Counting
 pub mod Running

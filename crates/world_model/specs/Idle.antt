@@ -11,7 +11,6 @@ use Rattle.pg_model.specs.Facts.{ServerFacts}
 use Rattle.pg_cluster.specs.Servers.{news_at}
 use Rattle.event_book.specs.declared.agent_process.AgentProcess.{AgentProcess}
 use Rattle.event_book.specs.declared.event.EventKind.TheVariants as kinds
-use Rattle.event_book.specs.declared.event.WatchdogEvent.TheVariants as watchdogs
 use Rattle.event_book.specs.declared.member.Member.{Member}
 use Rattle.event_book.specs.Flight.{Flight, InFlightFacts, in_flight}
 use Rattle.event_book.specs.Links.{CutLinks}
@@ -54,6 +53,15 @@ IsAsleep now (Some process) o = is_to_wake (record { 0 = now }) process o ≡ fa
 abbrev pub SleepsAt : ℕ → Cluster → Member → Type 0
 SleepsAt now cluster member = IsAsleep now (slice_get cluster.facts.processes member.id.number) (standing_of cluster member)
 
+-- at this moment an agent of this process, with its machine, is to be woken
+abbrev pub IsAwake : ℕ → Option AgentProcess → Option Outcome → Type 0
+IsAwake now None o = ⊥
+IsAwake now (Some process) o = is_to_wake (record { 0 = now }) process o ≡ true
+
+-- at this moment the agent of a member is to be woken
+abbrev pub WakesAt : ℕ → Cluster → Member → Type 0
+WakesAt now cluster member = IsAwake now (slice_get cluster.facts.processes member.id.number) (standing_of cluster member)
+
 -- no watchdog resets its machine at this moment or before
 abbrev pub NoneResets : ℕ → List (Option Ticks) → Type 0
 NoneResets now deadlines = All (λ deadline. is_due_at now deadline ≡ false) deadlines
@@ -91,9 +99,17 @@ ReceivesNone members servers cuts member _ = Unit {0}
 abbrev pub AreCaughtUp : Cluster → Type 0
 AreCaughtUp cluster = All (λ member. ReceivesNone cluster.facts.members cluster.facts.servers cluster.facts.cuts member (slice_get cluster.facts.frozen member.id.number)) cluster.facts.members
 
--- that is so where it is known
+-- they do where that is known
 abbrev pub IfCaughtUp : Bool → Cluster → Type 0
 IfCaughtUp known cluster = known ≡ true → AreCaughtUp cluster
+
+-- the servers have caught up, and no commit may be acknowledged
+abbrev pub AreSettled : Cluster → Type 0
+AreSettled cluster = AreCaughtUp cluster × AreAcknowledged cluster.facts.members cluster.facts.servers
+
+-- that is so where it is known
+abbrev pub IfSettled : Bool → Cluster → Type 0
+IfSettled known cluster = known ≡ true → AreSettled cluster
 
 -- each message in flight is kept for a receiver that is suspended
 abbrev pub AreKept : Flight → List AgentProcess → CutLinks → Type 0

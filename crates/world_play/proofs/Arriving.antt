@@ -1,7 +1,5 @@
 -- What comes of a message that came to its receiver.
-use Rattle.std.proofs.Common.{◌≡◌, ◌≢◌, ℕ, ◌+◌, List, [], Option, Some, None, arith, refl, ap, sym, subst, ◌∙◌}
-use Rattle.std.specs.Int.{bit_at}
-use Rattle.pat_base.specs.declared.member_set.MemberSet.{MemberSet}
+use Rattle.std.proofs.Common.{◌≡◌, ◌≢◌, ◌<◌, ℕ, ◌+◌, List, [], Option, Some, None, arith, refl, ap, sym, subst, ◌∙◌}
 use Rattle.event_book.specs.declared.event.EventKind.TheVariants as kinds
 use Rattle.event_book.specs.declared.event.MessageEvent.TheVariants.{Delivered}
 use Rattle.event_book.specs.declared.link.LinkEnd.{LinkEnd}
@@ -27,7 +25,8 @@ use Rattle.world_model.proofs.Taking.{Emits-then, found-took}
 use Rattle.world_stage.specs.Arrivals.{ArrivesAt, Comes, Landed}
 use Rattle.world_stage.specs.declared.arrival.Arrival.{Arrival}
 use Rattle.world_stage.specs.declared.arrival.Arrival.TheVariants as arrivals
-use Rattle.world_acts.specs.Asleep.{AreAsleep}
+use Rattle.world_acts.specs.Asleep.{AreAsleep, until_of}
+use Rattle.world_acts.specs.declared.sleepers.Sleepers.{Sleepers}
 use Rattle.world_acts.proofs.Sleeping.{agent-elsewhere, agents-asleep}
 use Rattle.world_acts.proofs.Waking.{AreFew, input-few}
 
@@ -39,19 +38,19 @@ arrival-is before after had has number message to is receiver took =
     (subst (λ (e : LinkEnd). Emits before after had has (arrival_events_at before number message e) message_cost) (sym receiver) took)
 
 -- those agents sleep as before that stay the same, whom it reached
-reached-asleep : (was asleep : MemberSet) (before : Cluster) (number : ℕ) (message : InFlightFacts) (to : LinkEnd) → in_flight before.facts.flight number ≡ Some message → message.message.to ≡ to → AreAsleep was before
-    → ((n : ℕ) → bit_at asleep.bits n ≡ 1 → (bit_at was.bits n ≡ 1) × (agent_at (agent_facts_reached_at before message to) n ≡ agent_at before.agents n)) → AreAsleep asleep (cluster_after before (kinds.Message (Delivered number)))
+reached-asleep : (was asleep : Sleepers) (before : Cluster) (number : ℕ) (message : InFlightFacts) (to : LinkEnd) → in_flight before.facts.flight number ≡ Some message → message.message.to ≡ to → AreAsleep was before
+    → ((n now : ℕ) → now < until_of asleep n → (now < until_of was n) × (agent_at (agent_facts_reached_at before message to) n ≡ agent_at before.agents n)) → AreAsleep asleep (cluster_after before (kinds.Message (Delivered number)))
 reached-asleep was asleep before number message to is receiver sleep same =
     let reached : agent_facts_reached before (in_flight before.facts.flight number) ≡ agent_facts_reached_at before message to = ap (agent_facts_reached before) is ∙ ap (agent_facts_reached_at before message) receiver in
     let agents = agents-asleep was asleep before (agent_facts_reached before (in_flight before.facts.flight number)) sleep
-    (λ n there. ((same n there).0, ap (λ (known : List (Option AgentFacts)). agent_at known n) reached ∙ (same n there).1)) in
+    (λ n now there. ((same n now there).0, ap (λ (known : List (Option AgentFacts)). agent_at known n) reached ∙ (same n now there).1)) in
     record { each = agents.each }
 
 -- a message came to the key store
 pub record StoreCame (before after : Cluster) (had has : Listed) (outputs : List Output) (number : ℕ) (stored : Message) : Type 0 where
   pub short : IsShort stored.body
   pub none : outputs ≡ []
-  pub asleep : (asleep : MemberSet) → AreAsleep asleep before → AreAsleep asleep after
+  pub asleep : (asleep : Sleepers) → AreAsleep asleep before → AreAsleep asleep after
   pub room : HasRoom before message_cost → HasRoom after decision_cost
   pub answered : (last : Cluster) (all : Listed) → Emits after last has all (answer_events after number stored) decision_cost → Emits before last had all (for_some (in_flight before.facts.flight number) (arrival_events before number)) message_cost
 
@@ -60,7 +59,7 @@ store-came-at : (before after : Cluster) (had has : Listed) (outputs : List Outp
 store-came-at before after had has outputs number stored message link_ends.Store is receiver came arrives = record {
   short = subst (λ (m : Message). IsShort m.body) (sym arrives.0) came.sent.short;
   none = arrives.1;
-  asleep = λ asleep sleep. subst (AreAsleep asleep) (sym came.emits.state) (reached-asleep asleep asleep before number message link_ends.Store is receiver sleep (λ n there. (there, refl)));
+  asleep = λ asleep sleep. subst (AreAsleep asleep) (sym came.emits.state) (reached-asleep asleep asleep before number message link_ends.Store is receiver sleep (λ n now there. (there, refl)));
   room = λ room. came.emits.room decision_cost (HasRoom-fewer before message_cost (hearing_cost + decision_cost) (omega arith) room);
   answered = λ last all took. arrival-is before last had all number message link_ends.Store is receiver
       (Emits-then before after last had has all (event_of before (kinds.Message (Delivered number))) (λ later. answer_events later number message.message) hearing_cost decision_cost message_cost came.emits
@@ -81,7 +80,7 @@ store-came {before} {after} {had} {has} {outputs} {number} stored landed is =
 -- a message came to the agent of a member, which acted on it
 pub record AgentCame (before after : Cluster) (had has : Listed) (outputs : List Output) (number : ℕ) (member : Member) (heard : HeardMessage) : Type 0 where
   pub few : AreFew outputs
-  pub asleep : (was asleep : MemberSet) → AreAsleep was before → bit_at asleep.bits member.id.number ≡ 0 → ((k : ℕ) → k ≢ member.id.number → bit_at asleep.bits k ≡ bit_at was.bits k) → AreAsleep asleep after
+  pub asleep : (was asleep : Sleepers) → AreAsleep was before → until_of asleep member.id.number ≡ 0 → ((k : ℕ) → k ≢ member.id.number → until_of asleep k ≡ until_of was k) → AreAsleep asleep after
   pub room : HasRoom before message_cost → HasRoom after outputs_cost
   pub acted : (last : Cluster) (all : Listed) → Emits after last has all (each (output_events member heard) after outputs) outputs_cost → Emits before last had all (for_some (in_flight before.facts.flight number) (arrival_events before number)) message_cost
 
@@ -94,9 +93,9 @@ agent-came-at before after had has outputs number member heard message (link_end
   asleep = λ was asleep sleep out others.
       let here : member.id.number ≡ at.id.number = ap (λ (m : Member). m.id.number) arrives.0 in
       subst (AreAsleep asleep) (sym came.emits.state) (reached-asleep was asleep before number message (link_ends.Member at) is receiver sleep
-      (λ n there.
-      let apart : n ≢ member.id.number = λ e. let same = ap (bit_at asleep.bits) e in omega (arith, there, out, same) in
-      (sym (others n apart) ∙ there, agent-elsewhere before.agents at.id.number (agent_after (outcome_of_heard before at (heard_from before message))) n (λ e. apart (e ∙ sym here)))));
+      (λ n now there.
+      let apart : n ≢ member.id.number = λ e. omega (arith, there, out, ap (until_of asleep) e) in
+      (omega (arith, there, others n apart), agent-elsewhere before.agents at.id.number (agent_after (outcome_of_heard before at (heard_from before message))) n (λ e. apart (e ∙ sym here)))));
   room = λ room. came.emits.room outputs_cost (HasRoom-fewer before message_cost (hearing_cost + outputs_cost) (omega arith) room);
   acted = λ last all took.
       let by_receiver = subst (λ (m : Member). Emits after last has all (each (output_events m heard) after outputs) outputs_cost) arrives.0 took in

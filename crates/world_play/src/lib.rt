@@ -4,8 +4,10 @@
 mod ctl;
 mod messages;
 mod requests;
+mod rest;
 mod steps;
 
+pub use rest::Rest;
 pub use steps::take_step;
 pub use world_ticks::idling::{due_from, ends_from};
 pub use world_ticks::ticks::bare_tick;

@@ -1,5 +1,5 @@
 //! Messages in flight: which move in a round, and what scripts do with one.
-ghost use Rattle.std.specs.Prelude.{◌<◌, ◌+◌, ◌*◌, OnOk, IfOk, IfSome, None};
+ghost use Rattle.std.specs.Prelude.{◌<◌, ◌+◌, ◌*◌, OnOk, IfSome, None};
 ghost use Rattle.std.specs.Map.{keys_of};
 ghost use Rattle.event_book.specs.Flight.{in_flight};
 ghost use Rattle.cluster_model.specs.Limits.{most_in_flight};
@@ -12,65 +12,56 @@ ghost use Rattle.world_acts.specs.Asleep.{AreAsleep};
 use cluster_model::Delivery;
 use event_book::{EventKind, MessageEvent, Note};
 use event_list::EventList;
-use pat_base::MemberSet;
 use std::alloc::AllocError;
+use world_acts::Sleepers;
 use world_acts::carrying::carry_out;
-use world_acts::resting::still_asleep;
 use world_fields::writing::write_down;
 use world_stage::{Arrival, Stage};
 
-/// The messages that are in flight move, one after another. Those that are kept aren't looked at. Answers whose agents are known to have
-/// nothing to do then, given whose are before.
+/// The messages that are in flight move, one after another. Those that are kept aren't looked at.
 pub fn pass_messages(
     stage: &mut Stage,
-    mut asleep: MemberSet,
+    asleep: &mut Sleepers,
     events: &mut EventList,
-) -> Result<MemberSet, AllocError>
+) -> Result<(), AllocError>
     requires room { HasRoom stage.old (message_cost * most_in_flight) }
-    requires asleep { AreAsleep asleep stage.old }
+    requires asleep { AreAsleep asleep.old stage.old }
     ensures emits { OnOk result (Emits stage.old stage.new events.old events.new (each message_events stage.old (keys_of stage.old.facts.flight)) (message_cost * most_in_flight)) }
-    ensures asleep { IfOk result (λ known. AreAsleep known stage.new) }
+    ensures asleep { OnOk result (AreAsleep asleep.new stage.new) }
 {
     if !stage.has_messages() {
-        return Ok(asleep);
+        return Ok(());
     }
     // what is sent meanwhile has a greater number
     let last = stage.sent();
     let mut from = 0;
     while let Some(number) = stage.next_to_move(from, last) {
-        asleep = pass_message(stage, number, asleep, events)?;
+        pass_message(stage, number, asleep, events)?;
         from = number + 1;
     }
-    Ok(asleep)
+    Ok(())
 }
 
-/// A message comes to its receiver, is lost, or is kept for a receiver that is suspended. Answers whose agents are known to have nothing
-/// to do then.
+/// A message comes to its receiver, is lost, or is kept for a receiver that is suspended.
 fn pass_message(
     stage: &mut Stage,
     number: u64,
-    asleep: MemberSet,
+    asleep: &mut Sleepers,
     events: &mut EventList,
-) -> Result<MemberSet, AllocError>
+) -> Result<(), AllocError>
     requires room { IfSome (in_flight stage.old.facts.flight number) (λ m. HasRoom stage.old message_cost) }
-    requires asleep { AreAsleep asleep stage.old }
+    requires asleep { AreAsleep asleep.old stage.old }
     ensures emits { OnOk result (Emits stage.old stage.new events.old events.new (message_events stage.old number) message_cost) }
-    ensures asleep { IfOk result (λ known. AreAsleep known stage.new) }
+    ensures asleep { OnOk result (AreAsleep asleep.new stage.new) }
 {
     match stage.delivery(number) {
         None => {
             stage.forget(number);
-            Ok(asleep)
+            Ok(())
         }
-        Some(Delivery::Suspended) => {
-            stage.keep(number)?;
-            Ok(asleep)
-        }
+        Some(Delivery::Suspended) => stage.keep(number),
         Some(Delivery::Open) => arrive(stage, number, asleep, events),
-        Some(Delivery::Cut | Delivery::Gone) => {
-            drop_message(stage, number, events)?;
-            Ok(asleep)
-        }
+        Some(Delivery::Cut | Delivery::Gone) => drop_message(stage, number, events),
     }
 }
 
@@ -85,11 +76,8 @@ pub fn deliver(stage: &mut Stage, number: u64, events: &mut EventList) -> Result
             stage.clock(),
             EventKind::Note(Note::NoMessage { number }),
         ),
-        Some(Delivery::Open) => {
-            // nothing is made of who has nothing to do behind a line of a script
-            arrive(stage, number, MemberSet::empty(), events)?;
-            Ok(())
-        }
+        // nothing is made of who has nothing to do behind a line of a script
+        Some(Delivery::Open) => arrive(stage, number, &mut Sleepers::none(), events),
         Some(Delivery::Gone) => drop_message(stage, number, events),
         Some(Delivery::Cut | Delivery::Suspended) => leave(stage, number, events),
     }
@@ -126,35 +114,38 @@ fn drop_message(stage: &mut Stage, number: u64, events: &mut EventList) -> Resul
     stage.happen(EventKind::Message(MessageEvent::Lost { number }), events)
 }
 
-/// A message in flight comes to its receiver, which acts on it. Answers whose agents are known to have nothing to do then.
+/// A message in flight comes to its receiver, which acts on it.
 fn arrive(
     stage: &mut Stage,
     number: u64,
-    asleep: MemberSet,
+    asleep: &mut Sleepers,
     events: &mut EventList,
-) -> Result<MemberSet, AllocError>
+) -> Result<(), AllocError>
     requires room { HasRoom stage.old message_cost }
-    requires asleep { AreAsleep asleep stage.old }
+    requires asleep { AreAsleep asleep.old stage.old }
     ensures emits { OnOk result (Emits stage.old stage.new events.old events.new (for_some (in_flight stage.old.facts.flight number) (arrival_events stage.old number)) message_cost) }
-    ensures asleep { IfOk result (λ known. AreAsleep known stage.new) }
+    ensures asleep { OnOk result (AreAsleep asleep.new stage.new) }
 {
     let mut outputs = stage.take_outputs()?;
     match stage.land(number, &mut outputs, events)? {
         None => {
             stage.give_back(outputs);
-            Ok(asleep)
+            Ok(())
         }
         Some(Arrival::AtStore(message)) => {
             let from = events.len();
             stage.answer(number, message.get(), events)?;
             stage.give_back(outputs);
-            Ok(still_asleep(asleep, events, from))
+            asleep.pass(events, from);
+            Ok(())
         }
         Some(Arrival::AtAgent(member, heard)) => {
+            asleep.forget(member.id);
             let from = events.len();
             carry_out(stage, member, heard, &mut outputs, events)?;
             stage.give_back(outputs);
-            Ok(still_asleep(asleep.without(member.id), events, from))
+            asleep.pass(events, from);
+            Ok(())
         }
     }
 }

@@ -1,27 +1,29 @@
 //! The steps of a run: ticks, and what commands come to.
-ghost use Rattle.std.specs.Prelude.{◌≡◌, ◌<◌, ◌+◌, ◌*◌, ◌&&◌, not, drop, OnOk, IfOk, IfSome, Some};
+ghost use Rattle.std.specs.Prelude.{◌≡◌, ◌<◌, ◌+◌, ◌*◌, OnOk, IfOk, IfSome, Some};
 ghost use Rattle.script_model.specs.Script.{IsCommand};
-ghost use Rattle.event_list.specs.Marks.{stir_replicas};
 ghost use Rattle.cluster_model.specs.Acknowledging.{AreAcknowledged};
 ghost use Rattle.cluster_model.specs.Limits.{most_rounds};
 ghost use Rattle.cluster_model.specs.Next.{round_events, rounds_events, declared, command_events, command_kind, scheduled_events, step_events, next_events};
 ghost use Rattle.cluster_model.specs.Steps.{IsStep, names_in};
 ghost use Rattle.world_model.specs.Comes.{MayCome};
 ghost use Rattle.world_model.specs.Emits.{Emits};
+ghost use Rattle.cluster_model.specs.Ticking.{tick_events};
 ghost use Rattle.world_model.specs.Idle.{IfCaughtUp};
-ghost use Rattle.world_model.specs.Room.{HasRoom, HasRoomFor, command_cost, round_cost, rounds_cost, schedule_cost, step_cost};
+ghost use Rattle.world_model.specs.Room.{HasRoom, HasRoomFor, command_cost, round_cost, rounds_cost, schedule_cost, step_cost, tick_cost};
 ghost use Rattle.world_acts.specs.Asleep.{AreAsleep};
+ghost use Rattle.world_play.specs.Rest.{IsAtRest};
 
 use crate::ctl::take_words;
 use crate::messages::{deliver, lose, pass_messages};
 use crate::requests::{make_request, receive_visit};
+use crate::rest::{Rest, still_caught_up};
 use cluster_model::{Asker, Step};
 use event_book::EventKind;
 use event_list::EventList;
-use pat_base::MemberSet;
 use rest_message::Verb;
 use script_model::Command;
 use std::alloc::AllocError;
+use world_acts::Sleepers;
 use world_acts::servers::promote;
 use world_acts::wakes::{start_agent, turn, wakes};
 use world_fields::links::{cut_of, join_of};
@@ -34,78 +36,100 @@ use world_ticks::ticks::tick;
 /// The most rounds of one tick.
 const MOST_ROUNDS: usize = 40;
 
-/// One step of a run with these members: what happens in it, and then the acknowledgements. Answers whether all servers are known to
-/// have caught up behind it, given whether they were before. On Err, want of memory, the stage isn't to be used any more.
+/// One step of a run with these members: what happens in it, and then the acknowledgements, which aren't looked for where all is known to
+/// be settled still. On Err, want of memory, the stage isn't to be used any more.
 pub fn take_step(
     stage: &mut Stage,
     step: &Step,
-    caught_up: bool,
+    rest: &mut Rest,
     events: &mut EventList,
-) -> Result<bool, AllocError>
+) -> Result<(), AllocError>
     requires room { HasRoomFor stage.old 1 }
     requires declared { IsStep stage.old.facts.members step.now }
-    requires caught_up { IfCaughtUp caught_up stage.old }
+    requires rest { IsAtRest rest.old stage.old }
     ensures emits { OnOk result (Emits stage.old stage.new events.old events.new (next_events stage.old step.now) step_cost) }
     ensures acknowledged { OnOk result (AreAcknowledged stage.new.facts.members stage.new.facts.servers) }
-    ensures caught_up { IfOk result (λ known. IfCaughtUp known stage.new) }
+    ensures rest { OnOk result (IsAtRest rest.new stage.new) }
 {
-    let caught_up = perform(stage, step, caught_up, events)?;
+    let caught_up = perform(stage, step, rest, events)?;
+    if rest.settled {
+        return Ok(());
+    }
     let from = events.len();
     stage.acknowledge_all(events)?;
-    Ok(still_caught_up(caught_up, events, from))
+    rest.settled = still_caught_up(caught_up, events, from);
+    rest.asleep.pass(events, from);
+    Ok(())
 }
 
-/// What happens in a step.
+/// What happens in a step. Answers whether all servers are known to have caught up behind it.
 fn perform(
     stage: &mut Stage,
     step: &Step,
-    caught_up: bool,
+    rest: &mut Rest,
     events: &mut EventList,
 ) -> Result<bool, AllocError>
     requires room { HasRoomFor stage.old 1 }
     requires declared { IsStep stage.old.facts.members step.now }
-    requires caught_up { IfCaughtUp caught_up stage.old }
+    requires rest { IsAtRest rest.old stage.old }
     ensures emits { OnOk result (Emits stage.old stage.new events.old events.new (step_events stage.old step.now) step_cost) }
     ensures caught_up { IfOk result (λ known. IfCaughtUp known stage.new) }
+    ensures rest { OnOk result (IsAtRest rest.new stage.new) }
 {
     match step {
         Step::Scheduled => {
-            let caught_up = tick(stage, caught_up, events)?;
-            scheduled(stage, caught_up, events)
+            take_tick(stage, rest, events)?;
+            scheduled(stage, rest, events)
         }
-        Step::Tick => tick(stage, caught_up, events),
+        Step::Tick => {
+            take_tick(stage, rest, events)?;
+            Ok(rest.settled)
+        }
         Step::Command(command) => {
             let from = events.len();
             take_command(stage, command, events)?;
-            Ok(still_caught_up(caught_up, events, from))
+            rest.pass(events, from);
+            Ok(rest.settled)
         }
         Step::Connection(id, visit) => {
             let from = events.len();
             let member = stage.declared(*id);
             receive_visit(stage, member, visit, events)?;
-            Ok(still_caught_up(caught_up, events, from))
+            rest.pass(events, from);
+            Ok(rest.settled)
         }
     }
 }
 
-/// A tick of the default schedule: replicas receive, and then agents are woken and messages come.
-fn scheduled(stage: &mut Stage, caught_up: bool, events: &mut EventList) -> Result<bool, AllocError>
-    requires room { HasRoom stage.old schedule_cost }
-    requires caught_up { IfCaughtUp caught_up stage.old }
-    ensures emits { OnOk result (Emits stage.old stage.new events.old events.new (scheduled_events stage.old) schedule_cost) }
-    ensures caught_up { IfOk result (λ known. IfCaughtUp known stage.new) }
+/// The clock grows by one. Nothing is known to be at rest behind a tick with which something ends.
+fn take_tick(stage: &mut Stage, rest: &mut Rest, events: &mut EventList) -> Result<(), AllocError>
+    requires room { HasRoom stage.old tick_cost }
+    requires rest { IsAtRest rest.old stage.old }
+    ensures emits { OnOk result (Emits stage.old stage.new events.old events.new (tick_events stage.old) tick_cost) }
+    ensures rest { OnOk result (IsAtRest rest.new stage.new) }
 {
-    let caught_up = all_receive(stage, caught_up, events)?;
-    let from = events.len();
-    rounds(stage, events)?;
-    Ok(still_caught_up(caught_up, events, from))
+    if !tick(stage, events)? {
+        *rest = Rest::unknown();
+    }
+    Ok(())
 }
 
-/// Whether all servers are known to have caught up behind all of these events, given whether they were behind the first so many.
-fn still_caught_up(caught_up: bool, events: &EventList, from: usize) -> bool
-    ensures { result ≡ (caught_up && not (stir_replicas (drop from events.now.items))) }
+/// A tick of the default schedule: replicas receive, and then agents are woken and messages come. Answers whether all servers are known to
+/// have caught up behind it.
+fn scheduled(stage: &mut Stage, rest: &mut Rest, events: &mut EventList) -> Result<bool, AllocError>
+    requires room { HasRoom stage.old schedule_cost }
+    requires rest { IsAtRest rest.old stage.old }
+    ensures emits { OnOk result (Emits stage.old stage.new events.old events.new (scheduled_events stage.old) schedule_cost) }
+    ensures caught_up { IfOk result (λ known. IfCaughtUp known stage.new) }
+    ensures rest { OnOk result (IsAtRest rest.new stage.new) }
 {
-    caught_up && !events.stir_replicas(from)
+    let before = events.len();
+    let received = all_receive(stage, rest.settled, events)?;
+    rest.pass(events, before);
+    let from = events.len();
+    rounds(stage, &mut rest.asleep, events)?;
+    rest.settled = still_caught_up(rest.settled, events, from);
+    Ok(still_caught_up(received, events, from))
 }
 
 /// What a command comes to.
@@ -194,16 +218,20 @@ fn command_kind(stage: &Stage, command: &Command) -> Option<EventKind>
     }
 }
 
-/// The rounds of a tick. A round in which nothing happens is the last. Behind the first one only agents are looked at that were woken
-/// or heard something since, as long as nothing else happens that may give others something to do.
-fn rounds(stage: &mut Stage, events: &mut EventList) -> Result<(), AllocError>
-    requires { HasRoom stage.old rounds_cost }
-    ensures { OnOk result (Emits stage.old stage.new events.old events.new (rounds_events stage.old most_rounds) rounds_cost) }
+/// The rounds of a tick. A round in which nothing happens is the last. Only agents are looked at that aren't known to have nothing to do.
+fn rounds(
+    stage: &mut Stage,
+    asleep: &mut Sleepers,
+    events: &mut EventList,
+) -> Result<(), AllocError>
+    requires room { HasRoom stage.old rounds_cost }
+    requires asleep { AreAsleep asleep.old stage.old }
+    ensures emits { OnOk result (Emits stage.old stage.new events.old events.new (rounds_events stage.old most_rounds) rounds_cost) }
+    ensures asleep { OnOk result (AreAsleep asleep.new stage.new) }
 {
-    let mut asleep = MemberSet::empty();
     for done in 0..MOST_ROUNDS {
         let before = events.len();
-        asleep = round(stage, asleep, events)?;
+        round(stage, asleep, events)?;
         if events.len() == before {
             return Ok(());
         }
@@ -211,18 +239,13 @@ fn rounds(stage: &mut Stage, events: &mut EventList) -> Result<(), AllocError>
     Ok(())
 }
 
-/// A round: each due agent is woken, and then each message that is in flight at that point moves. Answers whose agents are known to have
-/// nothing to do then, given whose are before.
-fn round(
-    stage: &mut Stage,
-    asleep: MemberSet,
-    events: &mut EventList,
-) -> Result<MemberSet, AllocError>
+/// A round: each due agent is woken, and then each message that is in flight at that point moves.
+fn round(stage: &mut Stage, asleep: &mut Sleepers, events: &mut EventList) -> Result<(), AllocError>
     requires room { HasRoom stage.old round_cost }
-    requires asleep { AreAsleep asleep stage.old }
+    requires asleep { AreAsleep asleep.old stage.old }
     ensures emits { OnOk result (Emits stage.old stage.new events.old events.new (round_events stage.old) round_cost) }
-    ensures asleep { IfOk result (λ known. AreAsleep known stage.new) }
+    ensures asleep { OnOk result (AreAsleep asleep.new stage.new) }
 {
-    let asleep = wakes(stage, asleep, events)?;
+    wakes(stage, asleep, events)?;
     pass_messages(stage, asleep, events)
 }

@@ -1,10 +1,10 @@
 //! Ticks: what they bring beside the clock.
-ghost use Rattle.std.specs.Prelude.{◌≡◌, ◌+◌, ◌*◌, OnOk, IfOk};
+ghost use Rattle.std.specs.Prelude.{◌≡◌, ◌+◌, ◌*◌, true, OnOk, IfOk};
 ghost use Rattle.event_list.specs.Listed.{◌+++◌};
 ghost use Rattle.cluster_model.specs.Parts.{each, events_at};
 ghost use Rattle.cluster_model.specs.Ticking.{completion_events, expiry_of, expiries_of, reset_events, tick_events};
 ghost use Rattle.world_model.specs.Emits.{Emits};
-ghost use Rattle.world_model.specs.Idle.{IfCaughtUp, NothingEnds, at_moment};
+ghost use Rattle.world_model.specs.Idle.{NothingEnds, at_moment};
 ghost use Rattle.world_model.specs.Room.{HasRoom, beginning_cost, completions_cost, resets_cost, tick_cost};
 
 use crate::idling::ends_from;
@@ -20,17 +20,15 @@ use world_orders::order_kinds::declared_member;
 use world_orders::server_commands::completion_of;
 use world_stage::{Stage, begin_on};
 
-/// The clock grows by one. Where nothing ends with that, nothing else happens; else see `end_due`. Answers whether all servers are known to
-/// have caught up behind it, given whether they were before.
-pub fn tick(stage: &mut Stage, caught_up: bool, events: &mut EventList) -> Result<bool, AllocError>
-    requires room { HasRoom stage.old tick_cost }
-    requires caught_up { IfCaughtUp caught_up stage.old }
+/// The clock grows by one. Where nothing ends with that, nothing else happens; else see `end_due`. Answers whether nothing else happened.
+pub fn tick(stage: &mut Stage, events: &mut EventList) -> Result<bool, AllocError>
+    requires { HasRoom stage.old tick_cost }
     ensures emits { OnOk result (Emits stage.old stage.new events.old events.new (tick_events stage.old) tick_cost) }
-    ensures caught_up { IfOk result (λ known. IfCaughtUp known stage.new) }
+    ensures alone { IfOk result (λ alone. alone ≡ true → stage.new ≡ at_moment stage.old (stage.old.facts.clock + 1)) }
 {
     if stage.clock().0 + 1 < ends_from(stage).0 {
         bare_tick(stage, events)?;
-        return Ok(caught_up);
+        return Ok(true);
     }
     end_due(stage, events)?;
     Ok(false)

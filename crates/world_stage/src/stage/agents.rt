@@ -1,18 +1,18 @@
 //! Agents: how they are woken, hear, and are shown.
-ghost use Rattle.std.specs.Prelude.{◌≡◌, ◌≤◌, ◌^◌, ◌*◌, [], Some, OnOk, IfOk, IfSome, option_copied, option_map, slice_get};
+ghost use Rattle.std.specs.Prelude.{ℕ, ◌≡◌, ◌≤◌, ◌<◌, ◌^◌, ◌*◌, [], true, false, Option, Some, OnOk, IfOk, IfSome, option_copied, option_map, slice_get};
 ghost use Rattle.lease_store.specs.Copied.{items_if};
 ghost use Rattle.cluster_view.specs.Snapshots.{IsRead};
 ghost use Rattle.agent_model.specs.declared.heard.Heard.TheVariants as heards;
-ghost use Rattle.agent_model.specs.Agents.{IsWithin};
+ghost use Rattle.agent_model.specs.Agents.{IsWithin, Outcome};
 ghost use Rattle.agent_rows.specs.Inputs.{IsSpannedInput};
 ghost use Rattle.agent_model.specs.Outputs.{most_outputs};
 ghost use Rattle.cluster_model.specs.Cluster.{agent_facts_with};
 ghost use Rattle.cluster_model.specs.Hearing.{heard_from, member_at_end, snapshot_at, snapshot_with};
-ghost use Rattle.cluster_model.specs.Inputs.{outcome_of, outcome_of_heard, outputs_of, standing_of};
+ghost use Rattle.cluster_model.specs.Inputs.{is_to_wake, outcome_of, outcome_of_heard, outputs_of, standing_of};
 ghost use Rattle.cluster_model.specs.Machines.{machine_of};
 ghost use Rattle.cluster_model.specs.Parts.{event_of};
 ghost use Rattle.cluster_model.specs.Inputs.{agent_at};
-ghost use Rattle.world_model.specs.Idle.{HasWorkFrom, work_moment};
+ghost use Rattle.world_model.specs.Idle.{HasWorkFrom, SleepsAt, WakesAt, work_moment};
 ghost use Rattle.world_model.specs.Emits.{Emits};
 ghost use Rattle.world_model.specs.Room.{HasRoom, hearing_cost};
 ghost use Rattle.world_model.specs.Short.{IsSent};
@@ -35,6 +35,7 @@ use world_fields::watchdogs::is_set_by_failsafe;
 use world_fields::writing::write_down;
 use world_flight::flight::InFlight;
 use world_parts::actions::copy_of;
+use world_parts::processes::may_act;
 use world_parts::replication::replication_of;
 use world_parts::sources::source_of;
 
@@ -282,6 +283,18 @@ impl Stage {
         Some(agent.due_from(server.state()))
     }
 
+    /// A moment, or that from which on the agent of a member is to be woken where that comes sooner.
+    pub fn wake_from(&self, member: Member, most: Ticks) -> Ticks
+        ensures within { result.0 ≤ most.0 }
+        ensures asleep { (now : ℕ) → now < result.0 → SleepsAt now self.now member }
+        ensures awake { (now : ℕ) → result.0 ≤ now → now < most.0 → WakesAt now self.now member }
+    {
+        match self.process(member) {
+            None => most,
+            Some(process) => sooner_wake(most, process, self.work_from(member)),
+        }
+    }
+
     /// The agent of a member, if one runs.
     pub fn agent(&self, member: Member) -> Option<&Agent>
         ensures { option_copied result ≡ agent_at self.now.agents member.id.number }
@@ -295,6 +308,22 @@ impl Stage {
     {
         let process = self.processes.get(member.id.number as usize)?;
         Some(*process)
+    }
+}
+
+/// A moment, or that from which on an agent of this process is to be woken where that comes sooner: there is something to do for it
+/// from then on, if ever.
+fn sooner_wake(most: Ticks, process: AgentProcess, work: Option<Ticks>) -> Ticks
+    ensures within { result.0 ≤ most.0 }
+    ensures asleep { (o : Option Outcome) (now : ℕ) → HasWorkFrom o work → now < result.0 → is_to_wake (record { 0 = now }) process o ≡ false }
+    ensures awake { (o : Option Outcome) (now : ℕ) → HasWorkFrom o work → result.0 ≤ now → now < most.0 → is_to_wake (record { 0 = now }) process o ≡ true }
+{
+    if !may_act(process) {
+        return most;
+    }
+    match work {
+        None => most,
+        Some(from) => { if from < most { from } else { most } }
     }
 }
 

@@ -53,16 +53,16 @@ pub returns-in_ok-carry_out-in-Some-AtAgent-clause-asleep : goal.returns-in_ok-c
 returns-in_ok-carry_out-in-Some-AtAgent-clause-asleep c =
     let came : AgentCame c.take_outputs.new.self c.land.new.self c.args.events.now c.land.new.events c.land.new.outputs.outputs c.args.number c.in-Some-AtAgent.member c.in-Some-AtAgent.heard
     = agent-came c.in-Some-AtAgent.member c.in-Some-AtAgent.heard c.in_ok-land.ensures.landed (c.in-Some-AtAgent.is ∙ ap Some c.in-Some-AtAgent.field-0-is) in
-    let sleep = came.asleep c.args.asleep c.without.result (subst (AreAsleep c.args.asleep) (sym c.take_outputs.ensures.world) c.requires.asleep) c.without.ensures.same c.without.ensures.others in
+    let sleep = came.asleep c.args.asleep.now c.forget.new.self (subst (AreAsleep c.args.asleep.now) (sym c.take_outputs.ensures.world) c.requires.asleep) c.forget.ensures.same c.forget.ensures.others in
     let done = c.in_ok-carry_out-in-Some-AtAgent.ensures.emits in
-    asleep-behind c.without.result c.still_asleep-in-Some-AtAgent.result c.land.new.self c.give_back-in-Some-AtAgent.new.self c.land.new.events c.carry_out.new.events _ c.len-from-in-Some-AtAgent.result
-    (c.give_back-in-Some-AtAgent.ensures ∙ done.state) done.event (omega (arith, c.len-from-in-Some-AtAgent.ensures)) sleep c.still_asleep-in-Some-AtAgent.ensures
+    asleep-behind c.forget.new.self c.pass-in-Some-AtAgent.new.self c.land.new.self c.give_back-in-Some-AtAgent.new.self c.land.new.events c.carry_out.new.events _ c.len-from-in-Some-AtAgent.result
+    (c.give_back-in-Some-AtAgent.ensures ∙ done.state) done.event (omega (arith, c.len-from-in-Some-AtAgent.ensures)) sleep c.pass-in-Some-AtAgent.ensures
 
 pub returns-in_ok-answer-in-Some-AtStore-clause-asleep : goal.returns-in_ok-answer-in-Some-AtStore-clause-asleep
 returns-in_ok-answer-in-Some-AtStore-clause-asleep c =
     let came : StoreCame c.take_outputs.new.self c.land.new.self c.args.events.now c.land.new.events c.land.new.outputs.outputs c.args.number c.in-Some-AtStore.message
     = store-came c.in-Some-AtStore.message c.in_ok-land.ensures.landed (c.in-Some-AtStore.is ∙ ap Some c.in-Some-AtStore.field-0-is) in
-    let sleep = came.asleep c.args.asleep (subst (AreAsleep c.args.asleep) (sym c.take_outputs.ensures.world) c.requires.asleep) in
+    let sleep = came.asleep c.args.asleep.now (subst (AreAsleep c.args.asleep.now) (sym c.take_outputs.ensures.world) c.requires.asleep) in
     let done = c.in_ok-answer-in-Some-AtStore.ensures in
-    asleep-behind c.args.asleep c.still_asleep.result c.land.new.self c.give_back-in-Some-AtStore.new.self c.land.new.events c.answer.new.events _ c.len-from.result (c.give_back-in-Some-AtStore.ensures ∙ done.state) done.event
-    (omega (arith, c.len-from.ensures)) sleep c.still_asleep.ensures
+    asleep-behind c.args.asleep.now c.pass.new.self c.land.new.self c.give_back-in-Some-AtStore.new.self c.land.new.events c.answer.new.events _ c.len-from.result (c.give_back-in-Some-AtStore.ensures ∙ done.state) done.event
+    (omega (arith, c.len-from.ensures)) sleep c.pass.ensures

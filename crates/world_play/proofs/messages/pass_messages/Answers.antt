@@ -26,8 +26,8 @@ loop-number-preserved c =
     let high = c.in-Some.ensures.last in
     let skipped = passing-skip c.args.stage.now c.loop-number.stage _ _ c.loop-number.from c.in-Some.number c.sent-last.result c.loop-number.invariant.passing sorted c.in-Some.ensures.from (omega (arith, high)) (λ k low below. c.in-Some.ensures.still k low (omega (arith, below, high)) below) in
     record {
-      passing = passing-more c.args.stage.now c.loop-number.stage c.pass_message.new.stage _ _ _ c.in-Some.number c.sent-last.result skipped sorted high c.in_ok-asleep.ensures.emits;
-      asleep = c.in_ok-asleep.ensures.asleep;
+      passing = passing-more c.args.stage.now c.loop-number.stage c.pass_message.new.stage _ _ _ c.in-Some.number c.sent-last.result skipped sorted high c.in_ok-pass_message.ensures.emits;
+      asleep = c.in_ok-pass_message.ensures.asleep;
     }
 
 pub returns-clause-emits : goal.returns-clause-emits

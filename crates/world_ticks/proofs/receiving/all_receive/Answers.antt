@@ -1,6 +1,6 @@
 use Rattle.std.proofs.Common.{arith, eqb-true}
 use Rattle.world_model.specs.Room.{receiving_cost}
-use Rattle.world_model.proofs.CaughtUp.{caught-up-where, none-received}
+use Rattle.world_model.proofs.Settled.{caught-up-where, none-received}
 use Rattle.world_ticks.proofs.receiving.all_receive.Goals as goal
 
 pub returns-then-caught_up-clause-emits : goal.returns-then-caught_up-clause-emits

@@ -1,0 +1,10 @@
+-- What is known to be at rest in a cluster.
+use Rattle.cluster_model.specs.State.{Cluster}
+use Rattle.world_model.specs.Idle.{IfSettled}
+use Rattle.world_acts.specs.Asleep.{AreAsleep}
+use Rattle.world_play.specs.declared.rest.Rest.{Rest}
+
+-- what is known to be at rest is so
+pub record IsAtRest (rest : Rest) (cluster : Cluster) : Type 0 where
+  pub settled : IfSettled rest.settled cluster
+  pub asleep : AreAsleep rest.asleep cluster
