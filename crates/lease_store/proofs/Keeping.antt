@@ -25,7 +25,7 @@ use Rattle.lease_store.specs.Writes.{Write, Sets, Leases, Extends, Deletes, stat
 use Rattle.lease_store.specs.Answers.{present_pairs}
 use Rattle.lease_store.proofs.KeyLaws.{keys_total, keys_exact}
 
-pub to-T : (b : Bool) → IsTrue b → T b
+to-T : (b : Bool) → IsTrue b → T b
 to-T true h = tt
 to-T false h = cc
 
@@ -49,7 +49,7 @@ order-chosen : (b : Bool) (e : Key × KeyEntry) (fs : List (Key × KeyEntry)) �
 order-chosen true e fs first rest = and_from (below_all key_cmp e.0 fs) (is_sorted key_cmp fs) first rest
 order-chosen false e fs first rest = rest
 
-pub order-filter : (p : Key × KeyEntry → Bool) (es : List (Key × KeyEntry)) → IsTrue (is_sorted key_cmp es) → IsTrue (is_sorted key_cmp (filter p es))
+order-filter : (p : Key × KeyEntry → Bool) (es : List (Key × KeyEntry)) → IsTrue (is_sorted key_cmp es) → IsTrue (is_sorted key_cmp (filter p es))
 order-filter p [] h = refl
 order-filter p (e ∷ es) h =
     order-chosen (p e) e (filter p es)
@@ -77,7 +77,7 @@ kinds-put key stored [] is k = (is, tt)
 kinds-put key stored (e ∷ es) is k = kinds-placed key stored e es (key_cmp key e.0) refl is k (kinds-put key stored es is k.1)
 
 -- ---- what is found
-pub equal-from : (o : Ordering) → is_eq o ≡ true → o ≡ Equal
+equal-from : (o : Ordering) → is_eq o ≡ true → o ≡ Equal
 equal-from Less h = cc
 equal-from Equal h = refl
 equal-from Greater h = cc

@@ -1,11 +1,8 @@
-pub mod Derived
 pub mod Answering
 pub mod Expiring
 pub mod Fences
 pub mod InOrder
 pub mod KeyLaws
-pub mod Leasing
-pub mod Maps
 pub mod Keeping
 pub mod OneKey
 pub mod Placing

@@ -4,9 +4,9 @@ pub mod Decision
 pub mod Fencing
 pub mod Kept
 pub mod KeyOrder
-pub mod Indexed
 pub mod InKeyOrder
 pub mod Keys
 pub mod Kinds
 pub mod Places
+pub mod Puts
 pub mod Writes

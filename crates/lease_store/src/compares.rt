@@ -7,7 +7,6 @@ ghost use Rattle.lease_store.specs.Decision.{found_in, compare_if, decision_by, 
 ghost use Rattle.lease_store.specs.Answers.{check_result_of};
 
 use crate::StoreRefusal;
-use crate::entries::{Entries, entry_of};
 use crate::order::compare;
 use pat_base::{Shared, Ticks};
 use std::cmp::Ordering;
@@ -37,10 +36,10 @@ pub fn key_entry_at(pairs: &[(Key, Shared<KeyEntry>)], key: Key) -> Option<&KeyE
 }
 
 /// The entry of a key that is present.
-pub fn present_at(entries: &Entries, now: Ticks, key: Key) -> Option<&KeyEntry>
-    ensures { option_copied result ≡ key_in entries.now.entries now.0 key }
+pub fn present_at(entries: &[(Key, Shared<KeyEntry>)], now: Ticks, key: Key) -> Option<&KeyEntry>
+    ensures { option_copied result ≡ key_in entries.now now.0 key }
 {
-    let stored = entry_of(entries, key)?;
+    let stored = key_entry_at(entries, key)?;
     if is_present(now, stored.expiry) {
         Some(stored)
     } else {
@@ -49,8 +48,8 @@ pub fn present_at(entries: &Entries, now: Ticks, key: Key) -> Option<&KeyEntry>
 }
 
 /// What a compare of a key finds.
-fn found(entries: &Entries, now: Ticks, key: Key) -> Expected
-    ensures { result ≡ found_in (key_in entries.now.entries now.0 key) }
+fn found(entries: &[(Key, Shared<KeyEntry>)], now: Ticks, key: Key) -> Expected
+    ensures { result ≡ found_in (key_in entries.now now.0 key) }
 {
     match present_at(entries, now, key) {
         None => Expected::Absent,
@@ -60,12 +59,12 @@ fn found(entries: &Entries, now: Ticks, key: Key) -> Expected
 
 /// Refuses a key that isn't as it is expected.
 fn compare_key(
-    entries: &Entries,
+    entries: &[(Key, Shared<KeyEntry>)],
     now: Ticks,
     key: Key,
     expected: Expected,
 ) -> Result<(), StoreRefusal>
-    ensures { result ≡ check_result_of (decision_by entries.now.entries now.0 ((key, expected) ∷ [])) }
+    ensures { result ≡ check_result_of (decision_by entries.now now.0 ((key, expected) ∷ [])) }
 {
     let found = found(entries, now, key);
     if found == expected {
@@ -77,12 +76,12 @@ fn compare_key(
 
 /// Refuses a leader key that isn't of this revision, and then a sync key that isn't as it is expected.
 fn compare_sync(
-    entries: &Entries,
+    entries: &[(Key, Shared<KeyEntry>)],
     now: Ticks,
     revision: u64,
     sync: Expected,
 ) -> Result<(), StoreRefusal>
-    ensures { result ≡ check_result_of (decision_by entries.now.entries now.0 ((Key.Leader, Expected.Revision revision) ∷ (Key.Sync, sync) ∷ [])) }
+    ensures { result ≡ check_result_of (decision_by entries.now now.0 ((Key.Leader, Expected.Revision revision) ∷ (Key.Sync, sync) ∷ [])) }
 {
     compare_key(entries, now, Key::Leader, Expected::Revision(revision))?;
     compare_key(entries, now, Key::Sync, sync)
@@ -90,12 +89,12 @@ fn compare_sync(
 
 /// Refuses a key that isn't as it was read, where it was.
 fn compare_read(
-    entries: &Entries,
+    entries: &[(Key, Shared<KeyEntry>)],
     now: Ticks,
     key: Key,
     read: Option<Expected>,
 ) -> Result<(), StoreRefusal>
-    ensures { result ≡ check_result_of (decision_by entries.now.entries now.0 (compare_if key read)) }
+    ensures { result ≡ check_result_of (decision_by entries.now now.0 (compare_if key read)) }
 {
     match read {
         None => Ok(()),
@@ -105,12 +104,12 @@ fn compare_read(
 
 /// Refuses a leader key that is present, then a failsafe key and then a sync key that isn't as it was read.
 fn compare_absent(
-    entries: &Entries,
+    entries: &[(Key, Shared<KeyEntry>)],
     now: Ticks,
     failsafe: Option<Expected>,
     sync: Option<Expected>,
 ) -> Result<(), StoreRefusal>
-    ensures { result ≡ check_result_of (decision_by entries.now.entries now.0 ((Key.Leader, Expected.Absent) ∷ (compare_if Key.Failsafe failsafe ++ compare_if Key.Sync sync))) }
+    ensures { result ≡ check_result_of (decision_by entries.now now.0 ((Key.Leader, Expected.Absent) ∷ (compare_if Key.Failsafe failsafe ++ compare_if Key.Sync sync))) }
 {
     compare_key(entries, now, Key::Leader, Expected::Absent)?;
     compare_read(entries, now, Key::Failsafe, failsafe)?;
@@ -118,8 +117,8 @@ fn compare_absent(
 }
 
 /// Refuses a transaction by the first key that isn't as it expects.
-pub fn check(entries: &Entries, now: Ticks, txn: &Txn) -> Result<(), StoreRefusal>
-    ensures { result ≡ check_result_of (decision_by entries.now.entries now.0 (compares_of txn.now)) }
+pub fn check(entries: &[(Key, Shared<KeyEntry>)], now: Ticks, txn: &Txn) -> Result<(), StoreRefusal>
+    ensures { result ≡ check_result_of (decision_by entries.now now.0 (compares_of txn.now)) }
 {
     match txn {
         Txn::Touch { .. } => Ok(()),

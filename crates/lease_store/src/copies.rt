@@ -1,13 +1,9 @@
 //! Copies of the list of all pairs, told again while nothing changes. They share the entries with the store.
-ghost use Rattle.std.specs.Prelude.{◌≡◌, IfOk, IsTrue};
-ghost use Rattle.std.specs.FinMap.{is_sorted};
+ghost use Rattle.std.specs.Prelude.{◌≡◌, IfOk};
 ghost use Rattle.lease_store.specs.Answers.{present_pairs};
 ghost use Rattle.lease_store.specs.Copied.{AreCopies};
-ghost use Rattle.lease_store.specs.Indexed.{IsIndexed};
-ghost use Rattle.lease_store.specs.KeyOrder.{key_cmp};
 
-use crate::entries::Entries;
-use crate::leases::{Leases, first_ended};
+use crate::entries::has_absent;
 use crate::walks::copies_of_present;
 use pat_base::{Shared, Ticks};
 use std::alloc::{AllocError, Global};
@@ -20,18 +16,15 @@ pub type Copies = Shared<Vec<(Key, Shared<KeyEntry>)>>;
 /// only for want of memory.
 pub fn told(
     alloc: Global,
-    entries: &Entries,
-    leases: &Leases,
+    entries: &[(Key, Shared<KeyEntry>)],
     copies: &mut Option<Copies>,
     now: Ticks,
 ) -> Result<Copies, AllocError>
-    requires sorted { IsTrue (is_sorted key_cmp entries.now.entries) }
-    requires indexed { IsIndexed entries.now.entries leases.now }
-    requires copies { AreCopies entries.now.entries copies.old }
-    ensures told { IfOk result (λ told. told.items ≡ present_pairs now.0 entries.now.entries) }
-    ensures kept { AreCopies entries.now.entries copies.new }
+    requires copies { AreCopies entries.now copies.old }
+    ensures told { IfOk result (λ told. told.items ≡ present_pairs now.0 entries.now) }
+    ensures kept { AreCopies entries.now copies.new }
 {
-    if let Some(_) = first_ended(leases, now) {
+    if has_absent(entries, now) {
         return Shared::new(alloc, copies_of_present(alloc, entries, now)?);
     }
     told_again(alloc, entries, copies, now)
@@ -40,14 +33,14 @@ pub fn told(
 /// Copies of all pairs, none of whose keys is absent at this moment.
 fn told_again(
     alloc: Global,
-    entries: &Entries,
+    entries: &[(Key, Shared<KeyEntry>)],
     copies: &mut Option<Copies>,
     now: Ticks,
 ) -> Result<Copies, AllocError>
-    requires present { present_pairs now.0 entries.now.entries ≡ entries.now.entries }
-    requires copies { AreCopies entries.now.entries copies.old }
-    ensures told { IfOk result (λ told. told.items ≡ present_pairs now.0 entries.now.entries) }
-    ensures kept { AreCopies entries.now.entries copies.new }
+    requires present { present_pairs now.0 entries.now ≡ entries.now }
+    requires copies { AreCopies entries.now copies.old }
+    ensures told { IfOk result (λ told. told.items ≡ present_pairs now.0 entries.now) }
+    ensures kept { AreCopies entries.now copies.new }
 {
     if let Some(told) = copies {
         return told.try_clone();
@@ -58,13 +51,11 @@ fn told_again(
 }
 
 /// Forgets copies where a key is absent at this moment: they are those of what is present then.
-pub fn forget_absent(entries: &Entries, leases: &Leases, copies: &mut Option<Copies>, now: Ticks)
-    requires sorted { IsTrue (is_sorted key_cmp entries.now.entries) }
-    requires indexed { IsIndexed entries.now.entries leases.now }
-    requires copies { AreCopies entries.now.entries copies.old }
-    ensures { AreCopies (present_pairs now.0 entries.now.entries) copies.new }
+pub fn forget_absent(entries: &[(Key, Shared<KeyEntry>)], copies: &mut Option<Copies>, now: Ticks)
+    requires copies { AreCopies entries.now copies.old }
+    ensures { AreCopies (present_pairs now.0 entries.now) copies.new }
 {
-    if let Some(_) = first_ended(leases, now) {
+    if has_absent(entries, now) {
         *copies = None;
     }
 }

@@ -6,7 +6,6 @@ mod copies;
 mod entries;
 mod granted;
 mod laws;
-mod leases;
 mod order;
 mod pairs;
 mod refusal;

@@ -11,16 +11,14 @@ ghost use Rattle.lease_store.specs.Kinds.{IsOfKind};
 ghost use Rattle.lease_store.specs.Writes.{keys_after_grant, is_lease, ttl_of};
 ghost use Rattle.pat_base.specs.Moments.{latest};
 
-use crate::compares::{check, is_present, present_at};
+use crate::compares::{check, is_present, key_entry_at, present_at};
 use crate::copies::{Copies, forget_absent, told};
-use crate::entries::{Entries, drop_absent, entry_of};
-use crate::leases::{Leases, first_expiry};
+use crate::entries::{Entries, drop_absent, first_expiry};
 use crate::walks::{absent_keys, copies_of_present};
 use crate::writes::{Stamp, grant, is_lease};
 use crate::{Granted, StoreRefusal};
 use pat_base::{MemberId, Shared, Ticks};
 use std::alloc::{AllocError, Global};
-use std::collections::{BTreeMap, BTreeSet};
 use std::marker::Model;
 use store_keys::{ConfigValue, Key, KeyEntry, Txn, Value};
 
@@ -30,9 +28,7 @@ use store_keys::{ConfigValue, Key, KeyEntry, Txn, Value};
 /// A key with a lease is absent from its expiry on, by the clock of whoever calls.
 #[derive(Drop)]
 pub struct Store {
-    alloc: Global,
     entries: Entries,
-    leases: Leases,
     revision: u64,
     /// Copies of all pairs, where they were told and nothing has changed since.
     copies: Option<Copies>,
@@ -41,14 +37,13 @@ pub struct Store {
 impl Model for Store {
     ghost use Rattle.lease_store.specs.Keys.{Keys};
     ghost use Rattle.lease_store.specs.Copied.{AreCopies};
-    ghost use Rattle.lease_store.specs.Indexed.{IsIndexed};
     ghost use Rattle.lease_store.specs.Kept.{IsKept};
 
     ghost Value = { Keys };
 
-    ghost view = { λ s. record { revision = s.revision; pairs = s.entries.entries } };
+    ghost view = { λ s. record { revision = s.revision; pairs = s.entries.items } };
 
-    ghost invariant = { λ s. IsKept s.entries.entries × IsIndexed s.entries.entries s.leases × AreCopies s.entries.entries s.copies };
+    ghost invariant = { λ s. IsKept s.entries.items × AreCopies s.entries.items s.copies };
 }
 
 impl Store {
@@ -56,17 +51,15 @@ impl Store {
     pub fn new(alloc: Global, config: ConfigValue) -> Result<Store, AllocError>
         ensures { IfOk result (λ store. store ≡ first_keys config) }
     {
-        let mut entries = BTreeMap::new(alloc);
+        let mut entries = Vec::new(alloc);
         let stored = KeyEntry {
             value: Value::Config(config),
             revision: 1,
             expiry: None,
         };
-        entries.insert(Key::Config, Shared::new(alloc, stored)?)?;
+        entries.push((Key::Config, Shared::new(alloc, stored)?))?;
         Ok(Store {
-            alloc,
             entries,
-            leases: BTreeSet::new(alloc),
             revision: 1,
             copies: None,
         })
@@ -109,14 +102,7 @@ impl Store {
             at: now,
         };
         self.copies = None;
-        grant(
-            self.alloc,
-            &mut self.entries,
-            &mut self.leases,
-            stamp,
-            by,
-            txn,
-        )?;
+        grant(&mut self.entries, stamp, by, txn)?;
         self.revision += 1;
         Ok(Granted::of(self.revision, by, is_lease(txn)))
     }
@@ -125,7 +111,7 @@ impl Store {
     pub fn expired(&self, now: Ticks) -> Result<Vec<Key>, AllocError>
         ensures { IfOk result (λ keys. keys.items ≡ expired_keys self.now now.0) }
     {
-        absent_keys(self.alloc, &self.entries, now)
+        absent_keys(*self.entries.allocator(), &self.entries, now)
     }
 
     /// When the next key expires, but at most a given moment: no key that has an entry is absent before it, and where it is less than the
@@ -135,7 +121,7 @@ impl Store {
         ensures before { (now : ℕ) → now < result.0 → expired_keys self.now now ≡ [] }
         ensures least { result.0 < most.0 → expired_keys self.now result.0 ≢ [] }
     {
-        first_expiry(&self.leases, most)
+        first_expiry(&self.entries, most)
     }
 
     /// The holder of the leader key, where that key has an entry and is absent at this moment.
@@ -154,8 +140,8 @@ impl Store {
         ensures same { (later : ℕ) (key : Key) → now.0 ≤ later → key_at self.new later key ≡ key_at self.old later key }
     {
         let holder = expired_holder(&self.entries, now);
-        forget_absent(&self.entries, &self.leases, &mut self.copies, now);
-        drop_absent(&mut self.entries, &mut self.leases, now);
+        forget_absent(&self.entries, &mut self.copies, now);
+        drop_absent(&mut self.entries, now);
         holder
     }
 
@@ -168,7 +154,7 @@ impl Store {
         ensures kinds { IfOk result (λ entries. AreOfKind entries.items) }
         ensures config { IfOk result (λ entries. IsSome (find key_cmp Key.Config entries.items)) }
     {
-        copies_of_present(self.alloc, &self.entries, now)
+        copies_of_present(*self.entries.allocator(), &self.entries, now)
     }
 
     /// The same, to be shared. Where nothing has changed since they were told last, they are told again.
@@ -180,9 +166,8 @@ impl Store {
         ensures config { IfOk result (λ entries. IsSome (find key_cmp Key.Config entries.items)) }
     {
         told(
-            self.alloc,
+            *self.entries.allocator(),
             &self.entries,
-            &self.leases,
             &mut self.copies,
             now,
         )
@@ -190,10 +175,10 @@ impl Store {
 }
 
 /// The holder of the leader key, where that key has an entry and is absent.
-fn expired_holder(entries: &Entries, now: Ticks) -> Option<MemberId>
-    ensures { result ≡ holder_lost now.0 (find key_cmp Key.Leader entries.now.entries) }
+fn expired_holder(entries: &[(Key, Shared<KeyEntry>)], now: Ticks) -> Option<MemberId>
+    ensures { result ≡ holder_lost now.0 (find key_cmp Key.Leader entries.now) }
 {
-    let stored = entry_of(entries, Key::Leader)?;
+    let stored = key_entry_at(entries, Key::Leader)?;
     if is_present(now, stored.expiry) {
         return None;
     }

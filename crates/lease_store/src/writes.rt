@@ -1,16 +1,15 @@
 //! What granted transactions write.
 ghost use Rattle.std.specs.Prelude.{◌≡◌, ◌≤◌, ◌<◌, ◌+◌, ◌++◌, ◌∷◌, [], ◌^◌, Some, None, IsTrue, IfOk, OnOk, OnErr};
 ghost use Rattle.std.specs.FinMap.{find};
-ghost use Rattle.lease_store.specs.Indexed.{IsIndexed};
 ghost use Rattle.lease_store.specs.Kept.{IsKept};
 ghost use Rattle.lease_store.specs.KeyOrder.{key_cmp};
 ghost use Rattle.lease_store.specs.Writes.{Leases as LeasesKey, Extends, Sets, writes_of, pairs_over, puts_of, puts_of_all, deleted_key, extended_expiry, ttl_of, is_lease, status_writes, row_writes, failsafe_writes, sync_value};
 ghost use Rattle.pat_base.specs.Moments.{latest};
 
-use crate::entries::{Entries, delete, entry_of, put_all};
-use crate::leases::Leases;
+use crate::compares::key_entry_at;
+use crate::entries::{Entries, delete, put_all};
 use pat_base::{Lsn, MemberId, MemberSet, Shared, Ticks};
-use std::alloc::{AllocError, Global};
+use std::alloc::AllocError;
 use store_keys::{ConfigValue, HistoryRow, Key, KeyEntry, MemberInfo, SyncKey, Txn, Value};
 
 /// The most keys that one transaction writes.
@@ -50,31 +49,22 @@ fn deleted_key(txn: &Txn) -> Option<Key>
 
 /// Writes what a transaction of a member writes, and keeps what holds of the pairs of every store. It fails only for want
 /// of memory, and then changes nothing.
-pub fn grant(
-    alloc: Global,
-    entries: &mut Entries,
-    leases: &mut Leases,
-    stamp: Stamp,
-    by: MemberId,
-    txn: &Txn,
-) -> Result<(), AllocError>
-    requires kept { IsKept entries.old.entries }
-    requires indexed { IsIndexed entries.old.entries leases.old }
+pub fn grant(entries: &mut Entries, stamp: Stamp, by: MemberId, txn: &Txn) -> Result<(), AllocError>
+    requires kept { IsKept entries.old.items }
     requires moment { stamp.at.0 ≤ latest }
     requires span { ttl_of txn.now ≤ 2 ^ 40 }
-    ensures entries { OnOk result (entries.new.entries ≡ pairs_over stamp.revision stamp.at.0 entries.old.entries (writes_of by txn.now)) }
-    ensures kept { IsKept entries.new.entries }
-    ensures indexed { IsIndexed entries.new.entries leases.new }
-    ensures err { OnErr result (entries.new.entries ≡ entries.old.entries) }
+    ensures entries { OnOk result (entries.new.items ≡ pairs_over stamp.revision stamp.at.0 entries.old.items (writes_of by txn.now)) }
+    ensures kept { IsKept entries.new.items }
+    ensures err { OnErr result (entries.new.items ≡ entries.old.items) }
 {
     match deleted_key(txn) {
         Some(key) => {
-            delete(entries, leases, key);
+            delete(entries, key);
             Ok(())
         }
         None => {
-            let puts = puts_of(alloc, entries, stamp, by, txn)?;
-            put_all(entries, leases, puts)?;
+            let puts = puts_of(entries, stamp, by, txn)?;
+            put_all(entries, puts)?;
             Ok(())
         }
     }
@@ -82,7 +72,6 @@ pub fn grant(
 
 /// What a transaction of a member puts at the keys that it writes. It fails only for want of memory.
 fn puts_of(
-    alloc: Global,
     entries: &Entries,
     stamp: Stamp,
     by: MemberId,
@@ -90,9 +79,9 @@ fn puts_of(
 ) -> Result<Vec<(Key, Shared<KeyEntry>)>, AllocError>
     requires moment { stamp.at.0 ≤ latest }
     requires span { ttl_of txn.now ≤ 2 ^ 40 }
-    ensures { IfOk result (λ puts. puts.items ≡ puts_of_all stamp.revision stamp.at.0 entries.now.entries (writes_of by txn.now)) }
+    ensures { IfOk result (λ puts. puts.items ≡ puts_of_all stamp.revision stamp.at.0 entries.now.items (writes_of by txn.now)) }
 {
-    let mut puts = Vec::with_capacity(alloc, MOST)?;
+    let mut puts = Vec::with_capacity(*entries.allocator(), MOST)?;
     add_puts(&mut puts, entries, stamp, by, txn)?;
     Ok(puts)
 }
@@ -108,7 +97,7 @@ fn add_puts(
     requires none { puts.old.items ≡ [] }
     requires moment { stamp.at.0 ≤ latest }
     requires span { ttl_of txn.now ≤ 2 ^ 40 }
-    ensures { OnOk result (puts.new.items ≡ puts_of_all stamp.revision stamp.at.0 entries.now.entries (writes_of by txn.now)) }
+    ensures { OnOk result (puts.new.items ≡ puts_of_all stamp.revision stamp.at.0 entries.now.items (writes_of by txn.now)) }
 {
     match txn {
         Txn::Touch { info, ttl } => tell(puts, stamp, by, *info, *ttl),
@@ -216,9 +205,9 @@ fn renew(
     ttl: Ticks,
 ) -> Result<(), AllocError>
     requires { stamp.at.0 + ttl.0 < 2 ^ 64 }
-    ensures { OnOk result (puts.new.items ≡ puts.old.items ++ puts_of stamp.revision stamp.at.0 entries.now.entries (Extends Key.Leader ttl)) }
+    ensures { OnOk result (puts.new.items ≡ puts.old.items ++ puts_of stamp.revision stamp.at.0 entries.now.items (Extends Key.Leader ttl)) }
 {
-    let Some(stored) = entry_of(entries, Key::Leader) else {
+    let Some(stored) = key_entry_at(entries, Key::Leader) else {
         return Ok(());
     };
     let expiry = extended_expiry(stamp.at + ttl, stored.expiry);

@@ -32,24 +32,24 @@ pub returns-in_err-compare_key : goal.returns-in_err-compare_key
 returns-in_err-compare_key c =
     let told : c.from_residual.result ≡ Err c.in_err-compare_key.field-0.0 = search rules in
     told
-    ∙ refused-if (is_as_expected Absent (found_in (key_in c.args.entries.now.entries c.args.now.0 keys.Leader))) keys.Leader (found_in (key_in c.args.entries.now.entries c.args.now.0 keys.Leader))
-    (decision_by c.args.entries.now.entries c.args.now.0 (compare_if keys.Failsafe c.args.failsafe ++ compare_if keys.Sync c.args.sync))
+    ∙ refused-if (is_as_expected Absent (found_in (key_in c.args.entries.now c.args.now.0 keys.Leader))) keys.Leader (found_in (key_in c.args.entries.now c.args.now.0 keys.Leader))
+    (decision_by c.args.entries.now c.args.now.0 (compare_if keys.Failsafe c.args.failsafe ++ compare_if keys.Sync c.args.sync))
     c.in_err-compare_key.field-0.0 (sym (c.in_err-compare_key.was) ∙ c.compare_key.ensures)
 
 pub returns-in_err-compare_read : goal.returns-in_err-compare_read
 returns-in_err-compare_read c =
     let told : c.from_residual-in_err-compare_read.result ≡ Err c.in_err-compare_read.field-0.0 = search rules in
-    passed-if (is_as_expected Absent (found_in (key_in c.args.entries.now.entries c.args.now.0 keys.Leader))) keys.Leader (found_in (key_in c.args.entries.now.entries c.args.now.0 keys.Leader))
-    (decision_by c.args.entries.now.entries c.args.now.0 (compare_if keys.Failsafe c.args.failsafe ++ compare_if keys.Sync c.args.sync))
+    passed-if (is_as_expected Absent (found_in (key_in c.args.entries.now c.args.now.0 keys.Leader))) keys.Leader (found_in (key_in c.args.entries.now c.args.now.0 keys.Leader))
+    (decision_by c.args.entries.now c.args.now.0 (compare_if keys.Failsafe c.args.failsafe ++ compare_if keys.Sync c.args.sync))
     _ (sym (c.in_ok-compare_key.was) ∙ c.compare_key.ensures)
     (told
-    ∙ refused-read c.args.entries.now.entries c.args.now.0 keys.Failsafe c.args.failsafe (compare_if keys.Sync c.args.sync) c.in_err-compare_read.field-0.0
+    ∙ refused-read c.args.entries.now c.args.now.0 keys.Failsafe c.args.failsafe (compare_if keys.Sync c.args.sync) c.in_err-compare_read.field-0.0
     (sym (c.in_err-compare_read.was) ∙ c.compare_read.ensures))
 
 pub returns : goal.returns
 returns c =
-    passed-if (is_as_expected Absent (found_in (key_in c.args.entries.now.entries c.args.now.0 keys.Leader))) keys.Leader (found_in (key_in c.args.entries.now.entries c.args.now.0 keys.Leader))
-    (decision_by c.args.entries.now.entries c.args.now.0 (compare_if keys.Failsafe c.args.failsafe ++ compare_if keys.Sync c.args.sync))
+    passed-if (is_as_expected Absent (found_in (key_in c.args.entries.now c.args.now.0 keys.Leader))) keys.Leader (found_in (key_in c.args.entries.now c.args.now.0 keys.Leader))
+    (decision_by c.args.entries.now c.args.now.0 (compare_if keys.Failsafe c.args.failsafe ++ compare_if keys.Sync c.args.sync))
     _ (sym (c.in_ok-compare_key.was) ∙ c.compare_key.ensures)
-    (passed-read c.args.entries.now.entries c.args.now.0 keys.Failsafe c.args.failsafe (compare_if keys.Sync c.args.sync) _
+    (passed-read c.args.entries.now c.args.now.0 keys.Failsafe c.args.failsafe (compare_if keys.Sync c.args.sync) _
     (sym (c.in_ok-compare_read.was) ∙ c.compare_read.ensures) c.compare_read-2.ensures)

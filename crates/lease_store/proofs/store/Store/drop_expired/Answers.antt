@@ -1,6 +1,7 @@
-use Rattle.std.proofs.Common.{ap, refl, sym, subst, List}
+use Rattle.std.proofs.Common.{ap, sym, subst, List, ◌∙◌}
 use Rattle.store_keys.specs.declared.key.Key.{Key}
 use Rattle.store_keys.specs.declared.value.KeyEntry.{KeyEntry}
+use Rattle.lease_store.specs.Answers.{present_pairs}
 use Rattle.lease_store.specs.Copied.{AreCopies}
 use Rattle.lease_store.specs.Keys.{Keys}
 use Rattle.lease_store.proofs.Answering.{kept_dropped, lost_where, same_later}
@@ -8,15 +9,14 @@ use Rattle.lease_store.proofs.store.Store.drop_expired.Goals as goal
 
 pub invariant_of-self : goal.invariant_of-self
 invariant_of-self c = (
-  kept_dropped _ _ _ c.drop_absent.ensures.entries c.self.invariant.0,
-  c.drop_absent.ensures.indexed,
-  subst (λ (pairs : List (Key × KeyEntry)). AreCopies pairs c.forget_absent.new.copies) (sym c.drop_absent.ensures.entries) c.forget_absent.ensures,
+  kept_dropped _ _ _ c.drop_absent.ensures c.self.invariant.0,
+  subst (λ (pairs : List (Key × KeyEntry)). AreCopies pairs c.forget_absent.new.copies) (ap (present_pairs c.args.now.0) c.deref-2.ensures.value ∙ sym c.drop_absent.ensures) c.forget_absent.ensures,
 )
 
 pub returns-clause-dropped : goal.returns-clause-dropped
 returns-clause-dropped c =
-    lost_where _ c.self.inside.entries.entries c.self.inside.entries.entries c.args.self.now _ refl (ap (λ (s : Keys). s.pairs) c.self.view_is) c.self.invariant.0.kinds c.expired_holder-holder.ensures
+    lost_where _ _ c.self.inside.entries.items c.args.self.now _ c.deref.ensures.value (ap (λ (s : Keys). s.pairs) c.self.view_is) c.self.invariant.0.kinds c.expired_holder-holder.ensures
 
 pub returns-clause-same : goal.returns-clause-same
 returns-clause-same c later key le =
-    same_later c.args.now.0 later key c.self.inside.entries.entries _ c.args.self.now c.drop_absent.ensures.entries c.self.invariant.0 (ap (λ (s : Keys). s.pairs) c.self.view_is) le
+    same_later c.args.now.0 later key c.self.inside.entries.items _ c.args.self.now c.drop_absent.ensures c.self.invariant.0 (ap (λ (s : Keys). s.pairs) c.self.view_is) le
