@@ -1,8 +1,6 @@
 -- Pieces, one behind another.
-use Rattle.std.proofs.Common.{◌≡◌, ℕ, ◌+◌, ◌-◌, ◌^◌, ◌≤◌, ◌<◌, List, [], ◌∷◌, ◌++◌, length, take, drop, get_or, zero, suc, refl, sym, ap, subst, ◌∙◌, arith, append_assoc, append-nil, length-append, ◌⊎◌, inl, inr, set, Some}
-use Rattle.std.specs.Prelude.{slice_get}
+use Rattle.std.proofs.Common.{◌≡◌, ℕ, ◌+◌, ◌-◌, ◌^◌, ◌≤◌, ◌<◌, List, [], ◌∷◌, ◌++◌, length, take, drop, get_or, zero, suc, refl, sym, ap, subst, ◌∙◌, arith, append_assoc, append-nil, length-append, ◌⊎◌, inl, inr, set}
 use Rattle.std.proofs.lemmas.List.{take-append-drop, take_more, take_all, take-take, take-append-le, drop_more, drop_all, set_split, length-take-le}
-use Rattle.std.proofs.lemmas.Option.{slice_get_within, get_or_from_slice_get}
 use Rattle.std.proofs.Math.Seq.{take-append-add}
 use Rattle.std.specs.List.Sorted.{IsNonDecreasingBy}
 use Rattle.std.proofs.lemmas.List.Sums.{sum_by-append}
@@ -203,14 +201,3 @@ chained-push ps next log chained is continues short low =
       follow = follow-push 0 0 ps next chained.follow (omega (arith, long)) (omega (arith, continues.end, ap end_of is)) continues.some;
       most = omega (arith, ap length (joined-push ps next), length-append (joined ps) next.piece, long, short, low);
     }
-
--- how many entries pieces have, by the last of them
-pub counted-by-last : (ps : List Placed) (p : Placed) → AreChained ps → Some p ≡ slice_get ps (length ps - 1) → p.before + length p.piece ≡ length (joined ps)
-counted-by-last ps p chained at =
-    let k = length ps - 1 in
-    let h : k < length ps = slice_get_within ps k p (sym at) in
-    let is : get_or ps k p ≡ p = get_or_from_slice_get ps k p p (sym at) in
-    let all : take (k + 1) ps ≡ ps = take_all (k + 1) ps (omega (arith, h)) in
-    let front : joined ps ≡ joined (take k ps) ++ p.piece = ap joined (sym all) ∙ joined-more ps k p h ∙ ap (λ (q : Placed). joined (take k ps) ++ q.piece) is in
-    let before : p.before ≡ length (joined (take k ps)) = subst (λ (q : Placed). q.before ≡ length (joined (take k ps))) is (among-at ps k p chained.follow h).before in
-    omega (arith, before, ap length front, length-append (joined (take k ps)) p.piece)

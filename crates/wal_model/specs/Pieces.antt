@@ -21,6 +21,11 @@ pub record AreChained (pieces : List Placed) : Type 0 where
   pub follow : Follow 0 0 pieces
   pub most : length (joined pieces) ≤ most_in_pieces
 
+-- and it is known how many entries they have
+pub record AreCounted (pieces : List Placed) (entries : ℕ) : Type 0 where
+  pub chained : AreChained pieces
+  pub count : entries ≡ length (joined pieces)
+
 -- a piece stands in a log, and has the entry at this place
 pub record Holds (placed : Placed) (log : List Entry) (place : ℕ) : Type 0 where
   pub first : List Entry

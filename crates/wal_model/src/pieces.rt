@@ -18,18 +18,20 @@ const MOST_IN_PIECES: usize = 1 << 63;
 #[derive(Drop)]
 pub(crate) struct Pieces {
     placed: Vec<Placed>,
+    /// How many entries they have.
+    count: usize,
 }
 
 impl Model for Pieces {
     ghost use Rattle.std.specs.Prelude.{List};
     ghost use Rattle.wal_model.specs.declared.entry.Entry.{Entry};
-    ghost use Rattle.wal_model.specs.Pieces.{AreChained, joined};
+    ghost use Rattle.wal_model.specs.Pieces.{AreCounted, joined};
 
     ghost Value = { List Entry };
 
     ghost view = { λ pieces. joined pieces.placed.items };
 
-    ghost invariant = { λ pieces. AreChained pieces.placed.items };
+    ghost invariant = { λ pieces. AreCounted pieces.placed.items pieces.count };
 }
 
 impl Pieces {
@@ -39,6 +41,7 @@ impl Pieces {
     {
         Pieces {
             placed: Vec::new(alloc),
+            count: 0,
         }
     }
 
@@ -47,10 +50,7 @@ impl Pieces {
         ensures count { result ≡ length self.now }
         ensures most { result ≤ most_in_pieces }
     {
-        match self.placed.last() {
-            Some(last) => last.before + last.piece.len(),
-            None => 0,
-        }
+        self.count
     }
 
     /// Where the first entries end, so many, of which there are at least so many. It costs those behind them in one piece.
@@ -89,9 +89,11 @@ impl Pieces {
         if next.piece.len() > MOST_IN_PIECES.saturating_sub(next.before) {
             return Err(AllocError);
         }
+        let count = next.before + next.piece.len();
         self.placed.reserve(1)?;
         cut(&mut self.placed, next.before);
         self.placed.push(next)?;
+        self.count = count;
         Ok(())
     }
 
@@ -101,6 +103,7 @@ impl Pieces {
         ensures { self.new ≡ take entries self.old }
     {
         cut(&mut self.placed, entries);
+        self.count = entries;
     }
 
     /// The same pieces once more, each shared. It fails only for want of memory.
@@ -112,7 +115,10 @@ impl Pieces {
         for each in &self.placed {
             placed.push(each.try_clone()?)?;
         }
-        Ok(Pieces { placed })
+        Ok(Pieces {
+            placed,
+            count: self.count,
+        })
     }
 }
 

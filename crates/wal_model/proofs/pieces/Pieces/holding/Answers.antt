@@ -12,7 +12,7 @@ behind c = rw (← c.deref.ensures.value) c.pieces_before.ensures.behind
 
 pub overflow_sub-pieces_before : goal.overflow_sub-pieces_before
 overflow_sub-pieces_before c =
-    omega (arith, any-before c.self.inside.placed.items c.pieces_before.result (c.args.place + 1) c.self.invariant (within c) (behind c) (omega arith))
+    omega (arith, any-before c.self.inside.placed.items c.pieces_before.result (c.args.place + 1) c.self.invariant.chained (within c) (behind c) (omega arith))
 
 pub returns : goal.returns
 returns c =
@@ -22,9 +22,9 @@ returns c =
     let behind : (d : Placed) → count < length items → c.args.place + 1 ≤ (get_or items count d).before = rw (← c.deref.ensures.value) c.pieces_before.ensures.behind in
     subst (λ t. Holds c.index.result.now t c.args.place) c.self.view_is
     (holds-last items count c.args.place c.index.result.now
-    (last-before items count (c.args.place + 1) c.index.result.now c.self.invariant within
+    (last-before items count (c.args.place + 1) c.index.result.now c.self.invariant.chained within
     (rw (← c.deref.ensures.value) c.pieces_before.ensures.within)
-    (any-before items count (c.args.place + 1) c.self.invariant within behind (omega arith))
+    (any-before items count (c.args.place + 1) c.self.invariant.chained within behind (omega arith))
     c.index.ensures
     (rw (← c.deref.ensures.value) c.pieces_before.ensures.before)
     behind))
