@@ -32,7 +32,8 @@ use Rattle.agent_commit_law.specs.Committing.{request_in, request_of_body, reque
 use Rattle.agent_model.specs.StayingPrimary.{fed_by_failsafe, requesting_first, requesting_one}
 use Rattle.agent_model.specs.HandingOver.{asking_whom}
 use Rattle.agent_model.specs.Outputs.{with_output, has_one}
-use Rattle.agent_cases.proofs.Rows.{if-cases, passing-by}
+use Rattle.agent_cases.proofs.Rows.{if-cases}
+use Rattle.agent_cases.proofs.Grants.{passing-by}
 
 -- a renewal carries a set for the failsafe key only where it may
 abbrev pub MayCarrySet : Bool → Option MemberSet → Type 0

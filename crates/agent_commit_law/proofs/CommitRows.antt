@@ -68,7 +68,8 @@ use Rattle.agent_roles.proofs.Fitting.{ended-for}
 use Rattle.agent_roles.proofs.Granting.{Told, one-before, one-last}
 use Rattle.agent_roles.proofs.Knowing.{before-onward, granted-onward, onward-then}
 use Rattle.agent_roles.proofs.Living.{no-way}
-use Rattle.agent_cases.proofs.Rows.{FailoverRows, dropping}
+use Rattle.agent_cases.proofs.Rows.{dropping}
+use Rattle.agent_cases.proofs.Grants.{FailoverRows}
 use Rattle.agent_model.specs.Pausing.{is_paused}
 use Rattle.agent_roles.proofs.Staying.{stays-unpaused}
 

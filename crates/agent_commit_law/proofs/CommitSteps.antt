@@ -35,7 +35,8 @@ use Rattle.agent_roles.specs.Powers.{IsAwaitedLease}
 use Rattle.agent_model.specs.Synchronous.{waiting_for}
 use Rattle.agent_roles.proofs.Granting.{Told, both-true}
 use Rattle.agent_roles.proofs.Living.{no-way}
-use Rattle.agent_cases.proofs.Rows.{FailoverRows, kept_on, led_on, if-cases, duties-by, takes-late-by}
+use Rattle.agent_cases.proofs.Rows.{if-cases}
+use Rattle.agent_cases.proofs.Grants.{FailoverRows, kept_on, led_on, duties-by, takes-late-by}
 use Rattle.agent_model.specs.Pausing.{is_paused, is_wanted_by}
 
 -- the standbys that a leader wants by a snapshot, and those that have confirmed the noted position

@@ -30,7 +30,8 @@ use Rattle.agent_roles.proofs.Granting.{take-free, Told, one-last, one-before}
 use Rattle.agent_roles.proofs.Knowing.{IsAlone}
 use Rattle.agent_roles.proofs.Leaving.{ready-is}
 use Rattle.agent_roles.proofs.Living.{no-way}
-use Rattle.agent_cases.proofs.Rows.{DutyRows, HandoverRows, ReplyRows, dropping, granted-any-by, kept_on, led_on, if-cases, judges-start-by, renewed-by, begins-or-claims-by, granted-when}
+use Rattle.agent_cases.proofs.Rows.{HandoverRows, ReplyRows, dropping, if-cases}
+use Rattle.agent_cases.proofs.Grants.{DutyRows, granted-any-by, kept_on, led_on, judges-start-by, renewed-by, begins-or-claims-by, granted-when}
 use Rattle.agent_model.specs.Pausing.{is_paused}
 use Rattle.store_keys.specs.declared.txn.Expected.{Expected}
 use Rattle.agent_sending.proofs.MaySend.{Grounds, IsSilent, MayPut, AllMay, silently, silent-armed, silent-fed, IsReleaseOr, Fronts, IsMild, AllMild, handover-mild, checking-mild, before-fronts, postpones-silent, told-fronts}

@@ -38,7 +38,8 @@ use Rattle.pat_base.specs.MemberId.{member_of}
 use Rattle.pat_base.specs.declared.member_id.MemberId.{MemberId}
 use Rattle.event_book.specs.declared.message.Body.TheVariants as bodies
 use Rattle.agent_model.specs.declared.output.Target.TheVariants as targets
-use Rattle.agent_cases.proofs.Rows.{dropping, granted-any-by, SyncWhen, kept_on, led_on, if-cases, granted-when, judges-start-by, renewed-by, passing-by, begins-or-claims-by, DutyRows, duties-of, leading_in_pause}
+use Rattle.agent_cases.proofs.Rows.{dropping, if-cases}
+use Rattle.agent_cases.proofs.Grants.{granted-any-by, SyncWhen, kept_on, led_on, granted-when, judges-start-by, renewed-by, passing-by, begins-or-claims-by, DutyRows, duties-of, leading_in_pause}
 use Rattle.agent_model.specs.Pausing.{is_paused, is_wanted, disabling_watchdog}
 
 pub take-free : (held can : Bool) → not held && can ≡ true → held ≡ false

@@ -53,7 +53,8 @@ use Rattle.agent_model.specs.Snapshots.{follow_row, follows, read_answered, info
 use Rattle.agent_model.specs.Synchronous.{expected_of, unnamed}
 use Rattle.agent_model.specs.Table.{step, granted_any}
 use Rattle.agent_model.specs.Wake.{overdue, turned, woken}
-use Rattle.agent_cases.proofs.Rows.{HandoverRows, ReplyRows, DutyRows, WritesSync, kept_on, led_on, leading_in_pause, if-cases, before-by, looked-by, given-up-by, granted-any-by, refused-any-by, judges-start-by, duties-of, passing-by, overdue-when, turn-by, wake-by, got-when, refused-when, answered-when, granted-when, follow-by, free-by, judged-by, failsafe-answered-by, failsafe-asked-by, asked-to-hold-by}
+use Rattle.agent_cases.proofs.Rows.{HandoverRows, ReplyRows, if-cases, before-by, looked-by, given-up-by, refused-any-by, overdue-when, turn-by, wake-by, got-when, refused-when, answered-when, follow-by, free-by, judged-by, failsafe-answered-by, failsafe-asked-by, asked-to-hold-by}
+use Rattle.agent_cases.proofs.Grants.{DutyRows, WritesSync, kept_on, led_on, leading_in_pause, granted-any-by, judges-start-by, duties-of, passing-by, granted-when}
 use Rattle.agent_model.specs.StayingPrimary.{counting, failsafe_answered, failsafe_asked, fed_by_failsafe, others_known, requesting_first, requesting_one, span_after, stays}
 use Rattle.agent_roles.specs.Powers.{lease_of}
 use Rattle.agent_roles.proofs.Living.{no-way}

@@ -68,7 +68,8 @@ use Rattle.agent_roles.proofs.Staying.{before-leaves, before-waits}
 use Rattle.agent_roles.proofs.Fitting.{ended-for}
 use Rattle.agent_roles.proofs.Leaving.{rests-by, told-fits}
 use Rattle.agent_roles.proofs.Living.{no-way, primary-live, restart-live, wipe-live}
-use Rattle.agent_cases.proofs.Rows.{asked-to-hold-by, HandoverRows, dropping, looked-by, granted-any-by, refused-any-by, WritesSync, kept_on, led_on, if-cases, judges-start-by, renewed-by, passing-by, begins-or-claims-by, got-by, refused-by, follow-by, repaired-by, granted-by, answered-when, DutyRows, duties-of, leading_in_pause, takes-in-pause-by}
+use Rattle.agent_cases.proofs.Rows.{asked-to-hold-by, HandoverRows, dropping, looked-by, refused-any-by, if-cases, got-by, refused-by, follow-by, repaired-by, answered-when}
+use Rattle.agent_cases.proofs.Grants.{granted-any-by, WritesSync, kept_on, led_on, judges-start-by, renewed-by, passing-by, begins-or-claims-by, granted-by, DutyRows, duties-of, leading_in_pause, takes-in-pause-by}
 use Rattle.agent_model.specs.Pausing.{is_paused, may_start_behind, disabling_watchdog, running_without_key}
 use Rattle.agent_sending.proofs.MaySend.{IsSilent, Grounds, CarriesSet, CarriesSetIf, MayTransact, MayAskStore, MayPut, AllMay, front, push, silently, silent-armed, silent-fed, silent-disabled, IsReleaseOr, Fronts, IsMild, AllMild, mild-all, mild-front, judged-mild, others-mild, handover-mild, checking-mild, before-fronts, released, fronts-may, postpones-silent, told-fronts, before-compares, CreatesAsCompared, creates-behind, sends, told-may, front-of}
 use Rattle.agent_sending.proofs.MaySend.Fronts.{Silent, Released}

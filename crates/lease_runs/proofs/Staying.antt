@@ -44,7 +44,8 @@ use Rattle.agent_model.specs.Snapshots.{follow_row, follows, led_by_another, rea
 use Rattle.agent_model.specs.StayingPrimary.{accepted_failsafe, asking_to_stay, awaits_failsafe, counting, failsafe_answered_for, fed_by_failsafe, is_staying, leader_unacknowledged, may_stay, others_known, requesting_all, requesting_first, requesting_one, seeks_to_stay, stays, stays_alone, stays_if, unacknowledged_as}
 use Rattle.agent_model.specs.Table.{granted_any, step}
 use Rattle.agent_model.specs.Wake.{leader_out_of_reach, out_of_reach, out_of_reach_as, overdue, overdue_for, turn_noted, turned, unanswered, unleased_out_of_reach, woken}
-use Rattle.agent_cases.proofs.Rows.{DutyRows, HandoverRows, ReplyRows, before-by, begins-or-claims-by, dropping, duties-of, follow-by, free-by, given-up-by, got-by, granted-any-by, granted-by, handover-by, if-cases, judged-by, judges-start-by, kept_on, leading_in_pause, led_on, looked-by, renewed-by, repaired-by, takes-in-pause-by, turn-by, wake-by}
+use Rattle.agent_cases.proofs.Rows.{HandoverRows, ReplyRows, before-by, dropping, follow-by, free-by, given-up-by, got-by, handover-by, if-cases, judged-by, looked-by, repaired-by, turn-by, wake-by}
+use Rattle.agent_cases.proofs.Grants.{DutyRows, begins-or-claims-by, duties-of, granted-any-by, granted-by, judges-start-by, kept_on, leading_in_pause, led_on, renewed-by, takes-in-pause-by}
 use Rattle.agent_roles.proofs.Fitting.{before-fits}
 use Rattle.agent_roles.proofs.Granting.{Told, both-true}
 use Rattle.agent_roles.proofs.Knowing.{IsAlone, before-onward}
