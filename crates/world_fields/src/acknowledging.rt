@@ -3,6 +3,7 @@ ghost use Rattle.std.specs.Prelude.{◌≡◌, ◌∷◌, ◌++◌, [], OnOk, sl
 ghost use Rattle.event_book.specs.declared.event.Event.{Event};
 ghost use Rattle.event_book.specs.declared.event.EventKind.TheVariants as kinds;
 ghost use Rattle.event_book.specs.declared.event.ReplicationEvent.TheVariants as replications;
+ghost use Rattle.event_book.specs.Writers.{writes_in};
 ghost use Rattle.event_list.specs.Listed.{◌+++◌};
 ghost use Rattle.cluster_model.specs.Losing.{loss_of, losses_of};
 ghost use Rattle.cluster_model.specs.Parts.{events_at};
@@ -11,7 +12,7 @@ use crate::losing::loss_at;
 use crate::writing::write_down;
 use event_book::{EventKind, Member, ReplicationEvent, ServerOf};
 use event_list::EventList;
-use pat_base::Ticks;
+use pat_base::{MemberId, Ticks};
 use pg_cluster::Servers;
 use std::alloc::AllocError;
 use wal_model::Serials;
@@ -43,22 +44,36 @@ pub fn tell_losses(
     ensures { OnOk result (events.new ≡ events.old +++ events_at tick (losses_of commit servers.now members.now)) }
 {
     for member in members {
-        tell_loss(servers, *member, commit, tick, events)?;
+        tell_loss(servers, member, commit, tick, events)?;
     }
     Ok(())
+}
+
+/// Whether the server of a member, if there is one, accepts writes.
+pub fn accepts_writes(servers: &Servers, id: MemberId) -> bool
+    ensures { result ≡ writes_in servers.now id.number }
+{
+    match servers.get(id.number as usize) {
+        None => false,
+        Some(server) => server.writes(),
+    }
 }
 
 /// That of a member does, where it is so.
 fn tell_loss(
     servers: &Servers,
-    member: Member,
+    member: &Member,
     commit: u64,
     tick: Ticks,
     events: &mut EventList,
 ) -> Result<(), AllocError>
-    ensures { OnOk result (events.new ≡ events.old +++ events_at tick (loss_of commit member (slice_get servers.now member.id.number))) }
+    ensures { OnOk result (events.new ≡ events.old +++ events_at tick (loss_of commit member.now (slice_get servers.now member.now.id.number))) }
 {
-    match loss_at(servers, member, commit) {
+    // which most don't, and then its name isn't copied
+    if !accepts_writes(servers, member.id) {
+        return Ok(());
+    }
+    match loss_at(servers, *member, commit) {
         None => Ok(()),
         Some(loss) => write_down(events, tick, loss),
     }

@@ -20,6 +20,7 @@ use Rattle.event_book.specs.declared.event.ReplicationEvent.TheVariants as repli
 use Rattle.event_book.specs.declared.member.Member.{Member}
 use Rattle.event_book.specs.declared.member.ServerOf.{ServerOf}
 use Rattle.event_book.specs.Members.{server_of}
+use Rattle.event_book.specs.Writers.{writes_in, writes_now}
 use Rattle.event_list.specs.Listed.{Listed, ◌+++◌}
 use Rattle.cluster_model.specs.Acknowledging.{acknowledge_kinds, acknowledgement, acknowledgements, confirmed_front, ready_commits, AreAcknowledged, IsDone}
 use Rattle.cluster_model.specs.Cluster.{cluster_after, cluster_over}
@@ -35,7 +36,7 @@ use Rattle.world_model.proofs.Rest.{Left, Left-end, Left-more}
 use Rattle.world_model.proofs.Rooms.{HasRoom-fewer}
 use Rattle.world_model.proofs.ServerRooms.{with-all, HasTimeline}
 use Rattle.world_model.proofs.Serving.{serving, serving-cluster_after}
-use Rattle.world_model.proofs.Taking.{Emits-then, cluster_over-append}
+use Rattle.world_model.proofs.Taking.{Emits-nothing, Emits-then, cluster_over-append}
 
 -- the server after its oldest waiting commit was acknowledged
 abbrev pub one_told : ServerFacts → ServerFacts
@@ -98,6 +99,18 @@ none-of true required confirmed (first ∷ more) is = none-met (is_met required 
 -- where there is no next commit none may be acknowledged
 pub ready-none : (s : ServerFacts) → next_acknowledged s ≡ None → (may_acknowledge s ≡ false) × (ready_commits s ≡ [])
 ready-none s is = none-of (writes s.state) s.required s.confirmed s.waiting is
+
+none-told : (known : List ServerFacts) (members : List Member) (member : Member) (found : Option ServerFacts) → writes_now found ≡ false → acknowledge_kinds known members member found ≡ []
+none-told known members member None none = refl
+none-told known members member (Some s) none =
+    ap (λ (b : Bool). acknowledgements known members member (if b then confirmed_front s.required s.confirmed s.waiting else [])) none
+
+-- a server that accepts no writes acknowledges nothing
+pub nothing-acknowledged : (cluster : Cluster) (member : Member) (had : Listed) (cost : ℕ) → writes_in cluster.facts.servers member.id.number ≡ false → Emits cluster cluster had had (acknowledge_events cluster member) cost
+nothing-acknowledged cluster member had cost none =
+    subst (λ es. Emits cluster cluster had had es cost)
+    (sym (ap (events_of cluster) (none-told cluster.facts.servers cluster.facts.members member (slice_get cluster.facts.servers member.id.number) none)))
+    (Emits-nothing cluster had cost)
 
 got-with : (known : List ServerFacts) (place : ℕ) (s : ServerFacts) (change : ServerFacts → ServerFacts) → slice_get known place ≡ Some s → slice_get (with_changed known place change) place ≡ Some (change s)
 got-with known place s change is =

@@ -1,5 +1,5 @@
 //! Commits whose clients are told that they are stored, and servers that lack one.
-ghost use Rattle.std.specs.Prelude.{◌≡◌, OnOk};
+ghost use Rattle.std.specs.Prelude.{◌≡◌, ◌<◌, OnOk, Some, length, slice_get};
 ghost use Rattle.event_list.specs.Listed.{◌+++◌};
 ghost use Rattle.cluster_model.specs.Acknowledging.{AreAcknowledged};
 ghost use Rattle.cluster_model.specs.Losing.{losses_of};
@@ -11,7 +11,7 @@ use super::Stage;
 use event_book::{Member, ServerOf};
 use event_list::EventList;
 use std::alloc::AllocError;
-use world_fields::acknowledging::{tell_acknowledged, tell_losses};
+use world_fields::acknowledging::{accepts_writes, tell_acknowledged, tell_losses};
 
 impl Stage {
     /// The commits of all servers are acknowledged as far as they may be, in script order. Then none is left that may be.
@@ -20,8 +20,21 @@ impl Stage {
         ensures done { OnOk result (AreAcknowledged self.new.facts.members self.new.facts.servers) }
     {
         for place in 0..self.members.len() {
-            self.acknowledge(self.member(place), events)?;
+            self.acknowledge_at(place, events)?;
         }
+        Ok(())
+    }
+
+    /// Those of the server of the member at a place. Most accept no writes, and then the member's name isn't copied.
+    fn acknowledge_at(&mut self, place: usize, events: &mut EventList) -> Result<(), AllocError>
+        requires { place < length self.old.facts.members }
+        ensures { OnOk result ((member : Member) → slice_get self.old.facts.members place ≡ Some member → Emits self.old self.new events.old events.new (acknowledge_events self.old member) 0) }
+    {
+        let id = self.member(place).id;
+        if !accepts_writes(&self.servers, id) {
+            return Ok(());
+        }
+        self.acknowledge(self.member(place), events)?;
         Ok(())
     }
 
