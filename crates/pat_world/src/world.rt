@@ -29,7 +29,7 @@ use pat_base::{MemberId, Ticks};
 use script_model::Head;
 use std::alloc::{AllocError, Global};
 use std::marker::Model;
-use world_play::{Rest, bare_tick, due_from, ends_from, take_step};
+use world_play::{Lull, bare_tick, due_from, ends_from, take_step};
 use world_stage::Stage;
 
 /// A cluster at a moment, which takes the steps of a run. It can't be dropped, since an agent can't: `World::close` ends
@@ -50,20 +50,20 @@ pub struct World {
     /// Before this moment plain ticks bring nothing but themselves, whatever agents have to do; 0 where nothing is known of that.
     ticks_idle_before: u64,
     /// What is known to be at rest.
-    rest: Rest,
+    lull: Lull,
 }
 
 impl Model for World {
     ghost use Rattle.cluster_model.specs.declared.step.Step.TheVariants.{Scheduled, Tick};
     ghost use Rattle.simulation.specs.Steps.{WorldFacts};
     ghost use Rattle.world_model.specs.Idle.{IsIdleBefore};
-    ghost use Rattle.world_play.specs.Rest.{IsAtRest};
+    ghost use Rattle.world_play.specs.Lull.{IsLull};
 
     ghost Value = { WorldFacts };
 
     ghost view = { λ w. record { cluster = w.stage; steps = w.steps } };
 
-    ghost invariant = { λ w. IsIdleBefore Scheduled w.idle_before w.stage × IsIdleBefore Tick w.ticks_idle_before w.stage × IsAtRest w.rest w.stage };
+    ghost invariant = { λ w. IsIdleBefore Scheduled w.idle_before w.stage × IsIdleBefore Tick w.ticks_idle_before w.stage × IsLull w.lull w.stage };
 }
 
 impl World {
@@ -82,7 +82,7 @@ impl World {
             steps: 0,
             idle_before: 0,
             ticks_idle_before: 0,
-            rest: Rest::unknown(),
+            lull: Lull::unknown(),
         })
     }
 
@@ -93,7 +93,7 @@ impl World {
             steps: _,
             idle_before: _,
             ticks_idle_before: _,
-            rest: _,
+            lull: _,
         } = self;
         stage.close();
     }
@@ -214,9 +214,9 @@ impl World {
         self.steps += 1;
         self.idle_before = 0;
         self.ticks_idle_before = 0;
-        if let Err(failed) = take_step(&mut self.stage, step, &mut self.rest, events) {
+        if let Err(failed) = take_step(&mut self.stage, step, &mut self.lull, events) {
             // nothing is known of a stage where memory ran out
-            self.rest = Rest::unknown();
+            self.lull = Lull::unknown();
             return Err(failed);
         }
         self.idle_before = idle_before(&self.stage, step, events.len());

@@ -1,5 +1,6 @@
 //! Agents that are known to have nothing to do.
-ghost use Rattle.std.specs.Prelude.{ℕ, ◌≡◌, ◌≢◌, drop};
+ghost use Rattle.std.specs.Prelude.{ℕ, ◌≡◌, ◌≢◌, drop, false};
+ghost use Rattle.event_list.specs.Marks.{rouse_agents};
 ghost use Rattle.cluster_model.specs.Cluster.{cluster_over};
 ghost use Rattle.cluster_model.specs.State.{Cluster};
 ghost use Rattle.world_acts.specs.Asleep.{AreAsleep, until_of};
@@ -47,9 +48,11 @@ impl Sleepers {
         self.set(member, Ticks(0));
     }
 
-    /// These events happen behind the first so many of a list: nothing is known any more where one may rouse agents.
+    /// These events happen behind the first so many of a list: nothing is known any more where one may rouse agents, and else what was
+    /// known still is.
     pub fn pass(&mut self, events: &EventList, from: usize)
-        ensures { (cluster : Cluster) → AreAsleep self.old cluster → AreAsleep self.new (cluster_over cluster (drop from events.now.items)) }
+        ensures kept { rouse_agents (drop from events.now.items) ≡ false → (k : ℕ) → until_of self.new k ≡ until_of self.old k }
+        ensures asleep { (cluster : Cluster) → AreAsleep self.old cluster → AreAsleep self.new (cluster_over cluster (drop from events.now.items)) }
     {
         if events.rouse_agents(from) {
             *self = Sleepers::none();

@@ -2,4 +2,4 @@ pub mod Changing
 pub mod Numbering
 pub mod Passing
 pub mod Arriving
-pub mod Resting
+pub mod Lulls

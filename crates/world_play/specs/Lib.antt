@@ -1,1 +1,1 @@
-pub mod Rest
+pub mod Lull

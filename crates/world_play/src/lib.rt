@@ -2,12 +2,12 @@
 #![tactic(auto)]
 
 mod ctl;
+mod lull;
 mod messages;
 mod requests;
-mod rest;
 mod steps;
 
-pub use rest::Rest;
+pub use lull::Lull;
 pub use steps::take_step;
 pub use world_ticks::idling::{due_from, ends_from};
 pub use world_ticks::ticks::bare_tick;

@@ -11,12 +11,12 @@ ghost use Rattle.cluster_model.specs.Ticking.{tick_events};
 ghost use Rattle.world_model.specs.Idle.{IfCaughtUp};
 ghost use Rattle.world_model.specs.Room.{HasRoom, HasRoomFor, command_cost, round_cost, rounds_cost, schedule_cost, step_cost, tick_cost};
 ghost use Rattle.world_acts.specs.Asleep.{AreAsleep};
-ghost use Rattle.world_play.specs.Rest.{IsAtRest};
+ghost use Rattle.world_play.specs.Lull.{IsLull};
 
 use crate::ctl::take_words;
+use crate::lull::{Lull, still_caught_up};
 use crate::messages::{deliver, lose, pass_messages};
 use crate::requests::{make_request, receive_visit};
-use crate::rest::{Rest, still_caught_up};
 use cluster_model::{Asker, Step};
 use event_book::EventKind;
 use event_list::EventList;
@@ -41,24 +41,24 @@ const MOST_ROUNDS: usize = 40;
 pub fn take_step(
     stage: &mut Stage,
     step: &Step,
-    rest: &mut Rest,
+    lull: &mut Lull,
     events: &mut EventList,
 ) -> Result<(), AllocError>
     requires room { HasRoomFor stage.old 1 }
     requires declared { IsStep stage.old.facts.members step.now }
-    requires rest { IsAtRest rest.old stage.old }
+    requires lull { IsLull lull.old stage.old }
     ensures emits { OnOk result (Emits stage.old stage.new events.old events.new (next_events stage.old step.now) step_cost) }
     ensures acknowledged { OnOk result (AreAcknowledged stage.new.facts.members stage.new.facts.servers) }
-    ensures rest { OnOk result (IsAtRest rest.new stage.new) }
+    ensures lull { OnOk result (IsLull lull.new stage.new) }
 {
-    let caught_up = perform(stage, step, rest, events)?;
-    if rest.settled {
+    let caught_up = perform(stage, step, lull, events)?;
+    if lull.settled {
         return Ok(());
     }
     let from = events.len();
     stage.acknowledge_all(events)?;
-    rest.settled = still_caught_up(caught_up, events, from);
-    rest.asleep.pass(events, from);
+    lull.settled = still_caught_up(caught_up, events, from);
+    lull.asleep.pass(events, from);
     Ok(())
 }
 
@@ -66,69 +66,69 @@ pub fn take_step(
 fn perform(
     stage: &mut Stage,
     step: &Step,
-    rest: &mut Rest,
+    lull: &mut Lull,
     events: &mut EventList,
 ) -> Result<bool, AllocError>
     requires room { HasRoomFor stage.old 1 }
     requires declared { IsStep stage.old.facts.members step.now }
-    requires rest { IsAtRest rest.old stage.old }
+    requires lull { IsLull lull.old stage.old }
     ensures emits { OnOk result (Emits stage.old stage.new events.old events.new (step_events stage.old step.now) step_cost) }
     ensures caught_up { IfOk result (λ known. IfCaughtUp known stage.new) }
-    ensures rest { OnOk result (IsAtRest rest.new stage.new) }
+    ensures lull { OnOk result (IsLull lull.new stage.new) }
 {
     match step {
         Step::Scheduled => {
-            take_tick(stage, rest, events)?;
-            scheduled(stage, rest, events)
+            take_tick(stage, lull, events)?;
+            scheduled(stage, lull, events)
         }
         Step::Tick => {
-            take_tick(stage, rest, events)?;
-            Ok(rest.settled)
+            take_tick(stage, lull, events)?;
+            Ok(lull.settled)
         }
         Step::Command(command) => {
             let from = events.len();
             take_command(stage, command, events)?;
-            rest.pass(events, from);
-            Ok(rest.settled)
+            lull.pass(events, from);
+            Ok(lull.settled)
         }
         Step::Connection(id, visit) => {
             let from = events.len();
             let member = stage.declared(*id);
             receive_visit(stage, member, visit, events)?;
-            rest.pass(events, from);
-            Ok(rest.settled)
+            lull.pass(events, from);
+            Ok(lull.settled)
         }
     }
 }
 
 /// The clock grows by one. Nothing is known to be at rest behind a tick with which something ends.
-fn take_tick(stage: &mut Stage, rest: &mut Rest, events: &mut EventList) -> Result<(), AllocError>
+fn take_tick(stage: &mut Stage, lull: &mut Lull, events: &mut EventList) -> Result<(), AllocError>
     requires room { HasRoom stage.old tick_cost }
-    requires rest { IsAtRest rest.old stage.old }
+    requires lull { IsLull lull.old stage.old }
     ensures emits { OnOk result (Emits stage.old stage.new events.old events.new (tick_events stage.old) tick_cost) }
-    ensures rest { OnOk result (IsAtRest rest.new stage.new) }
+    ensures lull { OnOk result (IsLull lull.new stage.new) }
 {
     if !tick(stage, events)? {
-        *rest = Rest::unknown();
+        *lull = Lull::unknown();
     }
     Ok(())
 }
 
 /// A tick of the default schedule: replicas receive, and then agents are woken and messages come. Answers whether all servers are known to
 /// have caught up behind it.
-fn scheduled(stage: &mut Stage, rest: &mut Rest, events: &mut EventList) -> Result<bool, AllocError>
+fn scheduled(stage: &mut Stage, lull: &mut Lull, events: &mut EventList) -> Result<bool, AllocError>
     requires room { HasRoom stage.old schedule_cost }
-    requires rest { IsAtRest rest.old stage.old }
+    requires lull { IsLull lull.old stage.old }
     ensures emits { OnOk result (Emits stage.old stage.new events.old events.new (scheduled_events stage.old) schedule_cost) }
     ensures caught_up { IfOk result (λ known. IfCaughtUp known stage.new) }
-    ensures rest { OnOk result (IsAtRest rest.new stage.new) }
+    ensures lull { OnOk result (IsLull lull.new stage.new) }
 {
     let before = events.len();
-    let received = all_receive(stage, rest.settled, events)?;
-    rest.pass(events, before);
+    let received = all_receive(stage, lull.settled, events)?;
+    lull.pass(events, before);
     let from = events.len();
-    rounds(stage, &mut rest.asleep, events)?;
-    rest.settled = still_caught_up(rest.settled, events, from);
+    rounds(stage, &mut lull.asleep, events)?;
+    lull.settled = still_caught_up(lull.settled, events, from);
     Ok(still_caught_up(received, events, from))
 }
 

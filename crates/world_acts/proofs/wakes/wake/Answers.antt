@@ -25,4 +25,4 @@ pub returns-clause-asleep : goal.returns-clause-asleep
 returns-clause-asleep c =
     let others = one-less-asleep c.args.asleep.now c.forget.new.self c.args.stage.now c.args.member c.requires.asleep c.forget.ensures.same c.forget.ensures.others in
     woken-behind c.forget.new.self c.pass.new.self c.args.stage.now c.awaken.new.stage c.args.member c.args.events.now c.awaken.new.events c.len-from.result c.in_ok-awaken.ensures (omega (arith, c.len-from.ensures))
-    c.forget.ensures.same others c.pass.ensures
+    c.forget.ensures.same others c.pass.ensures.asleep

@@ -56,7 +56,7 @@ returns-in_ok-carry_out-in-Some-AtAgent-clause-asleep c =
     let sleep = came.asleep c.args.asleep.now c.forget.new.self (subst (AreAsleep c.args.asleep.now) (sym c.take_outputs.ensures.world) c.requires.asleep) c.forget.ensures.same c.forget.ensures.others in
     let done = c.in_ok-carry_out-in-Some-AtAgent.ensures.emits in
     asleep-behind c.forget.new.self c.pass-in-Some-AtAgent.new.self c.land.new.self c.give_back-in-Some-AtAgent.new.self c.land.new.events c.carry_out.new.events _ c.len-from-in-Some-AtAgent.result
-    (c.give_back-in-Some-AtAgent.ensures ∙ done.state) done.event (omega (arith, c.len-from-in-Some-AtAgent.ensures)) sleep c.pass-in-Some-AtAgent.ensures
+    (c.give_back-in-Some-AtAgent.ensures ∙ done.state) done.event (omega (arith, c.len-from-in-Some-AtAgent.ensures)) sleep c.pass-in-Some-AtAgent.ensures.asleep
 
 pub returns-in_ok-answer-in-Some-AtStore-clause-asleep : goal.returns-in_ok-answer-in-Some-AtStore-clause-asleep
 returns-in_ok-answer-in-Some-AtStore-clause-asleep c =
@@ -65,4 +65,4 @@ returns-in_ok-answer-in-Some-AtStore-clause-asleep c =
     let sleep = came.asleep c.args.asleep.now (subst (AreAsleep c.args.asleep.now) (sym c.take_outputs.ensures.world) c.requires.asleep) in
     let done = c.in_ok-answer-in-Some-AtStore.ensures in
     asleep-behind c.args.asleep.now c.pass.new.self c.land.new.self c.give_back-in-Some-AtStore.new.self c.land.new.events c.answer.new.events _ c.len-from.result (c.give_back-in-Some-AtStore.ensures ∙ done.state) done.event
-    (omega (arith, c.len-from.ensures)) sleep c.pass.ensures
+    (omega (arith, c.len-from.ensures)) sleep c.pass.ensures.asleep

@@ -8,7 +8,7 @@ use Rattle.world_model.specs.Room.{request_cost, command_cost, schedule_cost, st
 use Rattle.world_model.proofs.Rooms.{HasRoom-fewer}
 use Rattle.world_model.proofs.Rest.{stepped}
 use Rattle.world_model.proofs.Taking.{Emits-then, found-took}
-use Rattle.world_play.proofs.Resting.{rest-behind}
+use Rattle.world_play.proofs.Lulls.{lull-behind}
 use Rattle.world_play.proofs.steps.perform.Goals as goal
 
 pub scheduled-requires-clause-room : goal.scheduled-requires-clause-room
@@ -27,31 +27,31 @@ returns-in_ok-take_tick-in-Tick-clause-emits c = stepped _ _ _ _ _ steps.Tick ti
 pub returns-in_ok-take_command-in-Command-clause-emits : goal.returns-in_ok-take_command-in-Command-clause-emits
 returns-in_ok-take_command-in-Command-clause-emits c = stepped _ _ _ _ _ (steps.Command c.in-Command.command) command_cost c.in-Command.is c.in_ok-take_command-in-Command.ensures (omega arith)
 
-pub returns-in_ok-take_command-in-Command-clause-rest : goal.returns-in_ok-take_command-in-Command-clause-rest
-returns-in_ok-take_command-in-Command-clause-rest c =
-    rest-behind c.args.rest.now c.pass.new.self c.args.stage.now c.take_command.new.stage c.args.events.now c.take_command.new.events _ command_cost c.len-from.result c.in_ok-take_command-in-Command.ensures (omega (arith, c.len-from.ensures))
-    c.pass.ensures.settled c.pass.ensures.asleep c.requires.rest
+pub returns-in_ok-take_command-in-Command-clause-lull : goal.returns-in_ok-take_command-in-Command-clause-lull
+returns-in_ok-take_command-in-Command-clause-lull c =
+    lull-behind c.args.lull.now c.pass.new.self c.args.stage.now c.take_command.new.stage c.args.events.now c.take_command.new.events _ command_cost c.len-from.result c.in_ok-take_command-in-Command.ensures (omega (arith, c.len-from.ensures))
+    c.pass.ensures.settled c.pass.ensures.asleep c.requires.lull
 
 pub returns-in_ok-take_command-in-Command-clause-caught_up : goal.returns-in_ok-take_command-in-Command-clause-caught_up
 returns-in_ok-take_command-in-Command-clause-caught_up c = λ known.
-    let rest =
-    rest-behind c.args.rest.now c.pass.new.self c.args.stage.now c.take_command.new.stage c.args.events.now c.take_command.new.events _ command_cost c.len-from.result c.in_ok-take_command-in-Command.ensures (omega (arith, c.len-from.ensures))
-    c.pass.ensures.settled c.pass.ensures.asleep c.requires.rest in
-    (rest.settled known).0
+    let lull =
+    lull-behind c.args.lull.now c.pass.new.self c.args.stage.now c.take_command.new.stage c.args.events.now c.take_command.new.events _ command_cost c.len-from.result c.in_ok-take_command-in-Command.ensures (omega (arith, c.len-from.ensures))
+    c.pass.ensures.settled c.pass.ensures.asleep c.requires.lull in
+    (lull.settled known).0
 
 pub returns-in_ok-receive_visit-in-Connection-clause-emits : goal.returns-in_ok-receive_visit-in-Connection-clause-emits
 returns-in_ok-receive_visit-in-Connection-clause-emits c =
     stepped _ _ _ _ _ (steps.Connection c.in-Connection.id c.in-Connection.visit) request_cost c.in-Connection.is
     (found-took _ _ _ _ _ (visit_events c.args.stage.now c.in-Connection.visit) _ _ request_cost c.declared-member.ensures c.in_ok-receive_visit-in-Connection.ensures) (omega arith)
 
-pub returns-in_ok-receive_visit-in-Connection-clause-rest : goal.returns-in_ok-receive_visit-in-Connection-clause-rest
-returns-in_ok-receive_visit-in-Connection-clause-rest c =
-    rest-behind c.args.rest.now c.pass-in-Connection.new.self c.args.stage.now c.receive_visit.new.stage c.args.events.now c.receive_visit.new.events _ request_cost c.len-from-in-Connection.result c.in_ok-receive_visit-in-Connection.ensures
-    (omega (arith, c.len-from-in-Connection.ensures)) c.pass-in-Connection.ensures.settled c.pass-in-Connection.ensures.asleep c.requires.rest
+pub returns-in_ok-receive_visit-in-Connection-clause-lull : goal.returns-in_ok-receive_visit-in-Connection-clause-lull
+returns-in_ok-receive_visit-in-Connection-clause-lull c =
+    lull-behind c.args.lull.now c.pass-in-Connection.new.self c.args.stage.now c.receive_visit.new.stage c.args.events.now c.receive_visit.new.events _ request_cost c.len-from-in-Connection.result c.in_ok-receive_visit-in-Connection.ensures
+    (omega (arith, c.len-from-in-Connection.ensures)) c.pass-in-Connection.ensures.settled c.pass-in-Connection.ensures.asleep c.requires.lull
 
 pub returns-in_ok-receive_visit-in-Connection-clause-caught_up : goal.returns-in_ok-receive_visit-in-Connection-clause-caught_up
 returns-in_ok-receive_visit-in-Connection-clause-caught_up c = λ known.
-    let rest =
-    rest-behind c.args.rest.now c.pass-in-Connection.new.self c.args.stage.now c.receive_visit.new.stage c.args.events.now c.receive_visit.new.events _ request_cost c.len-from-in-Connection.result c.in_ok-receive_visit-in-Connection.ensures
-    (omega (arith, c.len-from-in-Connection.ensures)) c.pass-in-Connection.ensures.settled c.pass-in-Connection.ensures.asleep c.requires.rest in
-    (rest.settled known).0
+    let lull =
+    lull-behind c.args.lull.now c.pass-in-Connection.new.self c.args.stage.now c.receive_visit.new.stage c.args.events.now c.receive_visit.new.events _ request_cost c.len-from-in-Connection.result c.in_ok-receive_visit-in-Connection.ensures
+    (omega (arith, c.len-from-in-Connection.ensures)) c.pass-in-Connection.ensures.settled c.pass-in-Connection.ensures.asleep c.requires.lull in
+    (lull.settled known).0

@@ -6,7 +6,7 @@ use Rattle.cluster_model.specs.State.{Cluster}
 use Rattle.simulation.specs.Steps.{WorldFacts}
 use Rattle.world_model.specs.Idle.{at_moment}
 use Rattle.world_model.proofs.Idling.{idle-commits}
-use Rattle.world_play.proofs.Resting.{later-rest}
+use Rattle.world_play.proofs.Lulls.{later-lull}
 use Rattle.pat_world.proofs.IdleTicks.{brings-ticks, idle-passed, passed, steps-keep, steps-stand}
 use Rattle.pat_world.proofs.KeptCommits.{steps-keep-commits}
 use Rattle.pat_world.proofs.OneWriter.{one-primary}
@@ -21,7 +21,7 @@ invariant_of-self c =
     let later = c.self.inside.stage.facts.clock + c.idle_ticks-ticks.result in (
       idle-passed steps.Scheduled c.self.inside.idle_before later c.self.inside.stage c.pass.new.self c.pass.ensures c.self.invariant.0,
       idle-passed steps.Tick c.self.inside.ticks_idle_before later c.self.inside.stage c.pass.new.self c.pass.ensures c.self.invariant.1,
-      later-rest c.self.inside.rest c.self.inside.stage c.pass.new.self later c.pass.ensures c.self.invariant.2,
+      later-lull c.self.inside.lull c.self.inside.stage c.pass.new.self later c.pass.ensures c.self.invariant.2,
     )
 
 pub returns : goal.returns

@@ -8,7 +8,7 @@ use Rattle.world_model.specs.Idle.{IsIdleIn}
 use Rattle.world_model.specs.Room.{HasRoom, step_cost, tick_cost}
 use Rattle.world_model.proofs.Idling.{idle-ends}
 use Rattle.world_model.proofs.Rooms.{HasRoom-fewer}
-use Rattle.world_play.proofs.Resting.{later-rest}
+use Rattle.world_play.proofs.Lulls.{later-lull}
 use Rattle.pat_world.proofs.IdleTicks.{idle-passed, step-took}
 use Rattle.pat_world.proofs.world.World.tick.Goals as goal
 
@@ -32,5 +32,5 @@ invariant_of-self c =
     let now = c.self.inside.stage.facts.clock + 1 in (
       idle-passed steps.Scheduled c.self.inside.idle_before now c.self.inside.stage c.bare_tick.new.stage c.bare_tick.ensures.clock c.self.invariant.0,
       idle-passed steps.Tick c.self.inside.ticks_idle_before now c.self.inside.stage c.bare_tick.new.stage c.bare_tick.ensures.clock c.self.invariant.1,
-      later-rest c.self.inside.rest c.self.inside.stage c.bare_tick.new.stage now c.bare_tick.ensures.clock c.self.invariant.2,
+      later-lull c.self.inside.lull c.self.inside.stage c.bare_tick.new.stage now c.bare_tick.ensures.clock c.self.invariant.2,
     )

@@ -11,14 +11,14 @@ use Rattle.world_model.specs.Idle.{IfSettled, at_moment}
 use Rattle.world_model.proofs.Settled.{later-settled, settled-behind}
 use Rattle.world_acts.specs.Asleep.{AreAsleep}
 use Rattle.world_acts.proofs.Sleeping.{asleep-behind, later-asleep}
-use Rattle.world_play.specs.Rest.{IsAtRest}
-use Rattle.world_play.specs.declared.rest.Rest.{Rest}
+use Rattle.world_play.specs.Lull.{IsLull}
+use Rattle.world_play.specs.declared.lull.Lull.{Lull}
 
 -- it doesn't matter what the clock says
-pub later-rest : (rest : Rest) (cluster after : Cluster) (now : ℕ) → after ≡ at_moment cluster now → IsAtRest rest cluster → IsAtRest rest after
-later-rest rest cluster after now is known = record {
-  settled = later-settled cluster after now rest.settled is known.settled;
-  asleep = later-asleep rest.asleep cluster after now is known.asleep;
+pub later-lull : (lull : Lull) (cluster after : Cluster) (now : ℕ) → after ≡ at_moment cluster now → IsLull lull cluster → IsLull lull after
+later-lull lull cluster after now is known = record {
+  settled = later-settled cluster after now lull.settled is known.settled;
+  asleep = later-asleep lull.asleep cluster after now is known.asleep;
 }
 
 -- whether all is settled behind a part of a step, by the events behind a place in the list of all
@@ -29,9 +29,9 @@ still-settled before after had has events cost from known told took is so was = 
     settled-behind before after had has events cost from known known told took is so was (ap (λ b. b && told) both.0 ∙ still)
 
 -- and all that is known
-pub rest-behind : (was left : Rest) (before after : Cluster) (had has : Listed) (events : List Event) (cost from : ℕ) → Emits before after had has events cost → from ≡ length had.items
-    → left.settled ≡ (was.settled && not (stir_replicas (drop from has.items))) → ((cluster : Cluster) → AreAsleep was.asleep cluster → AreAsleep left.asleep (cluster_over cluster (drop from has.items))) → IsAtRest was before → IsAtRest left after
-rest-behind was left before after had has events cost from took is told still known = record {
+pub lull-behind : (was left : Lull) (before after : Cluster) (had has : Listed) (events : List Event) (cost from : ℕ) → Emits before after had has events cost → from ≡ length had.items
+    → left.settled ≡ (was.settled && not (stir_replicas (drop from has.items))) → ((cluster : Cluster) → AreAsleep was.asleep cluster → AreAsleep left.asleep (cluster_over cluster (drop from has.items))) → IsLull was before → IsLull left after
+lull-behind was left before after had has events cost from took is told still known = record {
   settled = still-settled before after had has events cost from was.settled left.settled took is told known.settled;
   asleep = asleep-behind was.asleep left.asleep before after had has events from took.state took.event is known.asleep still;
 }

@@ -2,9 +2,9 @@
 use Rattle.cluster_model.specs.State.{Cluster}
 use Rattle.world_model.specs.Idle.{IfSettled}
 use Rattle.world_acts.specs.Asleep.{AreAsleep}
-use Rattle.world_play.specs.declared.rest.Rest.{Rest}
+use Rattle.world_play.specs.declared.lull.Lull.{Lull}
 
 -- what is known to be at rest is so
-pub record IsAtRest (rest : Rest) (cluster : Cluster) : Type 0 where
-  pub settled : IfSettled rest.settled cluster
-  pub asleep : AreAsleep rest.asleep cluster
+pub record IsLull (lull : Lull) (cluster : Cluster) : Type 0 where
+  pub settled : IfSettled lull.settled cluster
+  pub asleep : AreAsleep lull.asleep cluster
